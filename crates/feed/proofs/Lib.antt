@@ -1,0 +1,4 @@
+-- The laws of reading. Assumes nothing.
+pub mod Laws
+pub mod Cut
+pub mod Trip

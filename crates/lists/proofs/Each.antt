@@ -1,0 +1,96 @@
+-- Laws of lists whose elements are changed or tested one after the other. Assumes nothing.
+use Prim.Native.Nat.{ℕ, zero, suc, _+_, _<_}
+use mathlib.Core.Path.{_≡_, refl, ap, sym, _∙_}
+use mathlib.Core.List.{List, [], _∷_, map}
+use mathlib.Core.Bool.{Bool, true, _&&_, and-true, and-assoc}
+use native.Mathlib.Omega.{arith}
+use native.Mathlib.Numerals.{add-one}
+use lib.Seq.{getD-set-other, set-comm}
+use lib.ListN.{length, getD, set, length-map}
+use Rattle.lists.specs.Each.{each, eachTo, all, allTo, upd}
+use Rattle.lists.proofs.Both.{and-left, and-right}
+
+module _ {A : Type 0} (f : ℕ → A → A) where
+  pub each-get : (k i : ℕ) (xs : List A) (d : A) → getD (eachTo f k i xs) i d ≡ getD xs i d
+  each-get k zero xs d = refl
+  each-get k (suc i) [] d = refl
+  each-get k (suc i) (x ∷ xs) d = each-get (suc k) i xs d
+
+  pub each-length : (k i : ℕ) (xs : List A) → length (eachTo f k i xs) ≡ length xs
+  each-length k zero xs = refl
+  each-length k (suc i) [] = refl
+  each-length k (suc i) (x ∷ xs) = ap suc (each-length (suc k) i xs)
+
+  pub each-set : (k i : ℕ) (xs : List A) (d : A) → i < length xs
+      → set (eachTo f k i xs) i (f (k + i) (getD xs i d)) ≡ eachTo f k (suc i) xs
+  each-set k zero [] d h = refl
+  each-set k zero (x ∷ xs) d h = let e : k + 0 ≡ k = omega arith in ap (λ (n : ℕ). f n x ∷ xs) e
+  each-set k (suc i) [] d h = refl
+  each-set k (suc i) (x ∷ xs) d h =
+      let e : k + suc i ≡ suc k + i = omega arith in
+      let l : i < length xs = omega arith in
+      ap (λ (ys : List A). f k x ∷ ys) (ap (λ (n : ℕ). set (eachTo f (suc k) i xs) i (f n (getD xs i d))) e ∙ each-set (suc k) i xs d l)
+
+  pub each-all : (k : ℕ) (xs : List A) → eachTo f k (length xs) xs ≡ each f k xs
+  each-all k [] = refl
+  each-all k (x ∷ xs) = ap (λ (ys : List A). f k x ∷ ys) (each-all (suc k) xs)
+
+-- the length of an array of structs, as what owning it tells has it
+pub long : {A B : Type 0} (f : A → B) (l : List A) {n : ℕ} → length (map f l) ≡ n → length l ≡ n
+long f l h = sym (length-map l f) ∙ h
+
+module _ {A : Type 0} (f : ℕ → A → Bool) where
+  pub all-more : (k i : ℕ) (xs : List A) (d : A) → i < length xs → (allTo f k i xs && f (k + i) (getD xs i d)) ≡ allTo f k (suc i) xs
+  all-more k i [] d h = (let z : ⊥ = omega arith in elim z [ ])
+  all-more k zero (x ∷ xs) d h =
+      let e : k + 0 ≡ k = omega arith in
+      ap (λ (n : ℕ). f n x) e ∙ sym (and-true (f k x))
+  all-more k (suc i) (x ∷ xs) d h =
+      let e : k + suc i ≡ suc k + i = omega arith in
+      let l : i < length xs = omega arith in
+      and-assoc (f k x) (allTo f (suc k) i xs) _
+      ∙ ap (λ (b : Bool). f k x && b) (ap (λ (n : ℕ). allTo f (suc k) i xs && f n (getD xs i d)) e ∙ all-more (suc k) i xs d l)
+
+  pub all-all : (k : ℕ) (xs : List A) → allTo f k (length xs) xs ≡ all f k xs
+  all-all k [] = refl
+  all-all k (x ∷ xs) = ap (λ (b : Bool). f k x && b) (all-all (suc k) xs)
+
+  -- what the test says of one element
+  pub all-at : (k i : ℕ) (xs : List A) (d : A) → all f k xs ≡ true → i < length xs → f (k + i) (getD xs i d) ≡ true
+  all-at k i [] d p h = (let z : ⊥ = omega arith in elim z [ ])
+  all-at k zero (x ∷ xs) d p h = let e : k + 0 ≡ k = omega arith in ap (λ (n : ℕ). f n x) e ∙ and-left (f k x) _ p
+  all-at k (suc i) (x ∷ xs) d p h =
+      let e : k + suc i ≡ suc k + i = omega arith in
+      let l : i < length xs = omega arith in
+      ap (λ (n : ℕ). f n (getD xs i d)) e ∙ all-at (suc k) i xs d (and-right (f k x) _ p) l
+
+  -- one element replaced by another that meets its test
+  pub all-set : (k i : ℕ) (xs : List A) (y : A) → all f k xs ≡ true → f (k + i) y ≡ true → all f k (set xs i y) ≡ true
+  all-set k i [] y p q = refl
+  all-set k zero (x ∷ xs) y p q =
+      let e : k + 0 ≡ k = omega arith in
+      rw (rw e at q) (and-right (f k x) _ p)
+  all-set k (suc i) (x ∷ xs) y p q =
+      let e : k + suc i ≡ suc k + i = omega arith in
+      rw (and-left (f k x) _ p) (all-set (suc k) i xs y (and-right (f k x) _ p) (rw e at q))
+
+-- one turn of a loop that joins the tests
+pub all-turn : {A : Type 0} (f : ℕ → A → Bool) (xs : List A) (d : A) (i : ℕ) (b ok one : Bool) → i < length xs
+    → ok ≡ (b && allTo f 0 i xs) → one ≡ f i (getD xs i d) → (ok && one) ≡ (b && allTo f 0 (i + 1) xs)
+all-turn f xs d i b ok one h p q =
+    let z : i ≡ 0 + i = omega arith in
+    ap (λ (o : Bool). o && one) p
+    ∙ and-assoc b (allTo f 0 i xs) one
+    ∙ ap (λ (o : Bool). b && o) (ap (λ (o : Bool). allTo f 0 i xs && o) (q ∙ ap (λ (k : ℕ). f k (getD xs i d)) z) ∙ all-more f 0 i xs d h ∙ ap (λ (k : ℕ). allTo f 0 k xs) (sym (add-one i)))
+
+-- two changes at different places of a list
+module _ {A : Type 0} (d : A) where
+  -- what stands elsewhere is not changed
+  pub upd-other : (f : A → A) (i j : ℕ) (xs : List A) → (j ≡ i → ⊥) → getD (upd d f i xs) j d ≡ getD xs j d
+  upd-other f i j xs ne = getD-set-other xs i j (f (getD xs i d)) d ne
+
+  pub upd-comm : (f g : A → A) (i j : ℕ) (xs : List A) → (i ≡ j → ⊥) → upd d g j (upd d f i xs) ≡ upd d f i (upd d g j xs)
+  upd-comm f g i j xs ne =
+      ap (λ (x : A). set (upd d f i xs) j (g x)) (upd-other f i j xs (λ e. ne (sym e)))
+      ∙ set-comm xs i j (f (getD xs i d)) (g (getD xs j d)) ne
+      ∙ ap (λ (x : A). set (upd d g j xs) i (f x)) (sym (upd-other g j i xs ne))

@@ -1,0 +1,35 @@
+-- A list whose elements are changed or tested one after the other, each by what its index says, for any element.
+-- Assumes nothing.
+use Prim.Native.Nat.{ℕ, zero, suc}
+use mathlib.Core.List.{List, [], _∷_}
+use mathlib.Core.Bool.{Bool, true, _&&_}
+use lib.ListN.{getD, set}
+
+module _ {A : Type 0} (f : ℕ → A → A) where
+  -- each element changed by f at its index, the first of which is k
+  abbrev pub each : ℕ → List A → List A
+  each k [] = []
+  each k (x ∷ xs) = f k x ∷ each (suc k) xs
+
+  -- the same of the first i alone
+  abbrev pub eachTo : ℕ → ℕ → List A → List A
+  eachTo k zero xs = xs
+  eachTo k (suc i) [] = []
+  eachTo k (suc i) (x ∷ xs) = f k x ∷ eachTo (suc k) i xs
+
+module _ {A : Type 0} (f : ℕ → A → Bool) where
+  -- a test of every element at its index, the first of which is k
+  abbrev pub all : ℕ → List A → Bool
+  all k [] = true
+  all k (x ∷ xs) = f k x && all (suc k) xs
+
+  -- of the first i alone
+  abbrev pub allTo : ℕ → ℕ → List A → Bool
+  allTo k zero xs = true
+  allTo k (suc i) [] = true
+  allTo k (suc i) (x ∷ xs) = f k x && allTo (suc k) i xs
+
+module _ {A : Type 0} (d : A) where
+  -- the element at i changed by f
+  abbrev pub upd : (A → A) → ℕ → List A → List A
+  upd f i xs = set xs i (f (getD xs i d))

@@ -1,0 +1,1 @@
+// Laws over lists of any element: no code. Assumes nothing.

@@ -1,0 +1,7 @@
+-- Laws of readers (Join, Part), of bytes laid over others (Lay), of writers and the round trip (Spell), and of the test for room (Room).
+-- Assumes nothing.
+pub mod Join
+pub mod Lay
+pub mod Spell
+pub mod Part
+pub mod Room
