@@ -4,9 +4,9 @@
 use Prim.Native.Nat.{ℕ, zero, suc, _+_, _-_, _≤_, _<_}
 use mathlib.Core.Path.{_≡_, refl, sym, ap, ap₂, _∙_}
 use mathlib.Core.Bool.{Bool, true, false, cond, true≢false}
-use mathlib.Core.List.{List, [], _∷_, _++_, append-assoc, append-nil, cons-ne-nil, flatten}
+use mathlib.Core.List.{List, [], _∷_, _++_, append-nil, cons-ne-nil, flatten}
 use native.Mathlib.Omega.{arith}
-use lib.ListN.{length, take, drop, length-append}
+use lib.ListN.{length, drop, length-append}
 use lib.Seq.{drop-append-seam, append-snoc}
 use Rattle.feed.specs.Feed.{Routes, Cell, Out, nothing, pdu, dropped, Fed, fed, feed, after, emit, outs, stops, Took, took, readOf, goes, takeB, Ran, ran, joined, takes, segment, segments, Pdu, handed, pdus, drops}
 

@@ -5,14 +5,15 @@ use Prim.Native.Nat.{ℕ, zero, suc, _+_, _-_, _*_, _/_, _%_, _^_, _≤_, _<_}
 use mathlib.Core.Path.{_≡_, refl, sym, ap, ap₂, _∙_}
 use mathlib.Core.List.{List, [], _∷_, _++_, append-assoc, append-nil}
 use native.Mathlib.Omega.{arith}
-use native.Mathlib.Nat.{le-of-eq, lt-of-lt-of-le, pow-le-pow-right}
+use native.Mathlib.Nat.{le-of-eq, lt-of-lt-of-le, pow-le-pow-right, pow-suc, add-mul, mul-assoc, add-assoc, zero-add}
 use lib.Arith.{digits-div, digits-mod, digits-lt}
 use lib.Pow.{pow-add}
 use lib.ListN.{length, take, drop, getD}
 use lib.Seq.{take-suc}
+use Rattle.wire.specs.Be.{be}
 use Rattle.feed.specs.declared.Decision.{Decision}
 use Rattle.feed.specs.declared.Decision.the-variants.{Accept, Refuse}
-use Rattle.feed.specs.Feed.{Routes, Kind, header, payload, skip, Cell, cell, Out, nothing, pdu, dropped, Fed, ready, decided, add, done, spelt, feed, Took, took, takeB, resume}
+use Rattle.feed.specs.Feed.{Routes, Kind, header, payload, skip, Cell, cell, nothing, pdu, dropped, ready, decided, add, done, spelt, feed, took, takeB, resume}
 
 -- A STRETCH WITH MANY BYTES MORE
 abbrev pub addAll : Kind → List ℕ → Kind
@@ -113,6 +114,15 @@ spelt-append v (x ∷ a) b = spelt-append (v * 256 + x) a b
 
 pub spelt-take : (v : ℕ) (bs : List ℕ) (i : ℕ) → i < length bs → spelt v (take (suc i) bs) ≡ spelt v (take i bs) * 256 + getD bs i 0
 spelt-take v bs i h = ap (spelt v) (take-suc bs i 0 h) ∙ spelt-append v (take i bs) (getD bs i 0 ∷ [])
+
+-- the first w bytes, by the readers' number
+pub spelt-be : (v w : ℕ) (bs : List ℕ) → w ≤ length bs → spelt v (take w bs) ≡ v * 256 ^ w + be w bs 0
+unfolding be
+spelt-be v zero bs h = omega arith
+spelt-be v (suc w) bs h =
+    spelt-take v bs w (omega arith)
+    ∙ ap₂ (λ (x y : ℕ). x * 256 + y) (spelt-be v w bs (omega arith)) (ap (λ (j : ℕ). getD bs j 0) (sym (zero-add w)))
+    ∙ rw (add-mul, mul-assoc, add-assoc, pow-suc)
 
 -- k bytes stand for a number below 256 ^ k, and seven leave room for an eighth
 pub grow : (k w b : ℕ) → w < 256 ^ k → b < 256 → w * 256 + b < 256 ^ (k + 1)

@@ -1,4 +1,5 @@
--- The laws of reading. Assumes nothing.
+-- The laws of reading a stream. Assumes nothing.
 pub mod Laws
 pub mod Cut
+pub mod Long
 pub mod Trip

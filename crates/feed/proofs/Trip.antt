@@ -1,18 +1,18 @@
 -- THE ROUND TRIP over a stream: what is framed, and read by a ready reader whose routes accept it, comes back: the same PDUs in
 -- the same order, however the stream is cut; no drop; and the reader is ready again.
 -- Assumes nothing.
-use Prim.Native.Nat.{ℕ, zero, suc, _+_, _-_, _*_, _/_, _%_, _^_, _≤_, _<_}
+use Prim.Native.Nat.{ℕ, zero, suc, _+_, _*_, _/_, _%_, _^_, _<_}
 use mathlib.Core.Path.{_≡_, refl, sym, ap, ap₂, _∙_}
 use mathlib.Core.List.{List, [], _∷_, _++_, append-assoc, map, flatten}
 use native.Mathlib.Omega.{arith}
 use native.Mathlib.Nat.{div-add-mod', add-mul, mul-assoc, add-assoc, pow-suc, div-lt-iff-lt-mul}
-use lib.ListN.{length, take, drop, length-append}
+use lib.ListN.{length, length-append}
 use lib.Seq.{take-at, drop-at, take-append-seam, drop-append-seam}
 use Rattle.wire.specs.Lay.{spell}
 use Rattle.wire.proofs.Spell.{length-spell}
 use Rattle.feed.specs.declared.Decision.{Decision}
 use Rattle.feed.specs.declared.Decision.the-variants.{Accept}
-use Rattle.feed.specs.Feed.{Routes, header, Cell, Out, pdu, Fed, ready, decided, done, spelt, after, emit, outs, Took, took, takeB, resume, Ran, ran, segments, Pdu, handed}
+use Rattle.feed.specs.Feed.{Routes, header, Out, pdu, Fed, ready, decided, done, spelt, after, emit, outs, Took, took, takeB, resume, ran, segments, Pdu}
 use Rattle.feed.specs.Frame.{frame, Sent, frames, Routed, none, one}
 use Rattle.feed.proofs.Laws.{header-whole, done-header, body-whole, spelt-append}
 use Rattle.feed.proofs.Cut.{take-after, take-outs, segments-feed}
@@ -66,17 +66,17 @@ asOut p = pdu (p .route) (p .body)
 trip-outs : (R : Routes) {ss : List Sent} {ps : List Pdu} → Routed R ss ps → outs R ready (frames ss) ≡ map asOut ps
 unfolding frames outs
 trip-outs R none = refl
-trip-outs R (one {s} {r} {ss} {ps} hi hp ac h) =
+trip-outs R (one {s} {r} {ss} {ps} fits ac h) =
     take-outs R ready (frame (s .id) (s .body) ++ frames ss)
-    ∙ ap (λ (t : Took). emit (t .out) (outs R (t .to) (t .rest))) (take-frame R (s .id) r (s .body) (frames ss) hi hp ac)
+    ∙ ap (λ (t : Took). emit (t .out) (outs R (t .to) (t .rest))) (take-frame R (s .id) r (s .body) (frames ss) (fits .id-fits) (fits .length-fits) ac)
     ∙ ap (λ (os : List Out). pdu r (s .body) ∷ os) (trip-outs R h)
 
 trip-after : (R : Routes) {ss : List Sent} {ps : List Pdu} → Routed R ss ps → after R ready (frames ss) ≡ ready
 unfolding frames after
 trip-after R none = refl
-trip-after R (one {s} {r} {ss} {ps} hi hp ac h) =
+trip-after R (one {s} {r} {ss} {ps} fits ac h) =
     take-after R ready (frame (s .id) (s .body) ++ frames ss)
-    ∙ ap (λ (t : Took). after R (t .to) (t .rest)) (take-frame R (s .id) r (s .body) (frames ss) hi hp ac)
+    ∙ ap (λ (t : Took). after R (t .to) (t .rest)) (take-frame R (s .id) r (s .body) (frames ss) (fits .id-fits) (fits .length-fits) ac)
     ∙ trip-after R h
 
 -- ANY NUMBER OF FRAMES, in segments cut in any way

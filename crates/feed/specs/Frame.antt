@@ -22,9 +22,18 @@ unfoldable pub frames : List Sent → List ℕ
 frames [] = []
 frames (s ∷ ss) = frame (s .id) (s .body) ++ frames ss
 
+-- a header can say it
+pub record Fits (s : Sent) : Type 0 where
+  pub id-fits : s .id < 256 ^ 4
+  pub length-fits : length (s .body) < 256 ^ 4
+
+abbrev pub AllFit : List Sent → Type 0
+AllFit [] = Unit {0}
+AllFit (s ∷ ss) = Fits s × AllFit ss
+
 -- "with routes for those ids, switched on and allowing those lengths": what was sent, and beside it the PDUs of the routes
 -- that accept it
 pub data Routed (R : Routes) : List Sent → List Pdu → Type 0 where
   none : Routed R [] []
-  one : {s : Sent} {r : ℕ} {ss : List Sent} {ps : List Pdu} → s .id < 256 ^ 4 → length (s .body) < 256 ^ 4
-      → R (s .id) (length (s .body)) ≡ Accept r → Routed R ss ps → Routed R (s ∷ ss) (handed r (s .body) ∷ ps)
+  one : {s : Sent} {r : ℕ} {ss : List Sent} {ps : List Pdu} → Fits s → R (s .id) (length (s .body)) ≡ Accept r → Routed R ss ps
+      → Routed R (s ∷ ss) (handed r (s .body) ∷ ps)

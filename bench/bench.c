@@ -1,0 +1,64 @@
+/* bench.c: calls one function many times, for a counter of instructions.
+ *
+ *   bench ours|twin table QUARTERS IDS TIMES   checks a table with QUARTERS/4 of the most rows; IDS is rising or random
+ */
+#include "soad.h"
+#include "system.h"
+#include "twin.h"
+
+extern int atoi(const char *text);
+extern int strcmp(const char *one, const char *other);
+
+static uint8_t image[36 + 8 * 2 + (16 + 64 + 64) * 16];
+static size_t image_length;
+
+static void put(uint64_t value, unsigned width)
+{
+    for (unsigned i = width; i-- > 0;)
+        image[image_length++] = (uint8_t)(value >> 8 * i);
+}
+
+/* An id: those of a connection follow one another, or are anywhere. */
+static uint32_t id_of(unsigned row, int rising)
+{
+    return rising ? 0x100 + row : (row + 1) * 2654435769u ^ (row * row * 40503u) << 7;
+}
+
+static void make_image(unsigned quarters, int rising)
+{
+    static const uint8_t bytes[4] = {2, 16, 16, 16}, most[4] = {8, 16, 64, 64};
+    unsigned rows[4], offset = 36;
+    put(0x00010004, 4);
+    for (unsigned kind = 0; kind < 4; kind++) {
+        rows[kind] = most[kind] * quarters / 4;
+        put(kind + 1, 2);
+        put(rows[kind], 2);
+        put(offset, 4);
+        offset += rows[kind] * bytes[kind];
+    }
+    for (unsigned i = 0; i < rows[0]; i++)
+        put(i % 2 == 0 ? 0x0100 : 0x0200, 2);
+    for (unsigned i = 0; i < rows[1]; i++) {
+        put(i % rows[0], 1), put(i % 2, 1), put(0x0A000001 + i, 4), put(30490, 2), put(1472, 2), put(0, 2), put(1, 4);
+    }
+    for (unsigned i = 0; i < rows[2]; i++) {
+        put(i % rows[1], 1), put(0, 1), put(1464, 2), put(id_of(i, rising), 4), put(i, 2), put(0, 2), put(1, 4);
+    }
+    for (unsigned i = 0; i < rows[3]; i++) {
+        put(i % rows[1], 1), put(i % 2, 1), put(1464, 2), put(id_of(i, rising), 4);
+        put(rising ? i / 2 : id_of(i, rising) & 0xFFFF, 2), put(10, 2), put(1, 4);
+    }
+}
+
+int main(int count, char **words)
+{
+    if (count != 6 || strcmp(words[2], "table") != 0)
+        die("usage: bench ours|twin table QUARTERS IDS TIMES");
+    int ours = strcmp(words[1], "ours") == 0;
+    make_image((unsigned)atoi(words[3]), strcmp(words[4], "rising") == 0);
+    size_t place = 0;
+    for (int left = atoi(words[5]); left > 0; left--)
+        if ((ours ? soad_table_check(image, image_length, &place) : twin_table_check(image, image_length, &place)) != 0)
+            die("bench: the table was refused");
+    return 0;
+}

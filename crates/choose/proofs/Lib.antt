@@ -1,0 +1,5 @@
+-- Laws of the crate. Assumes nothing.
+pub mod Best
+pub mod Scores
+pub mod Pass
+pub mod Arrivals

@@ -1,0 +1,38 @@
+-- A member's score, as the code finds it. Assumes nothing.
+use Prim.Native.Nat.{ℕ, _+_}
+use mathlib.Core.Path.{_≡_, ap₂, _∙_}
+use mathlib.Core.Bool.{Bool, true, false, not, _&&_, _||_}
+use mathlib.Core.List.{List}
+use lib.Dec.{eqb, ltb}
+use Rattle.layout.specs.Layout.{rowsOf}
+use Rattle.layout.specs.declared.Kind.the-variants.{Connection as KConnection}
+use Rattle.rows.specs.declared.ConnectionRow.{ConnectionRow}
+use Rattle.rows.specs.Rows.{connectionOf}
+use Rattle.connection.specs.declared.Connection.{Connection}
+use Rattle.connection.specs.declared.Remote.{Remote}
+use Rattle.state.specs.declared.State.{State}
+use Rattle.connection.specs.declared.Fields.{Fields}
+use Rattle.connection.specs.Connection.{isReconnect, isOnline, equalFields, wildFields}
+use Rattle.state.specs.State.{recordAt}
+use Rattle.choose.specs.Choose.{rankOf, scoreOf, scoreAt}
+
+module _ (accept member : Bool) (source : Remote) (c : Connection) (waits up : Bool) (equal wild : Fields)
+    (w : waits ≡ isReconnect (c .mode)) (u : up ≡ isOnline (c .mode)) (e : equal ≡ equalFields (c .remote) source) (f : wild ≡ wildFields (c .remote)) where
+  abbrev scores : Bool
+  scores = member && ((waits || (not accept && up)) && not (c .«close_wanted»)) && ((equal .address || wild .address) && (equal .port || wild .port))
+
+  pub score-yes : (n : ℕ) → scores ≡ true → n ≡ rankOf equal → 1 + n ≡ scoreOf accept source member c
+  unfolding scoreOf
+  score-yes n t r = cc
+
+  pub score-no : scores ≡ false → 0 ≡ scoreOf accept source member c
+  unfolding scoreOf
+  score-no t = cc
+
+-- the score of record i, as the loop finds it
+pub score-at : (image : List ℕ) (s : State) (accept : Bool) (group : ℕ) (source : Remote) (rows : ℕ) (row : ConnectionRow) (i found : ℕ)
+    → rows ≡ rowsOf image KConnection → row ≡ connectionOf image i → found ≡ scoreOf accept source (ltb i rows && eqb (row .group) group) (recordAt s i)
+    → found ≡ scoreAt image s accept group source i
+unfolding scoreAt
+score-at image s accept group source rows row i found p q r =
+    r ∙ ap₂ (λ (n : ℕ) (x : ConnectionRow). scoreOf accept source (ltb i n && eqb (x .group) group) (recordAt s i)) p q

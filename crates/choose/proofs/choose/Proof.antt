@@ -1,0 +1,91 @@
+-- `choose::choose` meets its contract: the best so far is the one pass of the definition, at record i. Assumes nothing.
+use Prim.Native.Nat.{_-_}
+use mathlib.Core.Path.{_≡_}
+use native.Mathlib.Omega.{arith}
+use denote.Ref.{now}
+use borrow.Author.Needs.{needs}
+use Rattle.lists.proofs.Fold.{fold-start}
+use Rattle.choose.specs.Choose.{scoreAt}
+use Rattle.choose.proofs.Scores.{score-at}
+use Rattle.choose.proofs.Pass.{Passing, pass-no, pass-yes, pass-nobody, pass-somebody}
+use Rattle.choose.proofs.choose.Statement.{statement}
+use Rattle.choose.proofs.choose.Tie as tie
+
+abbrev Inv-loop : tie.InvT-loop
+Inv-loop image accept group source s rows best₀ at₀ i₀ best at i = Passing image s accept group source i best at
+
+abbrev μ-loop : tie.MeasureT-loop
+μ-loop image accept group source s rows best₀ at₀ i₀ best at i = 16 - i
+
+rows-of-requires : tie.Need-rows-of-requires Inv-loop μ-loop
+rows-of-requires c κs = search needs
+
+loop-holds : tie.Need-loop-holds Inv-loop μ-loop
+loop-holds c = fold-start _ _ _
+
+connection-row-requires : tie.Need-connection-row-requires Inv-loop μ-loop
+connection-row-requires c κs = search needs
+
+mul-c : tie.Need-mul-c Inv-loop μ-loop
+mul-c c = search needs
+
+element-copy-out-c : tie.Need-element-copy-out-c Inv-loop μ-loop
+element-copy-out-c c = omega arith
+
+score-requires : tie.Need-score-requires Inv-loop μ-loop
+score-requires c κs = search needs
+
+add-i : tie.Need-add-i Inv-loop μ-loop
+add-i c = omega arith
+
+loop-less : tie.Need-loop-less Inv-loop μ-loop
+loop-less c = omega arith
+
+-- the score of record i, as the definition has it
+abbrev L : tie.After-score Inv-loop μ-loop → tie.At-loop Inv-loop μ-loop
+L c = c .before .before .before .before .before
+
+abbrev A : tie.After-score Inv-loop μ-loop → tie.Start Inv-loop μ-loop
+A c = L c .before .before .before
+
+scored : (c : tie.After-score Inv-loop μ-loop) → c .score .result ≡ scoreAt (now (A c .args .image)) (A c .args .t2) (A c .args .accept) (A c .args .group) (A c .args .source) (L c .loop .i)
+scored c = score-at _ (A c .args .t2) _ _ _ _ _ (L c .loop .i) _ (L c .before .rows-of .ensures .0) (c .before .before .before .connection-row .ensures) (c .score .ensures)
+
+loop-again : tie.Need-loop-again Inv-loop μ-loop
+loop-again c = let l = L (c .before) in pass-no _ _ _ _ _ (l .loop .i) _ _ _ (l .loop .inv) (omega arith) (scored (c .before)) (c .if1 .taken)
+
+add-i-2 : tie.Need-add-i-2 Inv-loop μ-loop
+add-i-2 c = omega arith
+
+loop-less-2 : tie.Need-loop-less-2 Inv-loop μ-loop
+loop-less-2 c = omega arith
+
+loop-again-2 : tie.Need-loop-again-2 Inv-loop μ-loop
+loop-again-2 c = let l = L (c .before) in pass-yes _ _ _ _ _ (l .loop .i) _ _ _ (l .loop .inv) (omega arith) (scored (c .before)) (c .if1 .left)
+
+returns : tie.Need-returns Inv-loop μ-loop
+returns c = let l = c .before .before in pass-nobody _ _ _ _ _ (l .loop .i) _ _ (l .loop .inv) (c .before .loop-test .left) (c .if2 .taken)
+
+returns-2 : tie.Need-returns-2 Inv-loop μ-loop
+returns-2 c = let l = c .before .before in pass-somebody _ _ _ _ _ (l .loop .i) _ _ (l .loop .inv) (c .before .loop-test .left) (c .if2 .left)
+
+pub choose-spec : {M : Type 1} → statement M
+choose-spec =
+    tie.close
+    (tie.spec
+    Inv-loop
+    μ-loop
+    rows-of-requires
+    loop-holds
+    connection-row-requires
+    mul-c
+    element-copy-out-c
+    score-requires
+    add-i
+    loop-less
+    loop-again
+    add-i-2
+    loop-less-2
+    loop-again-2
+    returns
+    returns-2)

@@ -1,0 +1,22 @@
+-- `choose::rank` meets its contract. Assumes nothing.
+use native.Mathlib.Omega.{arith}
+use Rattle.choose.specs.Choose.{rankOf}
+use borrow.Author.Needs.{needs}
+use Rattle.choose.proofs.rank.Statement.{statement}
+use Rattle.choose.proofs.rank.Tie as tie
+
+one-requires : tie.Need-one-requires
+one-requires c κs = search needs
+
+one-requires-2 : tie.Need-one-requires-2
+one-requires-2 c κs = search needs
+
+add-result : tie.Need-add-result
+add-result c = search needs
+
+returns : tie.Need-returns
+unfolding rankOf
+returns c = (cc, omega arith)
+
+pub rank-spec : {M : Type 1} → statement M
+rank-spec = tie.close (tie.spec one-requires one-requires-2 add-result returns)

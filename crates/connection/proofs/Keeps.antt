@@ -1,0 +1,293 @@
+-- Each method leaves a sound record sound. Assumes nothing.
+use Prim.Native.Nat.{ℕ, _-_, _≤_}
+use lib.Dec.{eqb, leb, ltb, leb·zero}
+use mathlib.Core.Path.{_≡_, refl, sym, ap, _∙_}
+use mathlib.Core.Bool.{Bool, true, false, cond, not, _&&_, _||_, or-true}
+use borrow.Author.Tests.{eqb-true, eqb-false, ne-eqb, eq-eqb, not-true, not-false}
+use native.Mathlib.Omega.{arith}
+use Rattle.part.specs.declared.Part.{Part}
+use Rattle.part.specs.Part.{shaped, emptyPart}
+use Rattle.lists.proofs.Both.{and-left, and-right}
+use Rattle.connection.specs.declared.Mode.{Mode}
+use Rattle.connection.specs.declared.Mode.the-variants.{Offline, Reconnect, Online}
+use Rattle.connection.specs.declared.Remote.{Remote}
+use Rattle.connection.specs.declared.Connection.{Connection}
+use Rattle.connection.specs.declared.Config.{Config}
+use Rattle.connection.specs.declared.Refusal.the-variants.{Missing, Denied}
+use Rattle.connection.specs.declared.Answer.the-variants.{Done}
+use Rattle.connection.specs.declared.Event.{Event}
+use Rattle.connection.specs.declared.Event.the-variants.{Open, Close, Connected, Lost, SetRemote, Switch}
+use Rattle.connection.specs.Connection.{isOffline, isReconnect, isOnline, wildcard, withMode, withRemote, withSwitches, withPart, withSend, freshOf, become, openOf, closeOf, connectedOf, lostOf, remoteOf, metOf, switchOf, switchedOf, closedOf, startOf, reachOf, runOf, tickOf}
+use Rattle.connection.specs.Event.{openAllowed, closeAllowed, connectedAllowed, lostAllowed, remoteAllowed, allowed, known, after, refusedBy, stepOf}
+use Rattle.connection.specs.Sound.{Sound}
+
+impossible : {P : Type 0} → false ≡ true → P
+impossible p = absurd (let z : _≡_ {A = ℕ} 0 1 = cc in omega arith)
+
+-- a mode is one of the three
+online-not-offline : (m : Mode) → isOnline m ≡ true → isOffline m ≡ false
+online-not-offline Offline p = sym p
+online-not-offline Reconnect p = refl
+online-not-offline Online p = refl
+
+offline-not-online : (m : Mode) → isOffline m ≡ true → isOnline m ≡ false
+offline-not-online Offline p = refl
+offline-not-online Reconnect p = refl
+offline-not-online Online p = sym p
+
+reconnect-is : (m : Mode) → isReconnect m ≡ true → m ≡ Reconnect
+reconnect-is Offline p = impossible p
+reconnect-is Reconnect p = refl
+reconnect-is Online p = impossible p
+
+-- tests of three and four parts that hold
+three : (a b c : Bool) → (a && b && c) ≡ true → (a ≡ true) × (b ≡ true) × (c ≡ true)
+three true true true p = (refl, refl, refl)
+three false b c p = impossible p
+three true false c p = impossible p
+three true true false p = impossible p
+
+or-left : (a b c : Bool) → a ≡ true → (a || b || c) ≡ true
+or-left true b c p = refl
+or-left false b c p = impossible p
+
+-- what was allowed offline is allowed in every mode
+weaken : (x t : Bool) → (x || (t && false)) ≡ true → (x || (t && true)) ≡ true
+weaken true t p = refl
+weaken false true p = refl
+weaken false false p = p
+
+-- what was allowed in any mode is allowed online
+online-too : (e o t : Bool) → (e || (o && t)) ≡ true → (e || (true && t)) ≡ true
+online-too true o t p = refl
+online-too false true t p = p
+online-too false false t p = impossible p
+
+pub fresh-sound : (g : Config) → Sound g (freshOf g)
+fresh-sound g =
+    record {
+      fits = leb·zero (g .size);
+      shape = refl;
+      receiving = refl;
+      sending = refl;
+      timing = refl;
+      once = refl;
+      reached = refl;
+      opening = refl;
+      closing = refl;
+    }
+
+module _ (g : Config) (c : Connection) (s : Sound g c) where
+  pub open-keeps : openAllowed g c ≡ true → Sound g (openOf c)
+  open-keeps a =
+      record {
+        fits = s .fits;
+        shape = s .shape;
+        receiving = s .receiving;
+        sending = s .sending;
+        timing = s .timing;
+        once = s .once;
+        reached = s .reached;
+        opening = a;
+        closing = s .closing;
+      }
+
+  pub close-keeps : closeAllowed g c ≡ true → Sound g (closeOf c)
+  close-keeps a =
+      record {
+        fits = s .fits;
+        shape = s .shape;
+        receiving = s .receiving;
+        sending = s .sending;
+        timing = s .timing;
+        once = s .once;
+        reached = s .reached;
+        opening = refl;
+        closing = rw (and-left (not (g .automatic)) _ a);
+      }
+
+  -- a record that is not offline goes online: no open is wanted, and no close that was not
+  up-keeps : (r : Remote) → isOffline (c .mode) ≡ false → not (c .«close_wanted») ≡ true → wildcard r ≡ false → Sound g (metOf r c)
+  up-keeps r off k w =
+      record {
+        fits = s .fits;
+        shape = s .shape;
+        receiving = online-too (emptyPart (c .part)) (isOnline (c .mode)) (g .tcp) (s .receiving);
+        sending = or-true (eqb (c .used) 0);
+        timing = s .timing;
+        once = s .once;
+        reached = ap not w;
+        opening = rw off at (s .opening);
+        closing = or-left (not (c .«close_wanted»)) (not (g .automatic)) (g .tcp && true) k;
+      }
+
+  pub connected-keeps : connectedAllowed g c ≡ true → Sound g (connectedOf c)
+  connected-keeps a =
+      let t = three (g .tcp && isReconnect (c .mode)) (not (c .«close_wanted»)) (not (wildcard (c .remote))) a in
+      let m : c .mode ≡ Reconnect = reconnect-is (c .mode) (and-right (g .tcp) _ (t .0)) in
+      up-keeps (c .remote) (ap isOffline m) (t .1) (not-true _ (t .2))
+
+  -- a datagram or an accept, of a member that is reconnect or online without close wanted
+  pub met-keeps : (r : Remote) → (not (isOffline (c .mode)) && not (c .«close_wanted»)) ≡ true → wildcard r ≡ false → Sound g (metOf r c)
+  met-keeps r a w = up-keeps r (not-true _ (and-left (not (isOffline (c .mode))) _ a)) (and-right (not (isOffline (c .mode))) _ a) w
+
+  pub lost-keeps : lostAllowed g c ≡ true → Sound g (lostOf g c)
+  lost-keeps a =
+      let off : isOffline (c .mode) ≡ false = online-not-offline (c .mode) (and-right (g .tcp) _ a) in
+      record {
+        fits = leb·zero (g .size);
+        shape = refl;
+        receiving = refl;
+        sending = refl;
+        timing = refl;
+        once = refl;
+        reached = refl;
+        opening = rw off at (s .opening);
+        closing = rw off at (s .closing);
+      }
+
+  pub remote-keeps : (r : Remote) → remoteAllowed c ≡ true → Sound g (remoteOf r c)
+  remote-keeps r a =
+      record {
+        fits = s .fits;
+        shape = s .shape;
+        receiving = s .receiving;
+        sending = s .sending;
+        timing = s .timing;
+        once = s .once;
+        reached = rw a;
+        opening = s .opening;
+        closing = s .closing;
+      }
+
+  pub switches-keep : (w : ℕ) → Sound g (withSwitches w c)
+  switches-keep w =
+      record {
+        fits = s .fits;
+        shape = s .shape;
+        receiving = s .receiving;
+        sending = s .sending;
+        timing = s .timing;
+        once = s .once;
+        reached = s .reached;
+        opening = s .opening;
+        closing = s .closing;
+      }
+
+  -- an online TCP record has any receive part that is shaped
+  pub part-keeps : (p : Part) → shaped p ≡ true → (isOnline (c .mode) && g .tcp) ≡ true → Sound g (withPart p c)
+  part-keeps p q a =
+      record {
+        fits = s .fits;
+        shape = q;
+        receiving = rw a (or-true (emptyPart p));
+        sending = s .sending;
+        timing = s .timing;
+        once = s .once;
+        reached = s .reached;
+        opening = s .opening;
+        closing = s .closing;
+      }
+
+  -- an online record has any send bytes within its size, timed by the rules
+  pub send-keeps : (u t : ℕ) (d : Bool) → leb u (g .size) ≡ true → (eqb u 0 || isOnline (c .mode)) ≡ true → ((eqb t 0 && not d) || ltb 0 u) ≡ true → (eqb t 0 || not d) ≡ true → Sound g (withSend u t d c)
+  send-keeps u t d f b e o =
+      record {
+        fits = f;
+        shape = s .shape;
+        receiving = s .receiving;
+        sending = b;
+        timing = e;
+        once = o;
+        reached = s .reached;
+        opening = s .opening;
+        closing = s .closing;
+      }
+
+  -- every event that is allowed
+  pub after-keeps : (e : Event) → allowed e g c ≡ true → Sound g (after e g c)
+  after-keeps Open a = open-keeps a
+  after-keeps Close a = close-keeps a
+  after-keeps Connected a = connected-keeps a
+  after-keeps Lost a = lost-keeps a
+  after-keeps (SetRemote r) a = remote-keeps r a
+  after-keeps (Switch n on) a = switches-keep _
+
+  -- every event, allowed or not
+  pub step-keeps : (e : Event) → Sound g (stepOf e g c .connection)
+  unfolding stepOf
+  step-keeps e = go (known e) (allowed e g c) refl
+    where
+      go : (k a : Bool) → allowed e g c ≡ a
+          → Sound g (cond (not k) (refusedBy Missing c) (cond (not a) (refusedBy Denied c) (record { answer = Done; connection = after e g c })) .connection)
+      go false a q = s
+      go true false q = s
+      go true true q = after-keeps e q
+
+  -- the three steps of a tick that goes on
+  pub start-keeps : Sound g (startOf g c)
+  unfolding startOf
+  start-keeps = go (isOffline (c .mode) && (c .«open_wanted» || g .automatic)) refl
+    where
+      go : (b : Bool) → (isOffline (c .mode) && (c .«open_wanted» || g .automatic)) ≡ b → Sound g (cond b (withMode Reconnect false (c .«close_wanted») c) c)
+      go false e = s
+      go true e =
+          let off : isOffline (c .mode) ≡ true = and-left (isOffline (c .mode)) _ e in
+          let on : isOnline (c .mode) ≡ false = offline-not-online (c .mode) off in
+          record {
+            fits = s .fits;
+            shape = s .shape;
+            receiving = rw on at (s .receiving);
+            sending = rw on at (s .sending);
+            timing = s .timing;
+            once = s .once;
+            reached = refl;
+            opening = refl;
+            closing = weaken (not (c .«close_wanted») || not (g .automatic)) (g .tcp) (rw off at (s .closing));
+          }
+
+  pub reach-keeps : c .«close_wanted» ≡ false → Sound g (reachOf g c)
+  unfolding reachOf
+  reach-keeps k = go (isReconnect (c .mode) && not (g .tcp) && not (wildcard (c .remote))) refl
+    where
+      go : (b : Bool) → (isReconnect (c .mode) && not (g .tcp) && not (wildcard (c .remote))) ≡ b → Sound g (cond b (become Online c) c)
+      go false e = s
+      go true e =
+          let t = three (isReconnect (c .mode)) (not (g .tcp)) (not (wildcard (c .remote))) e in
+          let m : c .mode ≡ Reconnect = reconnect-is (c .mode) (t .0) in
+          up-keeps (c .remote) (ap isOffline m) (ap not k) (not-true _ (t .2))
+
+  pub run-keeps : Sound g (runOf c)
+  unfolding runOf
+  run-keeps = go (eqb (c .timer) 0) refl
+    where
+      last : (b d : Bool) → eqb (c .timer) 1 ≡ b → d ≡ false → (eqb (c .timer - 1) 0 || not (b || d)) ≡ true
+      last true d e n =
+          let one : c .timer ≡ 1 = eqb-true _ _ e in
+          let none : c .timer - 1 ≡ 0 = omega arith in
+          rw (eq-eqb _ _ none)
+      last false d e n = rw n (or-true (eqb (c .timer - 1) 0))
+
+      go : (b : Bool) → eqb (c .timer) 0 ≡ b → Sound g (cond b c (withSend (c .used) (c .timer - 1) (eqb (c .timer) 1 || c .due) c))
+      go true e = s
+      go false e =
+          let waiting : ltb 0 (c .used) ≡ true = rw e at (s .timing) in
+          let quiet : c .due ≡ false = not-true _ (rw e at (s .once)) in
+          send-keeps (c .used) (c .timer - 1) (eqb (c .timer) 1 || c .due) (s .fits) (s .sending) (rw waiting (or-true (eqb (c .timer - 1) 0 && not (eqb (c .timer) 1 || c .due)))) (last (eqb (c .timer) 1) (c .due) refl quiet)
+
+-- starting leaves the wish to close
+start-wish : (g : Config) (c : Connection) → startOf g c .«close_wanted» ≡ c .«close_wanted»
+unfolding startOf
+start-wish g c = go (isOffline (c .mode) && (c .«open_wanted» || g .automatic))
+  where
+    go : (b : Bool) → cond b (withMode Reconnect false (c .«close_wanted») c) c .«close_wanted» ≡ c .«close_wanted»
+    go true = refl
+    go false = refl
+
+pub tick-keeps : (g : Config) (c : Connection) → Sound g c → Sound g (tickOf g c)
+unfolding tickOf
+tick-keeps g c s = go (c .«close_wanted») refl
+  where
+    go : (b : Bool) → c .«close_wanted» ≡ b → Sound g (cond b (closedOf g c) (runOf (reachOf g (startOf g c))))
+    go true e = switches-keep g (freshOf g) (fresh-sound g) (c .switches)
+    go false e = run-keeps g (reachOf g (startOf g c)) (reach-keeps g (startOf g c) (start-keeps g c s) (start-wish g c ∙ e))

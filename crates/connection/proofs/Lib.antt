@@ -1,0 +1,5 @@
+-- The laws of the crate. Assumes nothing.
+pub mod Bits
+pub mod Ticks
+pub mod Rules
+pub mod Keeps

@@ -1,0 +1,93 @@
+-- The rules of a sound record, from the test and back; the zero record. Assumes nothing.
+use Prim.Native.Nat.{ℕ}
+use lib.Dec.{eqb}
+use mathlib.Core.Path.{_≡_, refl, sym, ap, _∙_}
+use mathlib.Core.Bool.{Bool, true, false, not, _&&_}
+use borrow.Author.Tests.{eqb-true, not-true}
+use native.Mathlib.Omega.{arith}
+use Rattle.part.specs.declared.Part.{Part}
+use Rattle.part.specs.declared.Part.the-variants.{Header, Payload, Skip}
+use Rattle.part.specs.Part.{emptyPart, ready}
+use Rattle.lists.proofs.Both.{and-left, and-right}
+use Rattle.connection.specs.declared.Mode.{Mode}
+use Rattle.connection.specs.declared.Mode.the-variants.{Offline, Reconnect, Online}
+use Rattle.connection.specs.declared.Remote.{Remote}
+use Rattle.connection.specs.declared.Connection.{Connection}
+use Rattle.connection.specs.declared.Config.{Config}
+use Rattle.connection.specs.Connection.{isOffline, wildFields, zeroRecord}
+use Rattle.connection.specs.Sound.{usedFits, partShaped, receives, sends, timed, neverBoth, onlineRemote, openRule, closeRule, soundOf, Sound, zeroOf}
+
+impossible : {P : Type 0} → false ≡ true → P
+impossible p = absurd (let z : _≡_ {A = ℕ} 0 1 = cc in omega arith)
+
+-- nine tests that hold together hold each
+nine : (a b c d e f g h i : Bool) → (a && b && c && d && e && f && g && h && i) ≡ true
+    → (a ≡ true) × (b ≡ true) × (c ≡ true) × (d ≡ true) × (e ≡ true) × (f ≡ true) × (g ≡ true) × (h ≡ true) × (i ≡ true)
+nine false b c d e f g h i p = impossible p
+nine true false c d e f g h i p = impossible p
+nine true true false d e f g h i p = impossible p
+nine true true true false e f g h i p = impossible p
+nine true true true true false f g h i p = impossible p
+nine true true true true true false g h i p = impossible p
+nine true true true true true true false h i p = impossible p
+nine true true true true true true true false i p = impossible p
+nine true true true true true true true true false p = impossible p
+nine true true true true true true true true true p = (refl, refl, refl, refl, refl, refl, refl, refl, refl)
+
+module _ (g : Config) (c : Connection) where
+  pub sound-from : soundOf g c ≡ true → Sound g c
+  unfolding soundOf
+  sound-from p =
+      let n = nine (usedFits g c) (partShaped c) (receives g c) (sends c) (timed c) (neverBoth c) (onlineRemote c) (openRule g c) (closeRule g c) p in
+      record {
+        fits = n .0;
+        shape = n .1;
+        receiving = n .2;
+        sending = n .3;
+        timing = n .4;
+        once = n .5;
+        reached = n .6;
+        opening = n .7;
+        closing = n .8;
+      }
+
+  pub sound-to : Sound g c → soundOf g c ≡ true
+  unfolding soundOf
+  sound-to s = rw (s .fits, s .shape, s .receiving, s .sending, s .timing, s .once, s .reached, s .opening, s .closing)
+
+offline-is : (m : Mode) → isOffline m ≡ true → m ≡ Offline
+offline-is Offline p = refl
+offline-is Reconnect p = impossible p
+offline-is Online p = impossible p
+
+-- a receive part that is empty is the ready one
+pub empty-is : (p : Part) → emptyPart p ≡ true → p ≡ ready
+empty-is (Header h v) e =
+    let a : h ≡ 0 = eqb-true _ _ (and-left (eqb h 0) (eqb v 0) e) in
+    let b : v ≡ 0 = eqb-true _ _ (and-right (eqb h 0) (eqb v 0) e) in
+    rw (a, b)
+empty-is (Payload r l h) e = impossible e
+empty-is (Skip n) e = impossible e
+
+-- a record that tests as all zero is the zero record
+pub zero-is : (c : Connection) → zeroOf c ≡ true → c ≡ zeroRecord
+unfolding zeroOf
+zero-is c p =
+    let n = nine (isOffline (c .mode)) (not (c .«open_wanted»)) (not (c .«close_wanted»)) (wildFields (c .remote) .address && wildFields (c .remote) .port) (eqb (c .switches) 0) (emptyPart (c .part)) (eqb (c .used) 0) (eqb (c .timer) 0) (not (c .due)) p in
+    rw (
+      offline-is (c .mode) (n .0),
+      not-true (c .«open_wanted») (n .1),
+      not-true (c .«close_wanted») (n .2),
+      eqb-true (c .remote .address) 0 (and-left (wildFields (c .remote) .address) _ (n .3)),
+      eqb-true (c .remote .port) 0 (and-right (wildFields (c .remote) .address) _ (n .3)),
+      eqb-true (c .switches) 0 (n .4),
+      empty-is (c .part) (n .5),
+      eqb-true (c .used) 0 (n .6),
+      eqb-true (c .timer) 0 (n .7),
+      not-true (c .due) (n .8),
+    )
+
+-- and the zero record does
+pub zero-zero : zeroOf zeroRecord ≡ true
+unfolding zeroOf
+zero-zero = refl

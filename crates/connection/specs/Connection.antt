@@ -1,0 +1,198 @@
+-- One connection record, and what each event makes of it, in the words of document 01. Assumes nothing.
+use Prim.Native.Nat.{ℕ, _-_, _^_}
+use lib.Dec.{eqb, ltb}
+use lib.Bits.{bitOr, bitXor}
+use mathlib.Core.Bool.{Bool, true, false, cond, not, _&&_, _||_}
+use Rattle.part.specs.declared.Part.{Part}
+use Rattle.part.specs.Part.{ready}
+use Rattle.connection.specs.declared.Mode.{Mode}
+use Rattle.connection.specs.declared.Mode.the-variants.{Offline, Reconnect, Online}
+use Rattle.connection.specs.declared.Remote.{Remote}
+use Rattle.connection.specs.declared.Fields.{Fields}
+use Rattle.connection.specs.declared.Connection.{Connection}
+use Rattle.connection.specs.declared.Config.{Config}
+
+abbrev pub isOffline : Mode → Bool
+isOffline Offline = true
+isOffline Reconnect = false
+isOffline Online = false
+
+abbrev pub isReconnect : Mode → Bool
+isReconnect Offline = false
+isReconnect Reconnect = true
+isReconnect Online = false
+
+abbrev pub isOnline : Mode → Bool
+isOnline Offline = false
+isOnline Reconnect = false
+isOnline Online = true
+
+-- which fields of two remotes are equal
+abbrev pub equalFields : Remote → Remote → Fields
+equalFields a b = record { address = eqb (a .address) (b .address); port = eqb (a .port) (b .port) }
+
+-- which fields of a remote are a wildcard: address 0, port 0
+abbrev pub wildFields : Remote → Fields
+wildFields r = record { address = eqb (r .address) 0; port = eqb (r .port) 0 }
+
+-- a remote has a wildcard when its address or its port is one
+abbrev pub wildcard : Remote → Bool
+wildcard r = wildFields r .address || wildFields r .port
+
+-- The record with some fields replaced: all that follows is said through these five.
+
+-- another mode, other wishes (open, close)
+abbrev pub withMode : Mode → Bool → Bool → Connection → Connection
+withMode m o k c =
+    record {
+      mode = m;
+      «open_wanted» = o;
+      «close_wanted» = k;
+      remote = c .remote;
+      switches = c .switches;
+      part = c .part;
+      used = c .used;
+      timer = c .timer;
+      due = c .due;
+    }
+
+abbrev pub withRemote : Remote → Connection → Connection
+withRemote r c =
+    record {
+      mode = c .mode;
+      «open_wanted» = c .«open_wanted»;
+      «close_wanted» = c .«close_wanted»;
+      remote = r;
+      switches = c .switches;
+      part = c .part;
+      used = c .used;
+      timer = c .timer;
+      due = c .due;
+    }
+
+abbrev pub withSwitches : ℕ → Connection → Connection
+withSwitches w c =
+    record {
+      mode = c .mode;
+      «open_wanted» = c .«open_wanted»;
+      «close_wanted» = c .«close_wanted»;
+      remote = c .remote;
+      switches = w;
+      part = c .part;
+      used = c .used;
+      timer = c .timer;
+      due = c .due;
+    }
+
+abbrev pub withPart : Part → Connection → Connection
+withPart p c =
+    record {
+      mode = c .mode;
+      «open_wanted» = c .«open_wanted»;
+      «close_wanted» = c .«close_wanted»;
+      remote = c .remote;
+      switches = c .switches;
+      part = p;
+      used = c .used;
+      timer = c .timer;
+      due = c .due;
+    }
+
+-- other send bytes, timer, due mark
+abbrev pub withSend : ℕ → ℕ → Bool → Connection → Connection
+withSend u t d c =
+    record {
+      mode = c .mode;
+      «open_wanted» = c .«open_wanted»;
+      «close_wanted» = c .«close_wanted»;
+      remote = c .remote;
+      switches = c .switches;
+      part = c .part;
+      used = u;
+      timer = t;
+      due = d;
+    }
+
+-- "Fresh: offline, nothing wanted or held, remote and switches from the table"
+abbrev pub freshOf : Config → Connection
+freshOf g =
+    record {
+      mode = Offline;
+      «open_wanted» = false;
+      «close_wanted» = false;
+      remote = g .remote;
+      switches = g .switches;
+      part = ready;
+      used = 0;
+      timer = 0;
+      due = false;
+    }
+
+-- the record that is all zero: fresh, with nothing from a table
+abbrev pub zeroRecord : Connection
+zeroRecord =
+    freshOf (record { tcp = false; automatic = false; remote = record { address = 0; port = 0 }; size = 0; switches = 0 })
+
+-- the wishes stay, the mode changes
+abbrev pub become : Mode → Connection → Connection
+become m c = withMode m (c .«open_wanted») (c .«close_wanted») c
+
+-- nothing held
+abbrev pub emptied : Connection → Connection
+emptied c = withPart ready (withSend 0 0 false c)
+
+-- "Open .. sets open wanted"
+abbrev pub openOf : Connection → Connection
+openOf c = withMode (c .mode) true (c .«close_wanted») c
+
+-- "Close .. sets close wanted, clears open"
+abbrev pub closeOf : Connection → Connection
+closeOf c = withMode (c .mode) false true c
+
+-- "Connected .. becomes online"
+abbrev pub connectedOf : Connection → Connection
+connectedOf c = become Online c
+
+-- "Lost .. becomes reconnect, held bytes dropped, remote as configured"
+abbrev pub lostOf : Config → Connection → Connection
+lostOf g c = become Reconnect (withRemote (g .remote) (emptied c))
+
+-- "Set remote"
+abbrev pub remoteOf : Remote → Connection → Connection
+remoteOf r c = withRemote r c
+
+-- "It becomes online with the source as remote"
+abbrev pub metOf : Remote → Connection → Connection
+metOf source c = become Online (withRemote source c)
+
+-- "switch n is the bit worth 2 to the n"; a number above 31 is no switch
+unfoldable pub worth : ℕ → ℕ
+worth n = cond (ltb n 32) (2 ^ n) 0
+
+-- the switches with switch n on; or set and then turned over, which is off
+unfoldable pub switchOf : ℕ → Bool → ℕ → ℕ
+switchOf n on w = cond on (bitOr w (worth n)) (bitXor (bitOr w (worth n)) (worth n))
+
+-- "Switch one routing group of one connection"
+abbrev pub switchedOf : ℕ → Bool → Connection → Connection
+switchedOf n on c = withSwitches (switchOf n on (c .switches)) c
+
+-- "Close wanted: back to the fresh record except switches"
+abbrev pub closedOf : Config → Connection → Connection
+closedOf g c = withSwitches (c .switches) (freshOf g)
+
+-- "offline with open wanted or automatic becomes reconnect, open cleared"
+unfoldable pub startOf : Config → Connection → Connection
+startOf g c = cond (isOffline (c .mode) && (c .«open_wanted» || g .automatic)) (withMode Reconnect false (c .«close_wanted») c) c
+
+-- "then UDP reconnect without wildcard becomes online"
+unfoldable pub reachOf : Config → Connection → Connection
+reachOf g c = cond (isReconnect (c .mode) && not (g .tcp) && not (wildcard (c .remote))) (become Online c) c
+
+-- "a running timer falls by 1 and at 0 becomes due"
+unfoldable pub runOf : Connection → Connection
+runOf c = cond (eqb (c .timer) 0) c (withSend (c .used) (c .timer - 1) (eqb (c .timer) 1 || c .due) c)
+
+-- Tick: "Close wanted: .. nothing more this tick. Otherwise: .."
+unfoldable pub tickOf : Config → Connection → Connection
+tickOf g c = cond (c .«close_wanted») (closedOf g c) (runOf (reachOf g (startOf g c)))

@@ -1,0 +1,81 @@
+-- The connection events that concern the record alone: when each is allowed, what it leaves, and the paper's numbers. Assumes nothing.
+use Prim.Native.Nat.{ℕ}
+use lib.Dec.{ltb}
+use mathlib.Core.Bool.{Bool, true, false, cond, not, _&&_, _||_}
+use Rattle.connection.specs.declared.Remote.{Remote}
+use Rattle.connection.specs.declared.Connection.{Connection}
+use Rattle.connection.specs.declared.Config.{Config}
+use Rattle.connection.specs.declared.Refusal.{Refusal}
+use Rattle.connection.specs.declared.Refusal.the-variants.{Memory, Unsound, Missing, Denied}
+use Rattle.connection.specs.declared.Answer.{Answer}
+use Rattle.connection.specs.declared.Answer.the-variants.{Done, Refused}
+use Rattle.connection.specs.declared.Stepped.{Stepped}
+use Rattle.connection.specs.declared.Event.{Event}
+use Rattle.connection.specs.declared.Event.the-variants.{Open, Close, Connected, Lost, SetRemote, Switch}
+use Rattle.connection.specs.Connection.{isOffline, isReconnect, isOnline, wildcard, openOf, closeOf, connectedOf, lostOf, remoteOf, switchedOf}
+
+-- the paper's numbers
+abbrev pub refusalNumber : Refusal → ℕ
+refusalNumber Memory = 11
+refusalNumber Unsound = 12
+refusalNumber Missing = 2
+refusalNumber Denied = 3
+
+abbrev pub answerNumber : Answer → ℕ
+answerNumber Done = 0
+answerNumber (Refused r) = refusalNumber r
+
+-- "Open: non-automatic, offline, no close wanted, else 3"
+abbrev pub openAllowed : Config → Connection → Bool
+openAllowed g c = not (g .automatic) && isOffline (c .mode) && not (c .«close_wanted»)
+
+-- "Close: non-automatic, and open wanted or not offline, else 3"
+abbrev pub closeAllowed : Config → Connection → Bool
+closeAllowed g c = not (g .automatic) && (c .«open_wanted» || not (isOffline (c .mode)))
+
+-- "Connected: TCP, reconnect, no close wanted, remote without wildcard, else 3"
+abbrev pub connectedAllowed : Config → Connection → Bool
+connectedAllowed g c = g .tcp && isReconnect (c .mode) && not (c .«close_wanted») && not (wildcard (c .remote))
+
+-- "Lost: TCP online, else 3"
+abbrev pub lostAllowed : Config → Connection → Bool
+lostAllowed g c = g .tcp && isOnline (c .mode)
+
+-- "Set remote: not online, else 3"
+abbrev pub remoteAllowed : Connection → Bool
+remoteAllowed c = not (isOnline (c .mode))
+
+-- a switch number above 31 is not there: 2
+abbrev pub known : Event → Bool
+known Open = true
+known Close = true
+known Connected = true
+known Lost = true
+known (SetRemote r) = true
+known (Switch n on) = ltb n 32
+
+abbrev pub allowed : Event → Config → Connection → Bool
+allowed Open g c = openAllowed g c
+allowed Close g c = closeAllowed g c
+allowed Connected g c = connectedAllowed g c
+allowed Lost g c = lostAllowed g c
+allowed (SetRemote r) g c = remoteAllowed c
+allowed (Switch n on) g c = true
+
+abbrev pub after : Event → Config → Connection → Connection
+after Open g c = openOf c
+after Close g c = closeOf c
+after Connected g c = connectedOf c
+after Lost g c = lostOf g c
+after (SetRemote r) g c = remoteOf r c
+after (Switch n on) g c = switchedOf n on c
+
+abbrev pub refusedBy : Refusal → Connection → Stepped
+refusedBy r c = record { answer = Refused r; connection = c }
+
+-- one event: 2, then 3, else done; a refusal leaves the record
+unfoldable pub stepOf : Event → Config → Connection → Stepped
+stepOf e g c =
+    cond (not (known e)) (refusedBy Missing c)
+    (cond (not (allowed e g c)) (refusedBy Denied c)
+    (record { answer = Done; connection = after e g c }))

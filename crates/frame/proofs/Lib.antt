@@ -1,0 +1,2 @@
+-- The laws of framing. Assumes nothing.
+pub mod Laws

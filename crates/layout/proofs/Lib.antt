@@ -1,0 +1,2 @@
+-- Laws of parts, bodies and rows. Assumes nothing.
+pub mod Parts

@@ -1,0 +1,7 @@
+-- The laws of reading by lengths. Assumes nothing.
+pub mod Bytes
+pub mod Heads
+pub mod Splits
+pub mod Marks
+pub mod Ready
+pub mod Reading

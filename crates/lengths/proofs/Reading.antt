@@ -1,0 +1,94 @@
+-- THE LIST THAT A STREAM HANDS OUT, read a byte at a time, is exactly its PDUs that are complete, routed, switched on at their
+-- eighth header byte and short enough, in order: `reading`, and over segment events `segments-list`.
+-- Assumes nothing.
+use Prim.Native.Nat.{ℕ, zero, suc, _+_, _-_, _*_, _/_, _%_, _^_, _<_}
+use mathlib.Core.Path.{_≡_, refl, sym, ap, ap₂, _∙_}
+use mathlib.Core.Bool.{Bool, true, false, cond}
+use mathlib.Core.List.{List, [], _∷_, _++_, map, map-append}
+use native.Mathlib.Omega.{arith}
+use borrow.Author.Tests.{leb-true, leb-false}
+use lib.Dec.{leb}
+use lib.ListN.{length, take, drop, length-map, drop-of-length-le}
+use Rattle.wire.specs.Lay.{spell}
+use Rattle.wire.proofs.Spell.{length-spell}
+use Rattle.feed.specs.declared.Decision.{Decision}
+use Rattle.feed.specs.declared.Decision.the-variants.{Accept, Refuse}
+use Rattle.feed.specs.Feed.{Routes, header, payload, skip, Cell, cell, Out, ready, decided, done, feed, Ran, Pdu, handed, pdus}
+use Rattle.feed.proofs.Laws.{addAll, addAll-payload, addAll-skip, addAll-header, grow}
+use Rattle.feed.proofs.Trip.{spelt-spell}
+use Rattle.lengths.specs.Listed.{Marked, mark, bytesOf, readTo, readOut, listed, listedFrom, Held, Bytes, Given, given, stream, AllBytes}
+use Rattle.lengths.proofs.Bytes.{map-drop, bytes-drop, bytes-append, bytes-spell, bytes-mark}
+use Rattle.lengths.proofs.Marks.{out-short, to-short, out-whole, out-append, given-reads, stream-bytes}
+use Rattle.lengths.proofs.Ready.{ready-list}
+
+-- header bytes that are held are the first of the stream
+held-first : (Q : ℕ → Routes) (n v : ℕ) (ms : List Marked) → Held (cell n (header v)) → readOut Q (cell n (header v)) ms ≡ readOut Q ready (map (mark 0) (spell (8 - n) v) ++ ms)
+held-first Q n v ms (p, le, s) =
+    let hs : List Marked = map (mark 0) (spell (8 - n) v) in
+    let long : length hs ≡ 8 - n = length-map (spell (8 - n) v) (mark 0) ∙ length-spell (8 - n) v in
+    let left : 8 - length hs ≡ n = omega (arith, long) in
+    let to : readTo Q ready hs ≡ cell n (header v) =
+    to-short Q 8 (header 0) hs (omega (arith, long))
+    ∙ ap₂ cell left
+    (ap (addAll (header 0)) (bytes-mark 0 (spell (8 - n) v)) ∙ addAll-header 0 (spell (8 - n) v) ∙ ap header (spelt-spell (8 - n) 0 v s ∙ omega arith)) in
+    sym (out-append Q ready hs ms ∙ ap₂ (λ (os : List Out) (c : Cell). os ++ readOut Q c ms) (out-short Q 8 (header 0) hs (omega (arith, long))) to)
+
+-- THE THEOREM: for any routes as the switches have them, any part that a record holds and any bytes
+pub reading : (Q : ℕ → Routes) (c : Cell) (ms : List Marked) → Held c → Bytes (bytesOf ms) → pdus (readOut Q c ms) ≡ listedFrom Q c ms
+unfolding listedFrom done pdus
+reading Q (cell n (header v)) ms h b =
+    let hs : List Marked = map (mark 0) (spell (8 - n) v) in
+    ap pdus (held-first Q n v ms h)
+    ∙ ready-list Q (hs ++ ms)
+    (rw (map-append (λ (m : Marked). m .byte) hs ms, bytes-mark 0 (spell (8 - n) v)) (bytes-append (spell (8 - n) v) (bytesOf ms) (bytes-spell (8 - n) v) b))
+reading Q (cell zero (payload r h)) ms p b = absurd (omega arith)
+reading Q (cell (suc n) (payload r h)) ms p b = go (leb (suc n) (length ms)) refl
+  where
+    go : (t : Bool) → leb (suc n) (length ms) ≡ t → pdus (readOut Q (cell (suc n) (payload r h)) ms) ≡ cond t (handed r (h ++ bytesOf (take (suc n) ms)) ∷ listed Q (drop (suc n) ms)) []
+    go true e =
+        ap pdus (out-whole Q n (payload r h) ms (leb-true (suc n) (length ms) e) _ (ap (done _) (addAll-payload r h (bytesOf (take (suc n) ms)))))
+        ∙ ap (λ (ps : List Pdu). handed r (h ++ bytesOf (take (suc n) ms)) ∷ ps)
+        (ready-list Q (drop (suc n) ms) (rw (map-drop (λ (m : Marked). m .byte) (suc n) ms) (bytes-drop (suc n) (bytesOf ms) b)))
+    go false e = ap pdus (out-short Q (suc n) (payload r h) ms (leb-false (suc n) (length ms) e))
+reading Q (cell zero skip) ms p b = absurd (omega arith)
+reading Q (cell (suc n) skip) ms p b =
+    go (leb (suc n) (length ms)) refl
+    ∙ ready-list Q (drop (suc n) ms) (rw (map-drop (λ (m : Marked). m .byte) (suc n) ms) (bytes-drop (suc n) (bytesOf ms) b))
+  where
+    go : (t : Bool) → leb (suc n) (length ms) ≡ t → pdus (readOut Q (cell (suc n) skip) ms) ≡ pdus (readOut Q ready (drop (suc n) ms))
+    go true e = ap pdus (out-whole Q n skip ms (leb-true (suc n) (length ms) e) _ (ap (done _) (addAll-skip (bytesOf (take (suc n) ms)))))
+    go false e =
+        ap pdus (out-short Q (suc n) skip ms (leb-false (suc n) (length ms) e))
+        ∙ sym (ap (λ (x : List Marked). pdus (readOut Q ready x)) (drop-of-length-le ms {i = suc n} (omega (arith, leb-false (suc n) (length ms) e))) ∙ ap pdus (out-short Q 8 (header 0) [] (omega arith)))
+
+-- THE LIST OF SEGMENT EVENTS
+pub segments-list : (Q : ℕ → Routes) (c : Cell) (gs : List Given) → Held c → AllBytes gs → pdus (given Q c gs .list) ≡ listedFrom Q c (stream gs)
+segments-list Q c gs h b = ap (λ (q : Ran). pdus (q .list)) (given-reads Q c gs) ∙ reading Q c (stream gs) h (stream-bytes gs b)
+
+-- what a record holds stays so
+held-ready : Held ready
+held-ready = (omega arith, omega arith, omega arith)
+
+held-begin : (d : Decision) (i n : ℕ) → Held (decided d i n .to)
+held-begin (Accept r) i zero = held-ready
+held-begin (Accept r) i (suc n) = omega arith
+held-begin (Refuse k) i zero = held-ready
+held-begin (Refuse k) i (suc n) = omega arith
+
+pub feed-held : (R : Routes) (c : Cell) (b : ℕ) → Held c → b < 256 → Held (feed R c b .to)
+unfolding feed done
+feed-held R (cell zero k) b h lt = held-ready
+feed-held R (cell (suc zero) (header v)) b h lt = held-begin (R ((v * 256 + b) / 2 ^ 32) ((v * 256 + b) % 2 ^ 32)) ((v * 256 + b) / 2 ^ 32) ((v * 256 + b) % 2 ^ 32)
+feed-held R (cell (suc zero) (payload r p)) b h lt = held-ready
+feed-held R (cell (suc zero) skip) b h lt = held-ready
+feed-held R (cell (suc (suc n)) (header v)) b (p, le, s) lt =
+    let k : 8 - suc n ≡ (8 - suc (suc n)) + 1 = omega arith in
+    (omega arith, omega arith, rw k (grow (8 - suc (suc n)) v b s lt))
+feed-held R (cell (suc (suc n)) (payload r p)) b h lt = omega arith
+feed-held R (cell (suc (suc n)) skip) b h lt = omega arith
+
+pub held-stays : (Q : ℕ → Routes) (c : Cell) (ms : List Marked) → Held c → Bytes (bytesOf ms) → Held (readTo Q c ms)
+unfolding readTo
+held-stays Q c [] h b = h
+held-stays Q c (m ∷ ms) h b =
+    held-stays Q (feed (Q (m .switches)) c (m .byte) .to) ms (feed-held (Q (m .switches)) c (m .byte) h (b 0)) (λ i. b (suc i))

@@ -1,0 +1,39 @@
+-- The edges of reading hold, by computation.
+-- Assumes nothing.
+use mathlib.Core.Path.{refl}
+use Rattle.wire.specs.Be.{be}
+use Rattle.feed.specs.Feed.{done, feed, takeB, takes, segment, segments}
+use Rattle.lengths.specs.Head.{headOf}
+use Rattle.lengths.specs.Split.{splits, split}
+use Rattle.walk.specs.Walk.{walkAt, listOf}
+use Rattle.readings.specs.Edges.{rows, ReadingEdges}
+
+pub edges : ReadingEdges
+unfolding be done feed takeB takes segment segments headOf splits split walkAt listOf rows
+edges =
+    record {
+      the-pdu = refl;
+      payload-180 = refl;
+      cut-after-3 = refl;
+      cut-after-8 = refl;
+      payload-18000 = refl;
+      kilopascal = refl;
+      length-0 = refl;
+      longest-2 = refl;
+      groups-0 = refl;
+      switched-off = refl;
+      no-route = refl;
+      skip-longest = refl;
+      take-pdu = refl;
+      take-drop = refl;
+      take-more = refl;
+      seven = refl;
+      eight = refl;
+      nine = refl;
+      ten = refl;
+      eleven = refl;
+      end = refl;
+      beyond-unknown = refl;
+      unknown-walked = refl;
+      too-long-walked = refl;
+    }

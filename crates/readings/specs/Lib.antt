@@ -1,0 +1,3 @@
+-- The edges of reading, and wrong readings. Assumes nothing.
+pub mod Edges
+pub mod Wrong

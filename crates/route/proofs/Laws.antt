@@ -1,0 +1,140 @@
+-- The laws of the lookup: the search for a row, the reason, and what an accepted header's row says.
+-- Assumes nothing.
+use Prim.Native.Nat.{ℕ, zero, suc, _+_, _/_, _<_, _≤_}
+use mathlib.Core.Path.{_≡_, refl, sym, ap, subst, _∙_}
+use mathlib.Core.Bool.{Bool, true, false, cond, not}
+use mathlib.Core.List.{List}
+use native.Mathlib.Omega.{arith}
+use borrow.Author.Tests.{ltb-true, ltb-false, eqb-true, not-false, lt-ltb, le-ltb}
+use lib.Dec.{leb, ltb, eqb}
+use lib.ListN.{length}
+use Rattle.feed.specs.declared.Decision.{Decision}
+use Rattle.feed.specs.declared.Decision.the-variants.{Accept, Refuse}
+use Rattle.lists.specs.Search.{badFrom, firstBad}
+use Rattle.lists.proofs.Both.{and-left, and-right}
+use Rattle.lists.proofs.Search.{Searched, search-start, search-on, search-found, search-ended}
+use Rattle.rows.specs.declared.RouteRow.{RouteRow}
+use Rattle.rows.specs.Rows.{routeIn}
+use Rattle.route.specs.Route.{isOn, rowsIn, counts, passed, rowFor, reasonIn, reasonOf, decisionOf, lookupOf}
+
+-- the search for a row: at a row that is passed, at one that counts, and at the end
+module _ (routes : List ℕ) (connection id : ℕ) where
+  row-says : (i : ℕ) (row : RouteRow) (b : Bool) → row ≡ routeIn routes i → b ≡ counts row connection id → passed routes connection id i ≡ not b
+  row-says i row b er eb = ap (λ (r : RouteRow). not (counts r connection id)) (sym er) ∙ ap not (sym eb)
+
+  pub find-on : (n i : ℕ) (row : RouteRow) (b : Bool) → Searched (passed routes connection id) n i → i < n
+      → row ≡ routeIn routes i → b ≡ counts row connection id → b ≡ false → Searched (passed routes connection id) n (i + 1)
+  find-on n i row b inv h er eb e = search-on (passed routes connection id) n i inv h (row-says i row b er eb ∙ ap not e)
+
+  pub find-hit : (n i : ℕ) (row : RouteRow) (b : Bool) → Searched (passed routes connection id) n i → i < n → n ≡ rowsIn routes
+      → row ≡ routeIn routes i → b ≡ counts row connection id → b ≡ true → i ≡ rowFor routes connection id
+  unfolding rowFor
+  find-hit n i row b inv h en er eb e =
+      search-found (passed routes connection id) n i inv h (row-says i row b er eb ∙ ap not e) ∙ ap (firstBad (passed routes connection id)) en
+
+  pub find-end : (n i : ℕ) → Searched (passed routes connection id) n i → n ≤ i → n ≡ rowsIn routes → i ≡ rowFor routes connection id
+  unfolding rowFor
+  find-end n i inv h en = search-ended (passed routes connection id) n i inv h ∙ ap (firstBad (passed routes connection id)) en
+
+-- the reason: no row, or what the row says
+pub reason-row : (routes : List ℕ) (i n switches length : ℕ) (row : RouteRow) (k : ℕ) → i < n → n ≡ rowsIn routes → row ≡ routeIn routes i
+    → k ≡ reasonIn row switches length → k ≡ reasonOf routes i switches length
+unfolding reasonOf
+reason-row routes i n switches length row k h en er ek =
+    let l : i < rowsIn routes = omega arith in
+    simp (lt-ltb i (rowsIn routes) l) (ek ∙ ap (λ (r : RouteRow). reasonIn r switches length) er)
+
+pub reason-none : (routes : List ℕ) (i n switches length : ℕ) → n ≤ i → n ≡ rowsIn routes → 20 ≡ reasonOf routes i switches length
+unfolding reasonOf
+reason-none routes i n switches length h en =
+    let l : rowsIn routes ≤ i = omega arith in
+    simp (le-ltb i (rowsIn routes) l)
+
+-- a reason is 0 or one of 20, 21, 22
+pub record Known (k : ℕ) : Type 0 where
+  pub low : 20 ≤ k
+  pub high : k ≤ 22
+
+pub reason-known : (routes : List ℕ) (i switches length k : ℕ) → k ≡ reasonOf routes i switches length → (k ≡ 0 → ⊥) → Known k
+unfolding reasonOf reasonIn
+reason-known routes i switches length k e h =
+    go (ltb i (rowsIn routes)) (not (isOn (routeIn routes i .groups) switches)) (ltb (routeIn routes i .longest) length) e
+  where
+    go : (a b c : Bool) → k ≡ cond a (cond b 21 (cond c 22 0)) 20 → Known k
+    go false b c q = record { low = omega arith; high = omega arith }
+    go true true c q = record { low = omega arith; high = omega arith }
+    go true false true q = record { low = omega arith; high = omega arith }
+    go true false false q = absurd (h q)
+
+-- the decision at a reason
+pub accepts : (routes : List ℕ) (connection switches id length row k : ℕ) → row ≡ rowFor routes connection id → k ≡ reasonOf routes row switches length → k ≡ 0
+    → Accept row ≡ lookupOf routes connection switches id length
+unfolding lookupOf decisionOf
+accepts routes connection switches id length row k er ek e =
+    ap (λ (j : ℕ). decisionOf j row) (sym e ∙ ek) ∙ ap (λ (r : ℕ). decisionOf (reasonOf routes r switches length) r) er
+
+refusal : (k i : ℕ) → (k ≡ 0 → ⊥) → Refuse k ≡ decisionOf k i
+unfolding decisionOf
+refusal zero i h = absurd (h refl)
+refusal (suc k) i h = refl
+
+pub refuses : (routes : List ℕ) (connection switches id length row k : ℕ) → row ≡ rowFor routes connection id → k ≡ reasonOf routes row switches length → (k ≡ 0 → ⊥)
+    → Refuse k ≡ lookupOf routes connection switches id length
+unfolding lookupOf
+refuses routes connection switches id length row k er ek h =
+    refusal k row h ∙ ap (λ (j : ℕ). decisionOf j row) ek ∙ ap (λ (r : ℕ). decisionOf (reasonOf routes r switches length) r) er
+
+-- WHAT AN ACCEPTED HEADER'S ROW SAYS: it is there, it is the connection's, it has the header's id, it is on and allows the length
+pub record Allows (routes : List ℕ) (connection switches id length route : ℕ) : Type 0 where
+  pub there : route < rowsIn routes
+  pub owned : routeIn routes route .connection ≡ connection
+  pub named : routeIn routes route .id ≡ id
+  pub on : isOn (routeIn routes route .groups) switches ≡ true
+  pub fits : length ≤ routeIn routes route .longest
+
+bad-from : (good : ℕ → Bool) (n k : ℕ) → badFrom good n k < k + n → good (badFrom good n k) ≡ false
+unfolding badFrom
+bad-from good zero k h = absurd (omega arith)
+bad-from good (suc n) k h = go (good k) refl h (bad-from good n (suc k))
+  where
+    go : (b : Bool) → good k ≡ b → cond b (badFrom good n (suc k)) k < k + suc n
+        → (badFrom good n (suc k) < suc k + n → good (badFrom good n (suc k)) ≡ false) → good (cond b (badFrom good n (suc k)) k) ≡ false
+    go true p l more = more (omega arith)
+    go false p l more = p
+
+-- the row that the search finds, where it finds one, counts
+row-counts : (routes : List ℕ) (connection id : ℕ) → rowFor routes connection id < rowsIn routes → counts (routeIn routes (rowFor routes connection id)) connection id ≡ true
+unfolding rowFor
+row-counts routes connection id h = not-false _ (bad-from (passed routes connection id) (rowsIn routes) 0 (omega arith))
+
+row-named : (row : RouteRow) (connection id : ℕ) → counts row connection id ≡ true → (row .connection ≡ connection) × (row .id ≡ id)
+unfolding counts
+row-named row connection id e = (eqb-true _ _ (and-left _ _ e), eqb-true _ _ (and-right (eqb (row .connection) connection) _ e))
+
+pub accepted : (routes : List ℕ) (connection switches id length route : ℕ) → lookupOf routes connection switches id length ≡ Accept route
+    → Allows routes connection switches id length route
+unfolding lookupOf decisionOf reasonOf reasonIn
+accepted routes connection switches id length route e =
+    go (rowFor routes connection id) (row-counts routes connection id) (ltb (rowFor routes connection id) (rowsIn routes)) refl
+    (isOn (routeIn routes (rowFor routes connection id) .groups) switches) refl (ltb (routeIn routes (rowFor routes connection id) .longest) length) refl e
+  where
+    go : (r : ℕ) → (r < rowsIn routes → counts (routeIn routes r) connection id ≡ true) → (a : Bool) → ltb r (rowsIn routes) ≡ a
+        → (b : Bool) → isOn (routeIn routes r .groups) switches ≡ b → (c : Bool) → ltb (routeIn routes r .longest) length ≡ c
+        → decisionOf (cond a (cond (not b) 21 (cond c 22 0)) 20) r ≡ Accept route → Allows routes connection switches id length route
+    go r k false ea b eb c ec q = let z : _≡_ {A = ℕ} 0 1 = cc in absurd (omega arith)
+    go r k true ea false eb c ec q = let z : _≡_ {A = ℕ} 0 1 = cc in absurd (omega arith)
+    go r k true ea true eb true ec q = let z : _≡_ {A = ℕ} 0 1 = cc in absurd (omega arith)
+    go r k true ea true eb false ec q =
+        let p : r ≡ route = cc in
+        let l : r < rowsIn routes = ltb-true _ _ ea in
+        let n : (routeIn routes r .connection ≡ connection) × (routeIn routes r .id ≡ id) = row-named _ _ _ (k l) in
+        subst (Allows routes connection switches id length) p (record { there = l; owned = n .0; named = n .1; on = eb; fits = ltb-false _ _ ec })
+
+-- a drop reason is 20, 21 or 22
+pub refused : (routes : List ℕ) (connection switches id length k : ℕ) → lookupOf routes connection switches id length ≡ Refuse k → Known k
+unfolding lookupOf decisionOf
+refused routes connection switches id length k e = go (reasonOf routes (rowFor routes connection id) switches length) refl e
+  where
+    go : (j : ℕ) → j ≡ reasonOf routes (rowFor routes connection id) switches length → decisionOf j (rowFor routes connection id) ≡ Refuse k → Known k
+    go zero p q = let z : _≡_ {A = ℕ} 0 1 = cc in absurd (omega arith)
+    go (suc j) p q = subst Known (cc) (reason-known routes (rowFor routes connection id) switches length (suc j) p (λ n. omega arith))

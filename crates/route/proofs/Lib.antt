@@ -1,0 +1,2 @@
+-- The laws of the lookup. Assumes nothing.
+pub mod Laws

@@ -1,0 +1,12 @@
+-- `route::is_on` meets its contract. Assumes nothing.
+use mathlib.Core.Path.{refl}
+use Rattle.route.specs.Route.{isOn}
+use Rattle.route.proofs.is_on.Statement.{statement}
+use Rattle.route.proofs.is_on.Tie as tie
+
+returns : tie.Need-returns
+unfolding isOn
+returns c = refl
+
+pub is-on-spec : {M : Type 1} → statement M
+is-on-spec = tie.close (tie.spec returns)

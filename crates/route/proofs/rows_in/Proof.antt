@@ -1,0 +1,17 @@
+-- `route::rows_in` meets its contract. Assumes nothing.
+use borrow.Author.Needs.{needs}
+use borrow.Author.Tests.{le-leb, lt-leb}
+use Rattle.route.specs.Route.{rowsIn}
+use Rattle.route.proofs.rows_in.Statement.{statement}
+use Rattle.route.proofs.rows_in.Tie as tie
+
+returns : tie.Need-returns
+unfolding rowsIn
+returns c = (simp (le-leb _ _ (c .if1 .taken)), search needs)
+
+returns-2 : tie.Need-returns-2
+unfolding rowsIn
+returns-2 c = (simp (lt-leb _ _ (c .if1 .left)), search needs)
+
+pub rows-in-spec : {M : Type 1} → statement M
+rows-in-spec = tie.close (tie.spec returns returns-2)

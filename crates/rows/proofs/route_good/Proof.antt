@@ -1,0 +1,25 @@
+-- `rows::route_good` meets its contract. Assumes nothing.
+use Rattle.rows.specs.Rules.{routeGood}
+use borrow.Author.Needs.{needs}
+use Rattle.rows.proofs.route_good.Statement.{statement}
+use Rattle.rows.proofs.route_good.Tie as tie
+
+be8-requires : tie.Need-be8-requires
+be8-requires c κs = search needs
+
+be8-requires-2 : tie.Need-be8-requires-2
+be8-requires-2 c κs = search needs
+
+be16-requires : tie.Need-be16-requires
+be16-requires c κs = search needs
+
+be16-requires-2 : tie.Need-be16-requires-2
+be16-requires-2 c κs = search needs
+
+returns : tie.Need-returns
+unfolding routeGood
+returns c = cc
+
+pub route-good-spec : {M : Type 1} → statement M
+route-good-spec =
+    tie.close (tie.spec be8-requires be8-requires-2 be16-requires be16-requires-2 returns)

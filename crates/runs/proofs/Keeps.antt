@@ -1,0 +1,107 @@
+-- While a TCP connection is online, nothing but its segments changes what it holds of its stream; and one that is not online
+-- holds nothing of it. Here for connection events.
+-- Assumes nothing.
+use Prim.Native.Nat.{ℕ, _-_, _<_, _≤_}
+use mathlib.Core.Path.{_≡_, refl, sym, ap, ap₂, _∙_, subst}
+use mathlib.Core.Bool.{Bool, true, false, cond, not, _&&_, _||_, true≢false, false≢true}
+use mathlib.Core.List.{List, [], _∷_}
+use lib.ListN.{length, getD, set, take as front, List·getD-eq-default}
+use lib.Seq.{take-take, getD-set-same, set-out}
+use lib.Dec.{eqb, leb, ltb}
+use native.Mathlib.Decide.{decLt}
+use native.Mathlib.Nat.{le-refl}
+use native.Mathlib.Omega.{arith}
+use borrow.Author.Tests.{not-false, not-true}
+use Rattle.part.specs.declared.Part.{Part}
+use Rattle.part.specs.declared.Part.the-variants.{Header, Payload, Skip}
+use Rattle.connection.specs.declared.Connection.{Connection}
+use Rattle.connection.specs.declared.Config.{Config}
+use Rattle.connection.specs.declared.Event.{Event as Change}
+use Rattle.connection.specs.declared.Event.the-variants.{Open, Close, Connected, Lost, SetRemote, Switch}
+use Rattle.connection.specs.declared.Mode.{Mode}
+use Rattle.connection.specs.declared.Mode.the-variants.{Reconnect}
+use Rattle.connection.specs.Connection.{isOnline, wildcard, become, withMode, withRemote, withSend}
+use Rattle.connection.specs.Event.{known, allowed, after, stepOf, refusedBy}
+use Rattle.feed.specs.Feed.{cell, payload}
+use Rattle.world.specs.World.{Held, World, blank, heldBy, cellOf, cellAt, follow}
+use Rattle.world.specs.Events.{Own, change, segment, walk, take, Event, on}
+use Rattle.world.specs.Step.{Table, Acted, acted, receiving, routesAt, afterTake, takeOf, does, acts}
+use Rattle.runs.specs.Streams.{Quiet, Kept}
+
+-- nothing happened
+pub kept-same : (h : Held) → Quiet h → Kept h h
+kept-same h q = record { going = λ _. refl; gone = q }
+
+-- a record that follows holds the same of its stream, where its part is the same
+cell-follow : (p : Part) (l : List ℕ) → cellOf p (front (heldBy p) l) ≡ cellOf p l
+cell-follow (Header held value) l = refl
+cell-follow (Payload route n held) l = ap (λ (q : List ℕ). cell (n - held) (payload route q)) (take-take held held l (le-refl held))
+cell-follow (Skip bytes) l = refl
+
+pub follows : (c : Connection) (h : Held) → c .part ≡ h .connection .part → cellAt (follow c h) ≡ cellAt h
+follows c h e = cell-follow (c .part) (h .received) ∙ ap (λ (p : Part). cellOf p (h .received)) e
+
+pub kept-follow : (c : Connection) (h : Held) → c .part ≡ h .connection .part → c .mode ≡ h .connection .mode → Quiet h → Kept h (follow c h)
+kept-follow c h p m q =
+    record { going = λ _. follows c h p; gone = λ off. follows c h p ∙ q (ap isOnline (sym m) ∙ off) }
+
+-- the six events of the record alone
+kept-after : (e : Change) (g : Config) (h : Held) → Quiet h → Kept h (follow (after e g (h .connection)) h)
+kept-after Open g h q = kept-follow (after Open g (h .connection)) h refl refl q
+kept-after Close g h q = kept-follow (after Close g (h .connection)) h refl refl q
+kept-after Connected g h q = record { going = λ _. follows (after Connected g (h .connection)) h refl; gone = λ off. absurd (true≢false off) }
+kept-after Lost g h q = record { going = λ on. absurd (false≢true on); gone = λ _. refl }
+kept-after (SetRemote r) g h q = kept-follow (after (SetRemote r) g (h .connection)) h refl refl q
+kept-after (Switch n b) g h q = kept-follow (after (Switch n b) g (h .connection)) h refl refl q
+
+kept-step : (e : Change) (g : Config) (h : Held) (k a : Bool) → known e ≡ k → allowed e g (h .connection) ≡ a → Quiet h → Kept h (follow (stepOf e g (h .connection) .connection) h)
+unfolding stepOf
+kept-step e g h false a p r q = rw p (kept-follow (h .connection) h refl refl q)
+kept-step e g h true false p r q = rw (p, r) (kept-follow (h .connection) h refl refl q)
+kept-step e g h true true p r q = rw (p, r) (kept-after e g h q)
+
+-- taking the waiting bytes of a TCP connection
+taken-part : (g : Config) (room : ℕ) (c : Connection) (x y : Bool) → (eqb (c .used) 0 || ltb room (c .used)) ≡ x → (g .automatic && wildcard (g .remote)) ≡ y → g .tcp ≡ true
+    → (takeOf g room c .part ≡ c .part) × (takeOf g room c .mode ≡ c .mode)
+taken-part g room c true y p r t = rw p (refl, refl)
+taken-part g room c false true p r t = rw (p, r, t) (refl, refl)
+taken-part g room c false false p r t = rw (p, r) (refl, refl)
+
+-- what an event is, if no segment
+pub data Other : Own → Type 0 where
+  a-change : (e : Change) → Other (change e)
+  a-walk : (d : List ℕ) (p : ℕ) → Other (walk d p)
+  a-take : (room : ℕ) → Other (take room)
+
+module _ (T : Table) (k : ℕ) (tcp : T .config k .tcp ≡ true) where
+  kept-does : (e : Own) → Other e → (h : Held) → Quiet h → Kept h (does T k e h .to)
+  unfolding does
+  kept-does _ (a-change e) h q = kept-step e (T .config k) h (known e) (allowed e (T .config k) (h .connection)) refl refl q
+  kept-does _ (a-walk d p) h q = rw tcp (kept-same h q)
+  kept-does _ (a-take room) h q =
+      let s = taken-part (T .config k) room (h .connection) _ _ refl refl tcp in
+      kept-follow (takeOf (T .config k) room (h .connection)) h (s .0) (s .1) q
+
+  pub kept-acts : (e : Own) → Other e → (h : Held) (there : Bool) → ltb k (T .rows) ≡ there → Quiet h → Kept h (acts T k e h .to)
+  unfolding acts
+  kept-acts e o h true p q = rw p (kept-does e o h q)
+  kept-acts e o h false p q = rw p (kept-same h q)
+
+  -- .. and none of them hands anything out
+  does-nothing : (e : Own) → Other e → (h : Held) → does T k e h .list ≡ []
+  unfolding does
+  does-nothing _ (a-change e) h = refl
+  does-nothing _ (a-walk d p) h = rw tcp
+  does-nothing _ (a-take room) h = refl
+
+  pub acts-nothing : (e : Own) → Other e → (h : Held) (there : Bool) → ltb k (T .rows) ≡ there → acts T k e h .list ≡ []
+  unfolding acts
+  acts-nothing e o h true p = rw p (does-nothing e o h)
+  acts-nothing e o h false p = rw p
+
+-- at its place in the world; past the last record nothing is there
+pub kept-set : (hs : List Held) (k : ℕ) (h′ : Held) → Quiet (getD hs k blank) → Kept (getD hs k blank) h′ → Dec (k < length hs) → Kept (getD hs k blank) (getD (set hs k h′) k blank)
+kept-set hs k h′ q r (yes lt) = subst (Kept (getD hs k blank)) (sym (getD-set-same hs k h′ blank lt)) r
+kept-set hs k h′ q r (no ge) =
+    let out : length hs ≤ k = omega arith in
+    subst (λ (l : List Held). Kept (getD hs k blank) (getD l k blank)) (sym (set-out hs k h′ out)) (kept-same (getD hs k blank) q)

@@ -1,0 +1,4 @@
+-- The theorems about runs. Assumes nothing.
+pub mod Same
+pub mod Keeps
+pub mod Streams

@@ -1,0 +1,15 @@
+-- WHICH RUNS COUNT AS THE SAME (demand 3): "swap neighbouring connection events of different connections, or cut or join
+-- neighbouring segments of one TCP connection, as often as you like". Events of a whole group or module stay where they are.
+-- Assumes nothing: this is a definition.
+use Prim.Native.Nat.{ℕ}
+use mathlib.Core.Path.{_≡_}
+use mathlib.Core.List.{List, _∷_, _++_}
+use Rattle.world.specs.Events.{Own, segment, Event, on}
+
+pub data Same : List Event → List Event → Type 0 where
+  swap : (i j : ℕ) (a b : Own) (es : List Event) → (i ≡ j → ⊥) → Same (on i a ∷ on j b ∷ es) (on j b ∷ on i a ∷ es)
+  cut : (i : ℕ) (x y : List ℕ) (es : List Event) → Same (on i (segment (x ++ y)) ∷ es) (on i (segment x) ∷ on i (segment y) ∷ es)
+  join : (i : ℕ) (x y : List ℕ) (es : List Event) → Same (on i (segment x) ∷ on i (segment y) ∷ es) (on i (segment (x ++ y)) ∷ es)
+  same : (es : List Event) → Same es es
+  later : (e : Event) {es fs : List Event} → Same es fs → Same (e ∷ es) (e ∷ fs)
+  both : {es fs gs : List Event} → Same es fs → Same fs gs → Same es gs

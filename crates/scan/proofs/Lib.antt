@@ -1,0 +1,3 @@
+-- Laws of the searches. Assumes nothing.
+pub mod Rows
+pub mod Marks

@@ -1,0 +1,20 @@
+-- `state::counted_once` meets its contract. Assumes nothing.
+use borrow.Author.Tests.{lt-ltb, le-ltb}
+use Rattle.state.specs.State.{counted}
+use borrow.Author.Needs.{needs}
+use Rattle.state.proofs.counted_once.Statement.{statement}
+use Rattle.state.proofs.counted_once.Tie as tie
+
+add-result : tie.Need-add-result
+add-result c = search needs
+
+returns : tie.Need-returns
+unfolding counted
+returns c = rw (lt-ltb _ _ (c .if1 .taken))
+
+returns-2 : tie.Need-returns-2
+unfolding counted
+returns-2 c = rw (le-ltb _ _ (c .if1 .left))
+
+pub counted-once-spec : {M : Type 1} → statement M
+counted-once-spec = tie.close (tie.spec add-result returns returns-2)

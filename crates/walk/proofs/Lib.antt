@@ -1,0 +1,3 @@
+-- The laws of the walk. Assumes nothing.
+pub mod Steps
+pub mod Trip

@@ -1,0 +1,2 @@
+-- The walk over a datagram. Assumes nothing.
+pub mod Walk

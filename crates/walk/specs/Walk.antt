@@ -1,0 +1,73 @@
+-- THE WALK OVER A DATAGRAM (document 01, "Datagrams"): what stands at a place, the next place, and the list of a whole datagram.
+-- Assumes nothing: these are definitions.
+use Prim.Native.Nat.{ℕ, zero, suc, _+_}
+use mathlib.Core.List.{List, [], _∷_, _++_, map}
+use lib.ListN.{length, take, drop}
+use Rattle.feed.specs.declared.Decision.{Decision}
+use Rattle.feed.specs.declared.Decision.the-variants.{Accept, Refuse}
+use Rattle.feed.specs.Feed.{Routes, Out, pdu, dropped}
+use Rattle.feed.specs.Frame.{Sent}
+use Rattle.lengths.specs.Head.{Head, ended, short, beyond, whole, headOf}
+use Rattle.lengths.specs.Split.{split}
+
+-- "gives the next PDU, a drop, or the end": a PDU by its route, the place and length of its payload, and its id; a drop by its
+-- reason, id and length
+pub data Found : Type 0 where
+  the-end : Found
+  a-pdu : (route place length id : ℕ) → Found
+  a-drop : (reason id length : ℕ) → Found
+
+-- "with the next place"
+pub record Walked : Type 0 where
+  pub found : Found
+  pub next : ℕ
+
+abbrev pub walked : Found → ℕ → Walked
+walked f p = record { found = f; next = p }
+
+-- a header with its whole payload, at place p: the routes decide, and the next place is behind the payload
+abbrev pub wholeAt : Decision → ℕ → ℕ → ℕ → Walked
+wholeAt (Accept r) p i n = walked (a-pdu r (p + 8) n i) (p + 8 + n)
+wholeAt (Refuse k) p i n = walked (a-drop k i n) (p + 8 + n)
+
+-- "1..7 bytes left, or a length beyond the end, is drop 23 (reported id and length are 0 for the former) and the place becomes
+-- the end; 23 is tested before 20, 21, 22": at place p of a datagram of m bytes, by what stands there
+abbrev pub stepOf : Routes → ℕ → ℕ → Head → Walked
+stepOf R m p ended = walked the-end m
+stepOf R m p short = walked (a-drop 23 0 0) m
+stepOf R m p (beyond i n) = walked (a-drop 23 i n) m
+stepOf R m p (whole i n) = wholeAt (R i n) p i n
+
+-- A STEP OF THE WALK: datagram d, place p (0 .. its length)
+unfoldable pub walkAt : Routes → List ℕ → ℕ → Walked
+walkAt R d p = stepOf R (length d) p (headOf (drop p d))
+
+-- THE WALK: steps from place p until the end, at most f, each with the payload that it names
+abbrev pub told : List ℕ → Found → List Out → List Out
+told d the-end later = []
+told d (a-pdu r p n i) later = pdu r (take n (drop p d)) ∷ later
+told d (a-drop k i n) later = dropped k i n ∷ later
+
+unfoldable pub walks : Routes → ℕ → List ℕ → ℕ → List Out
+walks R zero d p = []
+walks R (suc f) d p = told d (walkAt R d p .found) (walks R f d (walkAt R d p .next))
+
+-- the place after f steps
+unfoldable pub placeAfter : Routes → ℕ → List ℕ → ℕ → ℕ
+placeAfter R zero d p = p
+placeAfter R (suc f) d p = placeAfter R f d (walkAt R d p .next)
+
+-- THE LIST OF A DATAGRAM by lengths alone, with no place and no step: what the routes say to each whole PDU, and 23 for what is
+-- left over. Nothing is carried to the next datagram.
+abbrev pub judge : Decision → Sent → Out
+judge (Accept r) s = pdu r (s .body)
+judge (Refuse k) s = dropped k (s .id) (length (s .body))
+
+abbrev pub leftOver : Head → List Out
+leftOver ended = []
+leftOver short = dropped 23 0 0 ∷ []
+leftOver (beyond i n) = dropped 23 i n ∷ []
+leftOver (whole i n) = []
+
+unfoldable pub listOf : Routes → List ℕ → List Out
+listOf R d = map (λ (s : Sent). judge (R (s .id) (length (s .body))) s) (split d .pdus) ++ leftOver (headOf (split d .rest))

@@ -1,0 +1,62 @@
+-- A cell of the stream and the record's part with its received bytes say the same, after any bytes.
+-- Assumes nothing.
+use Prim.Native.Nat.{ℕ, zero, suc, _+_, _-_, _/_, _%_, _^_, _≤_}
+use mathlib.Core.Path.{_≡_, refl, sym, ap, ap₂, _∙_, subst}
+use mathlib.Core.List.{List, [], _∷_}
+use native.Mathlib.Omega.{arith}
+use lib.ListN.{length}
+use lib.Seq.{take-length}
+use Rattle.part.specs.declared.Part.{Part}
+use Rattle.part.specs.declared.Part.the-variants.{Header, Payload, Skip}
+use Rattle.feed.specs.declared.Decision.{Decision}
+use Rattle.feed.specs.declared.Decision.the-variants.{Accept, Refuse}
+use Rattle.feed.specs.Feed.{Routes, Kind, header, payload, skip, Cell, cell, Ran, decided, add, done, feed, after, segment}
+use Rattle.feed.proofs.Cut.{segment-feeds}
+use Rattle.world.specs.World.{cellOf, partFrom, heldIn}
+
+-- a header wants eight bytes at most
+abbrev pub Snug : Cell → Type 0
+Snug (cell n (header v)) = n ≤ 8
+Snug (cell n (payload r h)) = Unit
+Snug (cell n skip) = Unit
+
+-- what a record holds is so ..
+pub snug-in : (p : Part) (received : List ℕ) → Snug (cellOf p received)
+snug-in (Header held value) received = omega arith
+snug-in (Payload route length held) received = tt
+snug-in (Skip bytes) received = tt
+
+-- .. and stays so
+snug-decided : (d : Decision) (i n : ℕ) → Snug (decided d i n .to)
+snug-decided (Accept r) i zero = omega arith
+snug-decided (Accept r) i (suc n) = tt
+snug-decided (Refuse k) i zero = omega arith
+snug-decided (Refuse k) i (suc n) = tt
+
+snug-done : (R : Routes) (k : Kind) → Snug (done R k .to)
+unfolding done
+snug-done R (header v) = snug-decided (R (v / 2 ^ 32) (v % 2 ^ 32)) (v / 2 ^ 32) (v % 2 ^ 32)
+snug-done R (payload r h) = omega arith
+snug-done R skip = omega arith
+
+snug-feed : (R : Routes) (c : Cell) (b : ℕ) → Snug c → Snug (feed R c b .to)
+unfolding feed
+snug-feed R (cell zero k) b s = omega arith
+snug-feed R (cell (suc zero) k) b s = snug-done R (add k b)
+snug-feed R (cell (suc (suc n)) (header v)) b s = omega arith
+snug-feed R (cell (suc (suc n)) (payload r h)) b s = tt
+snug-feed R (cell (suc (suc n)) skip) b s = tt
+
+pub snug-after : (R : Routes) (c : Cell) (bs : List ℕ) → Snug c → Snug (after R c bs)
+unfolding after
+snug-after R c [] s = s
+snug-after R c (b ∷ bs) s = snug-after R (feed R c b .to) bs (snug-feed R c b s)
+
+pub snug-segment : (R : Routes) (c : Cell) (bs : List ℕ) → Snug c → Snug (segment R c bs .to)
+snug-segment R c bs s = subst Snug (sym (ap (λ (r : Ran). r .to) (segment-feeds R c bs))) (snug-after R c bs s)
+
+-- the part and the bytes of a cell are that cell
+pub cell-back : (c : Cell) → Snug c → cellOf (partFrom c) (heldIn c) ≡ c
+cell-back (cell n (header v)) s = ap (λ (m : ℕ). cell m (header v)) (omega arith)
+cell-back (cell n (payload r h)) s = ap₂ (λ (m : ℕ) (q : List ℕ). cell m (payload r q)) (omega arith) (take-length h)
+cell-back (cell n skip) s = refl

@@ -1,0 +1,3 @@
+-- Laws of the world. Assumes nothing.
+pub mod Cells
+pub mod Counts

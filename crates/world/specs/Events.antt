@@ -1,0 +1,32 @@
+-- THE EVENTS, as data (document 01, "Connection events and others"): nine of one connection, and those of a whole group or
+-- of the whole module.
+-- Assumes nothing: these are definitions.
+use Prim.Native.Nat.{ℕ}
+use mathlib.Core.Bool.{Bool}
+use mathlib.Core.List.{List}
+use Rattle.connection.specs.declared.Remote.{Remote}
+use Rattle.connection.specs.declared.Event.{Event as Change}
+
+-- "These nine are connection events": six that concern the record alone (open, close, connected, lost, set remote, switch);
+-- a segment's bytes; a walk over a datagram from a place; taking the waiting bytes into an out buffer of so much room
+pub data Own : Type 0 where
+  change : Change → Own
+  segment : List ℕ → Own
+  walk : List ℕ → ℕ → Own
+  take : ℕ → Own
+
+-- "Group and module events: datagram, accept, tick, transmit, switching a group on all connections, reading or reading and
+-- clearing a count"
+pub data Whole : Type 0 where
+  datagram : ℕ → Remote → Whole
+  accept : ℕ → Remote → Whole
+  tick : Whole
+  transmit : ℕ → List ℕ → Whole
+  switchAll : ℕ → Bool → Whole
+  readCount : ℕ → Whole
+  clearCount : ℕ → Whole
+
+-- an event of connection k, or of a whole group or module
+pub data Event : Type 0 where
+  on : ℕ → Own → Event
+  all : Whole → Event

@@ -1,0 +1,4 @@
+-- The world of connections with their held bytes, the events, and one step. Assumes nothing.
+pub mod World
+pub mod Events
+pub mod Step

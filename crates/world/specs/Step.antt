@@ -1,0 +1,113 @@
+-- ONE STEP OF THE WORLD, A RUN, AND WHAT A CONNECTION HAS HANDED OUT.
+-- Assumes nothing: these are definitions.
+use Prim.Native.Nat.{ℕ, zero, suc}
+use mathlib.Core.Bool.{Bool, true, false, cond, not, _&&_, _||_}
+use mathlib.Core.List.{List, [], _∷_, _++_}
+use lib.ListN.{length, set}
+use lib.Dec.{eqb, leb, ltb}
+use Rattle.connection.specs.declared.Connection.{Connection}
+use Rattle.connection.specs.declared.Config.{Config}
+use Rattle.connection.specs.declared.Mode.the-variants.{Reconnect}
+use Rattle.connection.specs.Connection.{isOnline, wildcard, become, withMode, withRemote, withSend}
+use Rattle.connection.specs.Event.{stepOf}
+use Rattle.state.specs.State.{counted}
+use Rattle.feed.specs.Feed.{Routes, Out, Ran, segment as segmentOf, Pdu, pdus, drops}
+use Rattle.walk.specs.Walk.{walkAt, told}
+use Rattle.world.specs.World.{Held, World, heldAt, cellAt, withCell, follow}
+use Rattle.world.specs.Events.{Own, change, segment, walk, take, Whole, Event, on, all}
+
+-- what the accepted table says: how many connections there are, each one's row, and what its routes say as its switches stand
+pub record Table : Type 0 where
+  pub rows : ℕ
+  pub config : ℕ → Config
+  pub routes : ℕ → ℕ → Routes
+
+-- "Two drop counts, UDP and TCP, stop at 4,294,967,295": a count after so many drops
+unfoldable pub counts : ℕ → ℕ → ℕ
+counts zero n = n
+counts (suc drops) n = counts drops (counted n)
+
+-- of this protocol, or of the other
+abbrev pub countsIf : Bool → ℕ → ℕ → ℕ
+countsIf true drops n = counts drops n
+countsIf false drops n = n
+
+-- what an event makes of its connection, and the outcomes that it gives
+pub record Acted : Type 0 where
+  pub to : Held
+  pub list : List Out
+
+abbrev pub acted : Held → List Out → Acted
+acted h os = record { to = h; list = os }
+
+-- online without close wanted: 4 otherwise
+abbrev pub receiving : Connection → Bool
+receiving c = isOnline (c .mode) && not (c .«close_wanted»)
+
+-- what the takes over a segment leave and give
+abbrev pub streamed : Held → Ran → Acted
+streamed h r = acted (withCell (r .to) h) (r .list)
+
+-- "After a non-empty take, an automatic connection whose configured remote has a wildcard: UDP becomes reconnect with configured
+-- remote (00582); TCP gets close wanted (00644)"
+abbrev pub afterTake : Config → Connection → Connection
+afterTake g c =
+    cond (g .automatic && wildcard (g .remote))
+    (cond (g .tcp) (withMode (c .mode) (c .«open_wanted») true c) (become Reconnect (withRemote (g .remote) c)))
+    c
+
+-- "Take waiting bytes: checks 9; .. clears used, timer and due"; "Nothing waiting .. changes nothing"
+abbrev pub takeOf : Config → ℕ → Connection → Connection
+takeOf g room c = cond (eqb (c .used) 0 || ltb room (c .used)) c (afterTake g (withSend 0 0 false c))
+
+module _ (T : Table) where
+  -- the routes of connection k, as the switches of its record stand
+  abbrev pub routesAt : ℕ → Held → Routes
+  routesAt k h = T .routes k (h .connection .switches)
+
+  -- an event of connection k on its record; a refusal changes nothing and gives nothing
+  unfoldable pub does : ℕ → Own → Held → Acted
+  does k (change e) h = acted (follow (stepOf e (T .config k) (h .connection) .connection) h) []
+  does k (segment bytes) h = cond (T .config k .tcp && receiving (h .connection)) (streamed h (segmentOf (routesAt k h) (cellAt h) bytes)) (acted h [])
+  does k (walk datagram place) h =
+      cond (not (T .config k .tcp) && leb place (length datagram) && receiving (h .connection))
+      (acted h (told datagram (walkAt (routesAt k h) datagram place .found) []))
+      (acted h [])
+  does k (take room) h = acted (follow (takeOf (T .config k) room (h .connection)) h) []
+
+  -- "connection .. number not there": 2
+  unfoldable pub acts : ℕ → Own → Held → Acted
+  acts k e h = cond (ltb k (T .rows)) (does k e h) (acted h [])
+
+  -- at connection k of a world
+  abbrev pub at : World → ℕ → Own → Acted
+  at w k e = acts k e (heldAt w k)
+
+  -- a world after what connection k did: its record, and its protocol's count
+  abbrev pub left : World → ℕ → Acted → World
+  left w k a =
+      record {
+        held = set (w .held) k (a .to);
+        udp = countsIf (not (T .config k .tcp)) (drops (a .list)) (w .udp);
+        tcp = countsIf (T .config k .tcp) (drops (a .list)) (w .tcp);
+      }
+
+  -- ONE EVENT; `whole` says what an event of a whole group or module makes of the world
+  module _ (whole : Whole → World → World) where
+    unfoldable pub step : World → Event → World
+    step w (on k e) = left w k (at w k e)
+    step w (all e) = whole e w
+
+    -- A RUN
+    unfoldable pub run : World → List Event → World
+    run w [] = w
+    run w (e ∷ es) = run (step w e) es
+
+    -- the PDUs that connection k hands out at an event, and in a run
+    unfoldable pub hands : ℕ → World → Event → List Pdu
+    hands k w (on i e) = cond (eqb i k) (pdus (at w i e .list)) []
+    hands k w (all e) = []
+
+    unfoldable pub heard : ℕ → World → List Event → List Pdu
+    heard k w [] = []
+    heard k w (e ∷ es) = hands k w e ++ heard k (step w e) es

@@ -1,0 +1,83 @@
+-- THE WORLD: the connections with the bytes they hold, and the two drop counts. Unused room of the lent memory is no part of
+-- it, so "same state" ("same numbers and same held bytes; unused room may differ") is plain equality of worlds.
+-- Assumes nothing: these are definitions.
+use Prim.Native.Nat.{ℕ, zero, suc, _+_, _-_, _*_}
+use mathlib.Core.List.{List, [], _∷_}
+use lib.ListN.{length, getD, take, drop}
+use Rattle.part.specs.declared.Part.{Part}
+use Rattle.part.specs.declared.Part.the-variants.{Header, Payload, Skip}
+use Rattle.connection.specs.declared.Connection.{Connection}
+use Rattle.connection.specs.Connection.{zeroRecord, withPart}
+use Rattle.state.specs.declared.State.{State}
+use Rattle.feed.specs.Feed.{Cell, cell, header, payload, skip}
+
+-- a record, the bytes it holds of an unfinished payload, and those waiting in its send buffer
+pub record Held : Type 0 where
+  pub connection : Connection
+  pub received : List ℕ
+  pub waiting : List ℕ
+
+pub record World : Type 0 where
+  pub held : List Held
+  pub udp : ℕ
+  pub tcp : ℕ
+
+-- what stands past the last record: all zero
+abbrev pub blank : Held
+blank = record { connection = zeroRecord; received = []; waiting = [] }
+
+-- connection k of a world
+abbrev pub heldAt : World → ℕ → Held
+heldAt w k = getD (w .held) k blank
+
+-- how many bytes of receive memory a part holds (header bytes are kept in the record)
+abbrev pub heldBy : Part → ℕ
+heldBy (Header held value) = 0
+heldBy (Payload route length held) = held
+heldBy (Skip bytes) = 0
+
+-- "one stretch per connection in number order, each filled from its front"
+abbrev pub stretch : ℕ → ℕ → List ℕ → List ℕ
+stretch size k memory = take size (drop (k * size) memory)
+
+-- connection k with the bytes it holds in the two lent memories: "receive .. (16 of 1,464), send .. (16 of 1,472)"
+abbrev pub heldOf : List ℕ → List ℕ → ℕ → Connection → Held
+heldOf rx tx k c =
+    record { connection = c; received = take (heldBy (c .part)) (stretch 1464 k rx); waiting = take (c .used) (stretch 1472 k tx) }
+
+-- the connections from number k on
+abbrev pub viewFrom : List ℕ → List ℕ → ℕ → List Connection → List Held
+viewFrom rx tx k [] = []
+viewFrom rx tx k (c ∷ cs) = heldOf rx tx k c ∷ viewFrom rx tx (suc k) cs
+
+-- THE VIEW: what a state and the two lent memories hold
+abbrev pub viewOf : State → List ℕ → List ℕ → World
+viewOf s rx tx = record { held = viewFrom rx tx 0 (s .connections); udp = s .«udp_drops»; tcp = s .«tcp_drops» }
+
+-- another record: of the held bytes stay, from the front, as many as it holds
+abbrev pub follow : Connection → Held → Held
+follow c h = record { connection = c; received = take (heldBy (c .part)) (h .received); waiting = take (c .used) (h .waiting) }
+
+-- what a connection is to the reader of its stream
+abbrev pub cellOf : Part → List ℕ → Cell
+cellOf (Header held value) received = cell (8 - held) (header value)
+cellOf (Payload route length held) received = cell (length - held) (payload route (take held received))
+cellOf (Skip bytes) received = cell bytes skip
+
+abbrev pub cellAt : Held → Cell
+cellAt h = cellOf (h .connection .part) (h .received)
+
+-- .. and back: the part of a cell, and the payload bytes that it holds
+abbrev pub partFrom : Cell → Part
+partFrom (cell n (header v)) = Header (8 - n) v
+partFrom (cell n (payload r h)) = Payload r (n + length h) (length h)
+partFrom (cell n skip) = Skip n
+
+abbrev pub heldIn : Cell → List ℕ
+heldIn (cell n (header v)) = []
+heldIn (cell n (payload r h)) = h
+heldIn (cell n skip) = []
+
+-- the connection with another cell
+abbrev pub withCell : Cell → Held → Held
+withCell c h = record { connection = withPart (partFrom c) (h .connection); received = heldIn c; waiting = h .waiting }

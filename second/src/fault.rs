@@ -1,0 +1,111 @@
+//! Seeded faults: wrong readings of document 01 that the model takes on request, so that the comparison can be tried. Without
+//! a request none is on, and the model is document 01's.
+
+use std::cell::Cell;
+
+macro_rules! faults {
+    ($($group:ident { $($name:ident: $what:literal,)* })*) => {
+        #[derive(Clone, Copy, PartialEq, Eq, Debug)]
+        pub enum Fault { $($($name,)*)* }
+
+        /// The faults of one part of the model, and what each gets wrong.
+        pub fn of(part: &str) -> Option<&'static [(Fault, &'static str)]> {
+            $(if part == stringify!($group) {
+                return Some(&[$((Fault::$name, $what),)*]);
+            })*
+            None
+        }
+    };
+}
+
+faults! {
+    table {
+        FrontOf37: "an image of exactly 36 bytes is too short",
+        NumberOverlooked: "bytes 2..3 are not tested",
+        KindOverlooked: "the kind of a contents entry is not tested",
+        OneGroupMore: "nine groups are allowed",
+        OneRouteMore: "sixty-five routes are allowed",
+        EntryPlaceFromZero: "a bad contents entry's place counts from the first entry",
+        LengthBeforeContents: "the total length is tested before the contents",
+        RowsBeforeLength: "rows are tested before the total length",
+        LongerIsFine: "an image longer than its contents is accepted",
+        ProtocolThree: "protocol 3 is allowed",
+        GroupJustPast: "a connection may name the group after the last",
+        AutomaticTwo: "automatic may be 2",
+        SendSizeSeven: "a send size of 7 is allowed",
+        SendSizeOneMore: "a send size of 1,473 is allowed",
+        SecondZeroOverlooked: "the second zero byte of a connection is not tested",
+        RouteZeroOverlooked: "the zero byte of a route is not tested",
+        ConnectionJustPast: "a destination may name the connection after the last",
+        LongestOneMore: "a longest payload of 1,465 is allowed for a route",
+        HeaderForgotten: "a destination's longest payload may fill the send size, without 8 more",
+        EarlierBlamed: "of two routes that share connection and id, the earlier is the bad one",
+        NeighbourOnly: "a route is compared with the row before it alone",
+        IdAlone: "routes are compared by id, whatever the connection",
+        DestinationsById: "destinations are compared by id and connection, not by PDU",
+        LastRowSkipped: "the last destination is not tested",
+        DestinationsFirst: "destinations are tested before routes",
+    }
+    walk {
+        ZeroGroupsOff: "a route with groups 0 is off when all switches are",
+        EveryBitNeeded: "a route is on only when the switches have all of its groups' bits",
+        RouteOfAnother: "a route counts for its id on any connection",
+        LongestIsTooLong: "a payload of exactly the longest length is too long",
+        LengthBeforeSwitch: "22 is tested before 21",
+        RouteAmongOwn: "the route is counted among the routes of its connection",
+        TcpWalks: "a walk on a TCP connection is allowed",
+        EndIsBeyond: "a place at the end counts as beyond it",
+        CutHeaderTold: "the bytes of a cut header are reported as its id",
+        OneByteBeyond: "a length one byte beyond the end is no drop 23",
+        CutLast: "23 is tested after 20, 21, 22",
+        CutStaysInside: "the place after a 23 is behind its header, not the end",
+        DropNotSkipped: "the payload of a dropped header is not skipped",
+        ConnectionPastIsTcp: "a walk on a connection that is not there gets 3",
+        PlaceBeforeConnection: "the place is tested before the connection number",
+        ConnectionAsByte: "a connection number counts by its last byte",
+    }
+    segment {
+        FreshHeaderEachTime: "each segment is taken to begin with a header",
+        AlwaysFromMemory: "a payload is copied to receive memory also when it stands whole in the segment",
+        SwitchAtTheEnd: "the switch is tested again when the payload ends",
+        SkipEndsEarly: "one byte too few is skipped",
+        NothingSkipped: "the payload of a dropped header is taken for the next header",
+        SkipBelow65536: "a skip counts in two bytes",
+        FirstRouteAlways: "every PDU is given the first route",
+    }
+    frame {
+        FrameOneMore: "a payload of 1,465 bytes may be framed",
+        RoomForPayloadOnly: "an out buffer as long as the payload is long enough",
+        ExactRoomShort: "an out buffer of exactly 8 + length is too short",
+        RoomBeforeLength: "9 is tested before 7",
+        RefusedFrameWrites: "a refused framing writes the first byte",
+        LengthWithHeader: "the length in the header counts the header, too",
+        RestCleared: "the bytes after the frame are set to 0",
+    }
+}
+
+thread_local! {
+    static ON: Cell<Option<Fault>> = const { Cell::new(None) };
+}
+
+/// True when this fault is asked for.
+pub fn seeded(fault: Fault) -> bool {
+    ON.with(|on| on.get() == Some(fault))
+}
+
+/// What is right, or what the fault makes of it.
+pub fn or<T>(fault: Fault, right: T, wrong: T) -> T {
+    if seeded(fault) {
+        wrong
+    } else {
+        right
+    }
+}
+
+/// Runs `work` with a fault on.
+pub fn with<T>(fault: Fault, work: impl FnOnce() -> T) -> T {
+    ON.with(|on| on.set(Some(fault)));
+    let result = work();
+    ON.with(|on| on.set(None));
+    result
+}

@@ -1,0 +1,6 @@
+//! Generators: the same seed gives the same cases everywhere.
+
+pub mod datagram;
+pub mod framing;
+pub mod image;
+pub mod table;

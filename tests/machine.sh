@@ -1,0 +1,65 @@
+# machine.sh, to be sourced: compiles C programs for x86-64 and runs them, on a machine of either kind.
+#
+#   need COMMAND PACKAGE     installs a package where its command is missing
+#   compile OUT WORD ..      compiles and links C files (and archives, and flags) into the program OUT
+#   ${start[@]} OUT WORD ..  runs such a program
+#
+# On x86-64 the programs are native. Elsewhere, or with CROSS=1, the Rattle kit gives compiler, linker, loader and C library for
+# x86-64, gcc the headers that belong to no C library (stdint.h, stddef.h, ..), and the kit's emulator runs the program, or
+# qemu-user's where the kit has none.
+
+need() {
+    command -v "$1" >/dev/null && return
+    echo "installing $2" >&2
+    apt-get install -y -q "$2" >/dev/null 2>&1 || { apt-get update -q >/dev/null 2>&1 && apt-get install -y -q "$2" >/dev/null; } || {
+        echo "$1 is missing, and the package $2 cannot be installed" >&2
+        return 1
+    }
+}
+
+kit_tools() { echo "$(cd "$(dirname "$(rt doc)")/.." && pwd -P)/on/$(uname -m)/toolchain"; }
+
+c_flags=(-std=c11 -O2 -Wall -Wextra -Werror)
+
+compile_native() {
+    local out=$1
+    shift
+    need cc gcc && cc "${c_flags[@]}" -o "$out" "$@"
+}
+
+# Files that are C are compiled, one object each; archives and objects are linked; all else is a flag for the compiler.
+compile_cross() {
+    local out=$1 tools lib word objects=() flags=() sources=()
+    shift
+    for word; do
+        case $word in
+        -*) flags+=("$word") ;;
+        *.c) sources+=("$word") ;;
+        *) objects+=("$word") ;;
+        esac
+    done
+    need gcc gcc || return
+    tools=$(kit_tools) lib=$tools/lib
+    flags+=(-fPIE -nostdinc -isystem "$(gcc -print-file-name=include)")
+    flags+=(-Wno-builtin-macro-redefined -U__STDC_HOSTED__ -D__STDC_HOSTED__=0) # gcc's stdint.h then asks for no other
+    for word in "${sources[@]}"; do
+        "$tools/bin/clang" --target=x86_64-unknown-linux-gnu "${c_flags[@]}" "${flags[@]}" -c -o "$out-$(basename "$word").o" "$word" || return
+        objects=("$out-$(basename "$word").o" "${objects[@]}")
+    done
+    "$tools/bin/ld.lld" -m elf_x86_64 -pie -dynamic-linker /lib64/ld-linux-x86-64.so.2 -o "$out" \
+        "$lib/Scrt1.o" "$lib/crti.o" "$lib/crtbeginS.o" "${objects[@]}" "$lib/libc.so.6" "$lib/libc_nonshared.a" "$lib/libgcc.a" \
+        "$lib/crtendS.o" "$lib/crtn.o"
+}
+
+loader() { echo "$(kit_tools)/lib/ld-linux-x86-64.so.2" --library-path "$(kit_tools)/lib"; }
+
+if [ "$(uname -m)" = x86_64 ] && [ -z "${CROSS:-}" ]; then
+    start=()
+    compile() { compile_native "$@"; }
+else
+    emulator=$(kit_tools)/bin/qemu-x86_64
+    [ -x "$emulator" ] || { need qemu-x86_64 qemu-user && emulator=qemu-x86_64; }
+    # shellcheck disable=SC2207
+    start=("$emulator" $(loader))
+    compile() { compile_cross "$@"; }
+fi
