@@ -23,7 +23,8 @@ use Rattle.connection.specs.declared.Mode.the-variants.{Reconnect}
 use Rattle.connection.specs.Connection.{isOnline, wildcard, become, withMode, withRemote, withSend}
 use Rattle.connection.specs.Event.{known, allowed, after, stepOf, refusedBy}
 use Rattle.feed.specs.Feed.{cell, payload}
-use Rattle.world.specs.World.{Held, World, blank, heldBy, cellOf, cellAt, follow}
+use Rattle.stream.specs.Stream.{cellOf}
+use Rattle.world.specs.World.{Held, World, blank, heldBy, cellAt, follow}
 use Rattle.world.specs.Events.{Own, change, segment, walk, take, Event, on}
 use Rattle.world.specs.Step.{Table, Acted, acted, receiving, routesAt, afterTake, takeOf, does, acts}
 use Rattle.runs.specs.Streams.{Quiet, Kept}

@@ -13,24 +13,22 @@ use native.Mathlib.Omega.{arith}
 use borrow.Author.Tests.{eq-eqb, ne-eqb}
 use Rattle.lists.proofs.Both.{and-left, and-right}
 use Rattle.connection.specs.Connection.{isOnline}
-use Rattle.wire.specs.Lay.{spell}
 use Rattle.feed.specs.Feed.{Routes, Cell, ready, Ran, ran, segment as segmentOf, Pdu, pdus}
 use Rattle.feed.proofs.Cut.{pdus-append}
 use Rattle.world.specs.World.{Held, World, blank, heldAt, cellAt}
 use Rattle.world.specs.Events.{Own, change, segment, walk, take, Whole, Event, on, all}
 use Rattle.world.specs.Step.{Table, Acted, acted, receiving, streamed, routesAt, does, acts, at, step, hands, heard}
 use Rattle.world.proofs.Cells.{snug-in, snug-segment, cell-back}
-use Rattle.lengths.specs.Listed.{Marked, mark, readTo, readOut, listed, listedFrom, Bytes}
+use Rattle.lengths.specs.Listed.{Marked, mark, bytesOf, readTo, readOut, Bytes}
 use Rattle.lengths.proofs.Bytes.{bytes-append, bytes-mark}
-use Rattle.lengths.proofs.Reading.{out-append, segment-reads, reading}
+use Rattle.lengths.proofs.Marks.{out-append, segment-reads}
+use Rattle.lengths.proofs.Ready.{ready-list}
+use Rattle.lengths.proofs.Reading.{reading}
 use Rattle.runs.specs.Streams.{online, Streams, streams, longer, accepts, reads, ends, streamsOf, listedLater, listedIn, EventBytes, RunBytes, Quiet, Rests, Kept}
 use Rattle.runs.proofs.Keeps.{kept-same, Other, a-change, a-walk, a-take, kept-acts, acts-nothing, kept-set}
 use Rattle.runs.proofs.Same.{does-read, does-refused, stays}
 
 -- streams of bytes
-abbrev bytesOf : List Marked → List ℕ
-bytesOf ms = map (λ (m : Marked). m .byte) ms
-
 abbrev LaterBytes : List (List Marked) → Type 0
 LaterBytes [] = Unit
 LaterBytes (s ∷ ss) = Bytes (bytesOf s) × LaterBytes ss
@@ -40,10 +38,6 @@ StreamBytes s = Bytes (bytesOf (s .first)) × LaterBytes (s .later)
 
 none : Bytes []
 none i = omega arith
-
-from-ready : (Q : ℕ → Routes) (ms : List Marked) → Bytes (bytesOf ms) → pdus (readOut Q ready ms) ≡ listed Q ms
-unfolding listedFrom spell
-from-ready Q ms b = reading Q ready ms (omega arith, omega arith, omega arith) b
 
 -- what a group or module event may do to a connection
 abbrev pub Gentle : (Whole → World → World) → ℕ → Type 0
@@ -240,7 +234,7 @@ module _ (T : Table) (whole : Whole → World → World) (k : ℕ) (tcp : T .con
   later-listed : (ss : List (List Marked)) → LaterBytes ss → readLater ss ≡ listedLater Q ss
   unfolding readLater listedLater
   later-listed [] b = refl
-  later-listed (s ∷ ss) (b, bs) = ap₂ _++_ (from-ready Q s b) (later-listed ss bs)
+  later-listed (s ∷ ss) (b, bs) = ap₂ _++_ (ready-list Q s b) (later-listed ss bs)
 
   -- THE LIST: whatever the run, what a TCP connection has handed out is what its streams hold by lengths
   pub heard-listed : (w : World) (es : List Event) → Rests (heldAt w k) → RunBytes es

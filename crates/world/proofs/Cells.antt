@@ -12,7 +12,7 @@ use Rattle.feed.specs.declared.Decision.{Decision}
 use Rattle.feed.specs.declared.Decision.the-variants.{Accept, Refuse}
 use Rattle.feed.specs.Feed.{Routes, Kind, header, payload, skip, Cell, cell, Ran, decided, add, done, feed, after, segment}
 use Rattle.feed.proofs.Cut.{segment-feeds}
-use Rattle.world.specs.World.{cellOf, partFrom, heldIn}
+use Rattle.stream.specs.Stream.{cellOf, partFrom, heldIn}
 
 -- a header wants eight bytes at most
 abbrev pub Snug : Cell → Type 0

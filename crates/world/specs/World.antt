@@ -1,15 +1,16 @@
 -- THE WORLD: the connections with the bytes they hold, and the two drop counts. Unused room of the lent memory is no part of
 -- it, so "same state" ("same numbers and same held bytes; unused room may differ") is plain equality of worlds.
 -- Assumes nothing: these are definitions.
-use Prim.Native.Nat.{ℕ, zero, suc, _+_, _-_, _*_}
-use mathlib.Core.List.{List, [], _∷_}
-use lib.ListN.{length, getD, take, drop}
+use Prim.Native.Nat.{ℕ, suc, _*_}
+use mathlib.Core.List.{List, [], _∷_, map}
+use lib.ListN.{getD, take, drop}
 use Rattle.part.specs.declared.Part.{Part}
 use Rattle.part.specs.declared.Part.the-variants.{Header, Payload, Skip}
 use Rattle.connection.specs.declared.Connection.{Connection}
 use Rattle.connection.specs.Connection.{zeroRecord, withPart}
 use Rattle.state.specs.declared.State.{State}
-use Rattle.feed.specs.Feed.{Cell, cell, header, payload, skip}
+use Rattle.feed.specs.Feed.{Cell}
+use Rattle.stream.specs.Stream.{cellOf, partFrom, heldIn}
 
 -- a record, the bytes it holds of an unfinished payload, and those waiting in its send buffer
 pub record Held : Type 0 where
@@ -58,25 +59,22 @@ viewOf s rx tx = record { held = viewFrom rx tx 0 (s .connections); udp = s .«u
 abbrev pub follow : Connection → Held → Held
 follow c h = record { connection = c; received = take (heldBy (c .part)) (h .received); waiting = take (c .used) (h .waiting) }
 
--- what a connection is to the reader of its stream
-abbrev pub cellOf : Part → List ℕ → Cell
-cellOf (Header held value) received = cell (8 - held) (header value)
-cellOf (Payload route length held) received = cell (length - held) (payload route (take held received))
-cellOf (Skip bytes) received = cell bytes skip
+-- the state of a world
+abbrev pub stateOf : World → State
+stateOf w = record { connections = map (λ (h : Held). h .connection) (w .held); «udp_drops» = w .udp; «tcp_drops» = w .tcp }
 
+-- a world after an event that writes no lent memory: the state that it leaves, and of the held bytes those that this still holds
+abbrev pub followAll : List Connection → List Held → List Held
+followAll [] hs = []
+followAll (c ∷ cs) [] = []
+followAll (c ∷ cs) (h ∷ hs) = follow c h ∷ followAll cs hs
+
+abbrev pub leaves : State → World → World
+leaves s w = record { held = followAll (s .connections) (w .held); udp = s .«udp_drops»; tcp = s .«tcp_drops» }
+
+-- what a connection is to the reader of its stream
 abbrev pub cellAt : Held → Cell
 cellAt h = cellOf (h .connection .part) (h .received)
-
--- .. and back: the part of a cell, and the payload bytes that it holds
-abbrev pub partFrom : Cell → Part
-partFrom (cell n (header v)) = Header (8 - n) v
-partFrom (cell n (payload r h)) = Payload r (n + length h) (length h)
-partFrom (cell n skip) = Skip n
-
-abbrev pub heldIn : Cell → List ℕ
-heldIn (cell n (header v)) = []
-heldIn (cell n (payload r h)) = h
-heldIn (cell n skip) = []
 
 -- the connection with another cell
 abbrev pub withCell : Cell → Held → Held

@@ -1,0 +1,2 @@
+-- The laws of a step. Assumes nothing.
+pub mod Laws

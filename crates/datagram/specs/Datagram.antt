@@ -1,0 +1,23 @@
+-- A step of the walk as its function answers it. Assumes nothing: these are definitions.
+use Prim.Native.Nat.{ℕ}
+use mathlib.Core.List.{List}
+use Rattle.route.specs.Route.{lookupOf}
+use Rattle.walk.specs.Walk.{Found, the-end, a-pdu, a-drop, walkAt}
+use Rattle.walk.specs.Walk as reading
+use Rattle.datagram.specs.declared.Outcome.{Outcome}
+use Rattle.datagram.specs.declared.Outcome.the-variants.{End, Pdu, Drop}
+use Rattle.datagram.specs.declared.Walked.{Walked}
+
+-- "gives the next PDU, a drop, or the end"
+abbrev pub outcomeOf : Found → Outcome
+outcomeOf the-end = End
+outcomeOf (a-pdu route place n id) = Pdu route id place n
+outcomeOf (a-drop reason id n) = Drop reason id n
+
+-- "with the next place"
+abbrev pub stepped : reading.Walked → Walked
+stepped w = record { outcome = outcomeOf (w .found); next = w .next }
+
+-- a step of the walk on a connection with these routes and switches; a place beyond the end is the end
+unfoldable pub walkedOf : List ℕ → ℕ → List ℕ → ℕ → ℕ → Walked
+walkedOf datagram place routes connection switches = stepped (walkAt (lookupOf routes connection switches) datagram place)

@@ -1,0 +1,2 @@
+-- The laws of a take. Assumes nothing.
+pub mod Takes

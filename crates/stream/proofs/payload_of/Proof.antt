@@ -1,0 +1,28 @@
+-- `stream::payload_of` meets its contract. Assumes nothing.
+use mathlib.Core.Bool.{Bool}
+use mathlib.Core.Path.{sym, ap, _∙_}
+use borrow.Author.Needs.{needs}
+use Rattle.stream.specs.Stream.{payloadAt}
+use Rattle.stream.proofs.payload_of.Statement.{statement}
+use Rattle.stream.proofs.payload_of.Tie as tie
+
+part-of-requires : tie.Need-part-of-requires
+part-of-requires c κs = search needs
+
+part-of-requires-2 : tie.Need-part-of-requires-2
+part-of-requires-2 c κs = search needs
+
+returns : tie.Need-returns
+returns c =
+    let k = c .before in
+    let a = k .before .before .before .args in
+    c .part-of .ensures ∙ sym (ap (λ (b : Bool). payloadAt (a .segment .now) (a .rx .now) b (a .at) (a .size)) (k .if1 .taken))
+
+returns-2 : tie.Need-returns-2
+returns-2 c =
+    let k = c .before in
+    let a = k .before .before .before .args in
+    c .part-of2 .ensures ∙ sym (ap (λ (b : Bool). payloadAt (a .segment .now) (a .rx .now) b (a .at) (a .size)) (k .if1 .left))
+
+pub payload-of-spec : {M : Type 1} → statement M
+payload-of-spec = tie.close (tie.spec part-of-requires part-of-requires-2 returns returns-2)

@@ -1,0 +1,109 @@
+-- A take as the contracts cite it: the cell that a receive part and receive memory are, the answer that a take of the
+-- stream is, and receive memory afterwards (document 01, "Headers and streams", "State and memory").
+-- Assumes nothing: these are definitions.
+use Prim.Native.Nat.{ℕ, zero, suc, _+_, _-_, _≤_}
+use mathlib.Core.Path.{_≡_}
+use mathlib.Core.Bool.{Bool, true, false, cond}
+use mathlib.Core.List.{List, [], _∷_}
+use lib.ListN.{length, take}
+use Rattle.feed.specs.Feed.{Cell, cell, header, payload, skip, Out, nothing, pdu, dropped, Took, takeB, readOf}
+use Rattle.layout.specs.Layout.{partOf}
+use Rattle.part.specs.declared.Part.{Part}
+use Rattle.part.specs.declared.Part.the-variants.{Header, Payload, Skip}
+use Rattle.part.specs.Part.{shaped}
+use Rattle.route.specs.Route.{lookupOf}
+use Rattle.rows.specs.Rows.{routeIn}
+use Rattle.wire.specs.Lay.{lay}
+use Rattle.stream.specs.declared.Outcome.{Outcome}
+use Rattle.stream.specs.declared.Outcome.the-variants.{More, Pdu, Drop}
+use Rattle.stream.specs.declared.Taken.{Taken}
+
+-- the cell that a part and the receive stretch are: "filled from its front"
+abbrev pub cellOf : Part → List ℕ → Cell
+cellOf (Header held value) rx = cell (8 - held) (header value)
+cellOf (Payload route n held) rx = cell (n - held) (payload route (take held rx))
+cellOf (Skip n) rx = cell n skip
+
+-- the part of a cell
+abbrev pub partFrom : Cell → Part
+partFrom (cell n (header v)) = Header (8 - n) v
+partFrom (cell n (payload r h)) = Payload r (n + length h) (length h)
+partFrom (cell n skip) = Skip n
+
+-- the payload bytes that a cell holds
+abbrev pub heldIn : Cell → List ℕ
+heldIn (cell n (header v)) = []
+heldIn (cell n (payload r h)) = h
+heldIn (cell n skip) = []
+
+-- "handed out from the segment itself when all of it stands there": when none of it is held before
+abbrev pub none : List ℕ → Bool
+none [] = true
+none (b ∷ bs) = false
+
+abbrev pub inSegment : Cell → Bool
+inSegment c = none (heldIn c)
+
+-- the id that a PDU bears: its route's
+abbrev pub idOf : List ℕ → ℕ → ℕ
+idOf routes r = routeIn routes r .id
+
+-- the outcome: a payload in the segment ends where the take has read to, one in receive memory stands at its front
+abbrev pub outcomeOf : (ℕ → ℕ) → Bool → ℕ → Out → Outcome
+outcomeOf ids s read nothing = More
+outcomeOf ids s read (pdu r p) = Pdu r (ids r) s (cond s (read - length p) 0) (length p)
+outcomeOf ids s read (dropped k i n) = Drop k i n
+
+-- the answer that a take of a segment of n bytes is
+abbrev pub answered : (ℕ → ℕ) → Bool → ℕ → Took → Taken
+answered ids s n t = record { read = n - length (t .rest); outcome = outcomeOf ids s (n - length (t .rest)) (t .out); part = partFrom (t .to) }
+
+-- receive memory after a take: "only the payload bytes it adds to an unfinished payload, the last ones included but none
+-- of a payload handed out from the segment"
+abbrev pub wrote : Bool → Out → Cell → List ℕ → List ℕ
+wrote s nothing c rx = lay rx 0 (heldIn c)
+wrote true (pdu r p) c rx = rx
+wrote false (pdu r p) c rx = lay rx 0 p
+wrote s (dropped k i n) c rx = rx
+
+-- both, of an inner step
+pub record Answers (ids : ℕ → ℕ) (s : Bool) (n : ℕ) (t : Took) (rx : List ℕ) (r : Taken) (rx′ : List ℕ) : Type 0 where
+  pub answer : r ≡ answered ids s n t
+  pub memory : rx′ ≡ wrote s (t .out) (t .to) rx
+
+-- THE TAKE of a segment on a connection with these routes and switches, and receive memory after it
+unfoldable pub tookOf : List ℕ → ℕ → ℕ → Part → List ℕ → List ℕ → Took
+tookOf routes connection switches part rx segment = takeB (lookupOf routes connection switches) (cellOf part rx) segment
+
+unfoldable pub takenOf : List ℕ → ℕ → ℕ → Part → List ℕ → List ℕ → Taken
+takenOf routes connection switches part rx segment =
+    answered (idOf routes) (inSegment (cellOf part rx)) (length segment) (tookOf routes connection switches part rx segment)
+
+unfoldable pub rxAfter : List ℕ → ℕ → ℕ → Part → List ℕ → List ℕ → List ℕ
+rxAfter routes connection switches part rx segment =
+    wrote (inSegment (cellOf part rx)) (tookOf routes connection switches part rx segment .out) (tookOf routes connection switches part rx segment .to) rx
+
+-- what a take asks: a shaped part whose length fits the stretch, a stretch of 1,464 bytes, and routes that allow no more
+abbrev pub lengthOf : Part → ℕ
+lengthOf (Header held value) = 0
+lengthOf (Payload route n held) = n
+lengthOf (Skip n) = 0
+
+abbrev pub Limits : List ℕ → Type 0
+Limits routes = (i : ℕ) → routeIn routes i .longest ≤ 1464
+
+pub record Fit (routes : List ℕ) (part : Part) (rx : List ℕ) : Type 0 where
+  pub shape : shaped part ≡ true
+  pub fits : lengthOf part ≤ 1464
+  pub room : length rx ≡ 1464
+  pub limits : Limits routes
+
+-- the part after a dropped header: so many bytes to skip, which may be none
+abbrev pub skipPart : ℕ → Part
+skipPart zero = Header 0 0
+skipPart (suc n) = Skip (suc n)
+
+-- the payload that an outcome names, of whichever of the two holds it
+abbrev pub payloadAt : List ℕ → List ℕ → Bool → ℕ → ℕ → List ℕ
+payloadAt segment rx true at n = partOf segment at n
+payloadAt segment rx false at n = partOf rx at n

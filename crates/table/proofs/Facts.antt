@@ -1,0 +1,187 @@
+-- An accepted image keeps the rules of the table. Assumes nothing.
+use Prim.Native.Nat.{ℕ, _+_, _<_, _≤_}
+use mathlib.Core.Path.{_≡_}
+use mathlib.Core.Bool.{Bool, true, false, _&&_}
+use mathlib.Core.List.{List}
+use native.Mathlib.Omega.{arith}
+use lib.Dec.{leb, ltb, eqb}
+use lib.ListN.{length}
+use borrow.Author.Tests.{leb-true, ltb-true, eqb-true, eq-eqb, not-true}
+use Rattle.wire.specs.Be.{be}
+use Rattle.lists.proofs.Both.{and-left, and-right, and-both}
+use Rattle.lists.proofs.Search.{none-bad, every-at}
+use Rattle.layout.specs.Layout.{number, mostRows, entryAt, rowsOf, startOf, endOf, rowAt, bodyOf, rowOf, Laid}
+use Rattle.layout.specs.declared.Kind.{Kind}
+use Rattle.layout.specs.declared.Kind.the-variants.{Group, Connection, Route, Destination}
+use Rattle.rows.specs.Rows.{groupRow, connectionRow, routeRow, destinationRow}
+use Rattle.rows.specs.Rules.{groupGood, connectionGood, routeGood, destinationGood, sizeIn, routesShare, destinationsShare}
+use Rattle.scan.specs.Scan.{share, clearIn, goodIn}
+use Rattle.table.specs.Table.{entryGood, rule, rowGood, badRow, demand, rowsPlace, entriesPlace, headPlace, allRowsPlace, checkTable}
+use Rattle.table.specs.Accepts.{Accepts}
+use Rattle.table.specs.declared.TableAnswer.the-variants.{Accepted}
+use Rattle.table.proofs.Answers.{then-first, then-second, demand-held}
+
+and3 : (a b c : Bool) → a && b && c ≡ true → (a ≡ true) × (b ≡ true) × (c ≡ true)
+and3 a b c e = let ab = and-left (a && b) c e in (and-left a b ab, and-right a b ab, and-right (a && b) c e)
+
+and4 : (a b c d : Bool) → a && b && c && d ≡ true → (a ≡ true) × (b ≡ true) × (c ≡ true) × (d ≡ true)
+and4 a b c d e = let f = and3 a b c (and-left (a && b && c) d e) in (f .0, f .1, f .2, and-right (a && b && c) d e)
+
+module _ (s : List ℕ) (e : checkTable s ≡ Accepted) where
+  -- the four parts of the check
+  head : demand (leb 36 (length s)) 0 ≡ Accepted
+  unfolding checkTable
+  head = then-first _ _ e
+
+  contents : headPlace s ≡ Accepted
+  unfolding checkTable
+  contents = then-first _ _ (then-second (demand (leb 36 (length s)) 0) _ e)
+
+  total : demand (eqb (length s) (endOf s)) 2 ≡ Accepted
+  unfolding checkTable
+  total = then-first _ (allRowsPlace s) (then-second (headPlace s) _ (then-second (demand (leb 36 (length s)) 0) _ e))
+
+  rows : allRowsPlace s ≡ Accepted
+  unfolding checkTable
+  rows = then-second _ _ (then-second (headPlace s) _ (then-second (demand (leb 36 (length s)) 0) _ e))
+
+  pub accepted-laid : Laid s
+  accepted-laid = record { head = leb-true _ _ (demand-held (leb 36 (length s)) 0 head); whole = eqb-true _ _ (demand-held (eqb (length s) (endOf s)) 2 total) }
+
+  entries : entriesPlace s ≡ Accepted
+  unfolding headPlace
+  entries = then-second _ _ contents
+
+  entry : (k : Kind) → entryGood s k ≡ true
+  unfolding entriesPlace
+  entry Group = demand-held _ 4 (then-first _ _ entries)
+  entry Connection = demand-held _ 12 (then-first _ _ (then-second _ _ entries))
+  entry Route = demand-held _ 20 (then-first _ _ (then-second _ _ (then-second _ _ entries)))
+  entry Destination = demand-held _ 28 (then-second _ _ (then-second _ _ (then-second _ _ entries)))
+
+  most : (k : Kind) → rowsOf s k ≤ mostRows k
+  unfolding entryGood
+  most k = leb-true _ _ (and3 (eqb (be 2 s (entryAt k)) (number k)) (leb (rowsOf s k) (mostRows k)) (eqb (be 4 s (entryAt k + 4)) (startOf s k)) (entry k) .1)
+
+  placed : (k : Kind) → rowsPlace s k ≡ Accepted
+  unfolding allRowsPlace
+  placed Group = then-first _ _ rows
+  placed Connection = then-first _ _ (then-second _ _ rows)
+  placed Route = then-first _ _ (then-second _ _ (then-second _ _ rows))
+  placed Destination = then-second _ _ (then-second _ _ (then-second _ _ rows))
+
+  -- every row is good, by itself and among the earlier ones
+  pub accepted-row : (k : Kind) (i : ℕ) → i < rowsOf s k → rowGood s k i ≡ true
+  accepted-row k i h =
+      none-bad (rowGood s k) (rowsOf s k) (leb-true (rowsOf s k) (badRow s k) (demand-held (leb (rowsOf s k) (badRow s k)) (rowAt s k (badRow s k)) (placed k))) i h
+
+  ruled : (k : Kind) (i : ℕ) → i < rowsOf s k → rule s k (rowOf s k i) ≡ true
+  unfolding goodIn
+  ruled k i h = and-left (rule s k (rowOf s k i)) _ (accepted-row k i h)
+
+  unshared : (k : Kind) (i j : ℕ) → i < j → j < rowsOf s k → share k (rowOf s k i) (rowOf s k j) ≡ false
+  unfolding goodIn clearIn
+  unshared k i j l h = not-true _ (every-at _ j i (and-right (rule s k (rowOf s k j)) _ (accepted-row k j h)) l)
+
+  -- each kind's rule, test by test
+  group-rule : (i : ℕ) → i < rowsOf s Group → groupGood (rowOf s Group i) ≡ true
+  unfolding rule
+  group-rule i h = ruled Group i h
+
+  connection-rule : (i : ℕ) → i < rowsOf s Connection → connectionGood (rowsOf s Group) (rowOf s Connection i) ≡ true
+  unfolding rule
+  connection-rule i h = ruled Connection i h
+
+  route-rule : (i : ℕ) → i < rowsOf s Route → routeGood (rowsOf s Connection) (rowOf s Route i) ≡ true
+  unfolding rule
+  route-rule i h = ruled Route i h
+
+  destination-rule : (i : ℕ) → i < rowsOf s Destination → destinationGood (rowsOf s Connection) (sizeIn (bodyOf s Connection)) (rowOf s Destination i) ≡ true
+  unfolding rule
+  destination-rule i h = ruled Destination i h
+
+pub record GroupFacts (row : List ℕ) : Type 0 where
+  pub low : 1 ≤ be 1 row 0
+  pub high : be 1 row 0 ≤ 2
+
+pub record ConnectionFacts (groups : ℕ) (row : List ℕ) : Type 0 where
+  pub group : be 1 row 0 < groups
+  pub automatic : be 1 row 1 ≤ 1
+  pub low : 8 ≤ be 2 row 8
+  pub high : be 2 row 8 ≤ 1472
+
+pub record RouteFacts (connections : ℕ) (row : List ℕ) : Type 0 where
+  pub connection : be 1 row 0 < connections
+  pub longest : be 2 row 2 ≤ 1464
+
+pub record DestinationFacts (connections : ℕ) (size : ℕ → ℕ) (row : List ℕ) : Type 0 where
+  pub connection : be 1 row 0 < connections
+  pub trigger : be 1 row 1 ≤ 1
+  pub longest : be 2 row 2 ≤ 1464
+  pub fits : be 2 row 2 + 8 ≤ size (be 1 row 0)
+
+group-facts : (row : List ℕ) → groupGood row ≡ true → GroupFacts row
+unfolding groupGood
+group-facts row e =
+    let f = and3 (leb 1 (be 1 row 0)) (leb (be 1 row 0) 2) (eqb (be 1 row 1) 0) e in
+    record { low = leb-true _ _ (f .0); high = leb-true _ _ (f .1) }
+
+connection-facts : (groups : ℕ) (row : List ℕ) → connectionGood groups row ≡ true → ConnectionFacts groups row
+unfolding connectionGood
+connection-facts groups row e =
+    let a = ltb (be 1 row 0) groups in
+    let b = leb (be 1 row 1) 1 in
+    let c = leb 8 (be 2 row 8) in
+    let d = leb (be 2 row 8) 1472 in
+    let f = and4 a b c d (and-left (a && b && c && d) (eqb (be 2 row 10) 0) e) in
+    record { group = ltb-true _ _ (f .0); automatic = leb-true _ _ (f .1); low = leb-true _ _ (f .2); high = leb-true _ _ (f .3) }
+
+route-facts : (connections : ℕ) (row : List ℕ) → routeGood connections row ≡ true → RouteFacts connections row
+unfolding routeGood
+route-facts connections row e =
+    let f = and4 (ltb (be 1 row 0) connections) (eqb (be 1 row 1) 0) (leb (be 2 row 2) 1464) (eqb (be 2 row 10) 0) e in
+    record { connection = ltb-true _ _ (f .0); longest = leb-true _ _ (f .2) }
+
+destination-facts : (connections : ℕ) (size : ℕ → ℕ) (row : List ℕ) → destinationGood connections size row ≡ true → DestinationFacts connections size row
+unfolding destinationGood
+destination-facts connections size row e =
+    let f = and4 (ltb (be 1 row 0) connections) (leb (be 1 row 1) 1) (leb (be 2 row 2) 1464) (leb (be 2 row 2 + 8) (size (be 1 row 0))) e in
+    record { connection = ltb-true _ _ (f .0); trigger = leb-true _ _ (f .1); longest = leb-true _ _ (f .2); fits = leb-true _ _ (f .3) }
+
+module _ (s : List ℕ) (e : checkTable s ≡ Accepted) (i : ℕ) where
+  groups-keep : i < rowsOf s Group → GroupFacts (rowOf s Group i)
+  groups-keep h = group-facts (rowOf s Group i) (group-rule s e i h)
+
+  connections-keep : i < rowsOf s Connection → ConnectionFacts (rowsOf s Group) (rowOf s Connection i)
+  connections-keep h = connection-facts (rowsOf s Group) (rowOf s Connection i) (connection-rule s e i h)
+
+  routes-keep : i < rowsOf s Route → RouteFacts (rowsOf s Connection) (rowOf s Route i)
+  routes-keep h = route-facts (rowsOf s Connection) (rowOf s Route i) (route-rule s e i h)
+
+  destinations-keep : i < rowsOf s Destination → DestinationFacts (rowsOf s Connection) (sizeIn (bodyOf s Connection)) (rowOf s Destination i)
+  destinations-keep h = destination-facts (rowsOf s Connection) (sizeIn (bodyOf s Connection)) (rowOf s Destination i) (destination-rule s e i h)
+
+-- a test of sharing that fails
+apart-of : (share : Bool) → share ≡ false → share ≡ true → ⊥
+apart-of share f t = let z : _≡_ {A = ℕ} 0 1 = cc in omega arith
+
+-- the rules of the table, as facts of its rows
+pub accepted-facts : (s : List ℕ) → checkTable s ≡ Accepted → Accepts s
+unfolding groupRow connectionRow routeRow destinationRow sizeIn share routesShare destinationsShare
+accepted-facts s e =
+    record {
+      laid = accepted-laid s e;
+      most = most s e;
+      protocol = λ i h. (groups-keep s e i h .low, groups-keep s e i h .high);
+      owned = λ i h. connections-keep s e i h .group;
+      automatic = λ i h. connections-keep s e i h .automatic;
+      sized = λ i h. (connections-keep s e i h .low, connections-keep s e i h .high);
+      routed = λ i h. routes-keep s e i h .connection;
+      longest = λ i h. routes-keep s e i h .longest;
+      routesApart = λ i j l h p q. apart-of _ (unshared s e Route i j l h) (and-both (eq-eqb _ _ p) (eq-eqb _ _ q));
+      there = λ i h. destinations-keep s e i h .connection;
+      trigger = λ i h. destinations-keep s e i h .trigger;
+      most-sent = λ i h. destinations-keep s e i h .longest;
+      fits = λ i h. destinations-keep s e i h .fits;
+      destinationsApart = λ i j l h p q. apart-of _ (unshared s e Destination i j l h) (and-both (eq-eqb _ _ p) (eq-eqb _ _ q));
+    }

@@ -1,0 +1,75 @@
+-- The first bad row of a body is the first bad row of its kind, in an image that is laid out. Assumes nothing.
+use Prim.Native.Nat.{ℕ, _+_, _*_, _/_, _<_, _≤_}
+use mathlib.Core.Path.{_≡_, ap, _∙_}
+use mathlib.Core.List.{List}
+use native.Mathlib.Omega.{arith}
+use native.Mathlib.Nat.{mul-le-mul}
+use lib.Dec.{leb}
+use lib.ListN.{length}
+use borrow.Author.Tests.{le-leb, lt-leb}
+use Rattle.lists.specs.Search.{firstBad}
+use Rattle.layout.specs.Layout.{rowBytes, rowsOf, startOf, rowAt, bodyOf, Laid}
+use Rattle.layout.proofs.Parts.{body-rows}
+use Rattle.layout.specs.declared.Kind.{Kind}
+use Rattle.layout.specs.declared.Kind.the-variants.{Group, Connection, Route, Destination}
+use Rattle.rows.specs.Rules.{groupGood, connectionGood, routeGood, destinationGood, sizeIn}
+use Rattle.scan.specs.Scan.{share, goodIn}
+use Rattle.table.specs.Table.{rule, demand, rowsPlace}
+use Rattle.table.specs.declared.TableAnswer.{TableAnswer}
+use Rattle.table.specs.declared.TableAnswer.the-variants.{Accepted, Refused}
+
+-- the place of row `bad`
+module _ (s : List ℕ) (k : Kind) (rows bad start size : ℕ) (er : rows ≡ rowsOf s k) where
+  pub no-place : rows ≤ bad → Accepted ≡ demand (leb (rowsOf s k) bad) (rowAt s k bad)
+  no-place h = rw (le-leb (rowsOf s k) bad (omega arith))
+
+  pub some-place : start ≡ startOf s k → size ≡ rowBytes s k → bad < rows → Refused (start + bad * size) ≡ demand (leb (rowsOf s k) bad) (rowAt s k bad)
+  unfolding rowAt
+  some-place es ez h = rw (lt-leb (rowsOf s k) bad (omega arith), es, ez)
+
+pub place-small : (bad rows size : ℕ) → bad < rows → rows < 65536 → size ≤ 16 → bad * size ≤ 1048576
+place-small bad rows size h r z = let l : bad ≤ 65536 = omega arith in mul-le-mul l z
+
+-- each kind, by values that are its body and its numbers
+module _ (s : List ℕ) (l : Laid s) (r : TableAnswer) (bad : ℕ) where
+  place : (k : Kind) → bad ≡ firstBad (goodIn (rule s k) (share k) (rowBytes s k) (bodyOf s k)) (length (bodyOf s k) / rowBytes s k)
+      → r ≡ demand (leb (rowsOf s k) bad) (rowAt s k bad) → r ≡ rowsPlace s k
+  place k e f =
+      f ∙ ap (λ (b : ℕ). demand (leb (rowsOf s k) b) (rowAt s k b)) (e ∙ ap (firstBad (goodIn (rule s k) (share k) (rowBytes s k) (bodyOf s k))) (body-rows s l k))
+
+  pub groups-place : (body : List ℕ) → body ≡ bodyOf s Group
+      → bad ≡ firstBad (goodIn groupGood (share Group) 2 body) (length body / 2)
+      → r ≡ demand (leb (rowsOf s Group) bad) (rowAt s Group bad) → r ≡ rowsPlace s Group
+  unfolding rule
+  groups-place body b e f = place Group (e ∙ ap (λ (x : List ℕ). firstBad (goodIn groupGood (share Group) 2 x) (length x / 2)) b) f
+
+  pub connections-place : (body : List ℕ) (groups : ℕ) → body ≡ bodyOf s Connection → groups ≡ rowsOf s Group
+      → bad ≡ firstBad (goodIn (connectionGood groups) (share Connection) 16 body) (length body / 16)
+      → r ≡ demand (leb (rowsOf s Connection) bad) (rowAt s Connection bad) → r ≡ rowsPlace s Connection
+  unfolding rule
+  connections-place body groups b g e f =
+      place Connection
+      (e ∙ ap (λ (x : List ℕ). firstBad (goodIn (connectionGood groups) (share Connection) 16 x) (length x / 16)) b
+      ∙ ap (λ (n : ℕ). firstBad (goodIn (connectionGood n) (share Connection) 16 (bodyOf s Connection)) (length (bodyOf s Connection) / 16)) g)
+      f
+
+  pub routes-place : (body : List ℕ) (connections : ℕ) → body ≡ bodyOf s Route → connections ≡ rowsOf s Connection
+      → bad ≡ firstBad (goodIn (routeGood connections) (share Route) 16 body) (length body / 16)
+      → r ≡ demand (leb (rowsOf s Route) bad) (rowAt s Route bad) → r ≡ rowsPlace s Route
+  unfolding rule
+  routes-place body connections b n e f =
+      place Route
+      (e ∙ ap (λ (x : List ℕ). firstBad (goodIn (routeGood connections) (share Route) 16 x) (length x / 16)) b
+      ∙ ap (λ (m : ℕ). firstBad (goodIn (routeGood m) (share Route) 16 (bodyOf s Route)) (length (bodyOf s Route) / 16)) n)
+      f
+
+  pub destinations-place : (body connections : List ℕ) → body ≡ bodyOf s Destination → connections ≡ bodyOf s Connection
+      → bad ≡ firstBad (goodIn (destinationGood (length connections / 16) (sizeIn connections)) (share Destination) 16 body) (length body / 16)
+      → r ≡ demand (leb (rowsOf s Destination) bad) (rowAt s Destination bad) → r ≡ rowsPlace s Destination
+  unfolding rule
+  destinations-place body connections b c e f =
+      place Destination
+      (e ∙ ap (λ (x : List ℕ). firstBad (goodIn (destinationGood (length connections / 16) (sizeIn connections)) (share Destination) 16 x) (length x / 16)) b
+      ∙ ap (λ (x : List ℕ). firstBad (goodIn (destinationGood (length x / 16) (sizeIn x)) (share Destination) 16 (bodyOf s Destination)) (length (bodyOf s Destination) / 16)) c
+      ∙ ap (λ (n : ℕ). firstBad (goodIn (destinationGood n (sizeIn (bodyOf s Connection))) (share Destination) 16 (bodyOf s Destination)) (length (bodyOf s Destination) / 16)) (body-rows s l Connection))
+      f

@@ -1,0 +1,61 @@
+-- `table::after_groups` meets its contract. Assumes nothing.
+use Rattle.table.proofs.Answers.{then-refused, then-accepted}
+use Rattle.table.proofs.Places.{connections-place}
+use Rattle.table.specs.Table.{rowsPlace}
+use Rattle.layout.specs.declared.Kind.the-variants.{Connection}
+use mathlib.Core.Path.{sym, _∙_}
+use borrow.Author.Needs.{needs}
+use Rattle.table.proofs.after_groups.Statement.{statement}
+use Rattle.table.proofs.after_groups.Tie as tie
+
+body-of-requires : tie.Need-body-of-requires
+body-of-requires c κs = search needs
+
+rows-of-requires : tie.Need-rows-of-requires
+rows-of-requires c κs = search needs
+
+first-bad-connection-requires : tie.Need-first-bad-connection-requires
+first-bad-connection-requires c κs = search needs
+
+place-of-requires : tie.Need-place-of-requires
+place-of-requires c κs = search needs
+
+enum-known-connections : tie.Need-enum-known-connections
+enum-known-connections c = search needs
+
+enum-told : tie.Need-enum-told
+enum-told c = search needs
+
+after-connections-requires : tie.Need-after-connections-requires
+after-connections-requires c κs = search needs
+
+returns : tie.Need-returns
+returns c =
+    let p = c .before .before .before in
+    let b = p .before .before .before .before .before in
+    let s = b .args .image .now in
+    then-refused (rowsPlace s Connection) _ _
+    (sym (connections-place s (b .pre) _ _ _ _ (p .before .before .before .body-of .ensures) (p .before .before .rows-of .ensures .0) (p .before .first-bad-connection .ensures) (p .place-of .ensures)) ∙ c .before .connections .given .1)
+
+returns-2 : tie.Need-returns-2
+returns-2 c =
+    let p = c .before .before .before in
+    let b = p .before .before .before .before .before in
+    let s = b .args .image .now in
+    then-accepted (rowsPlace s Connection) _ _
+    (sym (connections-place s (b .pre) _ _ _ _ (p .before .before .before .body-of .ensures) (p .before .before .rows-of .ensures .0) (p .before .first-bad-connection .ensures) (p .place-of .ensures)) ∙ c .before .enum-told .given .1)
+    (c .after-connections .ensures)
+
+pub after-groups-spec : {M : Type 1} → statement M
+after-groups-spec =
+    tie.close
+    (tie.spec
+    body-of-requires
+    rows-of-requires
+    first-bad-connection-requires
+    place-of-requires
+    enum-known-connections
+    enum-told
+    after-connections-requires
+    returns
+    returns-2)

@@ -1,0 +1,111 @@
+-- The table check of document 01, "The table image", as a function of the image's bytes. Assumes nothing.
+use Prim.Native.Nat.{ℕ, _+_}
+use mathlib.Core.Bool.{Bool, cond, _&&_}
+use mathlib.Core.List.{List, []}
+use lib.ListN.{length}
+use lib.Dec.{leb, eqb}
+use Rattle.wire.specs.Be.{be}
+use Rattle.lists.specs.Search.{firstBad}
+use Rattle.layout.specs.Layout.{number, mostRows, entryAt, rowBytes, rowsOf, startOf, endOf, rowAt, bodyOf}
+use Rattle.layout.specs.declared.Kind.{Kind}
+use Rattle.layout.specs.declared.Kind.the-variants.{Group, Connection, Route, Destination}
+use Rattle.rows.specs.Rules.{groupGood, connectionGood, routeGood, destinationGood, sizeIn}
+use Rattle.scan.specs.Scan.{share, goodIn}
+use Rattle.table.specs.declared.TableAnswer.{TableAnswer}
+use Rattle.table.specs.declared.TableAnswer.the-variants.{Accepted, Refused}
+
+-- "Bytes 0..1 are edition 1, bytes 2..3 the number 4."
+unfoldable pub headGood : List ℕ → Bool
+headGood s = eqb (be 2 s 0) 1 && eqb (be 2 s 2) 4
+
+-- a contents entry: not "wrong kind, too many rows, wrong offset"
+unfoldable pub entryGood : List ℕ → Kind → Bool
+entryGood s k =
+    eqb (be 2 s (entryAt k)) (number k)
+    && leb (rowsOf s k) (mostRows k)
+    && eqb (be 4 s (entryAt k + 4)) (startOf s k)
+
+-- each kind's row rule: "Numbers of groups and connections must exist."
+unfoldable pub rule : List ℕ → Kind → List ℕ → Bool
+rule s Group row = groupGood row
+rule s Connection row = connectionGood (rowsOf s Group) row
+rule s Route row = routeGood (rowsOf s Connection) row
+rule s Destination row = destinationGood (rowsOf s Connection) (sizeIn (bodyOf s Connection)) row
+
+-- row i of a kind is good
+abbrev pub rowGood : List ℕ → Kind → ℕ → Bool
+rowGood s k i = goodIn (rule s k) (share k) (rowBytes s k) (bodyOf s k) i
+
+-- the number of the first bad row of a kind; the row count where there is none
+abbrev pub badRow : List ℕ → Kind → ℕ
+badRow s k = firstBad (rowGood s k) (rowsOf s k)
+
+-- ---- "Refusal 1 gives a place"
+
+-- a refusal at the place unless the test holds
+abbrev pub demand : Bool → ℕ → TableAnswer
+demand ok place = cond ok Accepted (Refused place)
+
+-- the first refusal of two
+unfoldable pub then : TableAnswer → TableAnswer → TableAnswer
+then Accepted b = b
+then (Refused p) b = Refused p
+
+-- "0 when .. bytes 0..3 are wrong; then the first bad contents entry's offset"
+unfoldable pub entriesPlace : List ℕ → TableAnswer
+entriesPlace s =
+    then (demand (entryGood s Group) 4)
+    (then (demand (entryGood s Connection) 12)
+    (then (demand (entryGood s Route) 20)
+    (demand (entryGood s Destination) 28)))
+
+unfoldable pub headPlace : List ℕ → TableAnswer
+headPlace s = then (demand (headGood s) 0) (entriesPlace s)
+
+-- "the first bad row's offset", of a kind and of all in image order
+abbrev pub rowsPlace : List ℕ → Kind → TableAnswer
+rowsPlace s k = demand (leb (rowsOf s k) (badRow s k)) (rowAt s k (badRow s k))
+
+unfoldable pub allRowsPlace : List ℕ → TableAnswer
+allRowsPlace s =
+    then (rowsPlace s Group)
+    (then (rowsPlace s Connection)
+    (then (rowsPlace s Route)
+    (rowsPlace s Destination)))
+
+-- "0 when shorter than 36 or bytes 0..3 are wrong; then the first bad contents entry's offset ..; then 2 for a wrong
+-- total length; then the first bad row's offset"
+unfoldable pub checkTable : List ℕ → TableAnswer
+checkTable s =
+    then (demand (leb 36 (length s)) 0)
+    (then (headPlace s)
+    (then (demand (eqb (length s) (endOf s)) 2)
+    (allRowsPlace s)))
+
+-- the answer's number in document 01: 0 done, 1 table refused
+abbrev pub answerNumber : TableAnswer → ℕ
+answerNumber Accepted = 0
+answerNumber (Refused p) = 1
+
+-- the place that goes with it; an accepted table has none, and what stood there stays
+abbrev pub answerPlace : TableAnswer → ℕ → ℕ
+answerPlace Accepted before = before
+answerPlace (Refused p) before = p
+
+-- ---- "Each body is handed back as the part of the caller's image it occupies."
+
+-- a kind's number; nothing at any other number
+abbrev pub bodyNumbered : List ℕ → ℕ → List ℕ
+bodyNumbered s n =
+    cond (eqb n 1) (bodyOf s Group)
+    (cond (eqb n 2) (bodyOf s Connection)
+    (cond (eqb n 3) (bodyOf s Route)
+    (cond (eqb n 4) (bodyOf s Destination) [])))
+
+-- and nothing of a refused image
+abbrev pub ifAccepted : TableAnswer → List ℕ → List ℕ
+ifAccepted Accepted l = l
+ifAccepted (Refused p) l = []
+
+unfoldable pub bodyAnswer : List ℕ → ℕ → List ℕ
+bodyAnswer s n = ifAccepted (checkTable s) (bodyNumbered s n)

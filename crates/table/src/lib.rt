@@ -1,0 +1,204 @@
+// The table image: its check, with the place of the first fault, and each body handed back as the part of the image that
+// it occupies. Everything public is total. Assumes nothing.
+ghost use mathlib.Core.Path.{_≡_};
+ghost use lib.Dec.{leb};
+ghost use Rattle.layout.specs.Layout.{rowsOf, rowAt, Laid};
+ghost use Rattle.table.specs.Table.{
+  headGood,
+  entryGood,
+  demand,
+  then,
+  rowsPlace,
+  entriesPlace,
+  allRowsPlace,
+  headPlace,
+  checkTable,
+  bodyNumbered,
+  bodyAnswer,
+};
+use layout::Kind;
+use layout::body_of;
+use layout::end_of;
+use layout::entry_at;
+use layout::kind_number;
+use layout::most_rows;
+use layout::row_bytes;
+use layout::rows_of;
+use layout::start_of;
+use scan::first_bad_connection;
+use scan::first_bad_destination;
+use scan::first_bad_group;
+use scan::first_bad_route;
+use wire::be16;
+use wire::be32;
+
+pub enum TableAnswer {
+    Accepted,
+    Refused(usize),
+}
+
+fn demand_at(ok: bool, place: usize) -> TableAnswer
+    ensures { λ r. ⌜ r ≡ demand ok place ⌝ }
+{
+    if ok {
+        TableAnswer::Accepted
+    } else {
+        TableAnswer::Refused(place)
+    }
+}
+
+fn first_refusal(a: TableAnswer, b: TableAnswer) -> TableAnswer
+    ensures { λ r. ⌜ r ≡ then a b ⌝ }
+{
+    match a {
+        TableAnswer::Accepted => b,
+        TableAnswer::Refused(p) => TableAnswer::Refused(p),
+    }
+}
+
+// ---- bytes 0..3 and the contents
+
+fn head_good(image: &[u8]) -> bool
+    ensures { λ r. ⌜ r ≡ headGood (now (image .entry)) ⌝ }
+{
+    (be16(image, 0) == 1) & (be16(image, 2) == 4)
+}
+
+fn entry_good(image: &[u8], k: Kind) -> bool
+    ensures { λ r. ⌜ r ≡ entryGood (now (image .entry)) k ⌝ }
+{
+    let at = entry_at(k);
+    (be16(image, at) == kind_number(k))
+        & (rows_of(image, k) <= most_rows(k))
+        & (be32(image, at + 4) == start_of(image, k))
+}
+
+fn entries_place(image: &[u8]) -> TableAnswer
+    ensures { λ r. ⌜ r ≡ entriesPlace (now (image .entry)) ⌝ }
+{
+    let groups = demand_at(entry_good(image, Kind::Group), 4);
+    let connections = demand_at(entry_good(image, Kind::Connection), 12);
+    let routes = demand_at(entry_good(image, Kind::Route), 20);
+    let destinations = demand_at(entry_good(image, Kind::Destination), 28);
+    first_refusal(
+        groups,
+        first_refusal(connections, first_refusal(routes, destinations)),
+    )
+}
+
+fn head_place(image: &[u8]) -> TableAnswer
+    ensures { λ r. ⌜ r ≡ headPlace (now (image .entry)) ⌝ }
+{
+    first_refusal(demand_at(head_good(image), 0), entries_place(image))
+}
+
+// ---- rows
+
+// A refusal at the row `bad` if there is such a row.
+fn place_of(image: &[u8], k: Kind, bad: usize) -> TableAnswer
+    ensures { λ r. ⌜ r ≡ demand (leb (rowsOf (now (image .entry)) k) bad) (rowAt (now (image .entry)) k bad) ⌝ }
+{
+    if rows_of(image, k) <= bad {
+        TableAnswer::Accepted
+    } else {
+        TableAnswer::Refused(start_of(image, k) + bad * row_bytes(image, k))
+    }
+}
+
+fn after_connections(image: &[u8]) -> TableAnswer
+    requires { ⌜ Laid (now image) ⌝ }
+    ensures { λ r. ⌜ r ≡ then (rowsPlace (now (image .entry)) Kind.Route) (rowsPlace (now (image .entry)) Kind.Destination) ⌝ }
+{
+    let bad_route = first_bad_route(
+        body_of(image, Kind::Route),
+        rows_of(image, Kind::Connection),
+    );
+    let routes = place_of(image, Kind::Route, bad_route);
+    match routes {
+        TableAnswer::Refused(p) => TableAnswer::Refused(p),
+        TableAnswer::Accepted => {
+            let connections = body_of(image, Kind::Connection);
+            let destinations = body_of(image, Kind::Destination);
+            place_of(
+                image,
+                Kind::Destination,
+                first_bad_destination(destinations, connections),
+            )
+        }
+    }
+}
+
+fn after_groups(image: &[u8]) -> TableAnswer
+    requires { ⌜ Laid (now image) ⌝ }
+    ensures { λ r. ⌜ r ≡ then (rowsPlace (now (image .entry)) Kind.Connection) (then (rowsPlace (now (image .entry)) Kind.Route) (rowsPlace (now (image .entry)) Kind.Destination)) ⌝ }
+{
+    let bad = first_bad_connection(
+        body_of(image, Kind::Connection),
+        rows_of(image, Kind::Group),
+    );
+    let connections = place_of(image, Kind::Connection, bad);
+    match connections {
+        TableAnswer::Refused(p) => TableAnswer::Refused(p),
+        TableAnswer::Accepted => after_connections(image),
+    }
+}
+
+fn all_rows_place(image: &[u8]) -> TableAnswer
+    requires { ⌜ Laid (now image) ⌝ }
+    ensures { λ r. ⌜ r ≡ allRowsPlace (now (image .entry)) ⌝ }
+{
+    let bad = first_bad_group(body_of(image, Kind::Group));
+    let groups = place_of(image, Kind::Group, bad);
+    match groups {
+        TableAnswer::Refused(p) => TableAnswer::Refused(p),
+        TableAnswer::Accepted => after_groups(image),
+    }
+}
+
+// ---- the check
+
+// Accepted, or refusal 1 with its place.
+pub fn check_table(image: &[u8]) -> TableAnswer
+    ensures { λ r. ⌜ r ≡ checkTable (now (image .entry)) ⌝ }
+{
+    if image.len() < 36 {
+        return TableAnswer::Refused(0);
+    }
+    let head = head_place(image);
+    match head {
+        TableAnswer::Refused(p) => TableAnswer::Refused(p),
+        TableAnswer::Accepted => {
+            if image.len() == end_of(image) {
+                all_rows_place(image)
+            } else {
+                TableAnswer::Refused(2)
+            }
+        }
+    }
+}
+
+// ---- what is handed back
+
+// The body of the kind with this number; at a number that is no kind's, an empty part.
+fn body_numbered(image: &[u8], number: usize) -> &[u8]
+    ensures { λ r. ⌜ now r ≡ bodyNumbered (now (image .entry)) number ⌝ }
+{
+    match number {
+        1 => body_of(image, Kind::Group),
+        2 => body_of(image, Kind::Connection),
+        3 => body_of(image, Kind::Route),
+        4 => body_of(image, Kind::Destination),
+        _ => &image[..0],
+    }
+}
+
+// The same, and an empty part of an image that is refused.
+pub fn body(image: &[u8], number: usize) -> &[u8]
+    ensures { λ r. ⌜ now r ≡ bodyAnswer (now (image .entry)) number ⌝ }
+{
+    let answer = check_table(image);
+    match answer {
+        TableAnswer::Refused(_) => &image[..0],
+        TableAnswer::Accepted => body_numbered(image, number),
+    }
+}
