@@ -22,7 +22,7 @@ use Rattle.choose.specs.declared.Arrived.{Arrived}
 use Rattle.choose.specs.Choose.{chosenIn, meet, refusedBy, protocolOf, deniedOf, arriveOf}
 
 module _ (image : List ℕ) (s : State) (accept : Bool) (group : ℕ) (source : Remote) (groups : ℕ) (eg : groups ≡ rowsOf image Group) where
-  pub arrive-missing : groups ≤ group → refusedBy Missing s ≡ arriveOf image s accept group source
+  pub arrive-missing : groups ≤ group → refusedBy s Missing ≡ arriveOf image s accept group source
   unfolding arriveOf
   arrive-missing h = rw (← eg, le-leb _ _ h)
 
@@ -34,7 +34,7 @@ module _ (image : List ℕ) (s : State) (accept : Bool) (group : ℕ) (source : 
         ap₂ (λ (r : GroupRow) (w : Bool). not (eqb (r .protocol) protocol) || w) er ew
         ∙ ap (λ (n : ℕ). not (eqb (groupOf image group .protocol) n) || wildcard source) ep
 
-    pub arrive-denied : (not (eqb (row .protocol) protocol) || wild) ≡ true → refusedBy Denied s ≡ arriveOf image s accept group source
+    pub arrive-denied : (not (eqb (row .protocol) protocol) || wild) ≡ true → refusedBy s Denied ≡ arriveOf image s accept group source
     unfolding arriveOf
     arrive-denied t = rw (← eg, lt-leb _ _ there, ← denied-is, t)
 
@@ -43,10 +43,10 @@ module _ (image : List ℕ) (s : State) (accept : Bool) (group : ℕ) (source : 
       unfolding arriveOf
       past = rw (← eg, lt-leb _ _ there, ← denied-is, t, ex)
 
-      pub arrive-nobody : x ≡ Nobody → _≡_ {A = Arrived} (record { arrival = Unmatched; state = s }) (arriveOf image s accept group source)
+      pub arrive-nobody : x ≡ Nobody → _≡_ {A = Arrived} (record { answer = Unmatched; state = s }) (arriveOf image s accept group source)
       arrive-nobody e = sym (ap (meet s source) e) ∙ past
 
       pub arrive-met : (k : ℕ) (c : Connection) → x ≡ At k → c ≡ metOf source (recordAt s k)
-          → _≡_ {A = Arrived} (record { arrival = Met k; state = withRecord k c s }) (arriveOf image s accept group source)
+          → _≡_ {A = Arrived} (record { answer = Met k; state = withRecord k c s }) (arriveOf image s accept group source)
       arrive-met k c e m =
-          ap (λ (d : Connection). record { arrival = Met k; state = withRecord k d s }) m ∙ sym (ap (meet s source) e) ∙ past
+          ap (λ (d : Connection). record { answer = Met k; state = withRecord k d s }) m ∙ sym (ap (meet s source) e) ∙ past

@@ -60,12 +60,12 @@ module _ (image : List ℕ) (s : State) (accept : Bool) (group : ℕ) (source : 
 
 -- "It becomes online with the source as remote"; the answer names it
 abbrev pub meet : State → Remote → Chosen → Arrived
-meet s source Nobody = record { arrival = Unmatched; state = s }
+meet s source Nobody = record { answer = Unmatched; state = s }
 meet s source (At k) =
-    record { arrival = Met k; state = withRecord k (metOf source (recordAt s k)) s }
+    record { answer = Met k; state = withRecord k (metOf source (recordAt s k)) s }
 
-abbrev pub refusedBy : Refusal → State → Arrived
-refusedBy r s = record { arrival = Refused r; state = s }
+abbrev pub refusedBy : State → Refusal → Arrived
+refusedBy s r = record { answer = Refused r; state = s }
 
 -- a datagram names a UDP group, an accept a TCP group
 abbrev pub protocolOf : Bool → ℕ
@@ -78,8 +78,8 @@ deniedOf image accept group source = not (eqb (groupOf image group .protocol) (p
 -- a datagram (accept false) or an accept (accept true): 2, 3, then 10 or the chosen connection
 unfoldable pub arriveOf : List ℕ → State → Bool → ℕ → Remote → Arrived
 arriveOf image s accept group source =
-    cond (leb (rowsOf image Group) group) (refusedBy Missing s)
-    (cond (deniedOf image accept group source) (refusedBy Denied s)
+    cond (leb (rowsOf image Group) group) (refusedBy s Missing)
+    (cond (deniedOf image accept group source) (refusedBy s Denied)
     (meet s source (chosenIn image s accept group source)))
 
 -- the paper's number of an answer

@@ -24,7 +24,7 @@ pub enum Arrival {
 
 // The answer, with the state after it.
 pub struct Arrived {
-    pub arrival: Arrival,
+    pub answer: Arrival,
     pub state: State,
 }
 
@@ -106,7 +106,7 @@ pub fn arrive(image: &[u8], s: State, accept: bool, group: u8, source: Remote) -
     let groups = layout::rows_of(image, Kind::Group);
     if groups <= group as usize {
         return Arrived {
-            arrival: Arrival::Refused(Refusal::Missing),
+            answer: Arrival::Refused(Refusal::Missing),
             state: s,
         };
     }
@@ -114,14 +114,14 @@ pub fn arrive(image: &[u8], s: State, accept: bool, group: u8, source: Remote) -
     let denied = !(row.protocol == protocol_of(accept)) | connection::has_wildcard(source);
     if denied {
         return Arrived {
-            arrival: Arrival::Refused(Refusal::Denied),
+            answer: Arrival::Refused(Refusal::Denied),
             state: s,
         };
     }
     let chosen = choose(image, s, accept, group, source);
     match chosen {
         Chosen::Nobody => Arrived {
-            arrival: Arrival::Unmatched,
+            answer: Arrival::Unmatched,
             state: s,
         },
         Chosen::At(k) => {
@@ -130,7 +130,7 @@ pub fn arrive(image: &[u8], s: State, accept: bool, group: u8, source: Remote) -
             let mut next = s;
             next.connections[k] = met;
             Arrived {
-                arrival: Arrival::Met(k as u8),
+                answer: Arrival::Met(k as u8),
                 state: next,
             }
         }

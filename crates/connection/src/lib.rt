@@ -328,6 +328,16 @@ pub fn is_known(event: Event) -> bool
     }
 }
 
+// A refusal, with the record as it was.
+fn refused(reason: Refusal, connection: Connection) -> Stepped
+    ensures { λ r. ⌜ r ≡ Ev.refusedBy reason connection ⌝ }
+{
+    Stepped {
+        answer: Answer::Refused(reason),
+        connection: connection,
+    }
+}
+
 impl Connection {
     // Whether the event is allowed: 3 otherwise.
     pub fn allows(self, config: Config, event: Event) -> bool
@@ -369,19 +379,13 @@ impl Connection {
     {
         let known = is_known(event);
         let allowed = self.allows(config, event);
+        let next = self.after(config, event);
         if !known {
-            return Stepped {
-                answer: Answer::Refused(Refusal::Missing),
-                connection: self,
-            };
+            return refused(Refusal::Missing, self);
         }
         if !allowed {
-            return Stepped {
-                answer: Answer::Refused(Refusal::Denied),
-                connection: self,
-            };
+            return refused(Refusal::Denied, self);
         }
-        let next = self.after(config, event);
         Stepped {
             answer: Answer::Done,
             connection: next,

@@ -104,7 +104,7 @@ pub fn end_of(image: &[u8]) -> usize
 }
 
 // n bytes of s from `at` on, or an empty part where they do not fit.
-fn part_of(s: &[u8], at: usize, n: usize) -> &[u8]
+pub fn part_of(s: &[u8], at: usize, n: usize) -> &[u8]
     ensures { λ r. ⌜ now r ≡ partOf (now (s .entry)) at n ⌝ }
 {
     if s.len() < at {

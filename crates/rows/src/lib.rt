@@ -86,7 +86,7 @@ fn four_bytes(row: &[u8], at: usize) -> u32
 
 // ---- rows as values
 
-fn group_value(row: &[u8]) -> GroupRow
+pub fn group_value(row: &[u8]) -> GroupRow
     ensures { λ r. ⌜ r ≡ groupRow (now (row .entry)) ⌝ }
 {
     GroupRow {
@@ -94,7 +94,7 @@ fn group_value(row: &[u8]) -> GroupRow
     }
 }
 
-fn connection_value(row: &[u8]) -> ConnectionRow
+pub fn connection_value(row: &[u8]) -> ConnectionRow
     ensures { λ r. ⌜ r ≡ connectionRow (now (row .entry)) ⌝ }
 {
     ConnectionRow {
@@ -107,7 +107,7 @@ fn connection_value(row: &[u8]) -> ConnectionRow
     }
 }
 
-fn route_value(row: &[u8]) -> RouteRow
+pub fn route_value(row: &[u8]) -> RouteRow
     ensures { λ r. ⌜ r ≡ routeRow (now (row .entry)) ⌝ }
 {
     RouteRow {
@@ -119,7 +119,7 @@ fn route_value(row: &[u8]) -> RouteRow
     }
 }
 
-fn destination_value(row: &[u8]) -> DestinationRow
+pub fn destination_value(row: &[u8]) -> DestinationRow
     ensures { λ r. ⌜ r ≡ destinationRow (now (row .entry)) ⌝ }
 {
     DestinationRow {

@@ -2,3 +2,4 @@
 pub mod Same
 pub mod Keeps
 pub mod Streams
+pub mod Trip

@@ -1,5 +1,5 @@
 -- Rows that share what they may not have one mark; so a row whose mark no earlier row has is clear of them all. Assumes nothing.
-use Prim.Native.Nat.{ℕ, _+_, _<_}
+use Prim.Native.Nat.{ℕ, _+_, _/_, _%_, _<_}
 use mathlib.Core.Path.{_≡_, refl, sym, ap, _∙_}
 use mathlib.Core.Bool.{Bool, true, false, not}
 use mathlib.Core.List.{List}
@@ -18,6 +18,9 @@ use Rattle.layout.specs.declared.Kind.the-variants.{Route, Destination}
 use Rattle.rows.specs.Rules.{routesShare, destinationsShare}
 use Rattle.scan.specs.Scan.{share, clearIn}
 use Rattle.scan.specs.Marks.{routeMark, destinationMark}
+
+pub mark-small : (x : ℕ) → x % 4294967296 / 2097152 < 2048
+mark-small x = omega arith
 
 pub routes-marked : (a b : List ℕ) → share Route a b ≡ true → routeMark a ≡ routeMark b
 unfolding share routesShare routeMark

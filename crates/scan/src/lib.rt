@@ -7,7 +7,7 @@ ghost use lib.ListN.{length};
 ghost use Rattle.lists.specs.Search.{firstBad, every};
 ghost use Rattle.rows.specs.Rules.{sizeIn, groupGood, connectionGood, routeGood, destinationGood};
 ghost use Rattle.scan.specs.Scan.{share, clearIn, goodIn};
-ghost use Rattle.scan.specs.Marks.{routeMark, destinationMark};
+ghost use Rattle.scan.specs.Marks.{markOf, routeMark, destinationMark};
 use layout::Kind;
 use rows::connection_good;
 use rows::destination_good;
@@ -92,18 +92,24 @@ fn fresh_if(body: &[u8], k: Kind, i: usize, old: u8) -> bool
     if old == 1 { fresh(body, k, i) } else { true }
 }
 
-// A number below 256 of what a route may share with no other.
-fn route_mark(row: &[u8]) -> usize
-    ensures { λ r. ⌜ (r ≡ routeMark (now (row .entry))) × (r < 256) ⌝ }
+// A number below 2,048 of what a row may share with no other.
+fn mark_of(connection: usize, key: usize) -> usize
+    requires { ⌜ (connection < 256) × (key < 4294967296) ⌝ }
+    ensures { λ r. ⌜ (r ≡ markOf connection key) × (r < 2048) ⌝ }
 {
-    (be8(row, 0) * 16 + be32(row, 4)) % 256
+    (key * 2654435769 + connection * 3332197337) % 4294967296 / 2097152
 }
 
-// The same of a destination.
-fn destination_mark(row: &[u8]) -> usize
-    ensures { λ r. ⌜ (r ≡ destinationMark (now (row .entry))) × (r < 256) ⌝ }
+fn route_mark(row: &[u8]) -> usize
+    ensures { λ r. ⌜ (r ≡ routeMark (now (row .entry))) × (r < 2048) ⌝ }
 {
-    (be8(row, 0) * 16 + be16(row, 8)) % 256
+    mark_of(be8(row, 0), be32(row, 4))
+}
+
+fn destination_mark(row: &[u8]) -> usize
+    ensures { λ r. ⌜ (r ≡ destinationMark (now (row .entry))) × (r < 2048) ⌝ }
+{
+    mark_of(be8(row, 0), be16(row, 8))
 }
 
 // The first bad route, or the row count where there is none. `seen` holds 1 at each mark met.
@@ -111,7 +117,7 @@ pub fn first_bad_route(body: &[u8], connections: usize) -> usize
     ensures { λ r. ⌜ r ≡ firstBad (goodIn (routeGood connections) (share Kind.Route) 16 (now (body .entry))) (length (now (body .entry)) / 16) ⌝ }
 {
     let n = body.len() / 16;
-    let mut seen = [0u8; 256];
+    let mut seen = [0u8; 2048];
     let mut i = 0;
     while i < n {
         let at = i * 16;
@@ -135,7 +141,7 @@ pub fn first_bad_destination<'a>(body: &'a [u8], connections: &'a [u8]) -> usize
     ensures { λ r. ⌜ r ≡ firstBad (goodIn (destinationGood (length (now (connections .entry)) / 16) (sizeIn (now (connections .entry)))) (share Kind.Destination) 16 (now (body .entry))) (length (now (body .entry)) / 16) ⌝ }
 {
     let n = body.len() / 16;
-    let mut seen = [0u8; 256];
+    let mut seen = [0u8; 2048];
     let mut i = 0;
     while i < n {
         let at = i * 16;

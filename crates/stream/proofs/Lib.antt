@@ -1,2 +1,3 @@
 -- The laws of a take. Assumes nothing.
 pub mod Takes
+pub mod Leaves

@@ -9,7 +9,6 @@ use Rattle.layout.specs.Layout.{rowsOf, bodyBytes, startOf, endOf, rowAt, partO
 use Rattle.rows.specs.Rules.{groupGood, connectionGood, routeGood, destinationGood, sizeIn, routesShare, destinationsShare}
 use Rattle.scan.specs.Scan.{share, clearIn, goodIn}
 use Rattle.table.specs.Table.{headGood, entryGood, rule, then, entriesPlace, headPlace, allRowsPlace, checkTable}
-use Rattle.table.specs.declared.TableAnswer.{TableAnswer}
 use Rattle.table.specs.declared.TableAnswer.the-variants.{Accepted, Refused}
 
 -- "A whole image, 86 bytes (one row of each kind)"

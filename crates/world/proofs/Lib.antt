@@ -2,3 +2,4 @@
 pub mod Cells
 pub mod Counts
 pub mod View
+pub mod Stretch

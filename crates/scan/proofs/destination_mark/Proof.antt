@@ -1,6 +1,5 @@
 -- `scan::destination_mark` meets its contract. Assumes nothing.
 use Rattle.scan.specs.Marks.{destinationMark}
-use native.Mathlib.Omega.{arith}
 use borrow.Author.Needs.{needs}
 use Rattle.scan.proofs.destination_mark.Statement.{statement}
 use Rattle.scan.proofs.destination_mark.Tie as tie
@@ -8,19 +7,15 @@ use Rattle.scan.proofs.destination_mark.Tie as tie
 be8-requires : tie.Need-be8-requires
 be8-requires c κs = search needs
 
-mul-result : tie.Need-mul-result
-mul-result c = search needs
-
 be16-requires : tie.Need-be16-requires
 be16-requires c κs = search needs
 
-add-result : tie.Need-add-result
-add-result c = search needs
+mark-of-requires : tie.Need-mark-of-requires
+mark-of-requires c κs = search needs
 
 returns : tie.Need-returns
 unfolding destinationMark
-returns c = (cc, omega arith)
+returns c = (cc, c .mark-of .ensures .1)
 
 pub destination-mark-spec : {M : Type 1} → statement M
-destination-mark-spec =
-    tie.close (tie.spec be8-requires mul-result be16-requires add-result returns)
+destination-mark-spec = tie.close (tie.spec be8-requires be16-requires mark-of-requires returns)

@@ -18,7 +18,7 @@ use Rattle.scan.proofs.first_bad_destination.Statement.{statement}
 use Rattle.scan.proofs.first_bad_destination.Tie as tie
 
 abbrev Inv-loop : tie.InvT-loop
-Inv-loop body connections n seen₀ i₀ seen i = At (destinationGood (length connections / 16) (sizeIn connections)) (share Destination) 16 body i × (length seen ≡ 256) × Noted (share Destination) destinationMark 16 body seen i
+Inv-loop body connections n seen₀ i₀ seen i = At (destinationGood (length connections / 16) (sizeIn connections)) (share Destination) 16 body i × (length seen ≡ 2048) × Noted (share Destination) destinationMark 16 body seen i
 
 abbrev μ-loop : tie.MeasureT-loop
 μ-loop body connections n seen₀ i₀ seen i = length body / 16 - i

@@ -18,7 +18,7 @@ use Rattle.scan.proofs.first_bad_route.Statement.{statement}
 use Rattle.scan.proofs.first_bad_route.Tie as tie
 
 abbrev Inv-loop : tie.InvT-loop
-Inv-loop body connections n seen₀ i₀ seen i = At (routeGood connections) (share Route) 16 body i × (length seen ≡ 256) × Noted (share Route) routeMark 16 body seen i
+Inv-loop body connections n seen₀ i₀ seen i = At (routeGood connections) (share Route) 16 body i × (length seen ≡ 2048) × Noted (share Route) routeMark 16 body seen i
 
 abbrev μ-loop : tie.MeasureT-loop
 μ-loop body connections n seen₀ i₀ seen i = length body / 16 - i

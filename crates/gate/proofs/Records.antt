@@ -1,0 +1,61 @@
+-- The records of a sound state, one by one: from the test and back. Assumes nothing.
+use Prim.Native.Nat.{ℕ, _+_, _<_, _≤_}
+use mathlib.Core.Path.{_≡_, refl, ap, _∙_}
+use mathlib.Core.Bool.{Bool, true, false, cond, _&&_}
+use mathlib.Core.List.{List}
+use native.Mathlib.Omega.{arith}
+use lib.Dec.{ltb}
+use lib.ListN.{length, set, getD}
+use borrow.Author.Tests.{lt-ltb, le-ltb}
+use Rattle.layout.specs.Layout.{rowsOf, bodyOf}
+use Rattle.layout.specs.declared.Kind.the-variants.{Connection as Connections, Route as Routes}
+use Rattle.connection.specs.declared.Connection.{Connection}
+use Rattle.connection.specs.Connection.{zeroRecord}
+use Rattle.connection.specs.Sound.{soundOf, zeroOf, Sound}
+use Rattle.connection.proofs.Rules.{sound-from, sound-to, zero-is, zero-zero}
+use Rattle.lists.proofs.Both.{and-left, and-right, and-both}
+use Rattle.lists.proofs.Each.{all-at, all-set}
+use Rattle.state.specs.Fresh.{configOf}
+use Rattle.gate.specs.Sound.{routed, soundAt, recordsSound}
+
+module _ (image : List ℕ) (n : ℕ) (c : Connection) where
+  -- the record of a row
+  pub row-sound : soundAt image n c ≡ true → n < rowsOf image Connections → Sound (configOf image n) c
+  unfolding soundAt
+  row-sound p h =
+      let q : (soundOf (configOf image n) c && routed (bodyOf image Routes) n (c .part)) ≡ true = rw (lt-ltb _ _ h) at p in
+      sound-from (configOf image n) c (and-left (soundOf (configOf image n) c) _ q)
+
+  pub row-routed : soundAt image n c ≡ true → n < rowsOf image Connections → routed (bodyOf image Routes) n (c .part) ≡ true
+  unfolding soundAt
+  row-routed p h =
+      let q : (soundOf (configOf image n) c && routed (bodyOf image Routes) n (c .part)) ≡ true = rw (lt-ltb _ _ h) at p in
+      and-right (soundOf (configOf image n) c) _ q
+
+  pub sound-row : n < rowsOf image Connections → Sound (configOf image n) c → routed (bodyOf image Routes) n (c .part) ≡ true → soundAt image n c ≡ true
+  unfolding soundAt
+  sound-row h s r = rw (lt-ltb _ _ h) (and-both (sound-to (configOf image n) c s) r)
+
+  -- a record past the rows
+  pub past-zero : soundAt image n c ≡ true → rowsOf image Connections ≤ n → c ≡ zeroRecord
+  unfolding soundAt
+  past-zero p h =
+      let q : zeroOf c ≡ true = rw (le-ltb _ _ h) at p in
+      zero-is c q
+
+pub zero-past : (image : List ℕ) (n : ℕ) → rowsOf image Connections ≤ n → soundAt image n zeroRecord ≡ true
+unfolding soundAt
+zero-past image n h = rw (le-ltb _ _ h) zero-zero
+
+-- each record of a sound state is sound, and may be replaced by one that is
+pub record-at : (image : List ℕ) (cs : List Connection) (n : ℕ) → recordsSound image cs ≡ true → n < length cs → soundAt image n (getD cs n zeroRecord) ≡ true
+unfolding recordsSound
+record-at image cs n p h =
+    let z : 0 + n ≡ n = omega arith in
+    rw z at (all-at (soundAt image) 0 n cs zeroRecord p h)
+
+pub record-set : (image : List ℕ) (cs : List Connection) (n : ℕ) (c : Connection) → recordsSound image cs ≡ true → soundAt image n c ≡ true → recordsSound image (set cs n c) ≡ true
+unfolding recordsSound
+record-set image cs n c p q =
+    let z : n ≡ 0 + n = omega arith in
+    all-set (soundAt image) 0 n cs c p (ap (λ (k : ℕ). soundAt image k c) (let y : 0 + n ≡ n = omega arith in y) ∙ q)

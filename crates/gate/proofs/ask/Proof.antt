@@ -1,0 +1,47 @@
+-- `gate::ask` meets its contract. Assumes nothing.
+use Rattle.gate.specs.Gate.{gateOf}
+use Rattle.gate.specs.Sound.{soundState}
+use borrow.Author.Needs.{needs}
+use Rattle.gate.proofs.ask.Statement.{statement}
+use Rattle.gate.proofs.ask.Tie as tie
+
+returns : tie.Need-returns
+unfolding gateOf
+returns c = rw (c .if1 .taken)
+
+check-table-requires : tie.Need-check-table-requires
+check-table-requires c κs = search needs
+
+enum-told : tie.Need-enum-told
+enum-told c = search needs
+
+enum-told-2 : tie.Need-enum-told-2
+enum-told-2 c = search needs
+
+are-sound-requires : tie.Need-are-sound-requires
+are-sound-requires c κs = search needs
+
+returns-2 : tie.Need-returns-2
+unfolding gateOf soundState
+returns-2 c = rw (c .before .before .before .before .before .if1 .left, ← c .before .before .before .before .check-table .ensures, c .before .before .enum-told2 .given .1, ← c .before .are-sound .ensures, c .if2 .taken)
+
+returns-3 : tie.Need-returns-3
+unfolding gateOf soundState
+returns-3 c = rw (c .before .before .before .if1 .left, ← c .before .before .check-table .ensures, c .enum-told .given .1)
+
+returns-4 : tie.Need-returns-4
+unfolding gateOf soundState
+returns-4 c = rw (c .before .before .before .before .before .if1 .left, ← c .before .before .before .before .check-table .ensures, c .before .before .enum-told2 .given .1, ← c .before .are-sound .ensures, c .if2 .left)
+
+pub ask-spec : {M : Type 1} → statement M
+ask-spec =
+    tie.close
+    (tie.spec
+    returns
+    check-table-requires
+    enum-told
+    enum-told-2
+    are-sound-requires
+    returns-2
+    returns-3
+    returns-4)

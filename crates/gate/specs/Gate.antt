@@ -1,0 +1,48 @@
+-- What is asked before an event, in the paper's order 11, 12, 2; the paper's numbers; what is known past it. Assumes nothing.
+use Prim.Native.Nat.{ℕ, _<_}
+use mathlib.Core.Path.{_≡_}
+use mathlib.Core.Bool.{Bool, true, cond, not, _&&_, _||_}
+use mathlib.Core.List.{List}
+use lib.Dec.{eqb, ltb}
+use Rattle.layout.specs.Layout.{rowsOf}
+use Rattle.layout.specs.declared.Kind.the-variants.{Connection as Connections}
+use Rattle.table.specs.declared.TableAnswer.the-variants.{Accepted}
+use Rattle.table.specs.Table.{checkTable}
+use Rattle.connection.specs.declared.Refusal.{Refusal}
+use Rattle.connection.specs.declared.Refusal.the-variants.{Memory, Unsound, Missing}
+use Rattle.connection.specs.Event.{refusalNumber}
+use Rattle.state.specs.declared.State.{State}
+use Rattle.gate.specs.declared.Gate.{Gate}
+use Rattle.gate.specs.declared.Gate.the-variants.{Pass, Refused}
+use Rattle.gate.specs.Sound.{recordsSound, soundState}
+
+-- the paper's number: 0 where nothing is refused
+abbrev pub gateNumber : Gate → ℕ
+gateNumber Pass = 0
+gateNumber (Refused r) = refusalNumber r
+
+-- "lent receive or send memory has another length": 11; "state or table not sound": 12
+unfoldable pub gateOf : List ℕ → State → ℕ → ℕ → Gate
+gateOf image s rx tx =
+    cond (not (eqb rx 23424) || not (eqb tx 23552)) (Refused Memory)
+    (cond (soundState image s) Pass (Refused Unsound))
+
+-- then "connection, group or switch number not there": 2
+abbrev pub thenThere : Bool → Gate → Gate
+thenThere there Pass = cond there Pass (Refused Missing)
+thenThere there (Refused r) = Refused r
+
+unfoldable pub gateAt : List ℕ → State → ℕ → ℕ → ℕ → Gate
+gateAt image s rx tx n = thenThere (ltb n (rowsOf image Connections)) (gateOf image s rx tx)
+
+-- what follows a gate: the refusal, or the event
+abbrev pub through : {A : Type 0} → Gate → (Refusal → A) → A → A
+through Pass refused event = event
+through (Refused r) refused event = refused r
+
+-- what is known past the gate
+pub record Passed (image : List ℕ) (s : State) (rx tx : ℕ) : Type 0 where
+  pub receive : rx ≡ 23424
+  pub send : tx ≡ 23552
+  pub table : checkTable image ≡ Accepted
+  pub sound : recordsSound image (s .connections) ≡ true

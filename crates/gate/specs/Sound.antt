@@ -1,0 +1,48 @@
+-- When table and state are sound together: document 01, "Sound". The rules of a record by itself are crate connection's.
+-- Assumes nothing.
+use Prim.Native.Nat.{ℕ, _/_}
+use mathlib.Core.Path.{_≡_}
+use mathlib.Core.Bool.{Bool, true, false, cond, _&&_}
+use mathlib.Core.List.{List}
+use lib.Dec.{eqb, leb, ltb}
+use lib.ListN.{length}
+use Rattle.layout.specs.Layout.{rowsOf, bodyOf}
+use Rattle.layout.specs.declared.Kind.the-variants.{Connection as Connections, Route as Routes}
+use Rattle.rows.specs.Rows.{routeIn}
+use Rattle.table.specs.declared.TableAnswer.{TableAnswer}
+use Rattle.table.specs.declared.TableAnswer.the-variants.{Accepted, Refused}
+use Rattle.table.specs.Table.{checkTable}
+use Rattle.part.specs.declared.Part.{Part}
+use Rattle.part.specs.declared.Part.the-variants.{Header, Payload, Skip}
+use Rattle.connection.specs.declared.Connection.{Connection}
+use Rattle.connection.specs.Sound.{soundOf, zeroOf}
+use Rattle.lists.specs.Each.{all}
+use Rattle.state.specs.declared.State.{State}
+use Rattle.state.specs.Fresh.{configOf}
+
+-- "an unfinished payload .. its route belongs to the connection and allows the length" (over the body of the routes)
+abbrev pub routed : List ℕ → ℕ → Part → Bool
+routed routes n (Header held value) = true
+routed routes n (Payload route len held) =
+    ltb route (length routes / 16) && eqb (routeIn routes route .connection) n && leb len (routeIn routes route .longest)
+routed routes n (Skip bytes) = true
+
+-- a row's record meets the rules; "records past the row count are all zero"
+unfoldable pub soundAt : List ℕ → ℕ → Connection → Bool
+soundAt image n c =
+    cond (ltb n (rowsOf image Connections))
+    (soundOf (configOf image n) c && routed (bodyOf image Routes) n (c .part))
+    (zeroOf c)
+
+-- every record, by its number
+unfoldable pub recordsSound : List ℕ → List Connection → Bool
+recordsSound image cs = all (soundAt image) 0 cs
+
+-- "the table meets its rules"
+abbrev pub accepted : TableAnswer → Bool
+accepted Accepted = true
+accepted (Refused place) = false
+
+-- state and table are sound
+unfoldable pub soundState : List ℕ → State → Bool
+soundState image s = accepted (checkTable image) && recordsSound image (s .connections)

@@ -1,0 +1,71 @@
+-- DEMAND 2'S ROUND TRIP, through events: what was framed, cut into segments in any way, is handed out by a TCP connection that is
+-- online, ready and at a header's first byte, with routes for those ids, switched on and allowing those lengths: the same PDUs in the
+-- same order.
+-- Assumes nothing.
+use Prim.Native.Nat.{ℕ, _<_}
+use mathlib.Core.Path.{_≡_, refl, sym, ap, _∙_}
+use mathlib.Core.Bool.{Bool, true, cond, _&&_}
+use mathlib.Core.List.{List, [], _∷_, _++_, append-nil, append-assoc, map, flatten}
+use lib.Dec.{eqb, ltb}
+use borrow.Author.Tests.{eq-eqb}
+use Rattle.feed.specs.Feed.{Routes, Cell, ready, Out, Ran, segment as segmentOf, segments, Pdu, handed, pdus}
+use Rattle.feed.specs.Frame.{Sent, frames, Routed, none, one}
+use Rattle.feed.proofs.Trip.{asOut, round-trip}
+use Rattle.world.specs.World.{Held, World, heldAt, cellAt}
+use Rattle.world.specs.Events.{segment, Whole, Event, on}
+use Rattle.world.specs.Step.{Table, Acted, receiving, streamed, routesAt, does, acts, at, step, hands, heard}
+use Rattle.runs.specs.Same.{Same, join, same, later, both}
+use Rattle.runs.proofs.Same.{does-read, same-heard}
+
+-- a connection that reads segments, at a header's first byte
+pub record Reads (T : Table) (w : World) (k : ℕ) : Type 0 where
+  pub there : ltb k (T .rows) ≡ true
+  pub tcp : T .config k .tcp ≡ true
+  pub receives : receiving (heldAt w k .connection) ≡ true
+  pub at-header : cellAt (heldAt w k) ≡ ready
+
+abbrev given : ℕ → List (List ℕ) → List Event
+given k pieces = map (λ (p : List ℕ). on k (segment p)) pieces
+
+-- pieces are one segment
+pieces-same : (k : ℕ) (p : List ℕ) (pieces : List (List ℕ)) → Same (given k (p ∷ pieces)) (on k (segment (flatten (p ∷ pieces))) ∷ [])
+unfolding flatten
+pieces-same k p [] = alike (on k (segment p)) (on k (segment (p ++ []))) (ap (λ (q : List ℕ). on k (segment q)) (sym (append-nil p)))
+  where
+    alike : (e f : Event) → e ≡ f → Same (e ∷ []) (f ∷ [])
+    alike e f q = rw q (same (f ∷ []))
+pieces-same k p (q ∷ pieces) = both (later (on k (segment p)) (pieces-same k q pieces)) (join k p (flatten (q ∷ pieces)) [])
+
+pdus-back : (ps : List Pdu) → pdus (map asOut ps) ≡ ps
+unfolding pdus
+pdus-back [] = refl
+pdus-back (p ∷ ps) = ap (λ (l : List Pdu). p ∷ l) (pdus-back ps)
+
+module _ (T : Table) (whole : Whole → World → World) (w : World) (k : ℕ) (r : Reads T w k) where
+  abbrev R : Routes
+  R = routesAt T k (heldAt w k)
+
+  at-read : (bs : List ℕ) → at T w k (segment bs) .list ≡ segmentOf R ready bs .list
+  unfolding acts
+  at-read bs =
+      rw (r .there)
+      (ap (λ (a : Acted). a .list) (does-read T k (heldAt w k) bs (rw (r .tcp) (r .receives))) ∙ ap (λ (c : Cell). segmentOf R c bs .list) (r .at-header))
+
+  one-segment : {ss : List Sent} {ps : List Pdu} (bs : List ℕ) → Routed R ss ps → bs ≡ frames ss → heard T whole k w (on k (segment bs) ∷ []) ≡ ps
+  unfolding heard hands segments flatten
+  one-segment {ss} {ps} bs h e =
+      rw (eq-eqb k k refl)
+      (append-nil (pdus (at T w k (segment bs) .list))
+      ∙ ap pdus (at-read bs ∙ sym (append-nil (segmentOf R ready bs .list)) ∙ ap (λ (q : Ran). q .list) (round-trip R (bs ∷ []) h (append-nil bs ∙ e)))
+      ∙ pdus-back ps)
+
+  none-read : pdus (segments R ready [] .list) ≡ []
+  unfolding segments pdus
+  none-read = refl
+
+  -- ANY PIECES
+  pub trip : {ss : List Sent} {ps : List Pdu} (pieces : List (List ℕ)) → Routed R ss ps → flatten pieces ≡ frames ss → heard T whole k w (given k pieces) ≡ ps
+  unfolding heard
+  trip {ss} {ps} [] h e =
+      sym none-read ∙ ap (λ (q : Ran). pdus (q .list)) (round-trip R [] h e) ∙ pdus-back ps
+  trip {ss} {ps} (p ∷ pieces) h e = same-heard T whole k w (pieces-same k p pieces) ∙ one-segment (flatten (p ∷ pieces)) h e

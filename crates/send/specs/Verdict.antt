@@ -1,0 +1,52 @@
+-- THE CHECK of a transmit (document 01, "Transmit"): what follows from what each destination says.
+-- Assumes nothing.
+use Prim.Native.Nat.{ℕ}
+use mathlib.Core.Bool.{Bool, true, false, cond, _||_}
+use lib.Dec.{eqb, ltb}
+use Rattle.connection.specs.Event.{refusalNumber}
+use Rattle.lists.specs.Search.{firstBad, every}
+use Rattle.send.specs.declared.Transmission.{Transmission}
+use Rattle.send.specs.declared.Transmission.the-variants.{Stored, Refused, NoDestination, SwitchedOff, RefusedAt}
+
+-- no destination of the PDU, or one that is switched off
+abbrev pub isOut : ℕ → Bool
+isOut a = eqb a 5 || eqb a 6
+
+-- a destination that does not refuse: it is out, or header and payload fit
+abbrev pub passes : ℕ → Bool
+passes a = eqb a 0 || isOut a
+
+-- row k decides where there is one that refuses
+abbrev pub decidedAt : (ℕ → ℕ) → ℕ → ℕ → Transmission
+decidedAt look n k = cond (ltb k n) (RefusedAt (look k) k) Stored
+
+-- over the rows 0 .. n - 1, where `look` says 5 of a row of another PDU:
+-- 5 "no destination has this PDU", 6 "every destination of the PDU is switched off", then "the first refusal deciding with its
+-- destination named"
+unfoldable pub verdictOf : (ℕ → ℕ) → ℕ → Transmission
+verdictOf look n =
+    cond (every (λ i. eqb (look i) 5) n) NoDestination
+    (cond (every (λ i. isOut (look i)) n) SwitchedOff
+    (decidedAt look n (firstBad (λ i. passes (look i)) n)))
+
+-- the paper's number of an answer
+abbrev pub transmissionNumber : Transmission → ℕ
+transmissionNumber Stored = 0
+transmissionNumber (Refused r) = refusalNumber r
+transmissionNumber NoDestination = 5
+transmissionNumber SwitchedOff = 6
+transmissionNumber (RefusedAt number destination) = number
+
+abbrev pub isStored : Transmission → Bool
+isStored Stored = true
+isStored (Refused r) = false
+isStored NoDestination = false
+isStored SwitchedOff = false
+isStored (RefusedAt number destination) = false
+
+-- one pass over rows that do not refuse: 5 so far, then 6, then 0
+unfoldable pub joinOf : ℕ → ℕ → ℕ
+joinOf seen look = cond (eqb look 5 || eqb seen 0) seen look
+
+abbrev pub outcomeOf : ℕ → Transmission
+outcomeOf seen = cond (eqb seen 5) NoDestination (cond (eqb seen 6) SwitchedOff Stored)
