@@ -3,6 +3,7 @@
 #   need COMMAND PACKAGE     installs a package where its command is missing
 #   compile OUT WORD ..      compiles and links C files (and archives, and flags) into the program OUT
 #   ${start[@]} OUT WORD ..  runs such a program
+#   ${kit_start[@]} OUT ..   runs a program that rt has built
 #
 # On x86-64 the programs are native. Elsewhere, or with CROSS=1, the Rattle kit gives compiler, linker, loader and C library for
 # x86-64, gcc the headers that belong to no C library (stdint.h, stddef.h, ..), and the kit's emulator runs the program, or
@@ -55,11 +56,14 @@ loader() { echo "$(kit_tools)/lib/ld-linux-x86-64.so.2" --library-path "$(kit_to
 
 if [ "$(uname -m)" = x86_64 ] && [ -z "${CROSS:-}" ]; then
     start=()
+    # shellcheck disable=SC2207
+    kit_start=($(loader))
     compile() { compile_native "$@"; }
 else
     emulator=$(kit_tools)/bin/qemu-x86_64
     [ -x "$emulator" ] || { need qemu-x86_64 qemu-user && emulator=qemu-x86_64; }
     # shellcheck disable=SC2207
     start=("$emulator" $(loader))
+    kit_start=("${start[@]}")
     compile() { compile_cross "$@"; }
 fi

@@ -1,7 +1,9 @@
 //! Runs the C driver over requests and holds its answers to those expected.
 
+use crate::bytes::hex;
 use crate::exchange::{expected, kind, words};
 use crate::fault::{self, Fault};
+use crate::stored;
 use std::collections::BTreeMap;
 use std::io::{BufReader, BufWriter, Read, Write};
 use std::path::Path;
@@ -71,21 +73,9 @@ pub fn compare(driver: &[String], source: Source, name: &str, store: Option<&Pat
 }
 
 fn tell(request: &[u8], answer: &[u8], want: &[u8], name: &str, store: Option<&Path>) {
-    let hex = crate::bytes::hex(&request[1..]);
-    println!(
-        "different: {}\n  C function: {}\n  second program: {}\n  {}",
-        name,
-        words(request, answer),
-        words(request, want),
-        hex
-    );
-    if let Some(folder) = store {
-        let path = folder.join(format!("{}.hex", name));
-        match std::fs::write(&path, format!("# {}: expected {}\n{}\n", name, words(request, want), hex)) {
-            Ok(()) => println!("  stored as {}", path.display()),
-            Err(e) => println!("  not stored as {}: {}", path.display(), e),
-        }
-    }
+    let (got, expected) = (words(request, answer), words(request, want));
+    println!("different: {}\n  C function: {}\n  second program: {}\n  {}", name, got, expected, hex(&request[1..]));
+    stored::write(store, name, &format!("{}: expected {}", name, expected), &request[1..]);
 }
 
 /// How many answers each fault makes different from the C functions'.

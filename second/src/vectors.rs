@@ -1,7 +1,9 @@
 //! Streams and datagrams on which outside dissectors agree (tests/vectors): this program's reading is held to theirs.
 
 use crate::bytes::unhex;
+use crate::event::Event;
 use crate::exchange;
+use crate::script::write;
 use crate::stream::{takes, Line, Outcome, READY};
 use crate::table::{Connection, Group, Remote, Route, Table, LONGEST, MOST_SEND_SIZE, TCP, UDP};
 use crate::walk::{walk, Found};
@@ -103,5 +105,16 @@ impl Vector {
         let image = self.table().image();
         let walked = if self.protocol == UDP { self.walked() } else { vec![] };
         walked.iter().map(|&(place, _)| exchange::walk(&image, 0, 0, &self.segments[0], place as u64)).collect()
+    }
+
+    /// The script for the program run: a tick and a connection, then the stream's segments; nothing for a datagram.
+    pub fn script(&self) -> Option<Vec<u8>> {
+        let mut input = self.table().image();
+        let begin = [Event::Ticks(1), Event::Connected(0)];
+        let segments = self.segments.iter().map(|segment| Event::Segment(0, segment.clone()));
+        for event in begin.into_iter().chain(segments) {
+            input.extend(write(&event));
+        }
+        (self.protocol == TCP).then_some(input)
     }
 }

@@ -12,6 +12,7 @@ use Rattle.table.specs.declared.TableAnswer.{TableAnswer}
 use Rattle.table.specs.declared.TableAnswer.the-variants.{Accepted}
 use Rattle.table.specs.declared.TableAnswer.the-variants as Table
 use Rattle.table.specs.Table.{checkTable}
+use Rattle.table.proofs.Facts.{accepted-facts}
 use Rattle.connection.specs.declared.Refusal.{Refusal}
 use Rattle.connection.specs.declared.Refusal.the-variants.{Memory, Unsound, Missing}
 use Rattle.lists.proofs.Both.{and-left, and-right}
@@ -64,3 +65,12 @@ module _ (image : List ℕ) (s : State) (rx tx : ℕ) where
   pub passed-gate-at : (n : ℕ) → Passed image s rx tx → n < rowsOf image Connections → gateAt image s rx tx n ≡ Pass
   unfolding gateAt
   passed-gate-at n p h = rw (passed-gate p, lt-ltb _ _ h)
+
+-- past the gate there are at most sixteen rows, and the connection is one of the sixteen
+pub rows-in-sixteen : (image : List ℕ) (s : State) (rx tx : ℕ) → gateOf image s rx tx ≡ Pass → rowsOf image Connections ≤ 16
+rows-in-sixteen image s rx tx p = accepted-facts image (gate-passed image s rx tx p .table) .most Connections
+
+pub in-sixteen : (image : List ℕ) (s : State) (rx tx n : ℕ) → gateAt image s rx tx n ≡ Pass → n < 16
+in-sixteen image s rx tx n p =
+    let g = gate-at-passed image s rx tx n p in
+    omega (arith, g .1, accepted-facts image (g .0 .table) .most Connections)

@@ -3,4 +3,6 @@
 pub mod datagram;
 pub mod framing;
 pub mod image;
+pub mod script;
+pub mod state;
 pub mod table;

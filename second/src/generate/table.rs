@@ -22,6 +22,16 @@ pub fn sizes(random: &mut Random) -> [usize; 4] {
 
 /// A table of these sizes that meets every rule of a row (and every rule but "too many rows" where a size passes its most).
 pub fn table(random: &mut Random, counts: [usize; 4]) -> Table {
+    let pdus = Keys { width: 2, ..Keys::new(random) };
+    table_with(random, counts, pdus)
+}
+
+/// The same with PDUs that have many destinations.
+pub fn table_with_few_pdus(random: &mut Random, counts: [usize; 4]) -> Table {
+    table_with(random, counts, Keys { style: FEW, base: 0, width: 2 })
+}
+
+fn table_with(random: &mut Random, counts: [usize; 4], pdus: Keys) -> Table {
     let groups: Vec<Group> = (0..counts[0]).map(|_| Group { protocol: random.between(1, 2) as u8 }).collect();
     let connections: Vec<Connection> = (0..counts[1]).map(|_| connection(random, counts[0])).collect();
     let ids = Keys::new(random);
@@ -33,7 +43,6 @@ pub fn table(random: &mut Random, counts: [usize; 4]) -> Table {
         groups: switches(random),
     });
     let routes = routes.collect();
-    let pdus = Keys { width: 2, ..Keys::new(random) };
     let destinations = distinct(random, counts[1], counts[3], &pdus).into_iter().map(|(connection, pdu)| {
         let room = connections[usize::from(connection)].send_size - 8;
         Destination {
@@ -77,6 +86,9 @@ pub fn switches(random: &mut Random) -> u32 {
     }
 }
 
+const FEW: usize = 4;
+const ANYWHERE: usize = 5;
+
 /// How ids, or PDUs, are drawn: close together, one bit or byte apart, or anywhere. A filter for equal rows meets them all.
 struct Keys {
     style: usize,
@@ -96,7 +108,7 @@ impl Keys {
             1 => self.base ^ 1u32.checked_shl(random.below(bits as usize + 1) as u32).unwrap_or(0),
             2 => self.base ^ (random.below(256) as u32) << (bits - 8),
             3 => (random.below(80) as u32) << (bits - 10),
-            4 => 0x100 + random.below(6) as u32,
+            FEW => 0x100 + random.below(20) as u32,
             _ => random.word() as u32,
         };
         key & (u32::MAX >> (32 - bits))
@@ -105,7 +117,7 @@ impl Keys {
 
 /// Pairs of connection and key, no two the same.
 fn distinct(random: &mut Random, connections: usize, count: usize, keys: &Keys) -> Vec<(u8, u32)> {
-    let anywhere = Keys { style: 5, base: 0, width: keys.width };
+    let anywhere = Keys { style: ANYWHERE, base: 0, width: keys.width };
     let mut met = HashSet::new();
     let mut pairs = Vec::new();
     for tries in 0.. {

@@ -1,0 +1,30 @@
+-- The answer of an event as bytes (docs/EVENTS.md, "The answer"). Assumes nothing: these are definitions.
+use Prim.Native.Nat.{ℕ}
+use mathlib.Core.List.{List, _++_}
+use lib.ListN.{length}
+use Rattle.wire.specs.Lay.{spell}
+use Rattle.connection.specs.declared.Remote.{Remote}
+
+-- "Answer number (2). Then, when it is not 0: the place or the destination's row number (4), 0 where the answer has none"
+abbrev pub refused : ℕ → ℕ → List ℕ
+refused number place = spell 2 number ++ spell 4 place
+
+-- "any other: nothing"
+abbrev pub done : List ℕ
+done = spell 2 0
+
+-- a value of w bytes after the answer number 0: failed connections (2), failed (1), connection (1), value (4)
+abbrev pub doneWith : ℕ → ℕ → List ℕ
+doneWith w v = spell 2 0 ++ spell w v
+
+-- an address: family, "sixteen bytes (16), of which the first twelve are 0 and the last four the IPv4 address", port
+abbrev pub address : Remote → List ℕ
+address r = spell 1 4 ++ spell 12 0 ++ spell 4 (r .address) ++ spell 2 (r .port)
+
+-- take waiting: "count (4), address (19): the remote before the call, bytes"
+abbrev pub waiting : Remote → List ℕ → List ℕ
+waiting r bytes = spell 2 0 ++ spell 4 (length bytes) ++ address r ++ bytes
+
+-- a take or a walk: "bytes read (4)" or "next place (4), kind (1), route or reason (1), id (4), length (4)"
+abbrev pub found : ℕ → ℕ → ℕ → ℕ → ℕ → List ℕ
+found first kind which id n = spell 4 first ++ spell 1 kind ++ spell 1 which ++ spell 4 id ++ spell 4 n

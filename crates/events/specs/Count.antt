@@ -1,0 +1,51 @@
+-- Reading, and reading and clearing, a drop count. A refusal carries its number, and the state stays. Assumes nothing.
+use Prim.Native.Nat.{ℕ}
+use mathlib.Core.Bool.{Bool, true, false, cond}
+use mathlib.Core.List.{List}
+use lib.Dec.{eqb}
+use Rattle.connection.specs.declared.Refusal.{Refusal}
+use Rattle.connection.specs.declared.Refusal.the-variants.{Denied}
+use Rattle.connection.specs.Event.{refusalNumber}
+use Rattle.state.specs.declared.State.{State}
+use Rattle.state.specs.State.{countOf, withCount}
+use Rattle.gate.specs.Gate.{gateOf, through}
+use Rattle.events.specs.declared.CountAnswer.{CountAnswer}
+use Rattle.events.specs.declared.CountAnswer.the-variants.{Count, Refused}
+use Rattle.events.specs.declared.Counted.{Counted}
+
+-- the paper's number, and the value that goes with it (0 where refused)
+abbrev pub countNumber : CountAnswer → ℕ
+countNumber (Count n) = 0
+countNumber (Refused r) = refusalNumber r
+
+abbrev pub countValue : CountAnswer → ℕ
+countValue (Count n) = n
+countValue (Refused r) = 0
+
+abbrev pub uncounted : State → Refusal → Counted
+uncounted s r = record { answer = Refused r; state = s }
+
+-- protocol 1 is UDP, 2 TCP; "a protocol other than 1 or 2 gets 3"
+unfoldable pub ofProtocol : {A : Type 0} → (Bool → A) → A → ℕ → A
+ofProtocol known unknown p = cond (eqb p 1) (known false) (cond (eqb p 2) (known true) unknown)
+
+-- past the gate: the count, and the state as it was
+abbrev pub readFrom : State → Bool → Counted
+readFrom s tcp = record { answer = Count (countOf tcp s); state = s }
+
+unfoldable pub readPast : State → ℕ → Counted
+readPast s p = ofProtocol (readFrom s) (uncounted s Denied) p
+
+-- "the value read is the one before clearing"
+abbrev pub clearFrom : State → Bool → Counted
+clearFrom s tcp = record { answer = Count (countOf tcp s); state = withCount tcp 0 s }
+
+unfoldable pub clearPast : State → ℕ → Counted
+clearPast s p = ofProtocol (clearFrom s) (uncounted s Denied) p
+
+-- "reading or reading and clearing a count": 11, 12, then 3
+unfoldable pub readOf : List ℕ → State → ℕ → ℕ → ℕ → Counted
+readOf image s rx tx p = through (gateOf image s rx tx) (uncounted s) (readPast s p)
+
+unfoldable pub clearOf : List ℕ → State → ℕ → ℕ → ℕ → Counted
+clearOf image s rx tx p = through (gateOf image s rx tx) (uncounted s) (clearPast s p)

@@ -1,0 +1,31 @@
+-- A switch on all connections, and the drop counts. A refusal carries its number, and the state stays. Assumes nothing.
+use Prim.Native.Nat.{ℕ}
+use mathlib.Core.Bool.{Bool, true, false, cond, not}
+use mathlib.Core.List.{List}
+use lib.Dec.{ltb}
+use Rattle.layout.specs.Layout.{rowsOf}
+use Rattle.layout.specs.declared.Kind.the-variants.{Connection as Connections}
+use Rattle.connection.specs.declared.Connection.{Connection}
+use Rattle.connection.specs.declared.Refusal.the-variants.{Missing, Denied}
+use Rattle.connection.specs.declared.Answer.the-variants.{Done}
+use Rattle.connection.specs.Connection.{switchedOf}
+use Rattle.connection.specs.Event.{refusalNumber}
+use Rattle.lists.specs.Each.{eachTo}
+use Rattle.state.specs.declared.State.{State}
+use Rattle.state.specs.State.{withRecords}
+use Rattle.gate.specs.Gate.{gateOf, through}
+use Rattle.events.specs.declared.Told.{Told}
+use Rattle.events.specs.Change.{refusedBy}
+
+abbrev pub switchAt : ℕ → Bool → ℕ → Connection → Connection
+switchAt number on i c = switchedOf number on c
+
+-- one switch of each of the first `rows` records; the records past them stay
+unfoldable pub switchedAll : ℕ → ℕ → Bool → State → State
+switchedAll rows number on s = withRecords (eachTo (switchAt number on) 0 rows (s .connections)) s
+
+-- "switching a group on all connections": 11, 12, then 2 for a switch number above 31
+unfoldable pub switchAllOf : List ℕ → State → ℕ → ℕ → ℕ → Bool → Told
+switchAllOf image s rx tx number on =
+    through (gateOf image s rx tx) (refusedBy s)
+    (cond (ltb number 32) (record { answer = Done; state = switchedAll (rowsOf image Connections) number on s }) (refusedBy s Missing))

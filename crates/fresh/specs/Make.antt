@@ -1,0 +1,17 @@
+-- Making a state from a table image. Assumes nothing.
+use Prim.Native.Nat.{ℕ}
+use mathlib.Core.List.{List}
+use Rattle.table.specs.declared.TableAnswer.{TableAnswer}
+use Rattle.table.specs.declared.TableAnswer.the-variants.{Accepted, Refused}
+use Rattle.table.specs.Table.{checkTable}
+use Rattle.state.specs.declared.State.{State}
+use Rattle.state.specs.Fresh.{freshState, emptyState}
+use Rattle.fresh.specs.declared.Made.{Made}
+
+-- "table refused, with place; the state returned is that of the empty table"
+unfoldable pub madeOf : TableAnswer → List ℕ → Made
+madeOf Accepted image = record { answer = Accepted; state = freshState image }
+madeOf (Refused place) image = record { answer = Refused place; state = emptyState }
+
+unfoldable pub makeOf : List ℕ → Made
+makeOf image = madeOf (checkTable image) image

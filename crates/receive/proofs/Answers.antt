@@ -1,0 +1,84 @@
+-- The answer before anything is read: what each case says, and what is known when nothing refuses. Assumes nothing.
+use Prim.Native.Nat.{ℕ, _<_}
+use mathlib.Core.Path.{_≡_, refl, sym, ap, _∙_}
+use mathlib.Core.Bool.{Bool, true, false, cond, not, _&&_}
+use mathlib.Core.List.{List}
+use native.Mathlib.Omega.{arith}
+use borrow.Author.Tests.{not-true, not-false}
+use Rattle.layout.specs.Layout.{rowsOf}
+use Rattle.layout.specs.declared.Kind.the-variants.{Connection as Connections}
+use Rattle.connection.specs.declared.Connection.{Connection}
+use Rattle.connection.specs.declared.Refusal.{Refusal}
+use Rattle.connection.specs.declared.Refusal.the-variants.{Denied}
+use Rattle.connection.specs.Connection.{isOnline}
+use Rattle.state.specs.declared.State.{State}
+use Rattle.state.specs.State.{recordAt}
+use Rattle.gate.specs.declared.Gate.{Gate}
+use Rattle.gate.specs.declared.Gate.the-variants as Gated
+use Rattle.gate.specs.Gate.{gateAt, through, Passed}
+use Rattle.gate.proofs.Pass.{gate-at-passed}
+use Rattle.world.specs.Step.{receiving}
+use Rattle.receive.specs.declared.Answer.{Answer}
+use Rattle.receive.specs.declared.Answer.the-variants.{Done, Refused, NotReceiving}
+use Rattle.receive.specs.Answer.{isDone, judgedOf, answerOf}
+
+never : {P : Type 0} → false ≡ true → P
+never p = absurd (let z : _≡_ {A = ℕ} 0 1 = cc in omega arith)
+
+-- WHAT IS KNOWN WHEN NOTHING REFUSES
+pub record Clear (image : List ℕ) (s : State) (rx tx n : ℕ) (allowed : Bool) : Type 0 where
+  pub passed : Passed image s rx tx
+  pub there : n < rowsOf image Connections
+  pub allows : allowed ≡ true
+  pub receives : receiving (recordAt s n) ≡ true
+
+judged-clear : (allowed : Bool) (c : Connection) → isDone (judgedOf allowed c) ≡ true → (allowed ≡ true) × (receiving c ≡ true)
+unfolding judgedOf
+judged-clear allowed c p = go allowed (receiving c) refl refl p
+  where
+    go : (a b : Bool) → allowed ≡ a → receiving c ≡ b → isDone (cond a (cond b Done NotReceiving) (Refused Denied)) ≡ true → (allowed ≡ true) × (receiving c ≡ true)
+    go true true e f q = (e, f)
+    go true false e f q = never q
+    go false b e f q = never q
+
+pub done-clear : (image : List ℕ) (s : State) (rx tx n : ℕ) (allowed : Bool) → isDone (answerOf image s rx tx n allowed) ≡ true → Clear image s rx tx n allowed
+unfolding answerOf
+done-clear image s rx tx n allowed p = go (gateAt image s rx tx n) refl p
+  where
+    go : (g : Gate) → gateAt image s rx tx n ≡ g → isDone (through g Refused (judgedOf allowed (recordAt s n))) ≡ true → Clear image s rx tx n allowed
+    go Gated.Pass e q =
+        let g : Passed image s rx tx × (n < rowsOf image Connections) = gate-at-passed image s rx tx n e in
+        let j : (allowed ≡ true) × (receiving (recordAt s n) ≡ true) = judged-clear allowed (recordAt s n) q in
+        record { passed = g .0; there = g .1; allows = j .0; receives = j .1 }
+    go (Gated.Refused r) e q = never q
+
+-- the three cases past the gate
+module _ (allowed : Bool) (c : Connection) where
+  pub judged-denied : not allowed ≡ true → Refused Denied ≡ judgedOf allowed c
+  unfolding judgedOf
+  judged-denied p = rw (not-true allowed p)
+
+  pub judged-done : (online : Bool) → not allowed ≡ false → online ≡ isOnline (c .mode) → (online && not (c .«close_wanted»)) ≡ true → Done ≡ judgedOf allowed c
+  unfolding judgedOf
+  judged-done online p e q =
+      let r : receiving c ≡ true = ap (λ (b : Bool). b && not (c .«close_wanted»)) (sym e) ∙ q in
+      rw (not-false allowed p, r)
+
+  pub judged-not : (online : Bool) → not allowed ≡ false → online ≡ isOnline (c .mode) → (online && not (c .«close_wanted»)) ≡ false → NotReceiving ≡ judgedOf allowed c
+  unfolding judgedOf
+  judged-not online p e q =
+      let r : receiving c ≡ false = ap (λ (b : Bool). b && not (c .«close_wanted»)) (sym e) ∙ q in
+      rw (not-false allowed p, r)
+
+-- the gate refuses, or passes
+module _ (image : List ℕ) (s : State) (rx tx n : ℕ) (allowed : Bool) (asked : Gate) (ea : asked ≡ gateAt image s rx tx n) where
+  pub answer-refused : (r : Refusal) → asked ≡ Gated.Refused r → Refused r ≡ answerOf image s rx tx n allowed
+  unfolding answerOf
+  answer-refused r e = ap (λ (g : Gate). through g Refused (judgedOf allowed (recordAt s n))) (sym e ∙ ea)
+
+  pub answer-judged : (a : Answer) → asked ≡ Gated.Pass → a ≡ judgedOf allowed (recordAt s n) → a ≡ answerOf image s rx tx n allowed
+  unfolding answerOf
+  answer-judged a e j = j ∙ ap (λ (g : Gate). through g Refused (judgedOf allowed (recordAt s n))) (sym e ∙ ea)
+
+  pub asked-there : asked ≡ Gated.Pass → Passed image s rx tx × (n < rowsOf image Connections)
+  asked-there e = gate-at-passed image s rx tx n (sym ea ∙ e)

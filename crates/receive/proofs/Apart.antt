@@ -1,0 +1,82 @@
+-- A take touches its own record, its own stretch of receive memory and the TCP count alone; a walk the UDP count alone.
+-- Assumes nothing.
+use Prim.Native.Nat.{ℕ, _+_, _*_, _≤_, _<_}
+use mathlib.Core.Path.{_≡_, refl, sym, ap, _∙_}
+use mathlib.Core.Bool.{Bool, true, false, cond}
+use mathlib.Core.List.{List}
+use native.Mathlib.Omega.{arith}
+use lib.ListN.{length, getD}
+use lib.Seq.{getD-set-other}
+use Rattle.layout.specs.Layout.{bodyOf}
+use Rattle.layout.specs.declared.Kind.the-variants.{Route as Routes}
+use Rattle.connection.specs.declared.Connection.{Connection}
+use Rattle.connection.specs.Connection.{zeroRecord, withPart}
+use Rattle.state.specs.declared.State.{State}
+use Rattle.state.specs.State.{recordAt, withRecord}
+use Rattle.state.specs.Fresh.{configOf}
+use Rattle.stream.specs.declared.Outcome.{Outcome}
+use Rattle.stream.specs.declared.Outcome.the-variants.{More, Pdu, Drop}
+use Rattle.stream.proofs.Leaves.{leaves-length}
+use Rattle.datagram.specs.declared.Outcome.{Outcome as Found}
+use Rattle.datagram.specs.declared.Outcome.the-variants as Met
+use Rattle.world.specs.World.{stretch}
+use Rattle.world.proofs.Stretch.{stretch-apart}
+use Rattle.receive.specs.Answer.{isDone}
+use Rattle.receive.specs.Segment.{countTake, takenAt, stretchAt, takeOn, memoryOn, Takes, noneTaken, segmentAnswer, segmentOf, memoryOf}
+use Rattle.receive.specs.Walk.{countWalk, walkedAt, walkOn, noneWalked, walkAnswer, walkOf}
+use Rattle.receive.proofs.Past.{passed-takes}
+use Rattle.receive.proofs.Answers.{Clear, done-clear}
+use Rattle.receive.proofs.Keeps.{count-records}
+
+-- what stays when connection k takes
+pub record Apart (k : ℕ) (s t : State) (rx rx′ : List ℕ) : Type 0 where
+  pub records : (j : ℕ) → (j ≡ k → ⊥) → recordAt t j ≡ recordAt s j
+  pub stretches : (j : ℕ) → (j ≡ k → ⊥) → stretch 1464 j rx′ ≡ stretch 1464 j rx
+  pub udp : t .«udp_drops» ≡ s .«udp_drops»
+
+count-udp : (o : Outcome) (s : State) → countTake o s .«udp_drops» ≡ s .«udp_drops»
+count-udp More s = refl
+count-udp (Pdu route id inside at n) s = refl
+count-udp (Drop reason id n) s = refl
+
+count-tcp : (o : Found) (s : State) → countWalk o s .«tcp_drops» ≡ s .«tcp_drops»
+count-tcp Met.End s = refl
+count-tcp (Met.Pdu route id at n) s = refl
+count-tcp (Met.Drop reason id n) s = refl
+
+take-apart : (image : List ℕ) (s : State) (rx : List ℕ) (k : ℕ) (segment : List ℕ) → ((i : ℕ) → getD segment i 0 < 256) → Takes image s rx k
+    → Apart k s (takeOn image s rx k segment .state) rx (memoryOn image s rx k segment)
+unfolding takeOn memoryOn
+take-apart image s rx k segment bytes takes =
+    let after : Connection = withPart (takenAt image s rx k segment .part) (recordAt s k) in
+    let l : length (stretchAt image s rx k segment) ≡ 1464 =
+    leaves-length (bodyOf image Routes) k (recordAt s k .switches) (recordAt s k .part) (stretch 1464 k rx) segment (takes .fit) bytes ∙ takes .fit .room in
+    record {
+      records = λ j ne.
+          ap (λ (cs : List Connection). getD cs j zeroRecord) (count-records (takenAt image s rx k segment .outcome) (withRecord k after s))
+          ∙ getD-set-other (s .connections) k j after zeroRecord ne;
+      stretches = stretch-apart 1464 k rx (k * 1464) (stretchAt image s rx k segment) (omega arith) (omega arith);
+      udp = count-udp (takenAt image s rx k segment .outcome) (withRecord k after s);
+    }
+
+-- THE SEGMENT ENTRY, whatever it answers
+pub segment-apart : (image : List ℕ) (s : State) (rx : List ℕ) (tx k : ℕ) (segment : List ℕ) → ((i : ℕ) → getD segment i 0 < 256)
+    → Apart k s (segmentOf image s rx tx k segment .state) rx (memoryOf image s rx tx k segment)
+unfolding segmentOf memoryOf
+segment-apart image s rx tx k segment bytes = go (isDone (segmentAnswer image s (length rx) tx k)) refl
+  where
+    go : (b : Bool) → isDone (segmentAnswer image s (length rx) tx k) ≡ b
+        → Apart k s (cond b (takeOn image s rx k segment) (noneTaken s (segmentAnswer image s (length rx) tx k)) .state) rx (cond b (memoryOn image s rx k segment) rx)
+    go true e =
+        let c : Clear image s (length rx) tx k (configOf image k .tcp) = done-clear image s (length rx) tx k (configOf image k .tcp) e in
+        take-apart image s rx k segment bytes (passed-takes image s rx tx k (c .passed) (c .there))
+    go false e = record { records = λ j ne. refl; stretches = λ j ne. refl; udp = refl }
+
+-- THE WALK ENTRY: no record (crate's proofs/Keeps, `walk-records`), and not the TCP count
+pub walk-apart : (image : List ℕ) (s : State) (rx tx k : ℕ) (datagram : List ℕ) (place : ℕ) → walkOf image s rx tx k datagram place .state .«tcp_drops» ≡ s .«tcp_drops»
+unfolding walkOf walkOn
+walk-apart image s rx tx k datagram place = go (isDone (walkAnswer image s rx tx k datagram place))
+  where
+    go : (b : Bool) → cond b (walkOn image s k datagram place) (noneWalked s place (walkAnswer image s rx tx k datagram place)) .state .«tcp_drops» ≡ s .«tcp_drops»
+    go true = count-tcp (walkedAt image s k datagram place .outcome) s
+    go false = refl

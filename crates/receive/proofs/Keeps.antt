@@ -1,0 +1,143 @@
+-- A take and a walk leave a sound state sound, and receive memory as long as it was. Assumes nothing.
+use Prim.Native.Nat.{ℕ, _*_, _/_, _≤_, _<_}
+use mathlib.Core.Path.{_≡_, refl, sym, ap, _∙_, subst}
+use mathlib.Core.Bool.{Bool, true, false, cond, not, _&&_, false≢true}
+use mathlib.Core.List.{List}
+use native.Mathlib.Omega.{arith}
+use native.Mathlib.Decide.{decLt}
+use lib.ListN.{length, getD, set, List·getD-eq-default}
+use lib.Seq.{getD-set-same}
+use Rattle.wire.proofs.Lay.{lay-length}
+use Rattle.lists.proofs.Both.{and-left, and-both}
+use Rattle.layout.specs.Layout.{rowsOf, bodyOf}
+use Rattle.layout.specs.declared.Kind.the-variants.{Route as Routes}
+use Rattle.layout.proofs.Parts.{body-rows}
+use Rattle.table.specs.Accepts.{Accepts}
+use Rattle.table.proofs.Facts.{accepted-facts}
+use Rattle.connection.specs.declared.Connection.{Connection}
+use Rattle.connection.specs.Connection.{isOnline, zeroRecord, withPart}
+use Rattle.connection.proofs.Keeps.{part-keeps}
+use Rattle.state.specs.declared.State.{State}
+use Rattle.state.specs.State.{recordAt, withRecord}
+use Rattle.state.specs.Fresh.{configOf}
+use Rattle.stream.specs.declared.Outcome.{Outcome}
+use Rattle.stream.specs.declared.Outcome.the-variants.{More, Pdu, Drop}
+use Rattle.stream.proofs.Leaves.{PartHolds, Owns, leaves-fit, leaves-owned}
+use Rattle.datagram.specs.declared.Outcome.{Outcome as Found}
+use Rattle.datagram.specs.declared.Outcome.the-variants as Met
+use Rattle.gate.specs.Sound.{soundAt, recordsSound}
+use Rattle.gate.specs.Gate.{Passed}
+use Rattle.gate.proofs.Records.{row-sound, row-routed, sound-row, record-at, record-set}
+use Rattle.world.specs.World.{stretch}
+use Rattle.world.specs.Step.{receiving}
+use Rattle.receive.specs.Answer.{isDone}
+use Rattle.receive.specs.Segment.{countTake, takenAt, stretchAt, takeOn, memoryOn, Takes, noneTaken, segmentAnswer, segmentOf, memoryOf}
+use Rattle.receive.specs.Walk.{countWalk, walkedAt, walkOn, noneWalked, walkAnswer, walkOf}
+use Rattle.receive.proofs.Past.{passed-takes}
+use Rattle.receive.proofs.Answers.{Clear, done-clear}
+use Rattle.receive.proofs.Routed.{routed-owns, owns-routed}
+
+-- a connection that receives has a record
+pub in-range : (s : State) (k : ℕ) → receiving (recordAt s k) ≡ true → k < length (s .connections)
+in-range s k h = go (decLt k (length (s .connections)))
+  where
+    go : Dec (k < length (s .connections)) → k < length (s .connections)
+    go (yes lt) = lt
+    go (no ge) = absurd (false≢true (sym (ap receiving (List·getD-eq-default (s .connections) zeroRecord (omega arith))) ∙ h))
+
+-- an accepted table has 64 routes at most
+few-routes : (image : List ℕ) (s : State) (rx tx : ℕ) → Passed image s rx tx → length (bodyOf image Routes) / 16 ≤ 64
+few-routes image s rx tx passed =
+    let facts : Accepts image = accepted-facts image (passed .table) in
+    omega (arith, body-rows image (facts .laid) Routes, facts .most Routes)
+
+-- a drop leaves the records
+pub count-records : (o : Outcome) (s : State) → countTake o s .connections ≡ s .connections
+count-records More s = refl
+count-records (Pdu route id inside at n) s = refl
+count-records (Drop reason id n) s = refl
+
+pub walk-count-records : (o : Found) (s : State) → countWalk o s .connections ≡ s .connections
+walk-count-records Met.End s = refl
+walk-count-records (Met.Pdu route id at n) s = refl
+walk-count-records (Met.Drop reason id n) s = refl
+
+-- A TAKE THAT NOTHING REFUSES
+module _ (image : List ℕ) (s : State) (rx : List ℕ) (tx k : ℕ) (segment : List ℕ) (bytes : (i : ℕ) → getD segment i 0 < 256)
+    (clear : Clear image s (length rx) tx k (configOf image k .tcp)) where
+  abbrev after : Connection
+  after = withPart (takenAt image s rx k segment .part) (recordAt s k)
+
+  takes : Takes image s rx k
+  takes = passed-takes image s rx tx k (clear .passed) (clear .there)
+
+  sound-before : soundAt image k (recordAt s k) ≡ true
+  sound-before = record-at image (s .connections) k (clear .passed .sound) (in-range s k (clear .receives))
+
+  owned : PartHolds (Owns (bodyOf image Routes) k) (takenAt image s rx k segment .part)
+  owned =
+      leaves-owned (bodyOf image Routes) k (recordAt s k .switches) (recordAt s k .part) (stretch 1464 k rx) segment (takes .fit) bytes
+      (routed-owns (bodyOf image Routes) k (recordAt s k .part) (few-routes image s (length rx) tx (clear .passed))
+      (row-routed image k (recordAt s k) sound-before (clear .there)))
+
+  -- the record is sound again: shaped, its route the connection's, the length allowed
+  sound-after : soundAt image k after ≡ true
+  sound-after =
+      sound-row image k after (clear .there)
+      (part-keeps (configOf image k) (recordAt s k) (row-sound image k (recordAt s k) sound-before (clear .there)) (takenAt image s rx k segment .part)
+      (leaves-fit (bodyOf image Routes) k (recordAt s k .switches) (recordAt s k .part) (stretch 1464 k rx) segment (takes .fit) bytes .shape)
+      (and-both (and-left (isOnline (recordAt s k .mode)) (not (recordAt s k .«close_wanted»)) (clear .receives)) (clear .allows)))
+      (owns-routed (bodyOf image Routes) k (takenAt image s rx k segment .part) owned)
+
+  records-after : takeOn image s rx k segment .state .connections ≡ set (s .connections) k after
+  unfolding takeOn
+  records-after = count-records (takenAt image s rx k segment .outcome) (withRecord k after s)
+
+  pub record-after : recordAt (takeOn image s rx k segment .state) k ≡ withPart (takenAt image s rx k segment .part) (recordAt s k)
+  record-after =
+      ap (λ (cs : List Connection). getD cs k zeroRecord) records-after
+      ∙ getD-set-same (s .connections) k after zeroRecord (in-range s k (clear .receives))
+
+  pub take-passed : Passed image (takeOn image s rx k segment .state) (length (memoryOn image s rx k segment)) tx
+  unfolding memoryOn
+  take-passed =
+      record {
+        receive = lay-length rx (k * 1464) (stretchAt image s rx k segment) ∙ clear .passed .receive;
+        send = clear .passed .send;
+        table = clear .passed .table;
+        sound = ap (recordsSound image) records-after ∙ record-set image (s .connections) k after (clear .passed .sound) sound-after;
+      }
+
+  -- and nothing refuses the next one
+  pub take-clear : Clear image (takeOn image s rx k segment .state) (length (memoryOn image s rx k segment)) tx k (configOf image k .tcp)
+  take-clear =
+      record { passed = take-passed; there = clear .there; allows = clear .allows; receives = ap receiving record-after ∙ clear .receives }
+
+-- THE SEGMENT ENTRY, whatever it answers
+pub segment-passed : (image : List ℕ) (s : State) (rx : List ℕ) (tx k : ℕ) (segment : List ℕ) → ((i : ℕ) → getD segment i 0 < 256) → Passed image s (length rx) tx
+    → Passed image (segmentOf image s rx tx k segment .state) (length (memoryOf image s rx tx k segment)) tx
+unfolding segmentOf memoryOf
+segment-passed image s rx tx k segment bytes passed = go (isDone (segmentAnswer image s (length rx) tx k)) refl
+  where
+    go : (b : Bool) → isDone (segmentAnswer image s (length rx) tx k) ≡ b
+        → Passed image (cond b (takeOn image s rx k segment) (noneTaken s (segmentAnswer image s (length rx) tx k)) .state) (length (cond b (memoryOn image s rx k segment) rx)) tx
+    go true e = take-passed image s rx tx k segment bytes (done-clear image s (length rx) tx k (configOf image k .tcp) e)
+    go false e = passed
+
+-- THE WALK ENTRY: no record changes
+pub walk-records : (image : List ℕ) (s : State) (rx tx k : ℕ) (datagram : List ℕ) (place : ℕ) → walkOf image s rx tx k datagram place .state .connections ≡ s .connections
+unfolding walkOf walkOn
+walk-records image s rx tx k datagram place = go (isDone (walkAnswer image s rx tx k datagram place))
+  where
+    go : (b : Bool) → cond b (walkOn image s k datagram place) (noneWalked s place (walkAnswer image s rx tx k datagram place)) .state .connections ≡ s .connections
+    go true = walk-count-records (walkedAt image s k datagram place .outcome) s
+    go false = refl
+
+pub walk-passed : (image : List ℕ) (s : State) (rx tx k : ℕ) (datagram : List ℕ) (place : ℕ) → Passed image s rx tx → Passed image (walkOf image s rx tx k datagram place .state) rx tx
+walk-passed image s rx tx k datagram place p =
+    record {
+      receive = p .receive;
+      send = p .send;
+      table = p .table;
+      sound = ap (recordsSound image) (walk-records image s rx tx k datagram place) ∙ p .sound;
+    }

@@ -1,0 +1,8 @@
+-- The laws of the crate. Assumes nothing.
+pub mod Past
+pub mod Answers
+pub mod Taking
+pub mod Walking
+pub mod Routed
+pub mod Keeps
+pub mod Apart

@@ -1,0 +1,118 @@
+-- The take of a segment at each of its returns, and a stretch of receive memory. Assumes nothing.
+use Prim.Native.Nat.{ℕ, _+_, _-_, _*_, _<_, _≤_}
+use mathlib.Core.Path.{_≡_, refl, sym, ap, ap₂, _∙_, subst}
+use mathlib.Core.Bool.{Bool, true, false, cond}
+use mathlib.Core.List.{List, [], _++_, append-assoc}
+use native.Mathlib.Nat.{add-sub-cancel-left}
+use native.Mathlib.Omega.{arith}
+use lib.ListN.{length, getD, take, drop, length-drop, drop-of-length-le}
+use lib.Seq.{take-all}
+use borrow.Rule.Slice.PartMut.{putMid, post-is}
+use Rattle.wire.specs.Lay.{lay}
+use Rattle.wire.proofs.Lay.{lay-fits}
+use Rattle.layout.specs.Layout.{bodyOf}
+use Rattle.layout.specs.declared.Kind.the-variants.{Route as Routes}
+use Rattle.connection.specs.declared.Connection.{Connection}
+use Rattle.connection.specs.declared.Config.{Config}
+use Rattle.connection.specs.Connection.{withPart}
+use Rattle.state.specs.declared.State.{State}
+use Rattle.state.specs.State.{recordAt, withRecord}
+use Rattle.state.specs.Fresh.{configOf}
+use Rattle.stream.specs.declared.Outcome.{Outcome}
+use Rattle.stream.specs.declared.Outcome.the-variants.{Pdu}
+use Rattle.stream.specs.declared.Taken.{Taken}
+use Rattle.stream.specs.Stream.{takenOf, rxAfter, payloadAt, Fit}
+use Rattle.stream.proofs.Leaves.{leaves-length}
+use Rattle.world.specs.World.{stretch}
+use Rattle.receive.specs.declared.Answer.{Answer}
+use Rattle.receive.specs.declared.Answer.the-variants.{Done}
+use Rattle.receive.specs.declared.SegmentTaken.{SegmentTaken}
+use Rattle.receive.specs.Answer.{isDone, answerOf}
+use Rattle.receive.specs.Segment.{countTake, takenAt, stretchAt, takeOn, memoryOn, Takes, noneTaken, segmentAnswer, segmentOf, memoryOf, payloadOf}
+use Rattle.receive.proofs.Answers.{Clear, done-clear}
+use Rattle.receive.proofs.Past.{passed-takes}
+
+-- what there is of a stretch: nothing, less than all, all of it
+module _ (n : ℕ) (rx : List ℕ) where
+  pub stretch-none : length rx < n * 1464 → [] ≡ stretch 1464 n rx
+  stretch-none h = sym (ap (take 1464) (drop-of-length-le rx {i = n * 1464} (omega arith)))
+
+  pub stretch-some : length rx - n * 1464 < 1464 → take (length rx - n * 1464) (drop (n * 1464) rx) ≡ stretch 1464 n rx
+  stretch-some h =
+      take-all (length rx - n * 1464) (drop (n * 1464) rx) (omega (arith, length-drop (n * 1464) rx))
+      ∙ sym (take-all 1464 (drop (n * 1464) rx) (omega (arith, length-drop (n * 1464) rx)))
+
+  pub stretch-all : take (n * 1464 + 1464 - n * 1464) (drop (n * 1464) rx) ≡ stretch 1464 n rx
+  stretch-all = ap (λ (k : ℕ). take k (drop (n * 1464) rx)) (add-sub-cancel-left (n * 1464) 1464)
+
+-- the payload of a PDU
+pub payload-pdu : (segment rx : List ℕ) (n : ℕ) (outcome : Outcome) (route id : ℕ) (inside : Bool) (at size : ℕ) → outcome ≡ Pdu route id inside at size
+    → (own : List ℕ) → own ≡ stretch 1464 n rx → (p : List ℕ) → p ≡ payloadAt segment own inside at size → p ≡ payloadOf segment rx n outcome
+unfolding payloadOf
+payload-pdu segment rx n outcome route id inside at size eo own ew p ep =
+    rw eo (ep ∙ ap (λ (l : List ℕ). payloadAt segment l inside at size) ew)
+
+-- PAST ALL REFUSALS: the take on the lent part of receive memory
+module _ (image : List ℕ) (s : State) (rx : List ℕ) (n : ℕ) (segment : List ℕ) (takes : Takes image s rx n) (routes : List ℕ) (er : routes ≡ bodyOf image Routes) where
+  abbrev lent : List ℕ
+  lent = take (n * 1464 + 1464 - n * 1464) (drop (n * 1464) rx)
+
+  pub lent-fit : Fit routes (recordAt s n .part) lent
+  lent-fit =
+      subst (λ (l : List ℕ). Fit l (recordAt s n .part) lent) (sym er)
+      (subst (Fit (bodyOf image Routes) (recordAt s n .part)) (sym (stretch-all n rx)) (takes .fit))
+
+  pub take-is : (t : Taken) (c : Connection) (after : State) → t ≡ takenOf routes n (recordAt s n .switches) (recordAt s n .part) lent segment
+      → c ≡ withPart (t .part) (recordAt s n) → after ≡ countTake (t .outcome) (withRecord n c s)
+      → record { answer = Done; read = t .read; outcome = t .outcome; state = after } ≡ takeOn image s rx n segment
+  unfolding takeOn
+  take-is t c after et ec ea =
+      let same : t ≡ takenAt image s rx n segment = et ∙ ap₂ (λ (l m : List ℕ). takenOf l n (recordAt s n .switches) (recordAt s n .part) m segment) er (stretch-all n rx) in
+      ap (λ (a : State). record { answer = Done; read = t .read; outcome = t .outcome; state = a }) (ea ∙ ap (λ (d : Connection). countTake (t .outcome) (withRecord n d s)) ec)
+      ∙ ap
+      (λ (u : Taken).
+      record { answer = Done; read = u .read; outcome = u .outcome; state = countTake (u .outcome) (withRecord n (withPart (u .part) (recordAt s n)) s) })
+      same
+
+  pub memory-is : ((i : ℕ) → getD segment i 0 < 256) → (m : List ℕ) → m ≡ rxAfter routes n (recordAt s n .switches) (recordAt s n .part) lent segment
+      → putMid (n * 1464) (n * 1464 + 1464 - n * 1464) rx m ≡ memoryOn image s rx n segment
+  unfolding memoryOn
+  memory-is bytes m em =
+      let same : m ≡ stretchAt image s rx n segment = em ∙ ap₂ (λ (l z : List ℕ). rxAfter l n (recordAt s n .switches) (recordAt s n .part) z segment) er (stretch-all n rx) in
+      let l : length (stretchAt image s rx n segment) ≡ 1464 =
+      leaves-length (bodyOf image Routes) n (recordAt s n .switches) (recordAt s n .part) (stretch 1464 n rx) segment (takes .fit) bytes ∙ takes .fit .room in
+      ap (λ (z : List ℕ). take (n * 1464) rx ++ (m ++ z)) (post-is (n * 1464) (n * 1464 + 1464) rx (omega arith))
+      ∙ ap (λ (z : List ℕ). take (n * 1464) rx ++ (z ++ drop (n * 1464 + 1464) rx)) same
+      ∙ sym (append-assoc (take (n * 1464) rx) (stretchAt image s rx n segment) (drop (n * 1464 + 1464) rx))
+      ∙ ap (λ (k : ℕ). take (n * 1464) rx ++ stretchAt image s rx n segment ++ drop (n * 1464 + k) rx) (sym l)
+      ∙ sym (lay-fits rx (n * 1464) (stretchAt image s rx n segment) (omega (arith, takes .small, takes .room)))
+
+-- THE ENTRY: done, or refused
+module _ (image : List ℕ) (s : State) (rx : List ℕ) (tx n : ℕ) (segment : List ℕ) (config : Config) (ec : config ≡ configOf image n)
+    (answer : Answer) (ea : answer ≡ answerOf image s (length rx) tx n (config .tcp)) (done : Bool) (ed : done ≡ isDone answer) where
+  same-answer : answer ≡ segmentAnswer image s (length rx) tx n
+  same-answer = ea ∙ ap (λ (g : Config). answerOf image s (length rx) tx n (g .tcp)) ec
+
+  same-done : {b : Bool} → done ≡ b → isDone (segmentAnswer image s (length rx) tx n) ≡ b
+  same-done p = ap isDone (sym same-answer) ∙ sym ed ∙ p
+
+  pub may-take : done ≡ true → Takes image s rx n
+  may-take p =
+      let k : Clear image s (length rx) tx n (configOf image n .tcp) = done-clear image s (length rx) tx n (configOf image n .tcp) (same-done p) in
+      passed-takes image s rx tx n (k .passed) (k .there)
+
+  pub segment-done : done ≡ true → (t : SegmentTaken) → t ≡ takeOn image s rx n segment → t ≡ segmentOf image s rx tx n segment
+  unfolding segmentOf
+  segment-done p t e = rw (same-done p) e
+
+  pub memory-done : done ≡ true → (m : List ℕ) → m ≡ memoryOn image s rx n segment → m ≡ memoryOf image s rx tx n segment
+  unfolding memoryOf
+  memory-done p m e = rw (same-done p) e
+
+  pub segment-none : done ≡ false → noneTaken s answer ≡ segmentOf image s rx tx n segment
+  unfolding segmentOf
+  segment-none p = rw (same-done p) (ap (noneTaken s) same-answer)
+
+  pub memory-none : done ≡ false → rx ≡ memoryOf image s rx tx n segment
+  unfolding memoryOf
+  memory-none p = rw (same-done p)

@@ -1,0 +1,54 @@
+-- The walk over a datagram at each of its returns. Assumes nothing.
+use Prim.Native.Nat.{ℕ, _<_}
+use mathlib.Core.Path.{_≡_, refl, sym, ap, _∙_}
+use mathlib.Core.Bool.{Bool, true, false, cond, not, _&&_}
+use mathlib.Core.List.{List}
+use lib.Dec.{leb}
+use lib.ListN.{length}
+use Rattle.layout.specs.Layout.{bodyOf}
+use Rattle.layout.specs.declared.Kind.the-variants.{Route as Routes}
+use Rattle.connection.specs.declared.Config.{Config}
+use Rattle.state.specs.declared.State.{State}
+use Rattle.state.specs.State.{recordAt}
+use Rattle.state.specs.Fresh.{configOf}
+use Rattle.datagram.specs.declared.Walked.{Walked}
+use Rattle.datagram.specs.Datagram.{walkedOf}
+use Rattle.receive.specs.declared.Answer.{Answer}
+use Rattle.receive.specs.declared.Answer.the-variants.{Done}
+use Rattle.receive.specs.declared.DatagramWalked.{DatagramWalked}
+use Rattle.receive.specs.Answer.{isDone, answerOf}
+use Rattle.receive.specs.Walk.{countWalk, walkedAt, walkOn, noneWalked, walkAllowed, walkAnswer, walkOf}
+use Rattle.receive.proofs.Answers.{Clear, done-clear}
+use Rattle.receive.proofs.Past.{below-sixteen}
+
+-- PAST ALL REFUSALS
+pub walk-is : (image : List ℕ) (s : State) (n : ℕ) (datagram : List ℕ) (place : ℕ) (routes : List ℕ) → routes ≡ bodyOf image Routes → (w : Walked) (after : State)
+    → w ≡ walkedOf datagram place routes n (recordAt s n .switches) → after ≡ countWalk (w .outcome) s
+    → record { answer = Done; outcome = w .outcome; next = w .next; state = after } ≡ walkOn image s n datagram place
+unfolding walkOn
+walk-is image s n datagram place routes er w after ew ea =
+    let same : w ≡ walkedAt image s n datagram place = ew ∙ ap (λ (l : List ℕ). walkedOf datagram place l n (recordAt s n .switches)) er in
+    ap (λ (a : State). record { answer = Done; outcome = w .outcome; next = w .next; state = a }) ea
+    ∙ ap (λ (u : Walked). record { answer = Done; outcome = u .outcome; next = u .next; state = countWalk (u .outcome) s }) same
+
+-- THE ENTRY: done, or refused
+module _ (image : List ℕ) (s : State) (rx tx n : ℕ) (datagram : List ℕ) (place : ℕ) (config : Config) (ec : config ≡ configOf image n)
+    (answer : Answer) (ea : answer ≡ answerOf image s rx tx n (not (config .tcp) && leb place (length datagram))) (done : Bool) (ed : done ≡ isDone answer) where
+  same-answer : answer ≡ walkAnswer image s rx tx n datagram place
+  same-answer = ea ∙ ap (λ (g : Config). answerOf image s rx tx n (not (g .tcp) && leb place (length datagram))) ec
+
+  same-done : {b : Bool} → done ≡ b → isDone (walkAnswer image s rx tx n datagram place) ≡ b
+  same-done p = ap isDone (sym same-answer) ∙ sym ed ∙ p
+
+  pub may-walk : done ≡ true → n < 16
+  may-walk p =
+      let k : Clear image s rx tx n (walkAllowed image n datagram place) = done-clear image s rx tx n (walkAllowed image n datagram place) (same-done p) in
+      below-sixteen image (k .passed .table) n (k .there)
+
+  pub walk-done : done ≡ true → (w : DatagramWalked) → w ≡ walkOn image s n datagram place → w ≡ walkOf image s rx tx n datagram place
+  unfolding walkOf
+  walk-done p w e = rw (same-done p) e
+
+  pub walk-none : done ≡ false → noneWalked s place answer ≡ walkOf image s rx tx n datagram place
+  unfolding walkOf
+  walk-none p = rw (same-done p) (ap (noneWalked s place) same-answer)

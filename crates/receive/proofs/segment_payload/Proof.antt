@@ -1,0 +1,55 @@
+-- `receive::segment_payload` meets its contract. Assumes nothing.
+use Rattle.receive.specs.Segment.{payloadOf}
+use Rattle.receive.proofs.Taking.{payload-pdu}
+use borrow.Author.Needs.{needs}
+use Rattle.receive.proofs.segment_payload.Statement.{statement}
+use Rattle.receive.proofs.segment_payload.Tie as tie
+
+stretch-of-requires : tie.Need-stretch-of-requires
+stretch-of-requires c κs = search needs
+
+enum-told : tie.Need-enum-told
+enum-told c = search needs
+
+slice-aggregate-result : tie.Need-slice-aggregate-result
+slice-aggregate-result c = search needs
+
+enum-known-outcome : tie.Need-enum-known-outcome
+enum-known-outcome c = search needs
+
+payload-of-requires : tie.Need-payload-of-requires
+payload-of-requires c κs = search needs
+
+enum-told-2 : tie.Need-enum-told-2
+enum-told-2 c = search needs
+
+slice-aggregate-result-2 : tie.Need-slice-aggregate-result-2
+slice-aggregate-result-2 c = search needs
+
+returns : tie.Need-returns
+unfolding payloadOf
+returns c = rw (c .before .enum-told .given .1)
+
+returns-2 : tie.Need-returns-2
+returns-2 c =
+    let s = c .before .before .before .before in
+    payload-pdu _ _ _ _ _ _ _ _ _ (c .before .before .outcome .given .1) _ (s .stretch-of .ensures) _ (c .payload-of .ensures)
+
+returns-3 : tie.Need-returns-3
+unfolding payloadOf
+returns-3 c = rw (c .before .enum-told2 .given .1)
+
+pub segment-payload-spec : {M : Type 1} → statement M
+segment-payload-spec =
+    tie.close
+    (tie.spec
+    stretch-of-requires
+    enum-told
+    slice-aggregate-result
+    enum-known-outcome
+    payload-of-requires
+    enum-told-2
+    slice-aggregate-result-2
+    returns
+    returns-2
+    returns-3)

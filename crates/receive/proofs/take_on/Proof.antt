@@ -1,0 +1,86 @@
+-- `receive::take_on` meets its contract. Assumes nothing.
+use native.Mathlib.Omega.{arith}
+use Rattle.receive.proofs.Taking.{lent-fit, take-is, memory-is}
+use borrow.Author.Needs.{needs}
+use Rattle.receive.proofs.take_on.Statement.{statement}
+use Rattle.receive.proofs.take_on.Tie as tie
+
+mul-c : tie.Need-mul-c
+mul-c c = search needs
+
+element-copy-out-c : tie.Need-element-copy-out-c
+element-copy-out-c c = search needs
+
+body-of-requires : tie.Need-body-of-requires
+body-of-requires c κs = search needs
+
+mul-start : tie.Need-mul-start
+mul-start c = search needs
+
+add-end : tie.Need-add-end
+add-end c = search needs
+
+sub-take : tie.Need-sub-take
+sub-take c = search needs
+
+part-take-start : tie.Need-part-take-start
+part-take-start c = search needs
+
+part-take-end : tie.Need-part-take-end
+part-take-end c = search needs
+
+take-requires : tie.Need-take-requires
+take-requires c κs =
+    let b = c .before in
+    let s = b .before .before .before .before .before in
+    let a = s .args in
+    lent-fit (a .image .now) (a .t2) (a .rx .now) (a .connection) (a .segment .now) (s .pre) (b .body-of .result .now) (b .body-of .ensures)
+
+with-part-requires : tie.Need-with-part-requires
+with-part-requires c κs = search needs
+
+mul-t18 : tie.Need-mul-t18
+mul-t18 c = search needs
+
+element-set-from-next : tie.Need-element-set-from-next
+element-set-from-next c = search needs
+
+count-take-requires : tie.Need-count-take-requires
+count-take-requires c κs = search needs
+
+same-length : tie.Need-same-length
+same-length c = search needs
+
+returns : tie.Need-returns
+returns c =
+    let w = c .before in
+    let t = w .before .before .before in
+    let b = t .before .before in
+    let k = b .before .before in
+    let s = k .before .before .before in
+    let a = s .args in (
+      take-is (a .image .now) (a .t2) (a .rx .now) (a .connection) (a .segment .now) (s .pre) (b .body-of .result .now) (b .body-of .ensures)
+          (t .take .result) (w .with-part .result) (c .count-take .result) (t .take .ensures .0) (w .with-part .ensures) (c .count-take .ensures),
+      memory-is (a .image .now) (a .t2) (a .rx .now) (a .connection) (a .segment .now) (s .pre) (b .body-of .result .now) (b .body-of .ensures)
+          (λ i. omega (arith, k .shared-slice-known2 .given i)) (t .take .last .1 .1 .1 .1 .0) (t .take .ensures .1),
+    )
+
+pub take-on-spec : {M : Type 1} → statement M
+take-on-spec =
+    tie.close
+    (tie.spec
+    mul-c
+    element-copy-out-c
+    body-of-requires
+    mul-start
+    add-end
+    sub-take
+    part-take-start
+    part-take-end
+    take-requires
+    with-part-requires
+    mul-t18
+    element-set-from-next
+    count-take-requires
+    same-length
+    returns)

@@ -1,0 +1,33 @@
+-- What a segment take and a walk are answered: the gate (11, 12, 2), then 3, then 4. Assumes nothing: these are definitions.
+use Prim.Native.Nat.{ℕ}
+use mathlib.Core.Bool.{Bool, true, false, cond}
+use mathlib.Core.List.{List}
+use Rattle.connection.specs.declared.Connection.{Connection}
+use Rattle.connection.specs.declared.Refusal.the-variants.{Denied}
+use Rattle.connection.specs.Event.{refusalNumber}
+use Rattle.state.specs.declared.State.{State}
+use Rattle.state.specs.State.{recordAt}
+use Rattle.gate.specs.Gate.{gateAt, through}
+use Rattle.world.specs.Step.{receiving}
+use Rattle.receive.specs.declared.Answer.{Answer}
+use Rattle.receive.specs.declared.Answer.the-variants.{Done, Refused, NotReceiving}
+
+-- the paper's number
+abbrev pub answerNumber : Answer → ℕ
+answerNumber Done = 0
+answerNumber (Refused r) = refusalNumber r
+answerNumber NotReceiving = 4
+
+abbrev pub isDone : Answer → Bool
+isDone Done = true
+isDone (Refused r) = false
+isDone NotReceiving = false
+
+-- past the gate: "not allowed for this protocol, mode or argument" (3), then "on a connection not online or with close wanted" (4)
+unfoldable pub judgedOf : Bool → Connection → Answer
+judgedOf allowed c = cond allowed (cond (receiving c) Done NotReceiving) (Refused Denied)
+
+-- "Checks run 11, 12, 2, 3, then the event's own order": lent rx and tx bytes of memory
+unfoldable pub answerOf : List ℕ → State → ℕ → ℕ → ℕ → Bool → Answer
+answerOf image s rx tx connection allowed =
+    through (gateAt image s rx tx connection) Refused (judgedOf allowed (recordAt s connection))

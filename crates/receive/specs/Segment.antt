@@ -1,0 +1,85 @@
+-- A take of a segment on one of the sixteen connections: the whole answer, and all of receive memory afterwards; and the payload
+-- that it hands out. Assumes nothing: these are definitions.
+use Prim.Native.Nat.{ℕ, _*_, _<_}
+use mathlib.Core.Path.{_≡_}
+use mathlib.Core.Bool.{true, cond}
+use mathlib.Core.List.{List, []}
+use lib.ListN.{length}
+use Rattle.wire.specs.Lay.{lay}
+use Rattle.layout.specs.Layout.{bodyOf}
+use Rattle.layout.specs.declared.Kind.the-variants.{Route as Routes}
+use Rattle.connection.specs.Connection.{withPart}
+use Rattle.state.specs.declared.State.{State}
+use Rattle.state.specs.State.{recordAt, withRecord, droppedOf}
+use Rattle.state.specs.Fresh.{configOf}
+use Rattle.stream.specs.declared.Outcome.{Outcome}
+use Rattle.stream.specs.declared.Outcome.the-variants.{More, Pdu, Drop}
+use Rattle.stream.specs.declared.Taken.{Taken}
+use Rattle.stream.specs.Stream.{takenOf, rxAfter, payloadAt, Fit}
+use Rattle.world.specs.World.{stretch}
+use Rattle.receive.specs.declared.Answer.{Answer}
+use Rattle.receive.specs.declared.Answer.the-variants.{Done}
+use Rattle.receive.specs.declared.SegmentTaken.{SegmentTaken}
+use Rattle.receive.specs.Answer.{isDone, answerOf}
+
+-- "A drop adds 1 to its protocol's count": TCP's
+abbrev pub countTake : Outcome → State → State
+countTake More s = s
+countTake (Pdu route id inside at n) s = s
+countTake (Drop reason id n) s = droppedOf true s
+
+module _ (image : List ℕ) (s : State) (rx : List ℕ) (connection : ℕ) (segment : List ℕ) where
+  -- the take over the record's part and switches, its stretch of receive memory, and the table's routes
+  abbrev pub takenAt : Taken
+  takenAt = takenOf (bodyOf image Routes) connection (recordAt s connection .switches) (recordAt s connection .part) (stretch 1464 connection rx) segment
+
+  -- "one stretch per connection in number order": the stretch afterwards
+  abbrev pub stretchAt : List ℕ
+  stretchAt = rxAfter (bodyOf image Routes) connection (recordAt s connection .switches) (recordAt s connection .part) (stretch 1464 connection rx) segment
+
+  -- where nothing refuses it: the record has the part that the take leaves
+  unfoldable pub takeOn : SegmentTaken
+  takeOn =
+      record {
+        answer = Done;
+        read = takenAt .read;
+        outcome = takenAt .outcome;
+        state = countTake (takenAt .outcome) (withRecord connection (withPart (takenAt .part) (recordAt s connection)) s);
+      }
+
+  -- and no other byte of receive memory changes than those of its stretch
+  unfoldable pub memoryOn : List ℕ
+  memoryOn = lay rx (connection * 1464) stretchAt
+
+-- what the take asks, and the gate has shown
+pub record Takes (image : List ℕ) (s : State) (rx : List ℕ) (connection : ℕ) : Type 0 where
+  pub small : connection < 16
+  pub room : length rx ≡ 23424
+  pub fit : Fit (bodyOf image Routes) (recordAt s connection .part) (stretch 1464 connection rx)
+
+-- a refusal: nothing is read, and the state stays
+abbrev pub noneTaken : State → Answer → SegmentTaken
+noneTaken s a = record { answer = a; read = 0; outcome = More; state = s }
+
+-- "Segment: TCP, else 3"
+abbrev pub segmentAnswer : List ℕ → State → ℕ → ℕ → ℕ → Answer
+segmentAnswer image s rx tx connection = answerOf image s rx tx connection (configOf image connection .tcp)
+
+-- THE SEGMENT TAKE, lent the receive memory rx and tx bytes of send memory
+unfoldable pub segmentOf : List ℕ → State → List ℕ → ℕ → ℕ → List ℕ → SegmentTaken
+segmentOf image s rx tx connection segment =
+    cond (isDone (segmentAnswer image s (length rx) tx connection))
+    (takeOn image s rx connection segment)
+    (noneTaken s (segmentAnswer image s (length rx) tx connection))
+
+-- RECEIVE MEMORY AFTER IT: "All lent memory stays in every refusal"
+unfoldable pub memoryOf : List ℕ → State → List ℕ → ℕ → ℕ → List ℕ → List ℕ
+memoryOf image s rx tx connection segment =
+    cond (isDone (segmentAnswer image s (length rx) tx connection)) (memoryOn image s rx connection segment) rx
+
+-- "The payload is handed out from the segment itself when all of it stands there, otherwise from receive memory"; where no PDU
+-- is handed out there is none
+unfoldable pub payloadOf : List ℕ → List ℕ → ℕ → Outcome → List ℕ
+payloadOf segment rx connection More = []
+payloadOf segment rx connection (Pdu route id inside at n) = payloadAt segment (stretch 1464 connection rx) inside at n
+payloadOf segment rx connection (Drop reason id n) = []

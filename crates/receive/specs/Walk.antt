@@ -1,0 +1,58 @@
+-- A step of a walk over a datagram on one of the sixteen connections: the whole answer. Assumes nothing: these are definitions.
+use Prim.Native.Nat.{ℕ}
+use mathlib.Core.Bool.{Bool, false, cond, not, _&&_}
+use mathlib.Core.List.{List}
+use lib.Dec.{leb}
+use lib.ListN.{length}
+use Rattle.layout.specs.Layout.{bodyOf}
+use Rattle.layout.specs.declared.Kind.the-variants.{Route as Routes}
+use Rattle.state.specs.declared.State.{State}
+use Rattle.state.specs.State.{recordAt, droppedOf}
+use Rattle.state.specs.Fresh.{configOf}
+use Rattle.datagram.specs.declared.Outcome.{Outcome}
+use Rattle.datagram.specs.declared.Outcome.the-variants.{End, Pdu, Drop}
+use Rattle.datagram.specs.declared.Walked.{Walked}
+use Rattle.datagram.specs.Datagram.{walkedOf}
+use Rattle.receive.specs.declared.Answer.{Answer}
+use Rattle.receive.specs.declared.Answer.the-variants.{Done}
+use Rattle.receive.specs.declared.DatagramWalked.{DatagramWalked}
+use Rattle.receive.specs.Answer.{isDone, answerOf}
+
+-- "A drop adds 1 to its protocol's count": UDP's
+abbrev pub countWalk : Outcome → State → State
+countWalk End s = s
+countWalk (Pdu route id at n) s = s
+countWalk (Drop reason id n) s = droppedOf false s
+
+module _ (image : List ℕ) (s : State) (connection : ℕ) (datagram : List ℕ) (place : ℕ) where
+  -- the walk with the record's switches and the table's routes
+  abbrev pub walkedAt : Walked
+  walkedAt = walkedOf datagram place (bodyOf image Routes) connection (recordAt s connection .switches)
+
+  -- where nothing refuses it: "Nothing is carried to the next datagram"
+  unfoldable pub walkOn : DatagramWalked
+  walkOn =
+      record {
+        answer = Done;
+        outcome = walkedAt .outcome;
+        next = walkedAt .next;
+        state = countWalk (walkedAt .outcome) s;
+      }
+
+-- a refusal: the end, the place as it was given, and the state stays
+abbrev pub noneWalked : State → ℕ → Answer → DatagramWalked
+noneWalked s place a = record { answer = a; outcome = End; next = place; state = s }
+
+-- "connection, datagram and place (beyond the end: 3; a TCP connection: 3)"
+abbrev pub walkAllowed : List ℕ → ℕ → List ℕ → ℕ → Bool
+walkAllowed image connection datagram place = not (configOf image connection .tcp) && leb place (length datagram)
+
+abbrev pub walkAnswer : List ℕ → State → ℕ → ℕ → ℕ → List ℕ → ℕ → Answer
+walkAnswer image s rx tx connection datagram place = answerOf image s rx tx connection (walkAllowed image connection datagram place)
+
+-- THE WALK, lent rx and tx bytes of memory
+unfoldable pub walkOf : List ℕ → State → ℕ → ℕ → ℕ → List ℕ → ℕ → DatagramWalked
+walkOf image s rx tx connection datagram place =
+    cond (isDone (walkAnswer image s rx tx connection datagram place))
+    (walkOn image s connection datagram place)
+    (noneWalked s place (walkAnswer image s rx tx connection datagram place))

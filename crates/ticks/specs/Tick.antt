@@ -1,0 +1,43 @@
+-- A tick, and many. A refusal carries its number, and the state stays. Assumes nothing.
+use Prim.Native.Nat.{ℕ}
+use mathlib.Core.List.{List}
+use Rattle.layout.specs.Layout.{rowsOf}
+use Rattle.layout.specs.declared.Kind.the-variants.{Connection as Connections}
+use Rattle.connection.specs.declared.Connection.{Connection}
+use Rattle.connection.specs.declared.Refusal.{Refusal}
+use Rattle.connection.specs.declared.Answer.the-variants.{Done, Refused}
+use Rattle.connection.specs.Connection.{tickOf}
+use Rattle.lists.specs.Each.{eachTo}
+use Rattle.lists.specs.Fold.{foldFrom}
+use Rattle.state.specs.declared.State.{State}
+use Rattle.state.specs.State.{withRecords}
+use Rattle.state.specs.Fresh.{configOf}
+use Rattle.gate.specs.Gate.{gateOf, through}
+use Rattle.ticks.specs.declared.Ticked.{Ticked}
+
+-- what a tick makes of connection i
+abbrev pub tickAt : List ℕ → ℕ → Connection → Connection
+tickAt image i c = tickOf (configOf image i) c
+
+-- "Tick, per connection in order": of the first `rows` records; the records past them stay
+unfoldable pub tickedTo : List ℕ → ℕ → State → State
+tickedTo image rows s = withRecords (eachTo (tickAt image) 0 rows (s .connections)) s
+
+-- `count` ticks, one after the other
+abbrev pub tickOnce : List ℕ → ℕ → State → ℕ → State
+tickOnce image rows s k = tickedTo image rows s
+
+unfoldable pub ticksTo : List ℕ → ℕ → ℕ → State → State
+ticksTo image rows count s = foldFrom (tickOnce image rows) count 0 s
+
+abbrev pub unticked : State → Refusal → Ticked
+unticked s r = record { answer = Refused r; state = s }
+
+-- a tick: 11, 12, else done
+unfoldable pub tickEvent : List ℕ → State → ℕ → ℕ → Ticked
+tickEvent image s rx tx =
+    through (gateOf image s rx tx) (unticked s) (record { answer = Done; state = tickedTo image (rowsOf image Connections) s })
+
+unfoldable pub ticksEvent : List ℕ → State → ℕ → ℕ → ℕ → Ticked
+ticksEvent image s rx tx count =
+    through (gateOf image s rx tx) (unticked s) (record { answer = Done; state = ticksTo image (rowsOf image Connections) count s })

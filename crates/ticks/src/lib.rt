@@ -1,0 +1,88 @@
+// A tick of the whole module, and many ticks under one check. Assumes nothing: no entry relies on its caller.
+ghost use mathlib.Core.Path.{_≡_};
+ghost use Prim.Native.Nat.{_≤_};
+ghost use lib.ListN.{length};
+ghost use Rattle.ticks.specs.Tick.{tickedTo, ticksTo, tickEvent, ticksEvent};
+use connection::Answer;
+use connection::Connection;
+use gate::Gate;
+use layout::Kind;
+use layout::rows_of;
+use state::State;
+use state::config_of;
+
+// What a tick answers, and the state after it. A struct of its own: it has room for more.
+pub struct Ticked {
+    pub answer: Answer,
+    pub state: State,
+}
+
+// One tick of the first `rows` connections, in order.
+fn tick_rows(image: &[u8], rows: usize, state: State) -> State
+    requires { ⌜ rows ≤ 16 ⌝ }
+    ensures { λ r. ⌜ r ≡ tickedTo (now (image .entry)) rows state ⌝ }
+{
+    let mut after = state;
+    let mut i: usize = 0;
+    while i < rows {
+        let connection = after.connections[i];
+        let config = config_of(image, i);
+        let next = connection.tick(config);
+        after.connections[i] = next;
+        i += 1;
+    }
+    after
+}
+
+// `count` ticks of the first `rows` connections.
+fn tick_many(image: &[u8], rows: usize, state: State, count: u32) -> State
+    requires { ⌜ rows ≤ 16 ⌝ }
+    ensures { λ r. ⌜ r ≡ ticksTo (now (image .entry)) rows count state ⌝ }
+{
+    let mut after = state;
+    let mut k: u32 = 0;
+    while k < count {
+        after = tick_rows(image, rows, after);
+        k += 1;
+    }
+    after
+}
+
+pub fn tick(image: &[u8], state: State, rx: &[u8], tx: &[u8]) -> Ticked
+    ensures { λ r. ⌜ r ≡ tickEvent (now (image .entry)) state (length (now (rx .entry))) (length (now (tx .entry))) ⌝ }
+{
+    let asked = gate::ask(image, state, rx.len(), tx.len());
+    match asked {
+        Gate::Refused(reason) => Ticked {
+            answer: Answer::Refused(reason),
+            state: state,
+        },
+        Gate::Pass => {
+            let after = tick_rows(image, rows_of(image, Kind::Connection), state);
+            Ticked {
+                answer: Answer::Done,
+                state: after,
+            }
+        }
+    }
+}
+
+// `count` ticks under one check.
+pub fn ticks(image: &[u8], state: State, rx: &[u8], tx: &[u8], count: u32) -> Ticked
+    ensures { λ r. ⌜ r ≡ ticksEvent (now (image .entry)) state (length (now (rx .entry))) (length (now (tx .entry))) count ⌝ }
+{
+    let asked = gate::ask(image, state, rx.len(), tx.len());
+    match asked {
+        Gate::Refused(reason) => Ticked {
+            answer: Answer::Refused(reason),
+            state: state,
+        },
+        Gate::Pass => {
+            let after = tick_many(image, rows_of(image, Kind::Connection), state, count);
+            Ticked {
+                answer: Answer::Done,
+                state: after,
+            }
+        }
+    }
+}

@@ -1,0 +1,92 @@
+//! Document 01, "Connection events and others": what an event makes of one record, or the number of its refusal; and the tick.
+
+use crate::fault::{or, seeded, Fault};
+use crate::state::{Config, Mode, Record};
+use crate::stream::READY;
+use crate::table::Remote;
+
+type Answer = Result<Record, u8>;
+
+/// "else 3".
+fn allowed(condition: bool, then: Record) -> Answer {
+    condition.then_some(then).ok_or(3)
+}
+
+/// "Open: non-automatic, offline, no close wanted, else 3; sets open wanted."
+pub fn open(config: Config, record: Record) -> Answer {
+    let manual = !config.row.automatic || seeded(Fault::OpenAutomatic);
+    let free = !record.close_wanted || seeded(Fault::OpenWithClose);
+    allowed(manual && record.mode == Mode::Offline && free, Record { open_wanted: true, ..record })
+}
+
+/// "Close: non-automatic, and open wanted or not offline, else 3; sets close wanted, clears open."
+pub fn close(config: Config, record: Record) -> Answer {
+    let closable = record.open_wanted || record.mode != Mode::Offline || seeded(Fault::CloseOffline);
+    let open_wanted = record.open_wanted && seeded(Fault::CloseKeepsOpen);
+    allowed(!config.row.automatic && closable, Record { close_wanted: true, open_wanted, ..record })
+}
+
+/// "Connected: TCP, reconnect, no close wanted, remote without wildcard, else 3; becomes online."
+pub fn connected(config: Config, record: Record) -> Answer {
+    let named = !record.remote.has_wildcard() || seeded(Fault::ConnectedToAnyone);
+    let ready = record.mode == Mode::Reconnect && !record.close_wanted && named;
+    allowed(config.tcp && ready, Record { mode: Mode::Online, ..record })
+}
+
+/// "Lost: TCP online, else 3; becomes reconnect, held bytes dropped, remote as configured."
+pub fn lost(config: Config, record: Record) -> Answer {
+    let condition = config.tcp && record.mode == Mode::Online;
+    let part = or(Fault::LostKeepsPart, READY, record.part);
+    let used = or(Fault::LostKeepsSend, 0, record.used);
+    let remote = or(Fault::LostKeepsRemote, config.row.remote, record.remote);
+    let close_wanted = record.close_wanted && !seeded(Fault::LostForgetsClose);
+    allowed(condition, Record { mode: Mode::Reconnect, part, used, remote, close_wanted, timer: 0, due: false, ..record })
+}
+
+/// "Set remote: not online, else 3."
+pub fn set_remote(record: Record, remote: Remote) -> Answer {
+    allowed(record.mode != Mode::Online || seeded(Fault::RemoteWhileOnline), Record { remote, ..record })
+}
+
+/// "Switch one routing group of one connection": "switch n is the bit worth 2 to the n".
+pub fn switch(record: Record, number: u8, on: bool) -> Record {
+    let bit = 1u32 << or(Fault::SwitchesFromTheTop, number, 31 - number);
+    let switches = match on {
+        true => record.switches | bit,
+        false => record.switches & !bit,
+    };
+    Record { switches, ..record }
+}
+
+/// "Tick, per connection in order. Close wanted: back to the fresh record except switches, and nothing more this tick."
+pub fn tick(config: Config, record: Record) -> Record {
+    if !record.close_wanted {
+        return run_timer(go_online(config, go_offline_to_reconnect(config, record)));
+    }
+    let switches = or(Fault::CloseResetsSwitches, record.switches, config.row.switches);
+    let closed = Record { switches, ..Record::fresh(config.row) };
+    or(Fault::ClosingTickGoesOn, closed.clone(), go_online(config, Record { mode: Mode::Reconnect, ..closed }))
+}
+
+/// "offline with open wanted or automatic becomes reconnect, open cleared".
+fn go_offline_to_reconnect(config: Config, record: Record) -> Record {
+    let starts = record.mode == Mode::Offline && (record.open_wanted || config.row.automatic);
+    match starts {
+        true => Record { mode: Mode::Reconnect, open_wanted: seeded(Fault::TickKeepsOpen) && record.open_wanted, ..record },
+        false => record,
+    }
+}
+
+/// "then UDP reconnect without wildcard becomes online".
+fn go_online(config: Config, record: Record) -> Record {
+    let remote = or(Fault::TickLooksAtTheRow, record.remote, config.row.remote);
+    let goes = record.mode == Mode::Reconnect && !config.tcp && !remote.has_wildcard();
+    Record { mode: if goes { Mode::Online } else { record.mode }, ..record }
+}
+
+/// "a running timer falls by 1 and at 0 becomes due".
+fn run_timer(record: Record) -> Record {
+    let timer = record.timer.saturating_sub(1);
+    let ended = record.timer > 0 && timer <= or(Fault::DueOneTickEarly, 0, 1);
+    Record { timer: if ended { 0 } else { timer }, due: record.due || ended, ..record }
+}

@@ -1,0 +1,299 @@
+//! Scripts: runs of events under one table, from a fresh, a sound or an unsound state, that end well, refused or cut.
+
+use super::datagram::{datagram, frames};
+use super::state::{exact, sound, unsound};
+use super::table::{remote, table_with_few_pdus};
+use crate::event::{run, Event};
+use crate::header::is_on;
+use crate::random::Random;
+use crate::script::{entry, write, write_start};
+use crate::state::{Config, Mode, Record, World};
+use crate::stream::{Part, READY};
+use crate::table::{Destination, Remote, Table, MOST_SEND_SIZE, TCP};
+use crate::walk::walk;
+
+/// The most bytes of a segment or datagram in an entry.
+const MOST_BYTES: usize = 4000;
+
+/// A table with several connections in few groups, and PDUs with several destinations.
+pub fn table_for_events(random: &mut Random) -> Table {
+    let connections = *random.pick(&[1, 2, 3, 5, 8, 16]);
+    let counts = [random.between(1, 4), connections, random.edge(4, 64), random.edge(connections, (6 * connections).min(64))];
+    let mut table = table_with_few_pdus(random, counts);
+    for row in &mut table.connections {
+        row.switches |= if random.one_in(2) { u32::MAX } else { 0 };
+        if random.one_in(3) {
+            row.remote = exact(random);
+        }
+    }
+    for row in &mut table.destinations {
+        row.timeout = *random.pick(&[0, 1, 2, 3, 7, 65_535]);
+    }
+    table
+}
+
+/// What the generator of one script knows: the world as the model sees it, and bytes still to be sent on each connection.
+struct Runner<'a> {
+    random: &'a mut Random,
+    table: Table,
+    world: World,
+    streams: Vec<Vec<u8>>,
+}
+
+impl Runner<'_> {
+    /// A connection, in some cases one that is not there.
+    fn connection(&mut self) -> u8 {
+        match self.random.one_in(40) {
+            true => *self.random.pick(&[self.table.connections.len() as u8, 16, 255]),
+            false => self.random.below(self.table.connections.len()) as u8,
+        }
+    }
+
+    /// A connection that fits an event, if one is soon found and in most cases; else any.
+    fn fitting(&mut self, fits: impl Fn(Config, &Record) -> bool) -> u8 {
+        for _ in 0..16 {
+            let connection = self.random.below(self.table.connections.len());
+            if fits(self.table.config(connection), &self.world.state.records[connection]) && !self.random.one_in(10) {
+                return connection as u8;
+            }
+        }
+        self.connection()
+    }
+
+    /// An open connection of a protocol.
+    fn line(&mut self, tcp: bool) -> u8 {
+        self.fitting(|config, record| config.tcp == tcp && record.is_open())
+    }
+
+    /// A source: mostly one that a record names, in some cases with a wildcard.
+    fn source(&mut self) -> Remote {
+        let known = self.world.state.records[self.random.below(self.table.connections.len())].remote;
+        match self.random.below(12) {
+            0 => remote(self.random),
+            1..=5 if !known.has_wildcard() => known,
+            6 | 7 if known.port != 0 => Remote { port: known.port, ..exact(self.random) },
+            8 | 9 if known.address != 0 => Remote { address: known.address, ..exact(self.random) },
+            _ => exact(self.random),
+        }
+    }
+
+    fn group(&mut self) -> u8 {
+        let past = usize::from(self.random.one_in(20));
+        self.random.below(self.table.groups.len() + past) as u8
+    }
+
+    /// The next piece of a connection's stream.
+    fn segment(&mut self) -> Event {
+        let connection = self.line(true);
+        let number = usize::from(connection);
+        if number >= self.table.connections.len() {
+            return Event::Segment(connection, self.random.bytes(4));
+        }
+        let part = self.world.state.records[number].part;
+        if let Part::Skip(5000..) = part {
+            if self.random.one_in(3) {
+                return Event::Lost(connection);
+            }
+        }
+        if part == READY && (self.streams[number].is_empty() || self.random.one_in(4)) {
+            self.streams[number] = frames(self.random, &self.table, number, 10);
+        } else if self.streams[number].is_empty() {
+            self.streams[number] = self.rest_of(part);
+        }
+        let stream = &mut self.streams[number];
+        let length = match self.random.below(3) {
+            0 => stream.len(),
+            1 => self.random.below(12).min(stream.len()),
+            _ => self.random.below(stream.len() + 1),
+        };
+        Event::Segment(connection, stream.drain(..length.min(MOST_BYTES)).collect())
+    }
+
+    /// Bytes that complete a receive part, or go some way.
+    fn rest_of(&mut self, part: Part) -> Vec<u8> {
+        let length = match part {
+            Part::Header { held, .. } => 8 - usize::from(held),
+            Part::Payload { length, held, .. } => usize::from(length - held),
+            Part::Skip(left) => (left as usize).min(2000),
+        };
+        self.random.bytes(length)
+    }
+
+    fn walk(&mut self) -> Event {
+        let connection = self.line(false);
+        let number = usize::from(connection).min(self.table.connections.len() - 1);
+        let mut bytes = datagram(self.random, &self.table, number);
+        bytes.truncate(MOST_BYTES);
+        let switches = self.world.state.records[number].switches;
+        let steps = self.random.below(3);
+        let next = |place, _| walk(&self.table, number, switches, &bytes, place).map_or(place, |step| step.next);
+        let reached = (0..steps).fold(0, next) as u32;
+        let place = match self.random.below(12) {
+            0 => bytes.len() as u32 + 1,
+            1 => u32::MAX,
+            2 => self.random.below(bytes.len() + 1) as u32,
+            _ => reached,
+        };
+        Event::Walk(connection, place, bytes)
+    }
+
+    /// A destination, mostly of a PDU that is not refused with 4 or 6.
+    fn destination(&mut self) -> Destination {
+        let rows = &self.table.destinations;
+        let record = |row: &Destination| &self.world.state.records[usize::from(row.connection)];
+        let on = |row: &&Destination| is_on(row.groups, record(row).switches);
+        let tries: Vec<&Destination> = (0..10).map(|_| self.random.pick(rows)).collect();
+        let goes = |row: &&&Destination| {
+            on(row) && rows.iter().filter(|other| other.pdu == row.pdu && on(other)).all(|other| record(other).is_open())
+        };
+        (*tries.iter().find(goes).unwrap_or(&tries[0])).clone()
+    }
+
+    fn transmit(&mut self) -> Event {
+        if self.table.destinations.is_empty() || self.random.one_in(20) {
+            let length = self.random.below(4);
+            return Event::Transmit(self.random.word() as u16, self.random.bytes(length));
+        }
+        let row = self.destination();
+        let (pdu, longest) = (row.pdu, usize::from(row.longest));
+        let used = usize::from(self.world.state.records[usize::from(row.connection)].used);
+        let room = usize::from(self.table.connections[usize::from(row.connection)].send_size).saturating_sub(used + 8);
+        let length = match self.random.below(8) {
+            0 => longest + 1,
+            1 => longest,
+            2 => room,
+            3 => room + 1,
+            _ => self.random.below(longest.min(20) + 1),
+        };
+        Event::Transmit(pdu, self.random.bytes(length))
+    }
+
+    fn take_waiting(&mut self) -> Event {
+        let connection = self.fitting(|_, record| record.used > 0);
+        let used = self.world.state.records.get(usize::from(connection)).map_or(0, |record| u32::from(record.used));
+        let most = u32::from(MOST_SEND_SIZE);
+        Event::TakeWaiting(
+            connection,
+            *self.random.pick(&[most, most, used, used, used.saturating_sub(1), 0, most + 1, u32::MAX]),
+        )
+    }
+
+    fn event(&mut self) -> Event {
+        let switch = if self.random.one_in(20) { self.random.between(32, 255) as u8 } else { self.random.below(32) as u8 };
+        let protocol = if self.random.one_in(10) { self.random.word() as u8 } else { self.random.between(1, 2) as u8 };
+        let on = self.random.one_in(2);
+        match self.random.below(100) {
+            0..=9 => Event::Ticks(self.random.between(1, 3) as u32),
+            10 => Event::Ticks(self.random.edge(0, 300) as u32),
+            11..=15 => Event::Open(self.fitting(|_, record| record.mode == Mode::Offline)),
+            16..=18 => Event::Close(self.fitting(|config, record| !config.row.automatic && record.mode != Mode::Offline)),
+            19..=24 => Event::Connected(self.fitting(|config, record| config.tcp && record.mode == Mode::Reconnect)),
+            25..=27 => Event::Lost(self.fitting(|config, record| config.tcp && record.mode == Mode::Online)),
+            28..=33 => Event::SetRemote(self.fitting(|_, record| record.mode != Mode::Online), remote(self.random)),
+            34..=36 => Event::Switch(self.connection(), switch, on),
+            37 => Event::SwitchAll(switch, on),
+            38..=56 => self.segment(),
+            57..=65 => self.walk(),
+            66..=72 => self.take_waiting(),
+            73..=79 => Event::Datagram(self.group(), self.source()),
+            80..=84 => Event::Accept(self.group(), self.source()),
+            85..=97 => self.transmit(),
+            98 => Event::ReadCount(protocol),
+            _ => Event::ReadAndClear(protocol),
+        }
+    }
+}
+
+/// A script in the making: its input so far, and what comes next.
+fn begin<'a>(random: &'a mut Random, table: Table, start: Option<World>) -> (Vec<u8>, Runner<'a>) {
+    let mut input = table.image();
+    input.extend(start.iter().flat_map(write_start));
+    let world = start.unwrap_or_else(|| World::new(&table.image()));
+    let streams = vec![vec![]; table.connections.len()];
+    (input, Runner { random, table, world, streams })
+}
+
+/// Adds events, each drawn in the state that those before it leave.
+fn add_events(input: &mut Vec<u8>, runner: &mut Runner, count: usize, mut next: impl FnMut(&mut Runner) -> Event) {
+    for _ in 0..count {
+        let event = next(runner);
+        input.extend(write(&event));
+        // what is answered does not matter here
+        let _ = run(&mut runner.world, &event);
+    }
+}
+
+/// An image and a script of so many events; in some cases an entry at the end that is refused, or cut off.
+pub fn script(random: &mut Random, events: usize) -> Vec<u8> {
+    let table = table_for_events(random);
+    let start = if random.one_in(2) { Some(sound(random, &table)) } else { None };
+    let (mut input, mut runner) = begin(random, table, start);
+    add_events(&mut input, &mut runner, events, |runner| runner.event());
+    // timers show at the end alone
+    add_events(&mut input, &mut runner, 12, |runner| match runner.random.below(6) {
+        0 => Event::Ticks(1),
+        1 => runner.event(),
+        _ => runner.transmit(),
+    });
+    match runner.random.below(4) {
+        0 => input.extend(misfit(runner.random)),
+        1 => {
+            let last = write(&runner.event());
+            input.extend(&last[..runner.random.between(1, last.len() - 1)]);
+        }
+        _ => {}
+    }
+    input
+}
+
+/// The same with TCP connections and hardly anything but segments.
+pub fn stream_script(random: &mut Random, events: usize) -> Vec<u8> {
+    let mut table = table_for_events(random);
+    table.groups.iter_mut().for_each(|group| group.protocol = TCP);
+    table.connections.iter_mut().for_each(|row| row.remote = exact(random));
+    let mut start = sound(random, &table);
+    for record in &mut start.state.records[..table.connections.len()] {
+        (record.mode, record.open_wanted, record.close_wanted, record.remote) = (Mode::Online, false, false, exact(random));
+    }
+    let (mut input, mut runner) = begin(random, table, Some(start));
+    add_events(&mut input, &mut runner, events, |runner| match runner.random.below(40) {
+        0 => Event::Accept(runner.group(), exact(runner.random)),
+        1 => Event::Switch(runner.connection(), runner.random.below(32) as u8, runner.random.one_in(2)),
+        2 => Event::SwitchAll(runner.random.below(32) as u8, runner.random.one_in(2)),
+        3..=8 if runner.world.state.records.iter().any(|record| record.mode == Mode::Reconnect) => {
+            Event::Connected(runner.fitting(|_, record| record.mode == Mode::Reconnect))
+        }
+        _ => runner.segment(),
+    });
+    input
+}
+
+/// A script that starts from an unsound state: each event is refused with 12.
+pub fn unsound_script(random: &mut Random) -> Vec<u8> {
+    let (table, world) = loop {
+        let table = table_for_events(random);
+        if let Some((world, _)) = unsound(random, &table) {
+            break (table, world);
+        }
+    };
+    let (mut input, mut runner) = begin(random, table, Some(world));
+    add_events(&mut input, &mut runner, 6, |runner| runner.event());
+    input
+}
+
+/// An entry that is refused.
+fn misfit(random: &mut Random) -> Vec<u8> {
+    let remote = |family: u8, zero: u8| [&[family, zero][..], &[0; 11], &[10, 0, 0, 1, 0, 80]].concat();
+    match random.below(10) {
+        0 => entry(*random.pick(&[16, 17, 255, 256, 257, 65_534]), 0, &[0, 0]),
+        1 => entry(1, *random.pick(&[1, 256]), &[0, 0]),
+        2 => entry(1, 0, &[1, 0]),
+        3 => entry(random.between(1, 15) as u16, 0, &[]),
+        4 => entry(0, 0, &[0, 0, 0, 0, 1]),
+        5 => entry(6, 0, &[0, 0, 0, 2]),
+        6 => entry(10, 0, &[&[0, 0][..], &remote(6, 0)].concat()),
+        7 => entry(5, 0, &[&[0, 0][..], &remote(4, 1)].concat()),
+        8 => entry(7, 0, &[0, 0, 0, 0, 0, 2, 9]),
+        _ => entry(12, 0, &vec![0; 4097]),
+    }
+}

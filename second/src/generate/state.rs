@@ -1,0 +1,165 @@
+//! States: sound ones of every mode, wish and part, and states that break one rule of soundness.
+
+use super::table::{remote, switches};
+use crate::random::Random;
+use crate::sound::{broken, PAST_ROWS, RULES};
+use crate::state::{Config, Mode, Record, State, World, RECEIVE, RECORDS, SEND};
+use crate::stream::{Part, READY};
+use crate::table::{Remote, Table};
+
+/// A remote without wildcard.
+pub fn exact(random: &mut Random) -> Remote {
+    loop {
+        let remote = remote(random);
+        if !remote.has_wildcard() {
+            return remote;
+        }
+    }
+}
+
+fn receive_part(random: &mut Random, table: &Table, connection: usize) -> Part {
+    let own = |route: &usize| usize::from(table.routes[*route].connection) == connection && table.routes[*route].longest > 0;
+    let routes: Vec<usize> = (0..table.routes.len()).filter(own).collect();
+    match random.below(4) {
+        0 => READY,
+        1 => {
+            let held = random.edge(1, 7) as u8;
+            Part::Header { held, value: random.word() >> (64 - 8 * u32::from(held)) }
+        }
+        2 if !routes.is_empty() => {
+            let route = *random.pick(&routes);
+            let length = random.edge(1, usize::from(table.routes[route].longest));
+            Part::Payload { route: route as u8, length: length as u16, held: random.edge(0, length - 1) as u16 }
+        }
+        _ => Part::Skip(random.edge(1, u32::MAX as usize) as u32 >> (8 * random.below(4)) | 1),
+    }
+}
+
+fn record(random: &mut Random, table: &Table, connection: usize) -> Record {
+    let Config { row, tcp } = table.config(connection);
+    let mode = *random.pick(&[Mode::Offline, Mode::Reconnect, Mode::Online, Mode::Online]);
+    let (offline, online) = (mode == Mode::Offline, mode == Mode::Online);
+    let mut record = Record { mode, switches: switches(random), ..Record::fresh(row) };
+    record.close_wanted = random.one_in(4) && !(row.automatic && (!tcp || offline));
+    record.open_wanted = random.one_in(2) && offline && !row.automatic && !record.close_wanted;
+    if random.one_in(2) || (online && row.remote.has_wildcard()) {
+        record.remote = if online { exact(random) } else { remote(random) };
+    }
+    if online && tcp {
+        record.part = receive_part(random, table, connection);
+    }
+    if online {
+        let full = random.edge(0, usize::from(row.send_size));
+        record.used = if random.one_in(2) { full.min(20) } else { full } as u16;
+    }
+    if record.used > 0 {
+        match random.below(3) {
+            0 => record.timer = *random.pick(&[1, 2, 3, 9, 65_535]),
+            1 => record.due = true,
+            _ => {}
+        }
+    }
+    record
+}
+
+fn sound_state(random: &mut Random, table: &Table) -> State {
+    let mut state = State::empty();
+    for connection in 0..table.connections.len() {
+        state.records[connection] = record(random, table, connection);
+    }
+    let mut count = || *random.pick(&[0, 1, u32::MAX / 2, u32::MAX - 3, u32::MAX - 1, u32::MAX]);
+    (state.udp_drops, state.tcp_drops) = (count(), count());
+    state
+}
+
+/// A state with lent memory full of other bytes.
+fn world(random: &mut Random, table: &Table, state: State) -> World {
+    World { state, receive: random.bytes(RECEIVE), send: random.bytes(SEND), ..World::new(&table.image()) }
+}
+
+/// A sound state under a table.
+pub fn sound(random: &mut Random, table: &Table) -> World {
+    let state = sound_state(random, table);
+    world(random, table, state)
+}
+
+/// Changes one value of one record, mostly to an edge of its range.
+fn disturb(random: &mut Random, table: &Table, state: &mut State) {
+    let connection = random.below(RECORDS);
+    let room = table.connections.get(connection).map_or(0, |row| row.send_size);
+    let record = &mut state.records[connection];
+    match random.below(9) {
+        0 => record.mode = *random.pick(&[Mode::Offline, Mode::Reconnect, Mode::Online]),
+        1 => record.open_wanted = !record.open_wanted,
+        2 => record.close_wanted = !record.close_wanted,
+        3 => record.remote = *random.pick(&[Remote::default(), Remote { address: 1, port: 0 }, Remote { address: 0, port: 1 }]),
+        4 => record.part = any_part(random, record.part),
+        5 => record.used = *random.pick(&[0, 1, room, room + 1, u16::MAX]),
+        6 => record.timer = *random.pick(&[0, 1, u16::MAX]),
+        7 => record.due = !record.due,
+        _ => record.switches ^= 1,
+    }
+}
+
+fn any_part(random: &mut Random, part: Part) -> Part {
+    match (part, random.below(4)) {
+        (Part::Payload { route, length, .. }, 0) => Part::Payload { route, length, held: length },
+        (Part::Payload { route, held, .. }, 1) => Part::Payload { route, length: 1464, held },
+        (Part::Payload { length, held, .. }, 2) => Part::Payload { route: random.below(70) as u8, length, held },
+        (Part::Header { held, .. }, 0) => Part::Header { held, value: 1 << (8 * u32::from(held.min(7))) },
+        (_, 1) => Part::Header { held: 8, value: 0 },
+        (_, 2) => Part::Skip(random.below(2) as u32),
+        _ => Part::Header { held: random.below(3) as u8, value: 0 },
+    }
+}
+
+/// A state that breaks exactly one rule, once; which one, is drawn first, so that each is met. Nothing where no state was found.
+pub fn unsound(random: &mut Random, table: &Table) -> Option<(World, &'static str)> {
+    let rule = RULES.get(random.below(RULES.len() + 1)).map_or(PAST_ROWS, |&(name, _)| name);
+    for _ in 0..50 {
+        let mut state = sound_state(random, table);
+        for _ in 0..100 {
+            let before = state.clone();
+            disturb(random, table, &mut state);
+            match broken(table, &state)[..] {
+                [] => {}
+                [(_, which)] if which == rule => return Some((world(random, table, state), rule)),
+                _ => state = before,
+            }
+        }
+    }
+    None
+}
+
+#[cfg(test)]
+mod tests {
+    use super::*;
+    use crate::generate::script::table_for_events;
+    use crate::sound::is_sound;
+    use std::collections::BTreeMap;
+
+    #[test]
+    fn states_are_sound() {
+        let random = &mut Random::new(1);
+        for _ in 0..300 {
+            let table = table_for_events(random);
+            let world = sound(random, &table);
+            assert_eq!(broken(&table, &world.state), []);
+            assert!(is_sound(&table, &world.state));
+        }
+    }
+
+    #[test]
+    fn each_single_rule_is_broken() {
+        let random = &mut Random::new(1);
+        let mut met = BTreeMap::new();
+        for _ in 0..300 {
+            let table = table_for_events(random);
+            if let Some((world, rule)) = unsound(random, &table) {
+                assert!(!is_sound(&table, &world.state));
+                *met.entry(rule).or_insert(0) += 1;
+            }
+        }
+        assert_eq!(met.len(), RULES.len() + 1, "{:?}", met);
+    }
+}

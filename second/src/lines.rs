@@ -1,0 +1,223 @@
+//! What `run` prints: docs/EVENTS.md, "What `./soad run` prints".
+
+use crate::bytes::{hex, spell, Reader};
+use crate::event::{run, Answer, Done, Event};
+use crate::header::Header;
+use crate::script::{image_end, read, Entry, Refused};
+use crate::state::{Mode, State, World};
+use crate::stream::{Outcome, Part, Stood, Take};
+use crate::table::Remote;
+use crate::walk::{Found, Step};
+
+/// "bytes are lower-case hex without spaces, and `-` where there are none".
+fn bytes(bytes: &[u8]) -> String {
+    if bytes.is_empty() {
+        "-".into()
+    } else {
+        hex(bytes)
+    }
+}
+
+fn remote(remote: Remote) -> String {
+    let [a, b, c, d] = remote.address.to_be_bytes();
+    format!("{}.{}.{}.{} port {}", a, b, c, d, remote.port)
+}
+
+fn position(on: bool) -> &'static str {
+    if on {
+        "on"
+    } else {
+        "off"
+    }
+}
+
+fn yes(wanted: bool) -> &'static str {
+    if wanted {
+        "yes"
+    } else {
+        "no"
+    }
+}
+
+fn event_words(event: &Event) -> String {
+    match event {
+        Event::Ticks(times) => format!("tick {} times", times),
+        Event::Open(connection) => format!("open connection {}", connection),
+        Event::Close(connection) => format!("close connection {}", connection),
+        Event::Connected(connection) => format!("connected connection {}", connection),
+        Event::Lost(connection) => format!("lost connection {}", connection),
+        Event::SetRemote(connection, to) => format!("set remote of connection {} to {}", connection, remote(*to)),
+        Event::Switch(connection, number, on) => format!("switch {} of connection {} {}", number, connection, position(*on)),
+        Event::Segment(connection, segment) => format!("segment on connection {}, {} bytes", connection, segment.len()),
+        Event::Walk(connection, place, datagram) => {
+            format!("walk on connection {} from byte {} of {} bytes", connection, place, datagram.len())
+        }
+        Event::TakeWaiting(connection, room) => format!("take waiting of connection {} into {} bytes", connection, room),
+        Event::Datagram(group, source) => format!("datagram to group {} from {}", group, remote(*source)),
+        Event::Accept(group, source) => format!("accept to group {} from {}", group, remote(*source)),
+        Event::Transmit(pdu, payload) => format!("transmit PDU 0x{:04x}, {} bytes", pdu, payload.len()),
+        Event::SwitchAll(number, on) => format!("switch {} of all connections {}", number, position(*on)),
+        Event::ReadCount(protocol) => format!("read count of protocol {}", protocol),
+        Event::ReadAndClear(protocol) => format!("read and clear count of protocol {}", protocol),
+    }
+}
+
+fn meaning(number: u8) -> &'static str {
+    match number {
+        2 => "not there",
+        3 => "not allowed",
+        4 => "not online",
+        5 => "no destination",
+        6 => "switched off",
+        7 => "too long",
+        8 => "flush first",
+        9 => "out buffer too short",
+        10 => "no connection matches",
+        11 => "lent memory has another length",
+        _ => "state or table not sound",
+    }
+}
+
+fn header(header: Header) -> String {
+    format!("id 0x{:08x}, length {} bytes", header.id, header.length)
+}
+
+fn take_words(take: &Take) -> String {
+    match &take.outcome {
+        Outcome::More => "more wanted".into(),
+        Outcome::Drop { reason, header: of } => format!("drop {}, {}", reason, header(*of)),
+        Outcome::Pdu { route, header: of, stood, payload } => {
+            let from = match stood {
+                Stood::Segment(at) => format!("the segment at byte {}", at),
+                Stood::Memory => "receive memory".into(),
+            };
+            format!("PDU of route {}, {}, from {}: {}", route, header(*of), from, bytes(payload))
+        }
+    }
+}
+
+fn walk_words(step: &Step, datagram: &[u8]) -> String {
+    let found = match step.found {
+        Found::End => "the end".into(),
+        Found::Drop { reason, header: of } => format!("drop {}, {}", reason, header(of)),
+        Found::Pdu { route, header: of, at } => {
+            let payload = datagram.get(at..at + of.length as usize).unwrap_or_default();
+            format!("PDU of route {}, {}, at byte {}: {}", route, header(of), at, bytes(payload))
+        }
+    };
+    format!("; {}, next byte {}", found, step.next)
+}
+
+fn answer_words(event: &Event, answer: &Answer) -> String {
+    let done = match answer {
+        Err((number, None)) => return format!("{} {}", number, meaning(*number)),
+        Err((number, Some(destination))) => return format!("{} {}, destination {}", number, meaning(*number), destination),
+        Ok(done) => done,
+    };
+    let values = match (done, event) {
+        (Done::Takes(takes), _) => takes
+            .iter()
+            .enumerate()
+            .map(|(i, take)| format!("; take {} read {} bytes: {}", i + 1, take.read, take_words(take)))
+            .collect(),
+        (Done::Walked(step), Event::Walk(_, _, datagram)) => walk_words(step, datagram),
+        (Done::Waiting(to, waiting), _) => format!("; {} bytes for {}: {}", waiting.len(), remote(*to), bytes(waiting)),
+        (Done::Chosen(connection), _) => format!("; connection {}", connection),
+        (Done::Count(value), _) => format!("; {} drops", value),
+        _ => String::new(),
+    };
+    format!("0 done{}", values)
+}
+
+/// The end: "a line for each record that the table has a row for, then the counts".
+fn end_lines(world: &World) -> Vec<String> {
+    let rows = world.table.as_ref().map_or(0, |table| table.connections.len());
+    let mut lines: Vec<String> = (0..rows).map(|connection| record_line(world, connection)).collect();
+    lines.push(format!("drops: UDP {}, TCP {}", world.state.udp_drops, world.state.tcp_drops));
+    lines
+}
+
+fn record_line(world: &World, connection: usize) -> String {
+    let record = &world.state.records[connection];
+    let mode = match record.mode {
+        Mode::Offline => "offline",
+        Mode::Reconnect => "reconnect",
+        Mode::Online => "online",
+    };
+    let part = match record.part {
+        Part::Header { held: 0, .. } => "ready".into(),
+        Part::Header { held, value } => format!("header {} bytes: {}", held, hex(&spell(value, usize::from(held.min(8))))),
+        Part::Payload { route, length, held } => {
+            format!(
+                "payload of route {}, {} of {} bytes: {}",
+                route,
+                held,
+                length,
+                bytes(world.received(connection, usize::from(held)))
+            )
+        }
+        Part::Skip(left) => format!("skip {} bytes", left),
+    };
+    let send = format!("send {} bytes: {}", record.used, bytes(world.waiting(connection)));
+    let timer = if record.timer == 0 { "timer stopped".into() } else { format!("timer {} ticks", record.timer) };
+    let wishes = format!("open wanted {}, close wanted {}", yes(record.open_wanted), yes(record.close_wanted));
+    let (to, due) = (remote(record.remote), yes(record.due));
+    format!(
+        "connection {}: {}, {}, remote {}, switches 0x{:08x}, receive part {}, {}, {}, due {}",
+        connection, mode, wishes, to, record.switches, part, send, timer, due
+    )
+}
+
+/// The lines for an input: an image, then a script. `met` is told the state before and after each event, with its answer.
+pub fn lines(input: &[u8], mut met: impl FnMut(&State, &State, &Answer)) -> Vec<String> {
+    let image = image_end(input);
+    let mut world = World::new(&input[..image]);
+    if let Err(place) = world.table {
+        return vec![format!("refused 1 at byte {}", place), "REFUSED".into()];
+    }
+    let mut lines = Vec::new();
+    let mut script = Reader::new(input, image);
+    let mut left = input.len() - image;
+    let mut number = 0;
+    let last = loop {
+        if left == 0 {
+            break "OK";
+        }
+        number += 1;
+        if left < 8 {
+            break "CUT";
+        }
+        let (event, zero, length) = (script.number(2) as u16, script.number(2) as u16, script.number(4) as usize);
+        if left - 8 < length {
+            break "CUT";
+        }
+        left -= 8 + length;
+        match read(event, zero, script.bytes(length), number == 1) {
+            Ok(Entry::Event(event)) => {
+                let before = world.state.clone();
+                let answer = run(&mut world, &event);
+                met(&before, &world.state, &answer);
+                lines.push(format!("entry {}: {}: {}", number, event_words(&event), answer_words(&event, &answer)));
+            }
+            Ok(Entry::Start(start)) => {
+                world = World { state: start.state, receive: start.receive, send: start.send, ..world };
+                lines.push(format!("entry {}: start state: taken", number));
+            }
+            Err(why) => {
+                lines.push(format!("entry {}: refused: {}", number, refused_words(why, event)));
+                break "REFUSED";
+            }
+        }
+    };
+    lines.extend(end_lines(&world));
+    lines.push(last.into());
+    lines
+}
+
+fn refused_words(why: Refused, event: u16) -> String {
+    match why {
+        Refused::Unknown => format!("unknown event number {}", event),
+        Refused::Zero => "zero field is not 0".into(),
+        Refused::Body => "body does not fit".into(),
+    }
+}

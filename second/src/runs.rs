@@ -1,0 +1,142 @@
+//! Runs the program `run` on scripts and holds what it prints to what this program expects.
+
+use crate::event::{Answer, Done};
+use crate::fault::{self, Fault};
+use crate::lines::lines;
+use crate::state::{Mode, State};
+use crate::stored;
+use crate::stream::{Outcome, Part};
+use crate::walk::Found;
+use std::collections::BTreeMap;
+use std::io::Write;
+use std::path::Path;
+use std::process::{Command, Stdio};
+
+/// How often each answer number, drop reason, mode change and kind of receive part was met, and how many takes there were.
+pub type Met = BTreeMap<String, usize>;
+
+/// What a run must meet.
+pub const TO_MEET: &[&str] = &[
+    "answer 0",
+    "answer 2",
+    "answer 3",
+    "answer 4",
+    "answer 5",
+    "answer 6",
+    "answer 7",
+    "answer 8",
+    "answer 9",
+    "answer 10",
+    "answer 12",
+    "drop 20",
+    "drop 21",
+    "drop 22",
+    "drop 23",
+    "offline to reconnect",
+    "offline to online",
+    "reconnect to online",
+    "online to reconnect",
+    "reconnect to offline",
+    "online to offline",
+    "part header",
+    "part payload",
+    "part skip",
+    "part ready",
+];
+
+fn mode(mode: Mode) -> &'static str {
+    match mode {
+        Mode::Offline => "offline",
+        Mode::Reconnect => "reconnect",
+        Mode::Online => "online",
+    }
+}
+
+fn part(part: Part) -> &'static str {
+    match part {
+        Part::Header { held: 0, .. } => "ready",
+        Part::Header { .. } => "header",
+        Part::Payload { .. } => "payload",
+        Part::Skip(_) => "skip",
+    }
+}
+
+fn note(met: &mut Met, before: &State, after: &State, answer: &Answer) {
+    let mut add = |what: String, times: usize| *met.entry(what).or_insert(0) += times;
+    add("events".into(), 1);
+    add(format!("answer {}", answer.as_ref().map_or_else(|(number, _)| *number, |_| 0)), 1);
+    for (old, new) in before.records.iter().zip(&after.records).filter(|(old, new)| old.mode != new.mode) {
+        add(format!("{} to {}", mode(old.mode), mode(new.mode)), 1);
+    }
+    match answer {
+        Ok(Done::Takes(takes)) => {
+            add("takes".into(), takes.len());
+            for (old, new) in before.records.iter().zip(&after.records).filter(|(old, new)| old.part != new.part) {
+                add(format!("part {}", part(old.part)), 1);
+                add(format!("part {}", part(new.part)), 1);
+            }
+            for take in takes {
+                if let Outcome::Drop { reason, .. } = take.outcome {
+                    add(format!("drop {}", reason), 1);
+                }
+            }
+        }
+        Ok(Done::Walked(step)) => {
+            if let Found::Drop { reason, .. } = step.found {
+                add(format!("drop {}", reason), 1);
+            }
+        }
+        _ => {}
+    }
+}
+
+/// What the program prints for an input.
+fn printed(program: &[String], input: &[u8]) -> Result<Vec<String>, String> {
+    let (name, words) = program.split_first().ok_or("no program was named")?;
+    let start = Command::new(name).args(words).stdin(Stdio::piped()).stdout(Stdio::piped()).spawn();
+    let mut child = start.map_err(|e| format!("the program did not start: {}", e))?;
+    let mut to = child.stdin.take().expect("standard input is a pipe");
+    let input = input.to_vec();
+    // the program may stop reading at a refused entry, so a pipe that breaks is no error
+    let writer = std::thread::spawn(move || to.write_all(&input).is_ok());
+    let output = child.wait_with_output().map_err(|e| e.to_string())?;
+    writer.join().map_err(|_| "the writer did not end")?;
+    Ok(String::from_utf8_lossy(&output.stdout).lines().map(str::to_string).collect())
+}
+
+/// Compares what is printed for each script. The first line that differs is printed, and its script stored.
+pub fn compare(program: &[String], scripts: &[(String, Vec<u8>)], store: Option<&Path>) -> Result<(usize, Met), String> {
+    let mut met = Met::new();
+    let mut different = 0;
+    for (name, input) in scripts {
+        let want = lines(input, |before, after, answer| note(&mut met, before, after, answer));
+        let got = printed(program, input)?;
+        if want != got {
+            different += 1;
+            tell(name, input, &want, &got, store);
+        }
+    }
+    Ok((different, met))
+}
+
+fn tell(name: &str, input: &[u8], want: &[String], got: &[String], store: Option<&Path>) {
+    let place = want.iter().zip(got).position(|(one, other)| one != other).unwrap_or(want.len().min(got.len()));
+    let line = |of: &[String]| of.get(place).cloned().unwrap_or_else(|| "no line".into());
+    println!("different: {}, line {}\n  program: {}\n  second program: {}", name, place + 1, line(got), line(want));
+    stored::write(store, name, &format!("{}: line {} differed", name, place + 1), input);
+}
+
+/// In how many scripts each fault changes what is printed.
+pub fn try_faults(program: &[String], scripts: &[(String, Vec<u8>)], faults: &[(Fault, &str)]) -> Result<Vec<usize>, String> {
+    let got: Vec<Vec<String>> = scripts.iter().map(|(_, input)| printed(program, input)).collect::<Result<_, _>>()?;
+    let noticed = |&(fault, _): &(Fault, &str)| {
+        let pairs = scripts.iter().zip(&got);
+        pairs.filter(|((_, input), printed)| faulty_lines(fault, input).map_or(true, |lines| lines != **printed)).count()
+    };
+    Ok(faults.iter().map(noticed).collect())
+}
+
+/// The lines with a fault on; nothing where the fault leads to a place that no sound state reaches.
+fn faulty_lines(fault: Fault, input: &[u8]) -> Option<Vec<String>> {
+    fault::with(fault, || std::panic::catch_unwind(|| lines(input, |_, _, _| ())).ok())
+}

@@ -1,0 +1,197 @@
+//! What each verb of the command line does.
+
+use crate::compare::{self, Source};
+use crate::fault::{self, Fault};
+use crate::generate::datagram::{walk_cuts, walk_request};
+use crate::generate::framing::framing;
+use crate::generate::image::{changes, image, single_changes};
+use crate::generate::script::{script, stream_script, unsound_script};
+use crate::lines::lines;
+use crate::random::Random;
+use crate::vectors::Vector;
+use crate::{exchange, runs, stored, table, vectors as lists, Words, USAGE};
+use std::io::Read;
+use std::path::Path;
+
+type Outcome = Result<(), String>;
+
+fn none_different(different: usize) -> Outcome {
+    (different == 0).then_some(()).ok_or_else(|| "the two programs differ".into())
+}
+
+/// Every kind of answer must be met this often.
+fn often_enough(to_meet: &[&str], least: usize, met: impl Fn(&str) -> usize) -> Outcome {
+    match to_meet.iter().find(|&kind| met(kind) < least) {
+        Some(kind) => Err(format!("'{}' was met fewer than {} times", kind, least)),
+        None => Ok(()),
+    }
+}
+
+/// The random requests of a part, or a fixed list of them.
+fn requests(part: &str, words: &Words) -> Result<Source, String> {
+    let (seed, count) = (words.seed, words.count);
+    let random = |request: fn(&mut Random) -> Vec<u8>| -> Source {
+        Box::new(move || {
+            let mut random = Random::new(seed);
+            Box::new((0..count).map(move |_| request(&mut random)))
+        })
+    };
+    Ok(match part {
+        "table" => random(|random| exchange::table_check(&image(random))),
+        "frame" => random(framing),
+        "walk" => random(walk_request),
+        "changes" => Box::new(|| Box::new(changes().map(|image| exchange::table_check(&image)))),
+        "cuts" => Box::new(|| Box::new(walk_cuts())),
+        _ => return Err(USAGE.into()),
+    })
+}
+
+fn list(requests: Vec<Vec<u8>>) -> Source {
+    Box::new(move || Box::new(requests.clone().into_iter()))
+}
+
+pub fn compare_requests(part: &str, words: &Words) -> Outcome {
+    compare_source(part, &format!("{}-{}", part, words.seed), requests(part, words)?, words)
+}
+
+fn compare_source(part: &str, name: &str, source: Source, words: &Words) -> Outcome {
+    let report = compare::compare(&words.program, source, name, words.store.as_deref())?;
+    let kinds: Vec<String> = report.kinds.iter().map(|(kind, count)| format!("{} {}", kind, count)).collect();
+    println!("{}: {} requests, {} different ({})", name, report.requests, report.different, kinds.join(", "));
+    none_different(report.different)?;
+    often_enough(exchange::kinds_to_meet(part), words.count / 1000, |kind| report.kinds.get(kind).copied().unwrap_or(0))
+}
+
+pub fn replay_requests(part: &str, folder: &Path, words: &Words) -> Outcome {
+    let function = match part {
+        "table" => exchange::TABLE_CHECK,
+        "frame" => exchange::FRAMING,
+        "walk" => exchange::WALK,
+        _ => return Err(USAGE.into()),
+    };
+    let requests = stored::read(folder)?.into_iter().map(|(_, bytes)| [vec![function], bytes].concat()).collect();
+    compare_source("stored", "stored", list(requests), words)
+}
+
+pub fn fault_requests(part: &str, words: &Words) -> Outcome {
+    let faults = fault::of(part).ok_or(USAGE)?;
+    let noticed = compare::try_faults(&words.program, requests(part, words)?, faults)?;
+    tell_faults(faults, &noticed, &format!("{} requests", words.count))
+}
+
+fn tell_faults(faults: &[(Fault, &str)], noticed: &[usize], cases: &str) -> Outcome {
+    for ((fault, what), times) in faults.iter().zip(noticed) {
+        println!("fault {:?} ({}): noticed in {} of {}", fault, what, times, cases);
+    }
+    match noticed.iter().filter(|&&times| times == 0).count() {
+        0 => Ok(()),
+        unnoticed => Err(format!("{} of {} faults went unnoticed", unnoticed, faults.len())),
+    }
+}
+
+fn read_vectors(path: &str) -> Result<Vec<Vector>, String> {
+    let text = std::fs::read_to_string(path).map_err(|e| e.to_string())?;
+    let vectors: Vec<Vector> = text.lines().filter_map(lists::parse).collect();
+    let agreed = vectors.iter().filter(|vector| vector.agrees()).count();
+    println!("vectors: {} of {} lines read as the dissectors read them", agreed, text.lines().count());
+    match agreed > 0 && agreed == text.lines().count() {
+        true => Ok(vectors),
+        false => Err("the second program and the dissectors differ".into()),
+    }
+}
+
+pub fn vectors(path: &str, words: &Words) -> Outcome {
+    let requests = read_vectors(path)?.iter().flat_map(Vector::requests).collect();
+    compare_source("vectors", "vectors", list(requests), words)
+}
+
+pub fn vector_streams(path: &str, words: &Words) -> Outcome {
+    let vectors = read_vectors(path)?;
+    let named = |(number, script)| (format!("stream-{}", number), script);
+    let scripts: Vec<_> = vectors.iter().filter_map(Vector::script).enumerate().map(named).collect();
+    compare_all(&scripts, words).map(|_| ())
+}
+
+/// True for the parts that are compared by scripts.
+pub fn is_script(part: &str) -> bool {
+    part == "runs" || part == "streams"
+}
+
+/// Scripts of a part: `count` of different lengths, and of runs as many that start from an unsound state. Timers and wishes show
+/// at a script's end alone, so short ones count.
+fn scripts(part: &str, words: &Words) -> Vec<(String, Vec<u8>)> {
+    let random = &mut Random::new(words.seed);
+    let mut scripts = Vec::new();
+    for number in 0..words.count {
+        let name = format!("{}-{}-{}", part, words.seed, number);
+        let events = *random.pick(&[10, 40, 200, 800]);
+        if part == "streams" {
+            scripts.push((name, stream_script(random, events)));
+        } else {
+            scripts.push((format!("{}-unsound", name), unsound_script(random)));
+            scripts.push((name, script(random, events)));
+        }
+    }
+    scripts
+}
+
+fn compare_all(scripts: &[(String, Vec<u8>)], words: &Words) -> Result<runs::Met, String> {
+    let (different, met) = runs::compare(&words.program, scripts, words.store.as_deref())?;
+    let kinds: Vec<String> = met.iter().map(|(kind, count)| format!("{} {}", kind, count)).collect();
+    println!("{} scripts, {} different ({})", scripts.len(), different, kinds.join(", "));
+    none_different(different).map(|()| met)
+}
+
+pub fn compare_scripts(part: &str, words: &Words) -> Outcome {
+    let met = compare_all(&scripts(part, words), words)?;
+    let to_meet = if part == "runs" { runs::TO_MEET } else { &[] };
+    often_enough(to_meet, 20, |kind| met.get(kind).copied().unwrap_or(0))
+}
+
+pub fn replay_scripts(folder: &Path, words: &Words) -> Outcome {
+    compare_all(&stored::read(folder)?, words).map(|_| ())
+}
+
+pub fn fault_scripts(part: &str, words: &Words) -> Outcome {
+    let of = if part == "runs" { "events" } else { "segment" };
+    let faults = fault::of(of).ok_or(USAGE)?;
+    let scripts = scripts(part, words);
+    let noticed = runs::try_faults(&words.program, &scripts, faults)?;
+    tell_faults(faults, &noticed, &format!("{} scripts", scripts.len()))
+}
+
+/// A line of tests/edges.c.
+fn edge(what: &str, image: &[u8]) {
+    match table::check(image) {
+        Ok(_) => println!("{}: accepted", what),
+        Err(place) => println!("{}: refused at {}", what, place),
+    }
+}
+
+pub fn edges() -> Outcome {
+    edge("whole", &table::whole_image());
+    for (at, value) in single_changes() {
+        let mut image = table::whole_image();
+        image[at] = value;
+        edge(&format!("byte {} is {}", at, value), &image);
+    }
+    Ok(())
+}
+
+pub fn files(folder: &Path, out: &Path) -> Outcome {
+    for (name, image) in stored::read(folder)? {
+        let path = out.join(name);
+        std::fs::write(&path, &image).map_err(|e| e.to_string())?;
+        edge(&path.display().to_string(), &image);
+    }
+    Ok(())
+}
+
+pub fn simulate() -> Outcome {
+    let mut input = Vec::new();
+    std::io::stdin().read_to_end(&mut input).map_err(|e| e.to_string())?;
+    for line in lines(&input, |_, _, _| ()) {
+        println!("{}", line);
+    }
+    Ok(())
+}
