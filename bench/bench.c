@@ -1,10 +1,14 @@
 /* bench.c: calls one function many times, for a counter of instructions.
  *
- *   bench ours|twin table QUARTERS IDS TIMES   checks a table with QUARTERS/4 of the most rows; IDS is rising or random
+ *   bench ours|twin table QUARTERS IDS TIMES     checks a table with QUARTERS/4 of the most rows; IDS is rising or random
+ *   bench ours|twin walk QUARTERS LENGTH TIMES   walks to a PDU of LENGTH bytes under such a table, on its last route
+ *   bench ours|twin frame ID LENGTH TIMES        frames a payload of LENGTH bytes
  */
 #include "soad.h"
 #include "system.h"
 #include "twin.h"
+
+#include <stdbool.h>
 
 extern int atoi(const char *text);
 extern int strcmp(const char *one, const char *other);
@@ -50,15 +54,59 @@ static void make_image(unsigned quarters, int rising)
     }
 }
 
+/* One call; true when it answered 0. */
+static bool check_table(bool ours)
+{
+    size_t place = 0;
+    return (ours ? soad_table_check : twin_table_check)(image, image_length, &place) == 0;
+}
+
+static uint8_t payload[1464], out[1472];
+static uint32_t id;
+static size_t length, connection;
+
+static bool frame(bool ours)
+{
+    return (ours ? soad_frame : twin_frame)(id, payload, length, out, sizeof out) == 0;
+}
+
+static bool walk(bool ours)
+{
+    size_t next, at;
+    uint32_t kind, number, met, met_length;
+    return (ours ? soad_walk : twin_walk)(image, image_length, connection, 1, out, 8 + length, 0, &next, &kind, &number, &met,
+                                          &met_length, &at) == 0 && kind == 1;
+}
+
+/* Makes ready what the words ask for. */
+static bool (*prepare(char **words))(bool ours)
+{
+    length = (size_t)atoi(words[4]);
+    if (strcmp(words[2], "table") == 0) {
+        make_image((unsigned)atoi(words[3]), strcmp(words[4], "rising") == 0);
+        return check_table;
+    }
+    if (strcmp(words[2], "frame") == 0) {
+        id = (uint32_t)atoi(words[3]);
+        return frame;
+    }
+    unsigned quarters = (unsigned)atoi(words[3]);
+    make_image(quarters, 1);
+    connection = 4 * quarters - 2; /* the last connection whose group is UDP, and its last route */
+    id = id_of(16 * quarters - 2, 1);
+    if (twin_frame(id, payload, length, out, sizeof out) != 0)
+        die("bench: no frame to walk");
+    return walk;
+}
+
 int main(int count, char **words)
 {
-    if (count != 6 || strcmp(words[2], "table") != 0)
-        die("usage: bench ours|twin table QUARTERS IDS TIMES");
-    int ours = strcmp(words[1], "ours") == 0;
-    make_image((unsigned)atoi(words[3]), strcmp(words[4], "rising") == 0);
-    size_t place = 0;
+    if (count != 6)
+        die("usage: bench ours|twin table|walk|frame QUARTERS|ID IDS|LENGTH TIMES");
+    bool ours = strcmp(words[1], "ours") == 0;
+    bool (*call)(bool ours) = prepare(words);
     for (int left = atoi(words[5]); left > 0; left--)
-        if ((ours ? soad_table_check(image, image_length, &place) : twin_table_check(image, image_length, &place)) != 0)
-            die("bench: the table was refused");
+        if (!call(ours))
+            die("bench: a call was refused");
     return 0;
 }

@@ -3,7 +3,7 @@
 use crate::bytes::{hex, spell, Reader};
 use crate::event::{run, Answer, Done, Event};
 use crate::header::Header;
-use crate::script::{image_end, read, Entry, Refused};
+use crate::script::{image_end, read_body, read_head, Entry, Refused};
 use crate::state::{Mode, State, World};
 use crate::stream::{Outcome, Part, Stood, Take};
 use crate::table::Remote;
@@ -176,23 +176,29 @@ pub fn lines(input: &[u8], mut met: impl FnMut(&State, &State, &Answer)) -> Vec<
         return vec![format!("refused 1 at byte {}", place), "REFUSED".into()];
     }
     let mut lines = Vec::new();
-    let mut script = Reader::new(input, image);
-    let mut left = input.len() - image;
+    let mut rest = &input[image..];
     let mut number = 0;
     let last = loop {
-        if left == 0 {
+        if rest.is_empty() {
             break "OK";
         }
         number += 1;
-        if left < 8 {
+        let refused = |why, event| format!("entry {}: refused: {}", number, refused_words(why, event));
+        let mut head = Reader::new(rest, 0);
+        let (event, zero, length) = (head.number(2) as u16, head.number(2) as u16, head.number(4) as usize);
+        if rest.len() < 8 {
             break "CUT";
         }
-        let (event, zero, length) = (script.number(2) as u16, script.number(2) as u16, script.number(4) as usize);
-        if left - 8 < length {
+        if let Err(why) = read_head(event, zero, length) {
+            lines.push(refused(why, event));
+            break "REFUSED";
+        }
+        if rest.len() - 8 < length {
             break "CUT";
         }
-        left -= 8 + length;
-        match read(event, zero, script.bytes(length), number == 1) {
+        let body = head.bytes(length);
+        rest = head.rest();
+        match read_body(event, body, number == 1) {
             Ok(Entry::Event(event)) => {
                 let before = world.state.clone();
                 let answer = run(&mut world, &event);
@@ -204,7 +210,7 @@ pub fn lines(input: &[u8], mut met: impl FnMut(&State, &State, &Answer)) -> Vec<
                 lines.push(format!("entry {}: start state: taken", number));
             }
             Err(why) => {
-                lines.push(format!("entry {}: refused: {}", number, refused_words(why, event)));
+                lines.push(refused(why, event));
                 break "REFUSED";
             }
         }

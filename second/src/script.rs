@@ -139,22 +139,26 @@ impl<'a> Body<'a> {
     }
 }
 
-/// What an entry's number, zero field and body ask for. "the first entry or none" may be a start state.
-pub fn read(number: u16, zero: u16, body: &[u8], first: bool) -> Result<Entry, Refused> {
-    let known = number <= 15 || (number == START_STATE && first);
-    if !known {
-        return Err(Refused::Unknown);
-    }
+/// What is refused before the body is read: an unknown number, a zero field that is not 0, a body longer than any.
+pub fn read_head(number: u16, zero: u16, length: usize) -> Result<(), Refused> {
+    let most = match number {
+        0..=15 => MOST_BODY,
+        START_STATE => START_BODY,
+        _ => return Err(Refused::Unknown),
+    };
     if zero != 0 {
         return Err(Refused::Zero);
     }
-    if number == START_STATE {
-        return read_start(body).map(|start| Entry::Start(Box::new(start)));
+    (length <= most).then_some(()).ok_or(Refused::Body)
+}
+
+/// What an entry's body asks for. "start state (scripts only; the first entry or none)".
+pub fn read_body(number: u16, body: &[u8], first: bool) -> Result<Entry, Refused> {
+    match number {
+        START_STATE if !first => Err(Refused::Body),
+        START_STATE => read_start(body).map(|start| Entry::Start(Box::new(start))),
+        _ => read_event(number, Body::new(body)).map(Entry::Event),
     }
-    if body.len() > MOST_BODY {
-        return Err(Refused::Body);
-    }
-    read_event(number, Body::new(body)).map(Entry::Event)
 }
 
 fn read_event(number: u16, mut body: Body) -> Result<Event, Refused> {
@@ -281,9 +285,10 @@ mod tests {
             let (number, zero, length) = (fields.number(2) as u16, fields.number(2) as u16, fields.number(4) as usize);
             let body = fields.rest();
             assert_eq!(length, body.len());
-            assert!(matches!(read(number, zero, body, false), Ok(Entry::Event(same)) if same == event));
-            assert!(matches!(read(number, zero, &[body, &[0]].concat(), false), Err(Refused::Body)));
-            assert!(matches!(read(number, zero, &body[..body.len() - 1], false), Err(Refused::Body)));
+            assert_eq!(read_head(number, zero, length), Ok(()));
+            assert!(matches!(read_body(number, body, false), Ok(Entry::Event(same)) if same == event));
+            assert!(matches!(read_body(number, &[body, &[0]].concat(), false), Err(Refused::Body)));
+            assert!(matches!(read_body(number, &body[..length - 1], false), Err(Refused::Body)));
         }
     }
 
@@ -292,6 +297,6 @@ mod tests {
         let world = World::new(&crate::table::whole_image());
         let bytes = write_start(&world);
         assert_eq!(bytes.len(), 8 + START_BODY);
-        assert!(matches!(read(START_STATE, 0, &bytes[8..], true), Ok(Entry::Start(start)) if start.state == world.state));
+        assert!(matches!(read_body(START_STATE, &bytes[8..], true), Ok(Entry::Start(start)) if start.state == world.state));
     }
 }

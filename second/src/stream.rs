@@ -147,7 +147,10 @@ pub fn takes(line: Line, part: &mut Part, stretch: &mut [u8], segment: &[u8]) ->
     let mut takes = Vec::new();
     let mut read = 0;
     while takes.is_empty() || read < segment.len() {
-        let next = take(line, part, stretch, &segment[read..]);
+        let mut next = take(line, part, stretch, &segment[read..]);
+        if let Outcome::Pdu { stood: Stood::Segment(at), .. } = &mut next.outcome {
+            *at += read; // the place in the whole segment
+        }
         read += next.read;
         takes.push(next);
     }

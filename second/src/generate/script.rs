@@ -1,12 +1,13 @@
 //! Scripts: runs of events under one table, from a fresh, a sound or an unsound state, that end well, refused or cut.
 
 use super::datagram::{datagram, frames};
+use super::image::image;
 use super::state::{exact, sound, unsound};
 use super::table::{remote, table_with_few_pdus};
 use crate::event::{run, Event};
 use crate::header::is_on;
 use crate::random::Random;
-use crate::script::{entry, write, write_start};
+use crate::script::{entry, write, write_start, START_STATE};
 use crate::state::{Config, Mode, Record, World};
 use crate::stream::{Part, READY};
 use crate::table::{Destination, Remote, Table, MOST_SEND_SIZE, TCP};
@@ -281,10 +282,18 @@ pub fn unsound_script(random: &mut Random) -> Vec<u8> {
     input
 }
 
+/// A few events under any image, good or damaged, of any size.
+pub fn image_script(random: &mut Random) -> Vec<u8> {
+    let source = exact(random);
+    let events = [Event::Ticks(2), Event::Open(0), Event::Datagram(0, source), Event::Accept(1, source), Event::ReadCount(1)];
+    let entries = events.iter().flat_map(write);
+    image(random).into_iter().chain(entries).collect()
+}
+
 /// An entry that is refused.
 fn misfit(random: &mut Random) -> Vec<u8> {
     let remote = |family: u8, zero: u8| [&[family, zero][..], &[0; 11], &[10, 0, 0, 1, 0, 80]].concat();
-    match random.below(10) {
+    match random.below(13) {
         0 => entry(*random.pick(&[16, 17, 255, 256, 257, 65_534]), 0, &[0, 0]),
         1 => entry(1, *random.pick(&[1, 256]), &[0, 0]),
         2 => entry(1, 0, &[1, 0]),
@@ -294,6 +303,9 @@ fn misfit(random: &mut Random) -> Vec<u8> {
         6 => entry(10, 0, &[&[0, 0][..], &remote(6, 0)].concat()),
         7 => entry(5, 0, &[&[0, 0][..], &remote(4, 1)].concat()),
         8 => entry(7, 0, &[0, 0, 0, 0, 0, 2, 9]),
+        9 => entry(START_STATE, 0, &[0; 100]),
+        10 => entry(16, 0, &[0, 0])[..9].to_vec(),
+        11 => entry(3, 1, &[0, 0])[..9].to_vec(),
         _ => entry(12, 0, &vec![0; 4097]),
     }
 }

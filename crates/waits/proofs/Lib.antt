@@ -1,0 +1,4 @@
+-- Laws of the crate. Assumes nothing.
+pub mod Append
+pub mod Held
+pub mod Since

@@ -1,0 +1,29 @@
+-- THE LAW FOR A READER: what waits after any events is what waited at the start with all that was added since, or, once
+-- something emptied it, only what was added since the last that did. Assumes nothing.
+use mathlib.Core.Path.{_≡_, refl, sym, ap, _∙_}
+use mathlib.Core.Bool.{Bool, true, false, cond}
+use mathlib.Core.List.{List, [], _∷_, _++_, append-assoc, append-nil}
+use Prim.Native.Nat.{ℕ}
+use Rattle.waits.specs.Waits.{Turn, adds, empties, stays, afterAll, emptied, since}
+
+pub waits-since : (ts : List Turn) (w : List ℕ) → afterAll ts w ≡ cond (emptied ts) (since ts) (w ++ since ts)
+waits-since [] w = sym (append-nil w)
+waits-since (adds bytes ∷ ts) w = waits-since ts (w ++ bytes) ∙ go (emptied ts)
+  where
+    go : (b : Bool) → cond b (since ts) ((w ++ bytes) ++ since ts) ≡ cond b (cond b (since ts) (bytes ++ since ts)) (w ++ cond b (since ts) (bytes ++ since ts))
+    go true = refl
+    go false = append-assoc w bytes (since ts)
+waits-since (empties ∷ ts) w = waits-since ts [] ∙ go (emptied ts)
+  where
+    go : (b : Bool) → cond b (since ts) ([] ++ since ts) ≡ since ts
+    go true = refl
+    go false = refl
+waits-since (stays ∷ ts) w = waits-since ts w
+
+-- from nothing: the frames since
+pub waits-from-none : (ts : List Turn) → afterAll ts [] ≡ since ts
+waits-from-none ts = waits-since ts [] ∙ go (emptied ts)
+  where
+    go : (b : Bool) → cond b (since ts) ([] ++ since ts) ≡ since ts
+    go true = refl
+    go false = refl

@@ -1,0 +1,2 @@
+-- The definitions of the crate. Assumes nothing.
+pub mod Waits

@@ -1,0 +1,75 @@
+-- WHAT WAITS ON A CONNECTION, and what a transmit adds to it. Assumes nothing.
+use Prim.Native.Nat.{ℕ, zero, suc, _+_}
+use mathlib.Core.Bool.{Bool, true, false, cond, _&&_}
+use mathlib.Core.List.{List, [], _∷_, _++_}
+use lib.Dec.{eqb}
+use lib.ListN.{length}
+use Rattle.connection.specs.declared.Connection.{Connection}
+use Rattle.destination.specs.Destination.{sentOf}
+use Rattle.feed.specs.Frame.{frame}
+use Rattle.rows.specs.Rows.{destinationOf}
+use Rattle.state.specs.declared.State.{State}
+use Rattle.state.specs.State.{recordAt}
+use Rattle.send.specs.Verdict.{isStored}
+use Rattle.send.specs.Send.{destinations, wantedAt, checkOf}
+use Rattle.waiting.specs.Waiting.{waitingOf}
+
+-- the bytes that connection k has waiting
+abbrev pub waits : State → List ℕ → ℕ → List ℕ
+waits s tx k = waitingOf tx k (recordAt s k .used)
+
+-- a transmit of a payload for a PDU, seen from connection k
+module _ (image : List ℕ) (s : State) (pdu : ℕ) (payload : List ℕ) (k : ℕ) where
+  -- row i is a switched-on destination of this PDU on connection k
+  abbrev pub goesTo : ℕ → Bool
+  goesTo i = wantedAt image s pdu payload i && eqb (destinationOf image i .connection) k
+
+  -- the frames for connection k, of n rows from i on, in table order
+  unfoldable pub framesFrom : ℕ → ℕ → List ℕ
+  framesFrom zero i = []
+  framesFrom (suc n) i = cond (goesTo i) (frame (destinationOf image i .id) payload) [] ++ framesFrom n (suc i)
+
+  -- all of them, where the check refuses nothing
+  unfoldable pub addedTo : List ℕ
+  addedTo = cond (isStored (checkOf image s pdu (length payload))) (framesFrom (destinations image) 0) []
+
+  -- what one row makes of connection k's record
+  abbrev pub recordStep : Connection → ℕ → Connection
+  recordStep c i = cond (goesTo i) (sentOf (destinationOf image i) (c .used + 8 + length payload) c) c
+
+-- what an event makes of the waiting bytes: it adds some, empties them (a non-empty take, a closing tick, a loss), or leaves them
+pub data Turn : Type 0 where
+  adds : List ℕ → Turn
+  empties : Turn
+  stays : Turn
+
+abbrev pub turned : Turn → List ℕ → List ℕ
+turned (adds bytes) w = w ++ bytes
+turned empties w = []
+turned stays w = w
+
+-- one event after the other
+abbrev pub afterAll : List Turn → List ℕ → List ℕ
+afterAll [] w = w
+afterAll (t ∷ ts) w = afterAll ts (turned t w)
+
+-- whether any of them empties
+abbrev pub emptied : List Turn → Bool
+emptied [] = false
+emptied (adds bytes ∷ ts) = emptied ts
+emptied (empties ∷ ts) = true
+emptied (stays ∷ ts) = emptied ts
+
+-- all that they add
+abbrev pub added : List Turn → List ℕ
+added [] = []
+added (adds bytes ∷ ts) = bytes ++ added ts
+added (empties ∷ ts) = added ts
+added (stays ∷ ts) = added ts
+
+-- all that they add since the last that empties
+abbrev pub since : List Turn → List ℕ
+since [] = []
+since (adds bytes ∷ ts) = cond (emptied ts) (since ts) (bytes ++ since ts)
+since (empties ∷ ts) = since ts
+since (stays ∷ ts) = since ts

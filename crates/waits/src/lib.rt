@@ -1,0 +1,1 @@
+// What waits on a connection, event after event: laws, no code. Assumes nothing.
