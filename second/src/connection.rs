@@ -90,3 +90,39 @@ fn run_timer(record: Record) -> Record {
     let ended = record.timer > 0 && timer <= or(Fault::DueOneTickEarly, 0, 1);
     Record { timer: if ended { 0 } else { timer }, due: record.due || ended, ..record }
 }
+
+#[cfg(test)]
+mod tests {
+    use super::*;
+    use crate::table::Connection;
+
+    const EXACT: Remote = Remote { address: 1, port: 1 };
+
+    /// The modes and wishes that ticks lead to.
+    fn ticked(tcp: bool, automatic: bool, record: Record) -> Vec<(Mode, bool, bool)> {
+        let row = Connection { group: 0, automatic, remote: EXACT, send_size: 8, switches: 5 };
+        let config = Config { row: &row, tcp };
+        let ticks = std::iter::successors(Some(record), |record| Some(tick(config, record.clone())));
+        ticks.skip(1).take(2).map(|record| (record.mode, record.open_wanted, record.close_wanted)).collect()
+    }
+
+    #[test]
+    fn a_tick_opens_connects_and_closes() {
+        let offline = Record { remote: EXACT, ..Record::zero() };
+        let wanted = Record { open_wanted: true, ..offline.clone() };
+        let closing = Record { mode: Mode::Online, close_wanted: true, ..offline.clone() };
+        let online = (Mode::Online, false, false);
+        assert_eq!(ticked(false, false, offline), [(Mode::Offline, false, false); 2]);
+        assert_eq!(ticked(false, false, wanted.clone()), [online; 2]);
+        assert_eq!(ticked(true, false, wanted), [(Mode::Reconnect, false, false); 2]);
+        assert_eq!(ticked(false, true, closing), [(Mode::Offline, false, false), online]);
+    }
+
+    #[test]
+    fn a_timer_falls_and_becomes_due() {
+        let timer = |timer| Record { timer, ..Record::zero() };
+        assert_eq!(run_timer(timer(2)), timer(1));
+        assert_eq!(run_timer(timer(1)), Record { due: true, ..timer(0) });
+        assert_eq!(run_timer(timer(0)), timer(0));
+    }
+}

@@ -227,3 +227,20 @@ fn refused_words(why: Refused, event: u16) -> String {
         Refused::Body => "body does not fit".into(),
     }
 }
+
+#[cfg(test)]
+mod tests {
+    use super::*;
+    use crate::generate::script::misfit_script;
+    use crate::random::Random;
+
+    #[test]
+    fn a_start_state_that_does_not_fit_is_refused() {
+        let random = &mut Random::new(1);
+        for _ in 0..60 {
+            let lines = lines(&misfit_script(random), |_, _, _| ());
+            assert_eq!(lines[0], "entry 1: refused: body does not fit");
+            assert_eq!(lines.last().map(String::as_str), Some("REFUSED"));
+        }
+    }
+}

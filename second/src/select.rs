@@ -52,3 +52,38 @@ pub fn select(table: &Table, state: &mut State, group: u8, protocol: u8, source:
 
 pub const DATAGRAM: u8 = UDP;
 pub const ACCEPT: u8 = TCP;
+
+#[cfg(test)]
+mod tests {
+    use super::*;
+    use crate::table::{Connection, Group};
+
+    const SOURCE: Remote = Remote { address: 0x0A00_0001, port: 30490 };
+
+    /// Who is chosen among UDP members with these remotes, all in reconnect.
+    fn chosen(remotes: &[(u32, u16)]) -> Result<usize, u8> {
+        let row = |&(address, port): &(u32, u16)| {
+            let remote = Remote { address, port };
+            Connection { group: 0, automatic: true, remote, send_size: 8, switches: 0 }
+        };
+        let connections = remotes.iter().map(row).collect();
+        let table = Table { groups: vec![Group { protocol: UDP }], connections, ..Table::default() };
+        let mut state = State::fresh(&table);
+        state.records.iter_mut().for_each(|record| record.mode = Mode::Reconnect);
+        let answer = select(&table, &mut state, 0, DATAGRAM, SOURCE);
+        assert!(
+            answer.map_or(true, |number| (state.records[number].mode, state.records[number].remote) == (Mode::Online, SOURCE))
+        );
+        answer
+    }
+
+    #[test]
+    fn more_equal_fields_win_then_the_lowest_number() {
+        let Remote { address, port } = SOURCE;
+        assert_eq!(chosen(&[(0, 0), (address, port)]), Ok(1));
+        assert_eq!(chosen(&[(0, 0), (0, port), (address, 0)]), Ok(1));
+        assert_eq!(chosen(&[(0, 0), (0, 0)]), Ok(0));
+        assert_eq!(chosen(&[(1, port), (address, 1), (0, 1)]), Err(10));
+        assert_eq!(chosen(&[]), Err(10));
+    }
+}

@@ -103,3 +103,51 @@ fn taken(table: &Table, connection: usize, record: Record) -> Record {
         false => Record { mode: Mode::Reconnect, remote: configured, ..record },
     }
 }
+
+#[cfg(test)]
+mod tests {
+    use super::*;
+    use crate::table::{Connection, Group, UDP};
+
+    /// Two automatic UDP connections, online, and a PDU with a destination on each: the first with a trigger.
+    fn two() -> (Table, World) {
+        let remote = Remote { address: 1, port: 1 };
+        let connection = Connection { group: 0, automatic: true, remote, send_size: 20, switches: 0 };
+        let destination =
+            |connection, trigger| Destination { connection, trigger, longest: 12, id: 7, pdu: 9, timeout: 5, groups: 0 };
+        let table = Table {
+            groups: vec![Group { protocol: UDP }],
+            connections: vec![connection.clone(), connection],
+            destinations: vec![destination(0, true), destination(1, false)],
+            ..Table::default()
+        };
+        let mut world = World::new(&table.image());
+        world.state.records[..2].iter_mut().for_each(|record| record.mode = Mode::Online);
+        (table, world)
+    }
+
+    #[test]
+    fn all_destinations_or_none() {
+        let (table, mut world) = two();
+        world.state.records[1].used = 11;
+        let before = world.state.clone();
+        assert_eq!(transmit(&table, &mut world, 9, &[1, 2]), Err((8, Some(1))));
+        assert_eq!(world.state, before);
+        world.state.records[1].used = 10;
+        assert_eq!(transmit(&table, &mut world, 9, &[1, 2]), Ok(()));
+        let told = |record: &Record| (record.used, record.timer, record.due);
+        assert_eq!((told(&world.state.records[0]), told(&world.state.records[1])), ((10, 0, true), (20, 5, false)));
+        assert_eq!(transmit(&table, &mut world, 8, &[]), Err((5, None)));
+    }
+
+    #[test]
+    fn a_take_empties_the_buffer() {
+        let (table, mut world) = two();
+        transmit(&table, &mut world, 9, &[0xB4]).unwrap();
+        assert_eq!(take_waiting(&table, &mut world, 0, 8), Err(9));
+        let frame = vec![0, 0, 0, 7, 0, 0, 0, 1, 0xB4];
+        assert_eq!(take_waiting(&table, &mut world, 0, 9), Ok((Remote { address: 1, port: 1 }, frame)));
+        assert!(!world.state.records[0].due);
+        assert_eq!(take_waiting(&table, &mut world, 0, 0), Ok((Remote { address: 1, port: 1 }, vec![])));
+    }
+}

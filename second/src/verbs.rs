@@ -5,7 +5,7 @@ use crate::fault::{self, Fault};
 use crate::generate::datagram::{walk_cuts, walk_request};
 use crate::generate::framing::framing;
 use crate::generate::image::{changes, image, single_changes};
-use crate::generate::script::{image_script, script, stream_script, unsound_script};
+use crate::generate::script::{image_script, misfit_script, script, stream_script, unsound_script};
 use crate::lines::lines;
 use crate::random::Random;
 use crate::vectors::Vector;
@@ -117,8 +117,8 @@ pub fn is_script(part: &str) -> bool {
     part == "runs" || part == "streams"
 }
 
-/// Scripts of a part: `count` of different lengths, and of runs as many under any image and from an unsound state. Timers and
-/// wishes show at a script's end alone, so short ones count.
+/// Scripts of a part: `count` of different lengths, and of runs as many under any image, from a state that does not fit, and from
+/// an unsound one. Timers and wishes show at a script's end alone, so short ones count.
 fn scripts(part: &str, words: &Words) -> Vec<(String, Vec<u8>)> {
     let random = &mut Random::new(words.seed);
     let mut scripts = Vec::new();
@@ -129,6 +129,7 @@ fn scripts(part: &str, words: &Words) -> Vec<(String, Vec<u8>)> {
             scripts.push((name, stream_script(random, events)));
         } else {
             scripts.push((format!("{}-image", name), image_script(random)));
+            scripts.push((format!("{}-misfit", name), misfit_script(random)));
             scripts.push((format!("{}-unsound", name), unsound_script(random)));
             scripts.push((name, script(random, events)));
         }

@@ -23,10 +23,11 @@ use Rattle.connection.specs.declared.Mode.the-variants.{Reconnect}
 use Rattle.connection.specs.Connection.{isOnline, wildcard, become, withMode, withRemote, withSend}
 use Rattle.connection.specs.Event.{known, allowed, after, stepOf, refusedBy}
 use Rattle.feed.specs.Feed.{cell, payload}
+use Rattle.waiting.specs.Waiting.{takeOf}
 use Rattle.stream.specs.Stream.{cellOf}
 use Rattle.world.specs.World.{Held, World, blank, heldBy, cellAt, follow}
 use Rattle.world.specs.Events.{Own, change, segment, walk, take, Event, on}
-use Rattle.world.specs.Step.{Table, Acted, acted, receiving, routesAt, afterTake, takeOf, does, acts}
+use Rattle.world.specs.Step.{Table, Acted, acted, receiving, does, acts}
 use Rattle.runs.specs.Streams.{Quiet, Kept}
 
 -- nothing happened
@@ -34,7 +35,7 @@ pub kept-same : (h : Held) → Quiet h → Kept h h
 kept-same h q = record { going = λ _. refl; gone = q }
 
 -- a record that follows holds the same of its stream, where its part is the same
-cell-follow : (p : Part) (l : List ℕ) → cellOf p (front (heldBy p) l) ≡ cellOf p l
+pub cell-follow : (p : Part) (l : List ℕ) → cellOf p (front (heldBy p) l) ≡ cellOf p l
 cell-follow (Header held value) l = refl
 cell-follow (Payload route n held) l = ap (λ (q : List ℕ). cell (n - held) (payload route q)) (take-take held held l (le-refl held))
 cell-follow (Skip bytes) l = refl
@@ -64,6 +65,7 @@ kept-step e g h true true p r q = rw (p, r) (kept-after e g h q)
 -- taking the waiting bytes of a TCP connection
 taken-part : (g : Config) (room : ℕ) (c : Connection) (x y : Bool) → (eqb (c .used) 0 || ltb room (c .used)) ≡ x → (g .automatic && wildcard (g .remote)) ≡ y → g .tcp ≡ true
     → (takeOf g room c .part ≡ c .part) × (takeOf g room c .mode ≡ c .mode)
+unfolding takeOf
 taken-part g room c true y p r t = rw p (refl, refl)
 taken-part g room c false true p r t = rw (p, r, t) (refl, refl)
 taken-part g room c false false p r t = rw (p, r) (refl, refl)

@@ -40,10 +40,10 @@ module _ (T : Table) where
       ∙ ap (left T (left T w j (at T w j b)) i) (sym (at-other w j i (at T w j b) a (λ e. ne (sym e))))
 
   -- ONE CONNECTION: two acts one after the other, as one
-  abbrev following : Acted → Acted → Acted
+  abbrev pub following : Acted → Acted → Acted
   following a b = acted (b .to) (a .list ++ b .list)
 
-  left-following : (w : World) (i : ℕ) (a b : Acted) → left T w i (following a b) ≡ left T (left T w i a) i b
+  pub left-following : (w : World) (i : ℕ) (a b : Acted) → left T w i (following a b) ≡ left T (left T w i a) i b
   left-following w i a b =
       let p : set (w .held) i (b .to) ≡ set (set (w .held) i (a .to)) i (b .to) = sym (set-set (w .held) i (a .to) (b .to)) in
       let c : (q : Bool) (n : ℕ) → countsIf q (drops (a .list ++ b .list)) n ≡ countsIf q (drops (b .list)) (countsIf q (drops (a .list)) n) =

@@ -2,6 +2,7 @@
 -- Assumes nothing.
 use Prim.Native.Nat.{ℕ, zero, suc, _+_, _-_, _/_, _%_, _^_, _≤_}
 use mathlib.Core.Path.{_≡_, refl, sym, ap, ap₂, _∙_, subst}
+use mathlib.Core.Bool.{Bool, true, false, cond}
 use mathlib.Core.List.{List, [], _∷_}
 use native.Mathlib.Omega.{arith}
 use lib.ListN.{length}
@@ -10,7 +11,7 @@ use Rattle.part.specs.declared.Part.{Part}
 use Rattle.part.specs.declared.Part.the-variants.{Header, Payload, Skip}
 use Rattle.feed.specs.declared.Decision.{Decision}
 use Rattle.feed.specs.declared.Decision.the-variants.{Accept, Refuse}
-use Rattle.feed.specs.Feed.{Routes, Kind, header, payload, skip, Cell, cell, Ran, decided, add, done, feed, after, segment}
+use Rattle.feed.specs.Feed.{Routes, Kind, header, payload, skip, Cell, cell, Ran, decided, add, done, feed, after, stops, took, takeB, segment}
 use Rattle.feed.proofs.Cut.{segment-feeds}
 use Rattle.stream.specs.Stream.{cellOf, partFrom, heldIn}
 
@@ -54,6 +55,16 @@ snug-after R c (b ∷ bs) s = snug-after R (feed R c b .to) bs (snug-feed R c b 
 
 pub snug-segment : (R : Routes) (c : Cell) (bs : List ℕ) → Snug c → Snug (segment R c bs .to)
 snug-segment R c bs s = subst Snug (sym (ap (λ (r : Ran). r .to) (segment-feeds R c bs))) (snug-after R c bs s)
+
+pub snug-take : (R : Routes) (c : Cell) (bs : List ℕ) → Snug c → Snug (takeB R c bs .to)
+unfolding takeB
+snug-take R c [] s = s
+snug-take R c (b ∷ bs) s = go (stops (feed R c b .out)) (snug-feed R c b s) (snug-take R (feed R c b .to) bs (snug-feed R c b s))
+  where
+    go : (x : Bool) → Snug (feed R c b .to) → Snug (takeB R (feed R c b .to) bs .to)
+        → Snug (cond x (took (feed R c b .to) (feed R c b .out) bs) (takeB R (feed R c b .to) bs) .to)
+    go true p q = p
+    go false p q = q
 
 -- the part and the bytes of a cell are that cell
 pub cell-back : (c : Cell) → Snug c → cellOf (partFrom c) (heldIn c) ≡ c

@@ -1,13 +1,13 @@
 -- Bytes laid within one stretch of lent memory leave the other stretches as they were. Assumes nothing.
 use Prim.Native.Nat.{ℕ, suc, _+_, _*_, _≤_, _<_}
-use mathlib.Core.Path.{_≡_, sym, ap, subst}
+use mathlib.Core.Path.{_≡_, sym, ap, ap₂, _∙_, subst}
 use mathlib.Core.List.{List}
 use native.Mathlib.Decide.{decLt}
 use native.Mathlib.Nat.{mul-le-mul-right, suc-mul}
 use native.Mathlib.Omega.{arith}
-use lib.ListN.{length, take}
+use lib.ListN.{length, take, drop}
 use Rattle.wire.specs.Lay.{lay}
-use Rattle.wire.proofs.Lay.{lay-before, lay-after}
+use Rattle.wire.proofs.Lay.{lay-before, lay-after, lay-held}
 use Rattle.world.specs.World.{stretch}
 
 -- a stretch ends where a later one may begin
@@ -23,3 +23,10 @@ stretch-apart size k memory at x low high j ne = go (decLt j k)
     go (no ge) =
         let gt : k < j = omega arith in
         ap (take size) (lay-after memory at x (j * size) (omega (arith, ends-before size k j gt)))
+
+-- a whole stretch laid anew
+pub stretch-own : (size k : ℕ) (memory x : List ℕ) → length x ≡ size → k * size + size ≤ length memory → stretch size k (lay memory (k * size) x) ≡ x
+stretch-own size k memory x e h =
+    let z : k * size ≡ k * size + 0 = omega arith in
+    let n : size ≡ 0 + length x = omega arith in
+    ap₂ (λ (m at : ℕ). take m (drop (k * size) (lay memory at x))) n z ∙ lay-held memory (k * size) 0 x (omega arith)

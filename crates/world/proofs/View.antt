@@ -9,7 +9,7 @@ use lib.ListN.{length, getD, set, take}
 use lib.Seq.{take-take}
 use Rattle.connection.specs.declared.Connection.{Connection}
 use Rattle.connection.specs.Connection.{zeroRecord}
-use Rattle.lists.specs.Each.{each}
+use Rattle.lists.specs.Each.{eachTo}
 use Rattle.state.specs.declared.State.{State}
 use Rattle.world.specs.World.{Held, World, blank, heldAt, heldBy, stretch, heldOf, viewFrom, viewOf, follow, stateOf, followAll, leaves}
 
@@ -20,6 +20,10 @@ records rx tx k (c ∷ cs) = ap (λ (l : List Connection). c ∷ l) (records rx 
 
 pub state-view : (s : State) (rx tx : List ℕ) → stateOf (viewOf s rx tx) ≡ s
 state-view s rx tx = ap (λ (l : List Connection). record { connections = l; «udp_drops» = s .«udp_drops»; «tcp_drops» = s .«tcp_drops» }) (records rx tx 0 (s .connections))
+
+pub view-length : (rx tx : List ℕ) (k : ℕ) (cs : List Connection) → length (viewFrom rx tx k cs) ≡ length cs
+view-length rx tx k [] = refl
+view-length rx tx k (c ∷ cs) = ap suc (view-length rx tx (suc k) cs)
 
 -- one of them, past the last one too
 view-get : (rx tx : List ℕ) (k : ℕ) (cs : List Connection) (i : ℕ) → getD (viewFrom rx tx k cs) i blank ≡ heldOf rx tx (k + i) (getD cs i zeroRecord)
@@ -88,9 +92,10 @@ fewer-set [] i c l = none
 fewer-set (x ∷ cs) zero c l = one l (fewer-same cs)
 fewer-set (x ∷ cs) (suc i) c l = one (less-same x) (fewer-set cs i c l)
 
-pub fewer-each : (f : ℕ → Connection → Connection) → ((k : ℕ) (c : Connection) → Less (f k c) c) → (k : ℕ) (cs : List Connection) → Fewer (each f k cs) cs
-fewer-each f h k [] = none
-fewer-each f h k (c ∷ cs) = one (h k c) (fewer-each f h (suc k) cs)
+pub fewer-each : (f : ℕ → Connection → Connection) → ((k : ℕ) (c : Connection) → Less (f k c) c) → (k n : ℕ) (cs : List Connection) → Fewer (eachTo f k n cs) cs
+fewer-each f h k zero cs = fewer-same cs
+fewer-each f h k (suc n) [] = none
+fewer-each f h k (suc n) (c ∷ cs) = one (h k c) (fewer-each f h (suc k) n cs)
 
 view-fewer : (rx tx : List ℕ) (k : ℕ) {cs ds : List Connection} → Fewer cs ds → viewFrom rx tx k cs ≡ followAll cs (viewFrom rx tx k ds)
 view-fewer rx tx k none = refl

@@ -1,18 +1,18 @@
 -- ONE STEP OF THE WORLD, A RUN, AND WHAT A CONNECTION HAS HANDED OUT.
 -- Assumes nothing: these are definitions.
 use Prim.Native.Nat.{ℕ, zero, suc}
-use mathlib.Core.Bool.{Bool, true, false, cond, not, _&&_, _||_}
+use mathlib.Core.Bool.{Bool, true, false, cond, not, _&&_}
 use mathlib.Core.List.{List, [], _∷_, _++_}
 use lib.ListN.{length, set}
 use lib.Dec.{eqb, leb, ltb}
 use Rattle.connection.specs.declared.Connection.{Connection}
 use Rattle.connection.specs.declared.Config.{Config}
-use Rattle.connection.specs.declared.Mode.the-variants.{Reconnect}
-use Rattle.connection.specs.Connection.{isOnline, wildcard, become, withMode, withRemote, withSend}
+use Rattle.connection.specs.Connection.{isOnline}
 use Rattle.connection.specs.Event.{stepOf}
 use Rattle.state.specs.State.{counted}
 use Rattle.feed.specs.Feed.{Routes, Out, Ran, segment as segmentOf, Pdu, pdus, drops}
 use Rattle.walk.specs.Walk.{walkAt, told}
+use Rattle.waiting.specs.Waiting.{takeOf}
 use Rattle.world.specs.World.{Held, World, heldAt, cellAt, withCell, follow}
 use Rattle.world.specs.Events.{Own, change, segment, walk, take, Whole, Event, on, all}
 
@@ -47,18 +47,6 @@ receiving c = isOnline (c .mode) && not (c .«close_wanted»)
 -- what the takes over a segment leave and give
 abbrev pub streamed : Held → Ran → Acted
 streamed h r = acted (withCell (r .to) h) (r .list)
-
--- "After a non-empty take, an automatic connection whose configured remote has a wildcard: UDP becomes reconnect with configured
--- remote (00582); TCP gets close wanted (00644)"
-abbrev pub afterTake : Config → Connection → Connection
-afterTake g c =
-    cond (g .automatic && wildcard (g .remote))
-    (cond (g .tcp) (withMode (c .mode) (c .«open_wanted») true c) (become Reconnect (withRemote (g .remote) c)))
-    c
-
--- "Take waiting bytes: checks 9; .. clears used, timer and due"; "Nothing waiting .. changes nothing"
-abbrev pub takeOf : Config → ℕ → Connection → Connection
-takeOf g room c = cond (eqb (c .used) 0 || ltb room (c .used)) c (afterTake g (withSend 0 0 false c))
 
 module _ (T : Table) where
   -- the routes of connection k, as the switches of its record stand

@@ -8,7 +8,7 @@ use crate::event::{run, Event};
 use crate::header::is_on;
 use crate::random::Random;
 use crate::script::{entry, write, write_start, START_STATE};
-use crate::state::{Config, Mode, Record, World};
+use crate::state::{Config, Mode, Record, World, RECORDS};
 use crate::stream::{Part, READY};
 use crate::table::{Destination, Remote, Table, MOST_SEND_SIZE, TCP};
 use crate::walk::walk;
@@ -280,6 +280,33 @@ pub fn unsound_script(random: &mut Random) -> Vec<u8> {
     let (mut input, mut runner) = begin(random, table, Some(world));
     add_events(&mut input, &mut runner, 6, |runner| runner.event());
     input
+}
+
+/// Bytes of a record that do not fit, as docs/EVENTS.md lays it out: places in the record, and what stands there.
+const MISFITS: &[(usize, &[u8])] = &[
+    (0, &[3]),
+    (1, &[2]),
+    (2, &[2]),
+    (3, &[6]),
+    (4, &[1]),
+    (15, &[1]),
+    (26, &[3]),
+    (26, &[0, 1]),
+    (26, &[1, 0, 0, 0, 0, 0, 0, 0, 0, 1, 0, 0]),
+    (26, &[2, 0, 0, 0, 0, 0, 0, 1, 0, 0, 0, 0]),
+    (26, &[2, 1]),
+    (26, &[2, 0, 0, 1]),
+    (42, &[2]),
+];
+
+/// A script whose start state does not fit.
+pub fn misfit_script(random: &mut Random) -> Vec<u8> {
+    let table = table_for_events(random);
+    let mut start = write_start(&sound(random, &table));
+    let &(place, bytes) = random.pick(MISFITS);
+    let at = 8 + 43 * random.below(RECORDS) + place;
+    start[at..at + bytes.len()].copy_from_slice(bytes);
+    [table.image(), start, write(&Event::Ticks(1))].concat()
 }
 
 /// A few events under any image, good or damaged, of any size.

@@ -23,7 +23,6 @@ returns : tie.Need-returns
 returns c =
     let w = c .before in
     let b = w .before in
-    let a = b .before .before .before .before .args in
     walk-is _ _ _ _ _ (b .body-of .result .now) (b .body-of .ensures) (w .walk .result) (c .count-walk .result) (w .walk .ensures) (c .count-walk .ensures)
 
 pub walk-on-spec : {M : Type 1} → statement M

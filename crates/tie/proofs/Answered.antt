@@ -1,0 +1,33 @@
+-- Past the gate a take or a walk is made exactly when the connection is there, the event is allowed on it, and it receives.
+-- Assumes nothing.
+use Prim.Native.Nat.{ℕ}
+use mathlib.Core.Path.{_≡_, refl, sym, ap, _∙_}
+use mathlib.Core.Bool.{Bool, true, false, cond, _&&_}
+use mathlib.Core.List.{List}
+use lib.Dec.{ltb}
+use Rattle.layout.specs.Layout.{rowsOf}
+use Rattle.layout.specs.declared.Kind.the-variants.{Connection as Connections}
+use Rattle.connection.specs.declared.Refusal.the-variants.{Denied}
+use Rattle.state.specs.declared.State.{State}
+use Rattle.state.specs.State.{recordAt}
+use Rattle.gate.specs.declared.Gate.{Gate}
+use Rattle.gate.specs.declared.Gate.the-variants.{Pass}
+use Rattle.gate.specs.Gate.{gateAt, thenThere, through, Passed}
+use Rattle.gate.proofs.Pass.{passed-gate}
+use Rattle.receive.specs.declared.Answer.the-variants.{Done, Refused, NotReceiving}
+use Rattle.receive.specs.Answer.{isDone, judgedOf, answerOf}
+use Rattle.world.specs.Step.{receiving}
+
+pub done-is : (image : List ℕ) (s : State) (rx tx k : ℕ) (allowed : Bool) → Passed image s rx tx
+    → isDone (answerOf image s rx tx k allowed) ≡ (ltb k (rowsOf image Connections) && (allowed && receiving (recordAt s k)))
+unfolding answerOf judgedOf gateAt
+done-is image s rx tx k allowed p =
+    ap (λ (g : Gate). isDone (through (thenThere (ltb k (rowsOf image Connections)) g) Refused (cond allowed (cond (receiving (recordAt s k)) Done NotReceiving) (Refused Denied))))
+    (passed-gate image s rx tx p)
+    ∙ go (ltb k (rowsOf image Connections)) allowed (receiving (recordAt s k))
+  where
+    go : (t a r : Bool) → isDone (through (thenThere t Pass) Refused (cond a (cond r Done NotReceiving) (Refused Denied))) ≡ (t && (a && r))
+    go true true true = refl
+    go true true false = refl
+    go true false r = refl
+    go false a r = refl

@@ -1,0 +1,18 @@
+-- The equations between entry points and the world. Assumes nothing.
+pub mod Less
+pub mod Rests
+pub mod Left
+pub mod Gentle
+pub mod Follows
+pub mod Arrivals
+pub mod Sends
+pub mod Wholes
+pub mod Modules
+pub mod Take
+pub mod Takes
+pub mod Answered
+pub mod Walks
+pub mod Segments
+pub mod Steps
+pub mod Good
+pub mod Runs

@@ -1,0 +1,105 @@
+-- GROUP AND MODULE EVENTS that write no lent memory: what their entry points leave is the world's step. Assumes nothing.
+use Prim.Native.Nat.{ℕ}
+use mathlib.Core.Path.{_≡_, refl, sym, ap, _∙_, subst}
+use mathlib.Core.Bool.{Bool, true, false, cond}
+use mathlib.Core.List.{List}
+use lib.Dec.{eqb, ltb}
+use lib.ListN.{length}
+use Rattle.layout.specs.Layout.{rowsOf}
+use Rattle.layout.specs.declared.Kind.the-variants.{Connection as Connections}
+use Rattle.connection.specs.declared.Connection.{Connection}
+use Rattle.connection.specs.declared.Remote.{Remote}
+use Rattle.connection.specs.declared.Answer.the-variants.{Done}
+use Rattle.connection.specs.declared.Refusal.{Refusal}
+use Rattle.connection.specs.declared.Refusal.the-variants.{Missing, Denied}
+use Rattle.state.specs.declared.State.{State}
+use Rattle.state.specs.Fresh.{configOf}
+use Rattle.gate.specs.declared.Gate.{Gate}
+use Rattle.gate.specs.Gate.{gateOf, through, Passed}
+use Rattle.gate.proofs.Pass.{passed-gate}
+use Rattle.choose.specs.Choose.{arriveOf}
+use Rattle.ticks.specs.declared.Ticked.{Ticked}
+use Rattle.ticks.specs.Tick.{tickAt, tickedTo, unticked, tickEvent}
+use Rattle.events.specs.declared.Told.{Told}
+use Rattle.events.specs.declared.Counted.{Counted}
+use Rattle.events.specs.Change.{refusedBy}
+use Rattle.events.specs.Module.{switchAt, switchedAll, switchAllOf}
+use Rattle.events.specs.Count.{ofProtocol, readFrom, clearFrom, uncounted, readPast, clearPast, readOf, clearOf}
+use Rattle.world.specs.World.{World, viewOf, stateOf, leaves}
+use Rattle.world.specs.Events.{datagram, accept, tick, switchAll, readCount, clearCount, all}
+use Rattle.world.specs.Step.{step}
+use Rattle.world.proofs.View.{state-view, Fewer, fewer-same, fewer-each, view-leaves}
+use Rattle.tie.specs.Table.{tableOf}
+use Rattle.tie.specs.Whole.{wholeOf}
+use Rattle.tie.proofs.Less.{switch-less, tick-less}
+use Rattle.tie.proofs.Arrivals.{arrive-is, meeting-fewer}
+
+-- an event by what it makes of the state
+leaves-view : (f : State → State) (s : State) (rx tx : List ℕ) → Fewer (f s .connections) (s .connections) → viewOf (f s) rx tx ≡ leaves (f (stateOf (viewOf s rx tx))) (viewOf s rx tx)
+leaves-view f s rx tx h = view-leaves s (f s) rx tx h ∙ ap (λ (t : State). leaves (f t) (viewOf s rx tx)) (sym (state-view s rx tx))
+
+module _ (image : List ℕ) (s : State) (rx tx : List ℕ) where
+  abbrev w : World
+  w = viewOf s rx tx
+
+  -- a datagram, an accept
+  pub arrive-view : (a : Bool) (group : ℕ) (source : Remote) → viewOf (arriveOf image s a group source .state) rx tx ≡ leaves (arriveOf image (stateOf w) a group source .state) w
+  arrive-view a group source =
+      leaves-view (λ (t : State). arriveOf image t a group source .state) s rx tx
+      (meeting-fewer s (arriveOf image s a group source .state) source (arrive-is image s a group source))
+
+  -- past the gate
+  past : {A : Type 0} (refused : Refusal → A) (event : A) → Passed image s (length rx) (length tx) → through (gateOf image s (length rx) (length tx)) refused event ≡ event
+  past refused event p = ap (λ (g : Gate). through g refused event) (passed-gate image s (length rx) (length tx) p)
+
+  -- a tick
+  pub tick-view : Passed image s (length rx) (length tx)
+      → viewOf (tickEvent image s (length rx) (length tx) .state) rx tx ≡ step (tableOf image) (wholeOf image) w (all tick)
+  unfolding tickEvent step tickedTo
+  tick-view p =
+      ap (λ (t : Ticked). viewOf (t .state) rx tx) (past (unticked s) (record { answer = Done; state = tickedTo image (rowsOf image Connections) s }) p)
+      ∙ leaves-view (tickedTo image (rowsOf image Connections)) s rx tx
+      (fewer-each (tickAt image) (λ k c. tick-less (configOf image k) c) 0 (rowsOf image Connections) (s .connections))
+
+  -- a switch on all connections
+  pub switch-all-view : (n : ℕ) (b : Bool) → Passed image s (length rx) (length tx)
+      → viewOf (switchAllOf image s (length rx) (length tx) n b .state) rx tx ≡ step (tableOf image) (wholeOf image) w (all (switchAll n b))
+  unfolding switchAllOf step switchedAll
+  switch-all-view n b p =
+      ap (λ (t : Told). viewOf (t .state) rx tx)
+      (past (refusedBy s) (cond (ltb n 32) (record { answer = Done; state = switchedAll (rowsOf image Connections) n b s }) (refusedBy s Missing)) p)
+      ∙ go (ltb n 32)
+    where
+      go : (x : Bool) → viewOf (cond x (record { answer = Done; state = switchedAll (rowsOf image Connections) n b s }) (refusedBy s Missing) .state) rx tx
+          ≡ cond x (leaves (switchedAll (rowsOf image Connections) n b (stateOf w)) w) w
+      go true =
+          leaves-view (switchedAll (rowsOf image Connections) n b) s rx tx
+          (fewer-each (switchAt n b) (λ k c. switch-less n b c) 0 (rowsOf image Connections) (s .connections))
+      go false = refl
+
+  -- a count read, and read and cleared
+  pub read-view : (protocol : ℕ) → Passed image s (length rx) (length tx)
+      → viewOf (readOf image s (length rx) (length tx) protocol .state) rx tx ≡ step (tableOf image) (wholeOf image) w (all (readCount protocol))
+  unfolding readOf step readPast ofProtocol
+  read-view n p = ap (λ (t : Counted). viewOf (t .state) rx tx) (past (uncounted s) (readPast s n) p) ∙ go (eqb n 1) (eqb n 2)
+    where
+      go : (x y : Bool) → viewOf (cond x (readFrom s false) (cond y (readFrom s true) (uncounted s Denied)) .state) rx tx ≡ w
+      go true y = refl
+      go false true = refl
+      go false false = refl
+
+  clear-fewer : (n : ℕ) → Fewer (clearPast s n .state .connections) (s .connections)
+  unfolding clearPast ofProtocol
+  clear-fewer n = go (eqb n 1) (eqb n 2)
+    where
+      go : (x y : Bool) → Fewer (cond x (clearFrom s false) (cond y (clearFrom s true) (uncounted s Denied)) .state .connections) (s .connections)
+      go true y = fewer-same (s .connections)
+      go false true = fewer-same (s .connections)
+      go false false = fewer-same (s .connections)
+
+  pub clear-view : (protocol : ℕ) → Passed image s (length rx) (length tx)
+      → viewOf (clearOf image s (length rx) (length tx) protocol .state) rx tx ≡ step (tableOf image) (wholeOf image) w (all (clearCount protocol))
+  unfolding clearOf step
+  clear-view n p =
+      ap (λ (t : Counted). viewOf (t .state) rx tx) (past (uncounted s) (clearPast s n) p)
+      ∙ leaves-view (λ (t : State). clearPast t n .state) s rx tx (clear-fewer n)

@@ -1,0 +1,144 @@
+-- THE SEGMENT EVENT, accepted or refused: what the caller's takes leave is the world's step, and what they hand out is the world's
+-- list; a sound machine stays sound. Assumes nothing.
+use Prim.Native.Nat.{ℕ, zero, suc, _-_, _≤_, _<_}
+use mathlib.Core.Path.{_≡_, refl, sym, ap, ap₂, _∙_, subst}
+use mathlib.Core.Bool.{Bool, true, false, cond, not, _&&_, false≢true}
+use mathlib.Core.List.{List, [], _∷_, _++_, append-nil}
+use native.Mathlib.Omega.{arith}
+use lib.Dec.{ltb}
+use lib.ListN.{length, drop}
+use borrow.Author.Tests.{ltb-true, lt-ltb}
+use Rattle.lists.proofs.Both.{and-left, and-right, and-both}
+use Rattle.layout.specs.Layout.{rowsOf}
+use Rattle.layout.specs.declared.Kind.the-variants.{Connection as Connections}
+use Rattle.connection.specs.declared.Connection.{Connection}
+use Rattle.state.specs.State.{recordAt}
+use Rattle.state.specs.Fresh.{configOf}
+use Rattle.feed.specs.Feed.{Routes, Cell, Ran, takes, segment as segmentOf, Took, takeB, Pdu, pdus}
+use Rattle.lengths.specs.Listed.{Bytes}
+use Rattle.lengths.proofs.Bytes.{bytes-drop}
+use Rattle.stream.specs.declared.Outcome.the-variants.{More}
+use Rattle.gate.specs.Gate.{Passed}
+use Rattle.receive.specs.declared.Answer.{Answer}
+use Rattle.receive.specs.declared.SegmentTaken.{SegmentTaken}
+use Rattle.receive.specs.Answer.{isDone}
+use Rattle.receive.specs.Segment.{noneTaken, segmentAnswer, segmentOf as segmentTaken, memoryOf, payloadOf}
+use Rattle.world.specs.World.{Held, World, heldAt, cellAt}
+use Rattle.world.specs.Events.{segment, Whole, on}
+use Rattle.world.specs.Step.{Acted, acted, receiving, streamed, routesAt, does, acts, at, left, step}
+use Rattle.world.proofs.View.{view-at}
+use Rattle.runs.proofs.Same.{does-read, does-refused}
+use Rattle.tie.specs.Table.{tableOf}
+use Rattle.tie.specs.Machine.{Machine, seen, taken, afterOne, restOf, told, toldBy, goesOn, afterTakes, toldTakes, afterSegment, toldSegment}
+use Rattle.tie.proofs.Left.{left-nothing}
+use Rattle.tie.proofs.Answered.{done-is}
+use Rattle.tie.proofs.Take.{Open, answer-done, open-after}
+use Rattle.tie.proofs.Takes.{R, C, takes-view, takes-told}
+
+module _ (image : List ℕ) (k : ℕ) where
+  -- SOUND STAYS SOUND, over all takes
+  takes-open : (f : ℕ) (m : Machine) (bs : List ℕ) → Open image k m → Bytes bs → Open image k (afterTakes image k f m bs)
+  unfolding afterTakes
+  takes-open zero m bs o b = o
+  takes-open (suc f) m bs o b =
+      go (goesOn image k (isDone (taken image k m bs .answer)) (restOf image k m bs))
+      (takes-open f (afterOne image k m bs) (restOf image k m bs) (open-after image k m bs o b) (bytes-drop (taken image k m bs .read) bs b))
+    where
+      go : (x : Bool) → Open image k (afterTakes image k f (afterOne image k m bs) (restOf image k m bs)) → Open image k (cond x (afterTakes image k f (afterOne image k m bs) (restOf image k m bs)) (afterOne image k m bs))
+      go true p = p
+      go false p = open-after image k m bs o b
+
+  module _ (m : Machine) (bs : List ℕ) (passed : Passed image (m .state) (length (m .rx)) (length (m .tx))) (bytes : Bytes bs) (whole : Whole → World → World) where
+    abbrev c : Connection
+    c = recordAt (m .state) k
+
+    abbrev answer : Answer
+    answer = segmentAnswer image (m .state) (length (m .rx)) (length (m .tx)) k
+
+    -- there, TCP, online and no close wanted
+    abbrev readable : Bool
+    readable = ltb k (rowsOf image Connections) && (configOf image k .tcp && receiving c)
+
+    opened : readable ≡ true → Open image k m
+    opened e =
+        let u : (configOf image k .tcp && receiving c) ≡ true = and-right (ltb k (rowsOf image Connections)) _ e in
+        record {
+          passed = passed;
+          there = ltb-true k (rowsOf image Connections) (and-left (ltb k (rowsOf image Connections)) _ e);
+          allows = and-left (configOf image k .tcp) _ u;
+          receives = and-right (configOf image k .tcp) _ u;
+        }
+
+    refused : readable ≡ false → isDone answer ≡ false
+    refused e = done-is image (m .state) (length (m .rx)) (length (m .tx)) k (configOf image k .tcp) passed ∙ e
+
+    -- refused: nothing is read, nothing changes, nothing comes out
+    none-taken : readable ≡ false → taken image k m bs ≡ noneTaken (m .state) answer
+    unfolding segmentTaken
+    none-taken e = rw (refused e)
+
+    same-memory : readable ≡ false → memoryOf image (m .state) (m .rx) (length (m .tx)) k bs ≡ m .rx
+    unfolding memoryOf
+    same-memory e = rw (refused e)
+
+    stops-here : readable ≡ false → (rest : List ℕ) → goesOn image k (isDone (taken image k m bs .answer)) rest ≡ false
+    stops-here e [] = refl
+    stops-here e (x ∷ xs) = ap (λ (t : SegmentTaken). isDone (t .answer)) (none-taken e) ∙ refused e
+
+    same-machine : readable ≡ false → afterSegment image k m bs ≡ m
+    unfolding afterTakes
+    same-machine e =
+        ap (λ (b : Bool). cond b (afterTakes image k (length bs) (afterOne image k m bs) (restOf image k m bs)) (afterOne image k m bs)) (stops-here e (restOf image k m bs))
+        ∙ ap₂ (λ (t : SegmentTaken) (r : List ℕ). record { state = t .state; rx = r; tx = m .tx }) (none-taken e) (same-memory e)
+
+    none-told : readable ≡ false → toldSegment image k m bs ≡ []
+    unfolding toldTakes
+    none-told e =
+        ap (λ (b : Bool). toldBy image k m bs ++ cond b (toldTakes image k (length bs) (afterOne image k m bs) (restOf image k m bs)) []) (stops-here e (restOf image k m bs))
+        ∙ append-nil (toldBy image k m bs)
+        ∙ ap (λ (t : SegmentTaken). told image k (payloadOf bs (afterOne image k m bs .rx) k (t .outcome)) (t .outcome)) (none-taken e)
+
+    -- the world's side
+    seen-c : heldAt (seen m) k .connection ≡ c
+    seen-c = ap (λ (h : Held). h .connection) (view-at (m .state) (m .rx) (m .tx) k)
+
+    at-open : readable ≡ true → at (tableOf image) (seen m) k (segment bs) ≡ streamed (heldAt (seen m) k) (segmentOf (R image k m) (C image k m) bs)
+    unfolding acts
+    at-open e =
+        rw (and-left (ltb k (rowsOf image Connections)) _ e)
+        (does-read (tableOf image) k (heldAt (seen m) k) bs (ap (λ (d : Connection). configOf image k .tcp && receiving d) seen-c ∙ and-right (ltb k (rowsOf image Connections)) _ e))
+
+    at-refused : (t : Bool) → ltb k (rowsOf image Connections) ≡ t → (t && (configOf image k .tcp && receiving c)) ≡ false → at (tableOf image) (seen m) k (segment bs) ≡ acted (heldAt (seen m) k) []
+    unfolding acts
+    at-refused true p e =
+        rw p (does-refused (tableOf image) k (heldAt (seen m) k) bs (ap (λ (d : Connection). configOf image k .tcp && receiving d) seen-c ∙ e))
+    at-refused false p e = rw p
+
+    -- WHAT IT LEAVES
+    pub segment-view : seen (afterSegment image k m bs) ≡ step (tableOf image) whole (seen m) (on k (segment bs))
+    unfolding step segmentOf
+    segment-view = go readable refl
+      where
+        go : (b : Bool) → readable ≡ b → seen (afterSegment image k m bs) ≡ left (tableOf image) (seen m) k (at (tableOf image) (seen m) k (segment bs))
+        go true e = takes-view image k (suc (length bs)) m bs (opened e) bytes (omega arith) ∙ ap (left (tableOf image) (seen m) k) (sym (at-open e))
+        go false e =
+            ap seen (same-machine e)
+            ∙ sym (left-nothing (tableOf image) (seen m) k)
+            ∙ ap (left (tableOf image) (seen m) k) (sym (at-refused (ltb k (rowsOf image Connections)) refl e))
+
+    -- WHAT IT HANDS OUT
+    pub segment-told : toldSegment image k m bs ≡ pdus (at (tableOf image) (seen m) k (segment bs) .list)
+    unfolding segmentOf pdus
+    segment-told = go readable refl
+      where
+        go : (b : Bool) → readable ≡ b → toldSegment image k m bs ≡ pdus (at (tableOf image) (seen m) k (segment bs) .list)
+        go true e = takes-told image k (suc (length bs)) m bs (opened e) bytes (omega arith) ∙ ap (λ (a : Acted). pdus (a .list)) (sym (at-open e))
+        go false e = none-told e ∙ ap (λ (a : Acted). pdus (a .list)) (sym (at-refused (ltb k (rowsOf image Connections)) refl e))
+
+    -- SOUND STAYS SOUND
+    pub segment-passed : Passed image (afterSegment image k m bs .state) (length (afterSegment image k m bs .rx)) (length (afterSegment image k m bs .tx))
+    segment-passed = go readable refl
+      where
+        go : (b : Bool) → readable ≡ b → Passed image (afterSegment image k m bs .state) (length (afterSegment image k m bs .rx)) (length (afterSegment image k m bs .tx))
+        go true e = takes-open (suc (length bs)) m bs (opened e) bytes .passed
+        go false e = subst (λ (n : Machine). Passed image (n .state) (length (n .rx)) (length (n .tx))) (sym (same-machine e)) passed

@@ -1,0 +1,110 @@
+-- EVERY ENTRY POINT: from a good machine, what an event leaves is the world's step, and what the caller is given is the world's list.
+-- Assumes nothing.
+use Prim.Native.Nat.{ℕ}
+use mathlib.Core.Path.{_≡_, refl, sym, ap, ap₂, _∙_, subst}
+use mathlib.Core.Bool.{Bool, true, false, cond}
+use mathlib.Core.List.{List, []}
+use lib.Dec.{eqb, ltb}
+use lib.ListN.{length, replicate, length-replicate}
+use Rattle.layout.specs.Layout.{rowsOf}
+use Rattle.layout.specs.declared.Kind.the-variants.{Connection as Connections}
+use Rattle.connection.specs.declared.Remote.{Remote}
+use Rattle.connection.specs.declared.Refusal.{Refusal}
+use Rattle.state.specs.declared.State.{State}
+use Rattle.feed.specs.Feed.{Pdu, pdus}
+use Rattle.table.proofs.Facts.{accepted-facts}
+use Rattle.gate.specs.declared.Gate.{Gate}
+use Rattle.gate.specs.Gate.{gateOf, through, Passed}
+use Rattle.gate.proofs.Pass.{passed-gate}
+use Rattle.choose.specs.declared.Arrived.{Arrived}
+use Rattle.choose.specs.Choose.{refusedBy, arriveOf}
+use Rattle.arrivals.specs.Arrivals.{arrivalOf}
+use Rattle.send.specs.declared.Transmitted.{Transmitted}
+use Rattle.send.specs.Send.{Sending, transmitOf, transmittedOf}
+use Rattle.sending.specs.Sending.{notSent, sendOf, sentMemory, takenOf}
+use Rattle.sending.proofs.Past.{ready-from}
+use Rattle.world.specs.World.{Held, World, heldAt, viewOf, stateOf, leaves}
+use Rattle.world.specs.Events.{Own, change, segment, walk, take, Whole, datagram, accept, tick, transmit, switchAll, readCount, clearCount, Event, on, all}
+use Rattle.world.specs.Step.{acted, does, acts, step, hands}
+use Rattle.runs.specs.Streams.{EventBytes}
+use Rattle.tie.specs.Table.{tableOf}
+use Rattle.tie.specs.Whole.{wholeOf}
+use Rattle.tie.specs.Send.{transmitIn}
+use Rattle.tie.specs.Machine.{Machine, seen}
+use Rattle.tie.specs.Run.{afterOwn, afterWhole, afterEvent, given, Good}
+use Rattle.tie.proofs.Follows.{change-view, take-view}
+use Rattle.tie.proofs.Segments.{segment-view, segment-told}
+use Rattle.tie.proofs.Walks.{walk-view, walk-told}
+use Rattle.tie.proofs.Modules.{arrive-view, tick-view, switch-all-view, read-view, clear-view}
+use Rattle.tie.proofs.Sends.{transmit-view}
+
+module _ (image : List ℕ) (m : Machine) (good : Good image m) where
+  abbrev s : State
+  s = m .state
+
+  abbrev rx : List ℕ
+  rx = m .rx
+
+  abbrev tx : List ℕ
+  tx = m .tx
+
+  abbrev W : Whole → World → World
+  W = wholeOf image
+
+  -- past the gate
+  past : {A : Type 0} (refused : Refusal → A) (event : A) → through (gateOf image s (length rx) (length tx)) refused event ≡ event
+  past refused event = ap (λ (g : Gate). through g refused event) (passed-gate image s (length rx) (length tx) (good .passed))
+
+  arrival-view : (a : Bool) (group : ℕ) (source : Remote) → viewOf (arrivalOf image s (length rx) (length tx) a group source .state) rx tx ≡ leaves (arriveOf image (stateOf (seen m)) a group source .state) (seen m)
+  unfolding arrivalOf
+  arrival-view a group source = ap (λ (t : Arrived). viewOf (t .state) rx tx) (past (refusedBy s) (arriveOf image s a group source)) ∙ arrive-view image s rx tx a group source
+
+  send-view : (pdu : ℕ) (payload : List ℕ) → viewOf (sendOf image s (length rx) tx pdu payload .state) rx (sentMemory image s (length rx) tx pdu payload) ≡ transmitIn image pdu payload (seen m)
+  unfolding sendOf sentMemory
+  send-view pdu payload =
+      ap₂ (λ (t : Transmitted) (z : List ℕ). viewOf (t .state) rx z) (past (notSent s) (transmittedOf image s pdu payload tx)) (past (λ r. tx) (transmitOf image s pdu payload tx .memory))
+      ∙ transmit-view image rx tx payload s pdu (ready-from image (accepted-facts image (good .passed .table))) (good .passed .send)
+
+  -- ONE EVENT OF A CONNECTION
+  pub own-view : (k : ℕ) (e : Own) → EventBytes (on k e) → seen (afterOwn image k e m) ≡ step (tableOf image) W (seen m) (on k e)
+  unfolding afterOwn
+  own-view k (change e) b = change-view image s rx tx W (good .passed) k e
+  own-view k (segment bytes) b = segment-view image k m bytes (good .passed) b W
+  own-view k (walk d p) b = walk-view image s rx tx k d p (good .passed) W
+  own-view k (take room) b =
+      take-view image s rx tx W (good .passed) k (replicate room 0) ∙ ap (λ (n : ℕ). step (tableOf image) W (seen m) (on k (take n))) (length-replicate room 0)
+
+  -- ONE OF A GROUP OR THE MODULE
+  whole-view : (e : Whole) → seen (afterWhole image e m) ≡ step (tableOf image) W (seen m) (all e)
+  unfolding afterWhole step
+  whole-view (datagram group source) = arrival-view false group source
+  whole-view (accept group source) = arrival-view true group source
+  whole-view tick = tick-view image s rx tx (good .passed)
+  whole-view (transmit pdu payload) = send-view pdu payload
+  whole-view (switchAll n b) = switch-all-view image s rx tx n b (good .passed)
+  whole-view (readCount p) = read-view image s rx tx p (good .passed)
+  whole-view (clearCount p) = clear-view image s rx tx p (good .passed)
+
+  -- ANY EVENT
+  pub event-view : (e : Event) → EventBytes e → seen (afterEvent image e m) ≡ step (tableOf image) W (seen m) e
+  unfolding afterEvent
+  event-view (on k e) b = own-view k e b
+  event-view (all e) b = whole-view e
+
+  -- WHAT THE CALLER IS GIVEN
+  no-list : (k i : ℕ) (e : Own) → ((h : Held) → does (tableOf image) i e h .list ≡ []) → [] ≡ hands (tableOf image) W k (seen m) (on i e)
+  unfolding hands acts pdus
+  no-list k i e none = go (eqb i k) (ltb i (rowsOf image Connections))
+    where
+      go : (x y : Bool) → [] ≡ cond x (pdus (cond y (does (tableOf image) i e (heldAt (seen m) i)) (acted (heldAt (seen m) i) []) .list)) []
+      go true true = ap pdus (sym (none (heldAt (seen m) i)))
+      go true false = refl
+      go false y = refl
+
+  pub event-given : (k : ℕ) (e : Event) → EventBytes e → given image k e m ≡ hands (tableOf image) W k (seen m) e
+  unfolding given hands does
+  event-given k (on i (change e)) b = no-list k i (change e) (λ h. refl)
+  event-given k (on i (segment bytes)) b = ap (λ (ps : List Pdu). cond (eqb i k) ps []) (segment-told image i m bytes (good .passed) b W)
+  event-given k (on i (walk d p)) b = ap (λ (ps : List Pdu). cond (eqb i k) ps []) (walk-told image s rx tx i d p (good .passed) W)
+  event-given k (on i (take room)) b = no-list k i (take room) (λ h. refl)
+  event-given k (all e) b = refl

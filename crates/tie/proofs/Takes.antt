@@ -1,0 +1,136 @@
+-- A SEGMENT EVENT: the caller's takes over a segment until all is read. What they leave, and what they hand out, is the world's
+-- segment event. Assumes nothing.
+use Prim.Native.Nat.{ℕ, zero, suc, _-_, _≤_, _<_}
+use mathlib.Core.Path.{_≡_, refl, sym, ap, ap₂, _∙_, subst}
+use mathlib.Core.Bool.{Bool, true, false, cond, not, _&&_}
+use mathlib.Core.List.{List, [], _∷_, _++_, append-nil}
+use native.Mathlib.Omega.{arith}
+use lib.ListN.{length, drop, length-drop}
+use Rattle.feed.specs.Feed.{Routes, Cell, Out, emit, Took, takeB, Ran, ran, joined, takes, Pdu, pdus}
+use Rattle.feed.proofs.Cut.{emit-append, take-reads, pdus-append}
+use Rattle.lengths.specs.Listed.{Bytes}
+use Rattle.lengths.proofs.Bytes.{bytes-drop}
+use Rattle.stream.specs.Stream.{cellOf}
+use Rattle.layout.specs.Layout.{bodyOf}
+use Rattle.layout.specs.declared.Kind.the-variants.{Route as RouteBody}
+use Rattle.route.specs.Route.{lookupOf}
+use Rattle.state.specs.State.{recordAt}
+use Rattle.receive.specs.Answer.{isDone}
+use Rattle.world.specs.World.{Held, World, heldAt, stretch, cellAt, withCell}
+use Rattle.world.specs.Step.{Acted, acted, streamed, routesAt, left}
+use Rattle.world.proofs.Cells.{snug-in, snug-take, cell-back}
+use Rattle.runs.proofs.Same.{following, left-following}
+use Rattle.tie.specs.Table.{tableOf}
+use Rattle.tie.specs.Machine.{Machine, seen, taken, afterOne, restOf, toldBy, goesOn, afterTakes, toldTakes}
+use Rattle.tie.proofs.Take.{Open, tookAt, answer-done, rest-is, one-view, cell-is, switches-is, one-told, open-after, held-after}
+
+-- a take leaves fewer bytes than it was given, if any
+take-less : (R : Routes) (c : Cell) (bs : List ℕ) → length (takeB R c bs .rest) ≤ length bs - 1
+unfolding takeB
+take-less R c [] = omega arith
+take-less R c (b ∷ bs) = omega (arith, take-reads R c b bs)
+
+module _ (image : List ℕ) (k : ℕ) where
+  -- the takes as the world has them, on connection k of a machine
+  abbrev pub R : Machine → Routes
+  R m = routesAt (tableOf image) k (heldAt (seen m) k)
+
+  abbrev pub C : Machine → Cell
+  C m = cellAt (heldAt (seen m) k)
+
+  took-is : (m : Machine) (segment : List ℕ) (o : Open image k m) (bytes : Bytes segment) → takeB (R m) (C m) segment ≡ tookAt image k m segment o bytes
+  took-is m segment o bytes =
+      ap₂ (λ (w : ℕ) (c : Cell). takeB (lookupOf (bodyOf image RouteBody) k w) c segment) (switches-is image k m segment o bytes) (cell-is image k m segment o bytes)
+
+  -- what comes after a take, in one
+  module _ (m : Machine) (segment : List ℕ) (o : Open image k m) (bytes : Bytes segment) where
+    abbrev h : Held
+    h = heldAt (seen m) k
+
+    abbrev t : Took
+    t = takeB (R m) (C m) segment
+
+    abbrev first : Acted
+    first = acted (withCell (t .to) h) (emit (t .out) [])
+
+    one : seen (afterOne image k m segment) ≡ left (tableOf image) (seen m) k first
+    one =
+        one-view image k m segment o bytes
+        ∙ ap (λ (u : Took). left (tableOf image) (seen m) k (acted (withCell (u .to) h) (emit (u .out) []))) (sym (took-is m segment o bytes))
+
+    rest-same : restOf image k m segment ≡ t .rest
+    rest-same = rest-is image k m segment o bytes ∙ ap (λ (u : Took). u .rest) (sym (took-is m segment o bytes))
+
+    held-one : heldAt (seen (afterOne image k m segment)) k ≡ withCell (t .to) h
+    held-one =
+        ap (λ (w : World). heldAt w k) (one-view image k m segment o bytes)
+        ∙ held-after image k m segment o bytes
+        ∙ ap (λ (u : Took). withCell (u .to) h) (sym (took-is m segment o bytes))
+
+    cell-one : cellAt (withCell (t .to) h) ≡ t .to
+    cell-one = cell-back (t .to) (snug-take (R m) (C m) segment (snug-in (h .connection .part) (h .received)))
+
+    -- what the later takes leave and give, from the world's side
+    later-takes : (f : ℕ) (rest : List ℕ) → takes (R (afterOne image k m segment)) f (C (afterOne image k m segment)) rest ≡ takes (R m) f (t .to) rest
+    later-takes f rest =
+        ap (λ (x : Held). takes (routesAt (tableOf image) k x) f (cellAt x) rest) held-one ∙ ap (λ (c : Cell). takes (R m) f c rest) cell-one
+
+    joined-left : (f : ℕ) (rest : List ℕ) (r : Ran) → takes (R m) f (t .to) rest ≡ r
+        → left (tableOf image) (seen (afterOne image k m segment)) k
+        (streamed (heldAt (seen (afterOne image k m segment)) k) (takes (R (afterOne image k m segment)) f (C (afterOne image k m segment)) rest))
+        ≡ left (tableOf image) (seen m) k (acted (withCell (r .to) h) (emit (t .out) (r .list)))
+    joined-left f rest r e =
+        ap₂ (λ (w : World) (x : Held). left (tableOf image) w k (streamed x (takes (R (afterOne image k m segment)) f (C (afterOne image k m segment)) rest))) one held-one
+        ∙ ap (λ (q : Ran). left (tableOf image) (left (tableOf image) (seen m) k first) k (streamed (withCell (t .to) h) q)) (later-takes f rest ∙ e)
+        ∙ sym (left-following (tableOf image) (seen m) k first (acted (withCell (r .to) h) (r .list)))
+        ∙ ap (λ (l : List Out). left (tableOf image) (seen m) k (acted (withCell (r .to) h) l)) (emit-append (t .out) [] (r .list))
+
+  -- ALL TAKES: what they leave
+  pub takes-view : (f : ℕ) (m : Machine) (segment : List ℕ) → Open image k m → Bytes segment → length segment < f
+      → seen (afterTakes image k f m segment) ≡ left (tableOf image) (seen m) k (streamed (heldAt (seen m) k) (takes (R m) f (C m) segment))
+  unfolding afterTakes takes
+  takes-view zero m segment o bytes lt = absurd (omega arith)
+  takes-view (suc f) m segment o bytes lt =
+      ap₂ (λ (b : Bool) (rest : List ℕ). seen (cond (goesOn image k b rest) (afterTakes image k f m′ rest) m′)) (answer-done image k m segment o bytes) (rest-same m segment o bytes)
+      ∙ go (λ rest lt′ b. takes-view f m′ rest (open-after image k m segment o bytes) b lt′) (t .rest) (omega (arith, take-less (R m) (C m) segment))
+      (subst Bytes (rest-same m segment o bytes) (bytes-drop (taken image k m segment .read) segment bytes))
+    where
+      m′ : Machine
+      m′ = afterOne image k m segment
+
+      t : Took
+      t = takeB (R m) (C m) segment
+
+      go : ((rest : List ℕ) → length rest < f → Bytes rest → seen (afterTakes image k f m′ rest) ≡ left (tableOf image) (seen m′) k (streamed (heldAt (seen m′) k) (takes (R m′) f (C m′) rest)))
+          → (rest : List ℕ) → length rest ≤ length segment - 1 → Bytes rest
+          → seen (cond (goesOn image k true rest) (afterTakes image k f m′ rest) m′)
+          ≡ left (tableOf image) (seen m) k (streamed (heldAt (seen m) k) (joined (t .to) (t .out) rest (takes (R m) f (t .to) rest)))
+      go more [] le b = one m segment o bytes
+      go more (x ∷ xs) le b = more (x ∷ xs) (omega arith) b ∙ joined-left m segment o bytes f (x ∷ xs) (takes (R m) f (t .to) (x ∷ xs)) refl
+
+  -- .. and what they hand out
+  pub takes-told : (f : ℕ) (m : Machine) (segment : List ℕ) → Open image k m → Bytes segment → length segment < f
+      → toldTakes image k f m segment ≡ pdus (takes (R m) f (C m) segment .list)
+  unfolding toldTakes takes
+  takes-told zero m segment o bytes lt = absurd (omega arith)
+  takes-told (suc f) m segment o bytes lt =
+      ap₂ (λ (b : Bool) (rest : List ℕ). toldBy image k m segment ++ cond (goesOn image k b rest) (toldTakes image k f m′ rest) []) (answer-done image k m segment o bytes) (rest-same m segment o bytes)
+      ∙ ap (λ (ps : List Pdu). ps ++ cond (goesOn image k true (t .rest)) (toldTakes image k f m′ (t .rest)) [])
+      (one-told image k m segment o bytes ∙ ap (λ (u : Took). pdus (emit (u .out) [])) (sym (took-is m segment o bytes)))
+      ∙ go (λ rest lt′ b. takes-told f m′ rest (open-after image k m segment o bytes) b lt′) (t .rest) (omega (arith, take-less (R m) (C m) segment))
+      (subst Bytes (rest-same m segment o bytes) (bytes-drop (taken image k m segment .read) segment bytes))
+    where
+      m′ : Machine
+      m′ = afterOne image k m segment
+
+      t : Took
+      t = takeB (R m) (C m) segment
+
+      go : ((rest : List ℕ) → length rest < f → Bytes rest → toldTakes image k f m′ rest ≡ pdus (takes (R m′) f (C m′) rest .list))
+          → (rest : List ℕ) → length rest ≤ length segment - 1 → Bytes rest
+          → pdus (emit (t .out) []) ++ cond (goesOn image k true rest) (toldTakes image k f m′ rest) [] ≡ pdus (joined (t .to) (t .out) rest (takes (R m) f (t .to) rest) .list)
+      go more [] le b = append-nil (pdus (emit (t .out) []))
+      go more (x ∷ xs) le b =
+          ap (λ (ps : List Pdu). pdus (emit (t .out) []) ++ ps) (more (x ∷ xs) (omega arith) b ∙ ap (λ (q : Ran). pdus (q .list)) (later-takes m segment o bytes f (x ∷ xs)))
+          ∙ sym (pdus-append (emit (t .out) []) (takes (R m) f (t .to) (x ∷ xs) .list))
+          ∙ ap pdus (emit-append (t .out) [] (takes (R m) f (t .to) (x ∷ xs) .list))

@@ -1,0 +1,71 @@
+-- THE MACHINE that the entry points make: the state and both lent memories, each call lent what the last one left; and a segment event
+-- on it, which is the caller's takes.
+-- Assumes nothing: these are definitions.
+use Prim.Native.Nat.{ℕ, zero, suc}
+use mathlib.Core.Bool.{Bool, false, cond}
+use mathlib.Core.List.{List, [], _∷_, _++_}
+use lib.ListN.{length, drop}
+use Rattle.feed.specs.Feed.{Pdu, handed}
+use Rattle.state.specs.declared.State.{State}
+use Rattle.stream.specs.declared.Outcome.{Outcome}
+use Rattle.stream.specs.declared.Outcome.the-variants as Found
+use Rattle.receive.specs.declared.SegmentTaken.{SegmentTaken}
+use Rattle.receive.specs.Answer.{isDone}
+use Rattle.receive.specs.Segment.{segmentOf, memoryOf, payloadOf}
+use Rattle.world.specs.World.{World, viewOf}
+
+pub record Machine : Type 0 where
+  pub state : State
+  pub rx : List ℕ
+  pub tx : List ℕ
+
+abbrev pub machine : State → List ℕ → List ℕ → Machine
+machine s rx tx = record { state = s; rx = rx; tx = tx }
+
+-- what it holds
+abbrev pub seen : Machine → World
+seen m = viewOf (m .state) (m .rx) (m .tx)
+
+-- ONE TAKE on connection k
+module _ (image : List ℕ) (k : ℕ) where
+  abbrev pub taken : Machine → List ℕ → SegmentTaken
+  taken m segment = segmentOf image (m .state) (m .rx) (length (m .tx)) k segment
+
+  abbrev pub afterOne : Machine → List ℕ → Machine
+  afterOne m segment = machine (taken m segment .state) (memoryOf image (m .state) (m .rx) (length (m .tx)) k segment) (m .tx)
+
+  -- the bytes that it leaves of the segment
+  abbrev pub restOf : Machine → List ℕ → List ℕ
+  restOf m segment = drop (taken m segment .read) segment
+
+  -- the PDU that it hands out, with the payload that the caller is given
+  abbrev pub told : List ℕ → Outcome → List Pdu
+  told payload Found.More = []
+  told payload (Found.Pdu route id inside at n) = handed route payload ∷ []
+  told payload (Found.Drop reason id n) = []
+
+  abbrev pub toldBy : Machine → List ℕ → List Pdu
+  toldBy m segment = told (payloadOf segment (afterOne m segment .rx) k (taken m segment .outcome)) (taken m segment .outcome)
+
+  -- A SEGMENT EVENT: "the caller's takes over one segment until all is read, one take at least"; a take that is refused ends it. At
+  -- most f takes
+  abbrev pub goesOn : Bool → List ℕ → Bool
+  goesOn done [] = false
+  goesOn done (b ∷ bs) = done
+
+  unfoldable pub afterTakes : ℕ → Machine → List ℕ → Machine
+  afterTakes zero m segment = m
+  afterTakes (suc f) m segment =
+      cond (goesOn (isDone (taken m segment .answer)) (restOf m segment)) (afterTakes f (afterOne m segment) (restOf m segment)) (afterOne m segment)
+
+  unfoldable pub toldTakes : ℕ → Machine → List ℕ → List Pdu
+  toldTakes zero m segment = []
+  toldTakes (suc f) m segment =
+      toldBy m segment ++ cond (goesOn (isDone (taken m segment .answer)) (restOf m segment)) (toldTakes f (afterOne m segment) (restOf m segment)) []
+
+  -- each take but that of an empty segment reads a byte, so this many are enough
+  abbrev pub afterSegment : Machine → List ℕ → Machine
+  afterSegment m segment = afterTakes (suc (length segment)) m segment
+
+  abbrev pub toldSegment : Machine → List ℕ → List Pdu
+  toldSegment m segment = toldTakes (suc (length segment)) m segment

@@ -1,0 +1,73 @@
+-- EVENTS AND RUNS OF THE MACHINE: what an event makes of it is what the contract of its entry point says, refusals included.
+-- Assumes nothing: these are definitions.
+use Prim.Native.Nat.{ℕ}
+use mathlib.Core.Path.{_≡_}
+use mathlib.Core.Bool.{cond}
+use mathlib.Core.List.{List, [], _∷_, _++_}
+use lib.Dec.{eqb}
+use lib.ListN.{length, drop, replicate, take as front}
+use Rattle.feed.specs.Feed.{Pdu, handed}
+use Rattle.datagram.specs.declared.Outcome.{Outcome as Step}
+use Rattle.datagram.specs.declared.Outcome.the-variants as Met
+use Rattle.gate.specs.Gate.{Passed}
+use Rattle.events.specs.Change.{eventOf}
+use Rattle.events.specs.Module.{switchAllOf}
+use Rattle.events.specs.Count.{readOf, clearOf}
+use Rattle.ticks.specs.Tick.{tickEvent}
+use Rattle.arrivals.specs.Arrivals.{datagramOf, acceptOf}
+use Rattle.receive.specs.Walk.{walkOf}
+use Rattle.sending.specs.Sending.{sendOf, sentMemory, takenOf}
+use Rattle.world.specs.Events.{Own, change, segment, walk, take, Whole, datagram, accept, tick, transmit, switchAll, readCount, clearCount, Event, on, all}
+use Rattle.tie.specs.Machine.{Machine, machine, afterSegment, toldSegment}
+
+-- THE PDU OF A WALK, with the payload that stands at its place
+abbrev pub toldWalk : List ℕ → Step → List Pdu
+toldWalk d Met.End = []
+toldWalk d (Met.Pdu route id place n) = handed route (front n (drop place d)) ∷ []
+toldWalk d (Met.Drop reason id n) = []
+
+-- ONE EVENT
+module _ (image : List ℕ) where
+  -- of connection k. An out buffer of that room: what stands in it does not matter
+  unfoldable pub afterOwn : ℕ → Own → Machine → Machine
+  afterOwn k (change e) m = machine (eventOf image (m .state) (length (m .rx)) (length (m .tx)) k e .state) (m .rx) (m .tx)
+  afterOwn k (segment bytes) m = afterSegment image k m bytes
+  afterOwn k (walk d place) m = machine (walkOf image (m .state) (length (m .rx)) (length (m .tx)) k d place .state) (m .rx) (m .tx)
+  afterOwn k (take room) m = machine (takenOf image (m .state) (length (m .rx)) (m .tx) k (replicate room 0) .state) (m .rx) (m .tx)
+
+  -- of a whole group or module
+  unfoldable pub afterWhole : Whole → Machine → Machine
+  afterWhole (datagram group source) m = machine (datagramOf image (m .state) (length (m .rx)) (length (m .tx)) group source .state) (m .rx) (m .tx)
+  afterWhole (accept group source) m = machine (acceptOf image (m .state) (length (m .rx)) (length (m .tx)) group source .state) (m .rx) (m .tx)
+  afterWhole tick m = machine (tickEvent image (m .state) (length (m .rx)) (length (m .tx)) .state) (m .rx) (m .tx)
+  afterWhole (transmit pdu payload) m =
+      machine (sendOf image (m .state) (length (m .rx)) (m .tx) pdu payload .state) (m .rx) (sentMemory image (m .state) (length (m .rx)) (m .tx) pdu payload)
+  afterWhole (switchAll number position) m = machine (switchAllOf image (m .state) (length (m .rx)) (length (m .tx)) number position .state) (m .rx) (m .tx)
+  afterWhole (readCount protocol) m = machine (readOf image (m .state) (length (m .rx)) (length (m .tx)) protocol .state) (m .rx) (m .tx)
+  afterWhole (clearCount protocol) m = machine (clearOf image (m .state) (length (m .rx)) (length (m .tx)) protocol .state) (m .rx) (m .tx)
+
+  unfoldable pub afterEvent : Event → Machine → Machine
+  afterEvent (on k e) m = afterOwn k e m
+  afterEvent (all e) m = afterWhole e m
+
+  -- the PDUs that the caller is given for connection k
+  unfoldable pub given : ℕ → Event → Machine → List Pdu
+  given k (on i (change e)) m = []
+  given k (on i (segment bytes)) m = cond (eqb i k) (toldSegment image i m bytes) []
+  given k (on i (walk d place)) m = cond (eqb i k) (toldWalk d (walkOf image (m .state) (length (m .rx)) (length (m .tx)) i d place .outcome)) []
+  given k (on i (take room)) m = []
+  given k (all e) m = []
+
+  -- A RUN: each call is lent the memory that the last one left
+  unfoldable pub afterRun : Machine → List Event → Machine
+  afterRun m [] = m
+  afterRun m (e ∷ es) = afterRun (afterEvent e m) es
+
+  unfoldable pub givenIn : ℕ → Machine → List Event → List Pdu
+  givenIn k m [] = []
+  givenIn k m (e ∷ es) = given k e m ++ givenIn k (afterEvent e m) es
+
+-- ONE ACCEPTED TABLE, ONE SOUND STATE (of sixteen records) AND MEMORY OF THE RIGHT LENGTHS
+pub record Good (image : List ℕ) (m : Machine) : Type 0 where
+  pub passed : Passed image (m .state) (length (m .rx)) (length (m .tx))
+  pub sixteen : length (m .state .connections) ≡ 16

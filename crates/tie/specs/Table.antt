@@ -1,0 +1,12 @@
+-- What an image says to the world of runs. Assumes nothing: these are definitions.
+use Prim.Native.Nat.{ℕ}
+use mathlib.Core.List.{List}
+use Rattle.layout.specs.Layout.{rowsOf, bodyOf}
+use Rattle.layout.specs.declared.Kind.the-variants.{Connection, Route}
+use Rattle.route.specs.Route.{lookupOf}
+use Rattle.state.specs.Fresh.{configOf}
+use Rattle.world.specs.Step.{Table}
+
+-- how many connections, what the table says of each, and what its routes say as its switches stand
+abbrev pub tableOf : List ℕ → Table
+tableOf image = record { rows = rowsOf image Connection; config = configOf image; routes = λ k switches. lookupOf (bodyOf image Route) k switches }
