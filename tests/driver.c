@@ -171,9 +171,18 @@ static void answer(const uint8_t *request, size_t length)
         die("driver: unknown or malformed request");
 }
 
+/* A function that leaves its buffers: the answers so far go out, so that the request without an answer is known. */
+static void stray(int number)
+{
+    (void)number;
+    flush();
+    die("driver: memory was touched that was not lent");
+}
+
 int main(void)
 {
     static uint8_t size[4], request[MOST];
+    signal(BAD_ADDRESS, stray);
     first_edge = new_edge();
     second_edge = new_edge();
     while (get_bytes(size, 4)) {

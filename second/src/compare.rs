@@ -12,7 +12,7 @@ use std::process::{Command, Stdio};
 /// Makes the same requests each time it is called.
 pub type Source = Box<dyn Fn() -> Box<dyn Iterator<Item = Vec<u8>>> + Send + Sync>;
 
-/// Gives `each` every request with the driver's answer, in order.
+/// Gives `each` every request with the driver's answer, in order; an empty answer where there is none, and then no more.
 fn ask(driver: &[String], source: Source, mut each: impl FnMut(Vec<u8>, Vec<u8>)) -> Result<(), String> {
     let (program, words) = driver.split_first().ok_or("no driver was named")?;
     let start = Command::new(program).args(words).stdin(Stdio::piped()).stdout(Stdio::piped()).spawn();
@@ -22,8 +22,12 @@ fn ask(driver: &[String], source: Source, mut each: impl FnMut(Vec<u8>, Vec<u8>)
     let requests = source();
     let writer = std::thread::spawn(move || send(to, source()));
     for (number, request) in requests.enumerate() {
-        let answer = receive(&mut from).map_err(|e| format!("the driver gave no answer to request {}: {}", number, e))?;
-        each(request, answer);
+        let answer = receive(&mut from);
+        let lost = answer.is_err();
+        each(request, answer.unwrap_or_default());
+        if lost {
+            return Err(format!("the driver gave no answer to request {}", number));
+        }
     }
     writer.join().expect("the writer ends").map_err(|e| format!("the driver did not read: {}", e))?;
     let ended = child.wait().map_err(|e| e.to_string())?;

@@ -94,6 +94,9 @@ fn walk_answer(step: &Step) -> Vec<u8> {
 
 /// An answer in words.
 pub fn words(request: &[u8], answer: &[u8]) -> String {
+    if answer.is_empty() {
+        return "no answer".into();
+    }
     let mut values = Reader::new(answer, 0);
     let number = values.number(4);
     let mut told = |name: &str, width: usize| {

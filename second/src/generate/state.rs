@@ -136,17 +136,33 @@ mod tests {
     use super::*;
     use crate::generate::script::table_for_events;
     use crate::sound::is_sound;
-    use std::collections::BTreeMap;
+    use std::collections::{BTreeMap, BTreeSet};
+
+    /// Mode, wishes, kind of receive part, and whether bytes wait, a timer runs, the buffer is due.
+    fn shape(record: &Record) -> String {
+        let part = match record.part {
+            Part::Header { held: 0, .. } => "ready",
+            Part::Header { .. } => "header",
+            Part::Payload { .. } => "payload",
+            Part::Skip(_) => "skip",
+        };
+        let wishes = (record.open_wanted, record.close_wanted);
+        format!("{:?} {:?} {} {:?}", record.mode, wishes, part, (record.used > 0, record.timer > 0, record.due))
+    }
 
     #[test]
-    fn states_are_sound() {
+    fn states_are_sound_and_of_every_mode_wish_and_part() {
         let random = &mut Random::new(1);
+        let mut shapes = BTreeSet::new();
         for _ in 0..300 {
             let table = table_for_events(random);
             let world = sound(random, &table);
             assert_eq!(broken(&table, &world.state), []);
             assert!(is_sound(&table, &world.state));
+            shapes.extend(world.state.records[..table.connections.len()].iter().map(shape));
         }
+        // offline with a wish or none, reconnect and online with close wanted or not, online with 4 parts and 4 kinds of buffer
+        assert_eq!(shapes.len(), 3 + 2 + 2 * 4 * 4, "{:?}", shapes);
     }
 
     #[test]
