@@ -20,9 +20,7 @@ use Rattle.connection.specs.declared.Event.the-variants.{Open, Close, Co
 use Rattle.connection.specs.Connection.{isOffline, isReconnect, isOnline, wildcard, withMode, withRemote, withSwitches, withPart, withSend, freshOf, become, openOf, closeOf, connectedOf, lostOf, remoteOf, metOf, switchOf, switchedOf, closedOf, startOf, reachOf, runOf, tickOf}
 use Rattle.connection.specs.Event.{openAllowed, closeAllowed, connectedAllowed, lostAllowed, remoteAllowed, allowed, known, after, refusedBy, stepOf}
 use Rattle.connection.specs.Sound.{Sound}
-
-impossible : {P : Type 0} → false ≡ true → P
-impossible p = absurd (let z : _≡_ {A = ℕ} 0 1 = cc in omega arith)
+use Rattle.connection.proofs.Rules.{impossible}
 
 -- a mode is one of the three
 online-not-offline : (m : Mode) → isOnline m ≡ true → isOffline m ≡ false
@@ -63,8 +61,9 @@ online-too true o t p = refl
 online-too false true t p = p
 online-too false false t p = impossible p
 
-pub fresh-sound : (g : Config) → Sound g (freshOf g)
-fresh-sound g =
+-- a record with nothing wanted or held is sound under every row, whatever row it comes from
+pub bare-sound : (g h : Config) → Sound g (freshOf h)
+bare-sound g h =
     record {
       fits = leb·zero (g .size);
       shape = refl;
@@ -76,6 +75,9 @@ fresh-sound g =
       opening = refl;
       closing = refl;
     }
+
+pub fresh-sound : (g : Config) → Sound g (freshOf g)
+fresh-sound g = bare-sound g g
 
 module _ (g : Config) (c : Connection) (s : Sound g c) where
   pub open-keeps : openAllowed g c ≡ true → Sound g (openOf c)

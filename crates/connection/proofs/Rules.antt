@@ -17,7 +17,8 @@ use Rattle.connection.specs.declared.Config.{Config}
 use Rattle.connection.specs.Connection.{isOffline, wildFields, zeroRecord}
 use Rattle.connection.specs.Sound.{usedFits, partShaped, receives, sends, timed, neverBoth, onlineRemote, openRule, closeRule, soundOf, Sound, zeroOf}
 
-impossible : {P : Type 0} → false ≡ true → P
+-- a test that is not true
+pub impossible : {P : Type 0} → false ≡ true → P
 impossible p = absurd (let z : _≡_ {A = ℕ} 0 1 = cc in omega arith)
 
 -- nine tests that hold together hold each

@@ -4,7 +4,7 @@ use mathlib.Core.Path.{_≡_, refl, sym, ap, subst, _∙_}
 use mathlib.Core.Bool.{Bool, true, false, cond, not, _&&_, _||_}
 use mathlib.Core.List.{List, [], _∷_}
 use native.Mathlib.Omega.{arith}
-use lib.Dec.{eqb, ltb, leb·zero}
+use lib.Dec.{eqb, ltb}
 use lib.ListN.{length, getD}
 use lib.ListN.{List·getD-eq-default}
 use borrow.Author.Tests.{ltb-true, ltb-false}
@@ -22,7 +22,7 @@ use Rattle.connection.specs.declared.Event.the-variants.{Open, Close, Connected
 use Rattle.connection.specs.Connection.{zeroRecord, isOffline, isReconnect, wildcard, withMode, withSend, become, closedOf, switchedOf, startOf, reachOf, runOf, tickOf}
 use Rattle.connection.specs.Event.{known, allowed, after, refusedBy, stepOf}
 use Rattle.connection.specs.Sound.{Sound}
-use Rattle.connection.proofs.Keeps.{step-keeps, switches-keep, tick-keeps}
+use Rattle.connection.proofs.Keeps.{bare-sound, step-keeps, switches-keep, tick-keeps}
 use Rattle.lists.specs.Each.{all, eachTo}
 use Rattle.lists.proofs.Both.{and-left, and-right, and-both}
 use Rattle.state.specs.Fresh.{configOf}
@@ -90,20 +90,8 @@ tick-part g c = go (c .«close_wanted»)
     go true = empty
     go false = subst (Stays (c .part)) (sym on) same
 
--- the zero record is sound under every row
 zero-sound : (g : Config) → Sound g zeroRecord
-zero-sound g =
-    record {
-      fits = leb·zero (g .size);
-      shape = refl;
-      receiving = refl;
-      sending = refl;
-      timing = refl;
-      once = refl;
-      reached = refl;
-      opening = refl;
-      closing = refl;
-    }
+zero-sound g = bare-sound g (record { tcp = false; automatic = false; remote = record { address = 0; port = 0 }; size = 0; switches = 0 })
 
 -- the record of a row, in a list of any length
 pub row-at : (image : List ℕ) (cs : List Connection) (n : ℕ) → recordsSound image cs ≡ true → n < rowsOf image Connections → soundAt image n (getD cs n zeroRecord) ≡ true

@@ -2,3 +2,4 @@
 pub mod Append
 pub mod Held
 pub mod Since
+pub mod Turns

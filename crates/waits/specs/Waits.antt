@@ -4,7 +4,11 @@ use mathlib.Core.Bool.{Bool, true, false, cond, _&&_}
 use mathlib.Core.List.{List, [], _∷_, _++_}
 use lib.Dec.{eqb}
 use lib.ListN.{length}
+use Rattle.connection.specs.declared.Config.{Config}
 use Rattle.connection.specs.declared.Connection.{Connection}
+use Rattle.connection.specs.declared.Event.{Event}
+use Rattle.connection.specs.declared.Event.the-variants.{Open, Close, Connected, Lost, SetRemote, Switch}
+use Rattle.connection.specs.Event.{lostAllowed}
 use Rattle.destination.specs.Destination.{sentOf}
 use Rattle.feed.specs.Frame.{frame}
 use Rattle.rows.specs.Rows.{destinationOf}
@@ -73,3 +77,16 @@ since [] = []
 since (adds bytes ∷ ts) = cond (emptied ts) (since ts) (bytes ++ since ts)
 since (empties ∷ ts) = since ts
 since (stays ∷ ts) = since ts
+
+-- which connection events empty the waiting bytes: a loss that is allowed
+abbrev pub loses : Event → Config → Connection → Bool
+loses Open g c = false
+loses Close g c = false
+loses Connected g c = false
+loses Lost g c = lostAllowed g c
+loses (SetRemote r) g c = false
+loses (Switch n on) g c = false
+
+-- an event that empties, or leaves
+abbrev pub emptiesWhen : Bool → Turn
+emptiesWhen b = cond b empties stays

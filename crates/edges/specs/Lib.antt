@@ -1,0 +1,4 @@
+-- The edges, as one table. Assumes nothing.
+pub mod Table
+pub mod Edges
+pub mod Wrong

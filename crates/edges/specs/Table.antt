@@ -1,0 +1,43 @@
+-- The image of the edges, and states over it. Assumes nothing: these are definitions.
+use Prim.Native.Nat.{ℕ}
+use mathlib.Core.Bool.{true}
+use mathlib.Core.List.{List, [], _∷_}
+use Rattle.connection.specs.declared.Connection.{Connection}
+use Rattle.connection.specs.declared.Remote.{Remote}
+use Rattle.connection.specs.declared.Mode.the-variants.{Reconnect, Online}
+use Rattle.connection.specs.Connection.{become, withSend}
+use Rattle.state.specs.declared.State.{State}
+use Rattle.state.specs.State.{recordAt, withRecord}
+use Rattle.state.specs.Fresh.{freshState}
+
+-- two groups (UDP, TCP), three connections, three routes, one destination
+unfoldable pub image : List ℕ
+image =
+    0 ∷ 1 ∷ 0 ∷ 4
+    ∷ 0 ∷ 1 ∷ 0 ∷ 2 ∷ 0 ∷ 0 ∷ 0 ∷ 36 ∷ 0 ∷ 2 ∷ 0 ∷ 3 ∷ 0 ∷ 0 ∷ 0 ∷ 40
+    ∷ 0 ∷ 3 ∷ 0 ∷ 3 ∷ 0 ∷ 0 ∷ 0 ∷ 88 ∷ 0 ∷ 4 ∷ 0 ∷ 1 ∷ 0 ∷ 0 ∷ 0 ∷ 136
+    ∷ 1 ∷ 0 ∷ 2 ∷ 0
+    -- 0: UDP, remote 0:0; 1: UDP, 192.168.0.5 port 1,000; 2: TCP, 192.168.0.7 port 1,000; each with all switches off
+    ∷ 0 ∷ 0 ∷ 0 ∷ 0 ∷ 0 ∷ 0 ∷ 0 ∷ 0 ∷ 5 ∷ 0xC0 ∷ 0 ∷ 0 ∷ 0 ∷ 0 ∷ 0 ∷ 0
+    ∷ 0 ∷ 0 ∷ 192 ∷ 168 ∷ 0 ∷ 5 ∷ 3 ∷ 0xE8 ∷ 5 ∷ 0xC0 ∷ 0 ∷ 0 ∷ 0 ∷ 0 ∷ 0 ∷ 0
+    ∷ 1 ∷ 0 ∷ 192 ∷ 168 ∷ 0 ∷ 7 ∷ 3 ∷ 0xE8 ∷ 5 ∷ 0xC0 ∷ 0 ∷ 0 ∷ 0 ∷ 0 ∷ 0 ∷ 0
+    -- connection 2: 0x101 to 2 bytes under switch 0; 0x102 to 2 bytes with groups 0; connection 0: 0x101
+    ∷ 2 ∷ 0 ∷ 0 ∷ 2 ∷ 0 ∷ 0 ∷ 1 ∷ 1 ∷ 0 ∷ 7 ∷ 0 ∷ 0 ∷ 0 ∷ 0 ∷ 0 ∷ 1
+    ∷ 2 ∷ 0 ∷ 0 ∷ 2 ∷ 0 ∷ 0 ∷ 1 ∷ 2 ∷ 0 ∷ 8 ∷ 0 ∷ 0 ∷ 0 ∷ 0 ∷ 0 ∷ 0
+    ∷ 0 ∷ 0 ∷ 0 ∷ 2 ∷ 0 ∷ 0 ∷ 1 ∷ 1 ∷ 0 ∷ 7 ∷ 0 ∷ 0 ∷ 0 ∷ 0 ∷ 0 ∷ 0
+    -- PDU 9 to connection 2, id 0x202, to 1,464 bytes, groups 0
+    ∷ 2 ∷ 0 ∷ 5 ∷ 0xB8 ∷ 0 ∷ 0 ∷ 2 ∷ 2 ∷ 0 ∷ 9 ∷ 0 ∷ 0 ∷ 0 ∷ 0 ∷ 0 ∷ 0 ∷ []
+
+-- fresh; both UDP connections in reconnect; the TCP connection online with so many bytes waiting
+abbrev pub fresh : State
+fresh = freshState image
+
+abbrev pub waitingFor : State
+waitingFor = withRecord 0 (become Reconnect (recordAt fresh 0)) (withRecord 1 (become Reconnect (recordAt fresh 1)) fresh)
+
+abbrev pub used : ℕ → State
+used n = withRecord 2 (withSend n 0 true (become Online (recordAt fresh 2))) fresh
+
+-- the remote of connection 1, and another
+abbrev pub exact : Remote
+exact = record { address = 3232235525; port = 1000 }

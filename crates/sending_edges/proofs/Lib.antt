@@ -1,0 +1,4 @@
+-- Laws of the crate. Assumes nothing.
+pub mod Transmits
+pub mod Selects
+pub mod Takes

@@ -1,0 +1,2 @@
+-- The examples of the crate. Assumes nothing.
+pub mod Valves

@@ -1,0 +1,3 @@
+-- The definitions of the crate. Assumes nothing.
+pub mod Table
+pub mod Changes

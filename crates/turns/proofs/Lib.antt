@@ -1,0 +1,2 @@
+-- Laws of the crate. Assumes nothing.
+pub mod Entries
