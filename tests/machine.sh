@@ -1,3 +1,4 @@
+# shellcheck shell=bash disable=SC2034
 # machine.sh, to be sourced: compiles C programs for x86-64 and runs them, on a machine of either kind.
 #
 #   need COMMAND PACKAGE     installs a package where its command is missing

@@ -1,11 +1,10 @@
 -- THE EDGES HOLD, by computation over the whole table (`edges-hold`); and so each of them does (`each-edge`). Assumes nothing.
-use Prim.Native.Nat.{ℕ, zero, suc, _<_}
-use mathlib.Core.Path.{_≡_, refl, ap, ap₂}
-use mathlib.Core.Bool.{Bool, true, false, _&&_, false≢true}
+use Prim.Native.Nat.{ℕ, zero, suc}
+use mathlib.Core.Path.{_≡_, refl, ap₂}
+use mathlib.Core.Bool.{true, false≢true}
 use mathlib.Core.List.{List, [], _∷_}
-use native.Mathlib.Omega.{arith}
 use lib.Dec.{eqb}
-use lib.ListN.{length, getD}
+use lib.ListN.{getD}
 use borrow.Author.Tests.{eqb-true}
 use Rattle.wire.specs.Be.{be}
 use Rattle.lists.specs.Search.{badFrom, every}
@@ -27,7 +26,7 @@ use Rattle.destination.specs.Destination.{refusalOf, lookOf, timerOf}
 use Rattle.send.specs.Verdict.{verdictOf}
 use Rattle.send.specs.Send.{lookAt, checkOf}
 use Rattle.edges.specs.Table.{image}
-use Rattle.edges.specs.Edges.{Edge, edge, edges, same, hold, Hold}
+use Rattle.edges.specs.Edges.{Edge, edge, edges, same, Hold}
 
 pub edges-hold : Hold edges
 unfolding image be badFrom every foldFrom rowsOf bodyBytes startOf endOf rowAt partOf bodyOf rowIn groupRow connectionRow routeRow destinationRow groupGood connectionGood routeGood destinationGood sizeIn routesShare destinationsShare share clearIn goodIn headGood entryGood rule then entriesPlace headPlace allRowsPlace checkTable configOf freshState done feed takeB takes segment segments headOf walkAt isOn rowsIn counts rowFor reasonIn reasonOf decisionOf lookupOf better chosenOf rankOf scoreOf scoreAt chosenIn deniedOf arriveOf refusalOf lookOf timerOf verdictOf lookAt checkOf

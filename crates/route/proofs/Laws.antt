@@ -1,21 +1,32 @@
 -- The laws of the lookup: the search for a row, the reason, and what an accepted header's row says.
 -- Assumes nothing.
-use Prim.Native.Nat.{ℕ, zero, suc, _+_, _/_, _<_, _≤_}
-use mathlib.Core.Path.{_≡_, refl, sym, ap, subst, _∙_}
-use mathlib.Core.Bool.{Bool, true, false, cond, not}
+use Prim.Native.Nat.{ℕ, zero, suc, _+_, _-_, _*_, _/_, _<_, _≤_}
+use mathlib.Core.Path.{_≡_, refl, sym, ap, ap₂, subst, _∙_}
+use mathlib.Core.Bool.{Bool, true, false, cond, not, _&&_}
 use mathlib.Core.List.{List}
 use native.Mathlib.Omega.{arith}
 use borrow.Author.Tests.{ltb-true, ltb-false, eqb-true, not-false, lt-ltb, le-ltb}
 use lib.Dec.{leb, ltb, eqb}
-use lib.ListN.{length}
+use lib.ListN.{length, take, drop}
 use Rattle.feed.specs.declared.Decision.{Decision}
 use Rattle.feed.specs.declared.Decision.the-variants.{Accept, Refuse}
 use Rattle.lists.specs.Search.{badFrom, firstBad}
 use Rattle.lists.proofs.Both.{and-left, and-right}
 use Rattle.lists.proofs.Search.{Searched, search-start, search-on, search-found, search-ended}
 use Rattle.rows.specs.declared.RouteRow.{RouteRow}
-use Rattle.rows.specs.Rows.{routeIn}
+use Rattle.layout.proofs.Parts.{row-range}
+use Rattle.rows.specs.Rows.{routeRow, routeIn}
+use Rattle.wire.specs.Be.{be}
 use Rattle.route.specs.Route.{isOn, rowsIn, counts, passed, rowFor, reasonIn, reasonOf, decisionOf, lookupOf}
+
+-- the row that is read as a part of the body is the body's row
+pub row-at : (routes : List ℕ) (i : ℕ) → i < length routes / 16 → routeRow (take (i * 16 + 16 - i * 16) (drop (i * 16) routes)) ≡ routeIn routes i
+row-at routes i h = ap routeRow (row-range 16 routes i h)
+
+-- the two numbers of a row that are compared with the header's
+pub read-row : (row : List ℕ) (connection id a b : ℕ) → a ≡ be 1 row 0 → b ≡ be 4 row 4 → (eqb a connection && eqb b id) ≡ counts (routeRow row) connection id
+unfolding counts routeRow
+read-row row connection id a b ea eb = ap₂ (λ (x y : ℕ). eqb x connection && eqb y id) ea eb
 
 -- the search for a row: at a row that is passed, at one that counts, and at the end
 module _ (routes : List ℕ) (connection id : ℕ) where

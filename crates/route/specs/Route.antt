@@ -1,6 +1,7 @@
 -- The lookup: what the receive routes of a connection say to a header's id and length.
 -- Assumes nothing: these are definitions.
-use Prim.Native.Nat.{ℕ, zero, suc, _/_}
+use Prim.Native.Nat.{ℕ, zero, suc, _/_, _≤_}
+use mathlib.Core.Path.{_≡_}
 use mathlib.Core.Bool.{Bool, cond, not, _&&_, _||_}
 use mathlib.Core.List.{List}
 use lib.Bits.{bitAnd}
@@ -20,6 +21,12 @@ isOn groups switches = eqb groups 0 || not (eqb (bitAnd groups switches) 0)
 -- how many rows a body of routes has: 64 at most
 unfoldable pub rowsIn : List ℕ → ℕ
 rowsIn routes = cond (leb (length routes / 16) 64) (length routes / 16) 64
+
+-- n is that number, and its rows stand within the body
+pub record Counted (routes : List ℕ) (n : ℕ) : Type 0 where
+  pub is : n ≡ rowsIn routes
+  pub most : n ≤ 64
+  pub within : n ≤ length routes / 16
 
 -- "A receive route counts for the header's id on its connection"
 unfoldable pub counts : RouteRow → ℕ → ℕ → Bool

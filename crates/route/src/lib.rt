@@ -2,11 +2,13 @@
 // Assumes nothing.
 ghost use mathlib.Core.Path.{_≡_};
 ghost use Prim.Native.Nat.{_≤_};
-ghost use Rattle.rows.specs.Rows.{routeIn};
-ghost use Rattle.route.specs.Route.{isOn, rowsIn, counts, rowFor, reasonIn, reasonOf, decisionOf, lookupOf};
+ghost use Rattle.rows.specs.Rows.{routeRow};
+ghost use Rattle.route.specs.Route.{isOn, Counted, counts, rowFor, reasonIn, reasonOf, lookupOf};
 use feed::Decision;
 use rows::RouteRow;
 use rows::route_in;
+use wire::be8;
+use wire::be32;
 
 // A route or a destination of these groups is on at these switches.
 pub fn is_on(groups: u32, switches: u32) -> bool
@@ -17,17 +19,17 @@ pub fn is_on(groups: u32, switches: u32) -> bool
 
 // How many rows there are: 64 at most.
 fn rows_in(routes: &[u8]) -> usize
-    ensures { λ r. ⌜ (r ≡ rowsIn (now (routes .entry))) × (r ≤ 64) ⌝ }
+    ensures { λ r. ⌜ Counted (now (routes .entry)) r ⌝ }
 {
     let n = routes.len() / 16;
     if n <= 64 { n } else { 64 }
 }
 
 // A row counts for a header: its connection and its id are the header's.
-fn row_counts(row: RouteRow, connection: u8, id: u32) -> bool
-    ensures { λ r. ⌜ r ≡ counts row connection id ⌝ }
+fn row_counts(row: &[u8], connection: u8, id: u32) -> bool
+    ensures { λ r. ⌜ r ≡ counts (routeRow (now (row .entry))) connection id ⌝ }
 {
-    (row.connection == connection) & (row.id == id)
+    (be8(row, 0) == connection as usize) & (be32(row, 4) == id as usize)
 }
 
 // The first row that counts, or the number of rows where there is none: it stops at a hit.
@@ -37,7 +39,9 @@ fn find(routes: &[u8], connection: u8, id: u32) -> usize
     let n = rows_in(routes);
     let mut i = 0;
     while i < n {
-        if row_counts(route_in(routes, i), connection, id) {
+        let at = i * 16;
+        let row = &routes[at..at + 16];
+        if row_counts(row, connection, id) {
             return i;
         }
         i += 1;

@@ -208,7 +208,7 @@ pub fn route_good(row: &[u8], connections: usize) -> bool
 }
 
 // The send size of connection c, out of the body of connections.
-fn size_in(connections: &[u8], c: usize) -> usize
+pub fn size_in(connections: &[u8], c: usize) -> usize
     ensures { λ r. ⌜ r ≡ sizeIn (now (connections .entry)) c ⌝ }
 {
     be16(row_in(connections, 16, c), 8)

@@ -2,32 +2,28 @@
 -- holds nothing of it. Here for connection events.
 -- Assumes nothing.
 use Prim.Native.Nat.{ℕ, _-_, _<_, _≤_}
-use mathlib.Core.Path.{_≡_, refl, sym, ap, ap₂, _∙_, subst}
-use mathlib.Core.Bool.{Bool, true, false, cond, not, _&&_, _||_, true≢false, false≢true}
-use mathlib.Core.List.{List, [], _∷_}
-use lib.ListN.{length, getD, set, take as front, List·getD-eq-default}
+use mathlib.Core.Path.{_≡_, refl, sym, ap, _∙_, subst}
+use mathlib.Core.Bool.{Bool, true, false, _&&_, _||_, true≢false, false≢true}
+use mathlib.Core.List.{List, []}
+use lib.ListN.{length, getD, set, take as front}
 use lib.Seq.{take-take, getD-set-same, set-out}
-use lib.Dec.{eqb, leb, ltb}
-use native.Mathlib.Decide.{decLt}
+use lib.Dec.{eqb, ltb}
 use native.Mathlib.Nat.{le-refl}
 use native.Mathlib.Omega.{arith}
-use borrow.Author.Tests.{not-false, not-true}
 use Rattle.part.specs.declared.Part.{Part}
 use Rattle.part.specs.declared.Part.the-variants.{Header, Payload, Skip}
 use Rattle.connection.specs.declared.Connection.{Connection}
 use Rattle.connection.specs.declared.Config.{Config}
 use Rattle.connection.specs.declared.Event.{Event as Change}
 use Rattle.connection.specs.declared.Event.the-variants.{Open, Close, Connected, Lost, SetRemote, Switch}
-use Rattle.connection.specs.declared.Mode.{Mode}
-use Rattle.connection.specs.declared.Mode.the-variants.{Reconnect}
-use Rattle.connection.specs.Connection.{isOnline, wildcard, become, withMode, withRemote, withSend}
-use Rattle.connection.specs.Event.{known, allowed, after, stepOf, refusedBy}
+use Rattle.connection.specs.Connection.{isOnline, wildcard}
+use Rattle.connection.specs.Event.{known, allowed, after, stepOf}
 use Rattle.feed.specs.Feed.{cell, payload}
 use Rattle.waiting.specs.Waiting.{takeOf}
 use Rattle.stream.specs.Stream.{cellOf}
-use Rattle.world.specs.World.{Held, World, blank, heldBy, cellAt, follow}
-use Rattle.world.specs.Events.{Own, change, segment, walk, take, Event, on}
-use Rattle.world.specs.Step.{Table, Acted, acted, receiving, does, acts}
+use Rattle.world.specs.World.{Held, blank, heldBy, cellAt, follow}
+use Rattle.world.specs.Events.{Own, change, walk, take, on}
+use Rattle.world.specs.Step.{Table, does, acts}
 use Rattle.runs.specs.Streams.{Quiet, Kept}
 
 -- nothing happened

@@ -1,9 +1,9 @@
 -- DEMAND 3: runs that count as the same end in the same world, and each connection has handed out the same PDUs in the same
 -- order; whatever the table says, whatever the world at the start, whatever events of a whole group or module do.
 -- Assumes nothing.
-use Prim.Native.Nat.{ℕ, _+_, _<_, _≤_}
+use Prim.Native.Nat.{ℕ, _<_, _≤_}
 use mathlib.Core.Path.{_≡_, refl, sym, ap, ap₂, _∙_}
-use mathlib.Core.Bool.{Bool, true, false, cond, not, _&&_, and-false}
+use mathlib.Core.Bool.{Bool, true, false, cond, not, _&&_}
 use mathlib.Core.List.{List, [], _∷_, _++_, append-assoc}
 use lib.ListN.{length, getD, set, List·getD-eq-default}
 use lib.Seq.{set-comm, set-set, getD-set-other, getD-set-same, set-out}
@@ -11,10 +11,10 @@ use lib.Dec.{eqb, ltb}
 use native.Mathlib.Decide.{decLt}
 use native.Mathlib.Omega.{arith}
 use borrow.Author.Tests.{eqb-true}
-use Rattle.feed.specs.Feed.{Routes, Cell, Out, Ran, segment as segmentOf, Pdu, pdus, drops}
+use Rattle.feed.specs.Feed.{Routes, Cell, segment as segmentOf, Pdu, pdus, drops}
 use Rattle.feed.proofs.Cut.{cut as cut-segment, pdus-append, drops-append}
-use Rattle.world.specs.World.{Held, World, blank, heldAt, cellAt, withCell}
-use Rattle.world.specs.Events.{Own, segment, Whole, Event, on, all}
+use Rattle.world.specs.World.{Held, World, blank, cellAt, withCell}
+use Rattle.world.specs.Events.{Own, segment, Whole, Event, on}
 use Rattle.world.specs.Step.{Table, countsIf, Acted, acted, receiving, streamed, routesAt, does, acts, at, left, step, run, hands, heard}
 use Rattle.world.proofs.Counts.{countsIf-comm, countsIf-add}
 use Rattle.world.proofs.Cells.{snug-in, snug-segment, cell-back}

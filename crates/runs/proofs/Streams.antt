@@ -1,11 +1,11 @@
 -- DEMAND 3'S LIST: in any run, what a TCP connection hands out is what its streams hold by lengths, one stream for each online
 -- period, the first of them begun with what the record holds at the start (`heard-listed`, at the end).
 -- Assumes nothing.
-use Prim.Native.Nat.{ℕ, _<_, _≤_}
+use Prim.Native.Nat.{ℕ}
 use mathlib.Core.Path.{_≡_, refl, sym, ap, ap₂, _∙_, subst}
-use mathlib.Core.Bool.{Bool, true, false, cond, not, _&&_, true≢false, false≢true}
+use mathlib.Core.Bool.{Bool, true, false, cond, not, _&&_, true≢false}
 use mathlib.Core.List.{List, [], _∷_, _++_, append-assoc, map, map-append}
-use lib.ListN.{length, getD, set}
+use lib.ListN.{length}
 use lib.Seq.{getD-set-other}
 use lib.Dec.{eqb, ltb}
 use native.Mathlib.Decide.{decLt, ℕ-discrete}
@@ -17,7 +17,7 @@ use Rattle.feed.specs.Feed.{Routes, Cell, ready, Ran, ran, segment as segmentOf
 use Rattle.feed.proofs.Cut.{pdus-append}
 use Rattle.world.specs.World.{Held, World, blank, heldAt, cellAt}
 use Rattle.world.specs.Events.{Own, change, segment, walk, take, Whole, Event, on, all}
-use Rattle.world.specs.Step.{Table, Acted, acted, receiving, streamed, routesAt, does, acts, at, step, hands, heard}
+use Rattle.world.specs.Step.{Table, Acted, acted, receiving, streamed, routesAt, acts, at, step, hands, heard}
 use Rattle.world.proofs.Cells.{snug-in, snug-segment, cell-back}
 use Rattle.lengths.specs.Listed.{Marked, mark, bytesOf, readTo, readOut, Bytes}
 use Rattle.lengths.proofs.Bytes.{bytes-append, bytes-mark}

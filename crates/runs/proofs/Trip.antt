@@ -2,18 +2,18 @@
 -- online, ready and at a header's first byte, with routes for those ids, switched on and allowing those lengths: the same PDUs in the
 -- same order.
 -- Assumes nothing.
-use Prim.Native.Nat.{ℕ, _<_}
+use Prim.Native.Nat.{ℕ}
 use mathlib.Core.Path.{_≡_, refl, sym, ap, _∙_}
-use mathlib.Core.Bool.{Bool, true, cond, _&&_}
-use mathlib.Core.List.{List, [], _∷_, _++_, append-nil, append-assoc, map, flatten}
-use lib.Dec.{eqb, ltb}
+use mathlib.Core.Bool.{true}
+use mathlib.Core.List.{List, [], _∷_, _++_, append-nil, map, flatten}
+use lib.Dec.{ltb}
 use borrow.Author.Tests.{eq-eqb}
-use Rattle.feed.specs.Feed.{Routes, Cell, ready, Out, Ran, segment as segmentOf, segments, Pdu, handed, pdus}
-use Rattle.feed.specs.Frame.{Sent, frames, Routed, none, one}
+use Rattle.feed.specs.Feed.{Routes, Cell, ready, Ran, segment as segmentOf, segments, Pdu, pdus}
+use Rattle.feed.specs.Frame.{Sent, frames, Routed}
 use Rattle.feed.proofs.Trip.{asOut, round-trip}
-use Rattle.world.specs.World.{Held, World, heldAt, cellAt}
+use Rattle.world.specs.World.{World, heldAt, cellAt}
 use Rattle.world.specs.Events.{segment, Whole, Event, on}
-use Rattle.world.specs.Step.{Table, Acted, receiving, streamed, routesAt, does, acts, at, step, hands, heard}
+use Rattle.world.specs.Step.{Table, Acted, receiving, routesAt, acts, at, hands, heard}
 use Rattle.runs.specs.Same.{Same, join, same, later, both}
 use Rattle.runs.proofs.Same.{does-read, same-heard}
 
@@ -24,7 +24,7 @@ pub record Reads (T : Table) (w : World) (k : ℕ) : Type 0 where
   pub receives : receiving (heldAt w k .connection) ≡ true
   pub at-header : cellAt (heldAt w k) ≡ ready
 
-abbrev given : ℕ → List (List ℕ) → List Event
+abbrev pub given : ℕ → List (List ℕ) → List Event
 given k pieces = map (λ (p : List ℕ). on k (segment p)) pieces
 
 -- pieces are one segment

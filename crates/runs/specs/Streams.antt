@@ -10,7 +10,7 @@ use Rattle.connection.specs.Connection.{isOnline}
 use Rattle.feed.specs.Feed.{Routes, Cell, ready, Pdu}
 use Rattle.lengths.specs.Listed.{Marked, mark, listed, listedFrom, Bytes, Held as Shaped}
 use Rattle.world.specs.World.{Held, World, heldAt, cellAt}
-use Rattle.world.specs.Events.{Own, change, segment, walk, take, Whole, Event, on, all}
+use Rattle.world.specs.Events.{change, segment, walk, take, Whole, Event, on, all}
 use Rattle.world.specs.Step.{Table, receiving, step}
 
 abbrev pub online : World → ℕ → Bool

@@ -54,7 +54,7 @@ pub fn first_bad_connection(body: &[u8], groups: usize) -> usize
 }
 
 // Two rows of a kind share what they may not.
-fn rows_share(k: Kind, a: &[u8], b: &[u8]) -> bool
+pub fn rows_share(k: Kind, a: &[u8], b: &[u8]) -> bool
     ensures { λ r. ⌜ r ≡ share k (now (a .entry)) (now (b .entry)) ⌝ }
 {
     match k {

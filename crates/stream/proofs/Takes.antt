@@ -1,24 +1,26 @@
 -- The answers of a take on plain values: one law for each way that a take ends. Assumes nothing.
-use Prim.Native.Nat.{ℕ, zero, suc, _+_, _-_, _/_, _%_, _^_, _≤_, _<_}
+use Prim.Native.Nat.{ℕ, zero, suc, _+_, _-_, _*_, _/_, _%_, _^_, _≤_, _<_}
 use mathlib.Core.Path.{_≡_, refl, sym, ap, ap₂, _∙_, subst}
 use mathlib.Core.Bool.{Bool, true, false, cond, _&&_}
 use mathlib.Core.List.{List, [], _∷_, _++_}
 use native.Mathlib.Omega.{arith}
 use borrow.Author.Tests.{leb-true, ltb-true}
 use lib.Dec.{leb, ltb}
-use lib.ListN.{length, take, drop, length-append, length-drop}
+use lib.ListN.{length, take, drop, getD, length-append, length-drop}
 use lib.Seq.{take-length, take-all, length-take-le}
 use Rattle.feed.specs.declared.Decision.{Decision}
 use Rattle.feed.specs.declared.Decision.the-variants.{Accept, Refuse}
 use Rattle.feed.specs.Feed.{Routes, Cell, cell, header, payload, skip, nothing, pdu, dropped, Took, took, ready, spelt, takeB, decided, resume}
-use Rattle.feed.proofs.Laws.{rest-whole, rest-short, body-whole, body-short, header-short, header-on, refused, skipCell, skip-whole, skip-short}
+use Rattle.feed.proofs.Laws.{spelt-take, rest-whole, rest-short, body-whole, body-short, header-short, header-on, refused, skipCell, skip-whole, skip-short}
 use Rattle.part.specs.declared.Part.{Part}
 use Rattle.part.specs.declared.Part.the-variants.{Header, Payload, Skip}
 use Rattle.part.specs.Part.{shaped}
 use Rattle.lists.proofs.Both.{and-left, and-right}
 use Rattle.route.specs.Route.{lookupOf}
 use Rattle.route.proofs.Laws.{accepted}
+use Rattle.wire.specs.Be.{be, Number}
 use Rattle.wire.specs.Lay.{lay}
+use Rattle.wire.proofs.Join.{join}
 use Rattle.wire.proofs.Lay.{lay-fits}
 use Rattle.stream.specs.declared.Outcome.{Outcome}
 use Rattle.stream.specs.declared.Outcome.the-variants.{More, Pdu, Drop}
@@ -35,6 +37,25 @@ lay-front rx held x h =
     lay-fits rx held x h
     ∙ ap (λ (k : ℕ). take held rx ++ x ++ drop k rx) (sym n)
     ∙ sym (lay-fits rx 0 (take held rx ++ x) (omega arith))
+
+-- a header that stands whole in one piece, read at once
+spelt-be : (w : ℕ) (bs : List ℕ) → w ≤ length bs → spelt 0 (take w bs) ≡ be w bs 0
+unfolding be
+spelt-be zero bs h = refl
+spelt-be (suc w) bs h =
+    let e : w ≡ 0 + w = omega arith in
+    spelt-take 0 bs w (omega arith) ∙ ap₂ (λ (a k : ℕ). a * 256 + getD bs k 0) (spelt-be w bs (omega arith)) e
+
+pub at-once : (value held n a b : ℕ) (bs : List ℕ) → value < 256 ^ held → held + n ≤ 8 → n ≤ length bs → n ≡ 8 → Number 4 bs 0 a → Number 4 bs 4 b
+    → (a * 4294967296 + b ≡ spelt value (take n bs)) × (a * 4294967296 + b < 256 ^ (held + n))
+at-once value held n a b bs small fits there e x y =
+    let h : held ≡ 0 = omega arith in
+    let v : value ≡ 0 = omega (arith, subst (λ (k : ℕ). value < 256 ^ k) h small) in
+    let w : Number 8 bs 0 (a * 256 ^ 4 + b) = join 4 4 x y in
+    let m : 8 ≡ held + n = omega arith in (
+      w .is ∙ sym (spelt-be 8 bs (omega arith)) ∙ ap₂ (λ (u k : ℕ). spelt u (take k bs)) (sym v) (sym e),
+      subst (λ (k : ℕ). a * 4294967296 + b < 256 ^ k) m (w .small),
+    )
 
 -- the part of the segment that is handed on is all that is left of it
 pub left-over : (n : ℕ) (seg : List ℕ) → take (length seg - n) (drop n seg) ≡ drop n seg

@@ -7,14 +7,15 @@ ghost use Prim.Native.Nat.{ℕ, _+_, _-_, _^_, _≤_, _<_};
 ghost use lib.ListN.{length, take};
 ghost use Rattle.feed.specs.Feed.{Routes, takeB, cell, header, payload, spelt, decided, resume};
 ghost use Rattle.feed.specs.declared.Decision.the-variants.{Accept};
-ghost use Rattle.layout.specs.Layout.{partOf};
 ghost use Rattle.route.specs.Route.{lookupOf};
 ghost use Rattle.rows.specs.Rows.{routeIn};
 ghost use Rattle.stream.specs.Stream.{Fit, Limits, idOf, cellOf, inSegment, Answers, skipPart, takenOf, rxAfter, payloadAt};
 use feed::Decision;
+use layout::part_of;
 use part::Part;
 use route::lookup;
 use rows::route_in;
+use wire::be32;
 use wire::copy_in;
 
 // What a take finds: more is wanted; a PDU, with the place of its payload in the segment or in receive memory; a drop.
@@ -53,6 +54,19 @@ fn gather(value: u64, held: usize, bytes: &[u8], n: usize) -> u64
         i += 1;
     }
     w
+}
+
+// The same; a header that stands whole in one piece is read at once.
+fn header_number(value: u64, held: usize, bytes: &[u8], n: usize) -> u64
+    requires { ⌜ (value < 256 ^ held) × (held + n ≤ 8) × (n ≤ length (now bytes)) ⌝ }
+    ensures { λ r. ⌜ (r ≡ spelt value (take n (now (bytes .entry)))) × (r < 256 ^ (held + n)) ⌝ }
+{
+    if n == 8 {
+        let id = be32(bytes, 0) as u64;
+        let size = be32(bytes, 4) as u64;
+        return id * 4294967296 + size;
+    }
+    gather(value, held, bytes, n)
 }
 
 // A payload that begins at the front of `rest`, the last bytes of a segment of `total`.
@@ -180,7 +194,7 @@ fn take_header(
             },
         };
     }
-    let w = gather(value, had, rest, need);
+    let w = header_number(value, had, rest, need);
     let id = (w / 4294967296) as u32;
     let size = (w % 4294967296) as u32;
     match lookup(routes, connection, switches, id, size) {
@@ -248,19 +262,6 @@ pub fn take(
             )
         }
     }
-}
-
-// n bytes of s from `at` on, or none where they do not fit.
-fn part_of(s: &[u8], at: usize, n: usize) -> &[u8]
-    ensures { λ r. ⌜ now r ≡ partOf (now (s .entry)) at n ⌝ }
-{
-    if s.len() < at {
-        return &s[..0];
-    }
-    if s.len() - at < n {
-        return &s[..0];
-    }
-    &s[at..at + n]
 }
 
 // The payload of a PDU: the part of whichever of the two lent slices holds it.

@@ -27,6 +27,23 @@ and3 a b c e = let ab = and-left (a && b) c e in (and-left a b ab, and-right a b
 and4 : (a b c d : Bool) → a && b && c && d ≡ true → (a ≡ true) × (b ≡ true) × (c ≡ true) × (d ≡ true)
 and4 a b c d e = let f = and3 a b c (and-left (a && b && c) d e) in (f .0, f .1, f .2, and-right (a && b && c) d e)
 
+-- good contents have no kind with too many rows
+module _ (s : List ℕ) (good : headPlace s ≡ Accepted) where
+  entries : entriesPlace s ≡ Accepted
+  unfolding headPlace
+  entries = then-second _ _ good
+
+  entry : (k : Kind) → entryGood s k ≡ true
+  unfolding entriesPlace
+  entry Group = demand-held _ 4 (then-first _ _ entries)
+  entry Connection = demand-held _ 12 (then-first _ _ (then-second _ _ entries))
+  entry Route = demand-held _ 20 (then-first _ _ (then-second _ _ (then-second _ _ entries)))
+  entry Destination = demand-held _ 28 (then-second _ _ (then-second _ _ (then-second _ _ entries)))
+
+  pub contents-most : (k : Kind) → rowsOf s k ≤ mostRows k
+  unfolding entryGood
+  contents-most k = leb-true _ _ (and3 (eqb (be 2 s (entryAt k)) (number k)) (leb (rowsOf s k) (mostRows k)) (eqb (be 4 s (entryAt k + 4)) (startOf s k)) (entry k) .1)
+
 module _ (s : List ℕ) (e : checkTable s ≡ Accepted) where
   -- the four parts of the check
   head : demand (leb 36 (length s)) 0 ≡ Accepted
@@ -48,20 +65,8 @@ module _ (s : List ℕ) (e : checkTable s ≡ Accepted) where
   pub accepted-laid : Laid s
   accepted-laid = record { head = leb-true _ _ (demand-held (leb 36 (length s)) 0 head); whole = eqb-true _ _ (demand-held (eqb (length s) (endOf s)) 2 total) }
 
-  entries : entriesPlace s ≡ Accepted
-  unfolding headPlace
-  entries = then-second _ _ contents
-
-  entry : (k : Kind) → entryGood s k ≡ true
-  unfolding entriesPlace
-  entry Group = demand-held _ 4 (then-first _ _ entries)
-  entry Connection = demand-held _ 12 (then-first _ _ (then-second _ _ entries))
-  entry Route = demand-held _ 20 (then-first _ _ (then-second _ _ (then-second _ _ entries)))
-  entry Destination = demand-held _ 28 (then-second _ _ (then-second _ _ (then-second _ _ entries)))
-
   most : (k : Kind) → rowsOf s k ≤ mostRows k
-  unfolding entryGood
-  most k = leb-true _ _ (and3 (eqb (be 2 s (entryAt k)) (number k)) (leb (rowsOf s k) (mostRows k)) (eqb (be 4 s (entryAt k + 4)) (startOf s k)) (entry k) .1)
+  most = contents-most s contents
 
   placed : (k : Kind) → rowsPlace s k ≡ Accepted
   unfolding allRowsPlace

@@ -1,13 +1,10 @@
 -- A DATAGRAM OR AN ACCEPT: one member becomes online with the source as remote, or nothing changes. Assumes nothing.
-use Prim.Native.Nat.{ℕ, _<_, _≤_}
-use mathlib.Core.Path.{_≡_, refl, sym, ap, _∙_, subst}
+use Prim.Native.Nat.{ℕ}
+use mathlib.Core.Path.{_≡_, refl, sym, subst}
 use mathlib.Core.Bool.{Bool, true, false, cond}
 use mathlib.Core.List.{List}
 use lib.Dec.{leb}
-use lib.ListN.{length, getD, set, length-set}
-use lib.Seq.{getD-set-same, getD-set-other, set-out}
-use native.Mathlib.Decide.{decLt, ℕ-discrete}
-use native.Mathlib.Omega.{arith}
+use lib.ListN.{length, length-set}
 use Rattle.layout.specs.Layout.{rowsOf}
 use Rattle.layout.specs.declared.Kind.the-variants.{Group}
 use Rattle.connection.specs.declared.Connection.{Connection}
@@ -16,24 +13,12 @@ use Rattle.connection.specs.declared.Refusal.the-variants.{Missing, Denied}
 use Rattle.connection.specs.Connection.{zeroRecord, metOf}
 use Rattle.state.specs.declared.State.{State}
 use Rattle.state.specs.State.{recordAt, withRecord}
-use Rattle.choose.specs.declared.Arrived.{Arrived}
 use Rattle.choose.specs.declared.Chosen.{Chosen}
 use Rattle.choose.specs.declared.Chosen.the-variants.{Nobody, At}
 use Rattle.choose.specs.Choose.{meet, refusedBy, deniedOf, chosenIn, arriveOf}
 use Rattle.world.proofs.View.{Fewer, fewer-same, fewer-set}
+use Rattle.tie.proofs.Places.{one-at}
 use Rattle.tie.proofs.Less.{met-less}
-
--- a record at its place, after one was replaced
-pub one-at : (cs : List Connection) (j k : ℕ) (c : Connection) (P : Connection → Type 0) → (j ≡ k → P c) → P (getD cs k zeroRecord) → P (getD (set cs j c) k zeroRecord)
-one-at cs j k c P p q = go (ℕ-discrete j k) (decLt k (length cs))
-  where
-    go : Dec (j ≡ k) → Dec (k < length cs) → P (getD (set cs j c) k zeroRecord)
-    go (no ne) d = subst P (sym (getD-set-other cs j k c zeroRecord (λ e. ne (sym e)))) q
-    go (yes e) (yes lt) = subst P (sym (ap (λ (i : ℕ). getD (set cs i c) k zeroRecord) e ∙ getD-set-same cs k c zeroRecord lt)) (p e)
-    go (yes e) (no ge) =
-        subst P
-        (sym (ap (λ (i : ℕ). getD (set cs i c) k zeroRecord) e ∙ ap (λ (l : List Connection). getD l k zeroRecord) (set-out cs k c (omega arith))))
-        q
 
 -- the state after it
 pub data Meeting (s : State) (source : Remote) : State → Type 0 where
@@ -65,4 +50,4 @@ meeting-length s t source (met j) = length-set (s .connections) j (metOf source 
 -- each record is met, or as it was
 pub meeting-at : (s t : State) (source : Remote) (P : Connection → Type 0) (k : ℕ) → Meeting s source t → P (metOf source (recordAt s k)) → P (recordAt s k) → P (recordAt t k)
 meeting-at s t source P k nobody p q = q
-meeting-at s t source P k (met j) p q = one-at (s .connections) j k (metOf source (recordAt s j)) P (λ e. subst (λ (i : ℕ). P (metOf source (recordAt s i))) (sym e) p) q
+meeting-at s t source P k (met j) p q = one-at zeroRecord (s .connections) j k (metOf source (recordAt s j)) P (λ e. subst (λ (i : ℕ). P (metOf source (recordAt s i))) (sym e) p) q

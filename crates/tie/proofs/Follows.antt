@@ -1,8 +1,8 @@
 -- A CONNECTION EVENT THAT WRITES NO MEMORY and drops nothing: what its entry point leaves is the world's step. The six events of the
 -- record alone, and taking the waiting bytes. Assumes nothing.
-use Prim.Native.Nat.{ℕ, _<_}
+use Prim.Native.Nat.{ℕ}
 use mathlib.Core.Path.{_≡_, refl, sym, ap, _∙_}
-use mathlib.Core.Bool.{Bool, true, false, cond}
+use mathlib.Core.Bool.{Bool, true, false}
 use mathlib.Core.List.{List, []}
 use lib.ListN.{length}
 use lib.Seq.{set-getD}
@@ -30,7 +30,7 @@ use Rattle.sending.specs.declared.Taken.{Taken}
 use Rattle.sending.specs.Sending.{notTaken, takePast, takenOf}
 use Rattle.world.specs.World.{Held, World, heldAt, viewOf, follow}
 use Rattle.world.specs.Events.{Own, change, take, Whole, on}
-use Rattle.world.specs.Step.{Acted, acted, does, acts, left, step}
+use Rattle.world.specs.Step.{acted, does, acts, left, step}
 use Rattle.world.proofs.View.{view-at, Less}
 use Rattle.tie.specs.Table.{tableOf}
 use Rattle.tie.proofs.Less.{step-less, take-less}

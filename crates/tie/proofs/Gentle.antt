@@ -1,22 +1,21 @@
 -- What group and module events do to one connection: while it is a TCP connection online, they leave what it holds of its stream,
 -- or they end it. Assumes nothing.
-use Prim.Native.Nat.{ℕ, zero, suc, _+_}
-use mathlib.Core.Path.{_≡_, refl, sym, ap, _∙_, subst}
-use mathlib.Core.Bool.{Bool, true, false, true≢false, false≢true}
+use Prim.Native.Nat.{ℕ, zero, suc}
+use mathlib.Core.Path.{_≡_, refl, sym, _∙_, subst}
+use mathlib.Core.Bool.{Bool, true, true≢false, false≢true}
 use mathlib.Core.List.{List, [], _∷_}
 use native.Mathlib.Omega.{arith}
-use lib.ListN.{length, getD, take}
+use lib.ListN.{length, getD}
 use Rattle.connection.specs.declared.Connection.{Connection}
 use Rattle.connection.specs.declared.Config.{Config}
 use Rattle.connection.specs.declared.Remote.{Remote}
-use Rattle.connection.specs.Connection.{isOnline, zeroRecord, metOf, switchedOf, closedOf, tickOf}
-use Rattle.lists.specs.Each.{eachTo}
+use Rattle.connection.specs.Connection.{zeroRecord, metOf, switchedOf, tickOf}
 use Rattle.state.specs.declared.State.{State}
 use Rattle.state.specs.State.{recordAt}
 use Rattle.world.specs.World.{Held, World, blank, heldAt, follow, followAll, leaves}
 use Rattle.runs.specs.Streams.{Quiet, Kept}
-use Rattle.runs.proofs.Keeps.{kept-same, follows, kept-follow}
-use Rattle.tie.proofs.Less.{Ticked, Tick, closes, goes-on, tick-is}
+use Rattle.runs.proofs.Keeps.{follows, kept-follow}
+use Rattle.tie.proofs.Less.{Tick, closes, goes-on, tick-is}
 
 -- one record
 pub kept-met : (r : Remote) (h : Held) → Kept h (follow (metOf r (h .connection)) h)
@@ -34,7 +33,7 @@ kept-tick g h tcp q = go (tickOf g (h .connection)) (tick-is g (h .connection))
         record { going = λ _. follows d h (t .part); gone = λ off. follows d h (t .part) ∙ q (sym (t .online tcp) ∙ off) }
 
 -- the record at its place, among as many
-follow-at : (cs : List Connection) (hs : List Held) (k : ℕ) → length cs ≡ length hs → getD (followAll cs hs) k blank ≡ follow (getD cs k zeroRecord) (getD hs k blank)
+pub follow-at : (cs : List Connection) (hs : List Held) (k : ℕ) → length cs ≡ length hs → getD (followAll cs hs) k blank ≡ follow (getD cs k zeroRecord) (getD hs k blank)
 follow-at [] hs k e = refl
 follow-at (c ∷ cs) [] k e = absurd (omega arith)
 follow-at (c ∷ cs) (h ∷ hs) zero e = refl
@@ -42,13 +41,3 @@ follow-at (c ∷ cs) (h ∷ hs) (suc k) e = follow-at cs hs k (omega arith)
 
 pub kept-leaves : (s : State) (w : World) (k : ℕ) → length (s .connections) ≡ length (w .held) → Kept (heldAt w k) (follow (recordAt s k) (heldAt w k)) → Kept (heldAt w k) (heldAt (leaves s w) k)
 kept-leaves s w k e r = subst (Kept (heldAt w k)) (sym (follow-at (s .connections) (w .held) k e)) r
-
--- some of the records changed by what their number says: each is changed, or as it was
-pub each-at : (f : ℕ → Connection → Connection) (P : Connection → Type 0) (b n : ℕ) (cs : List Connection) (k : ℕ) → P (f (b + k) (getD cs k zeroRecord)) → P (getD cs k zeroRecord)
-    → P (getD (eachTo f b n cs) k zeroRecord)
-each-at f P b zero cs k p q = q
-each-at f P b (suc n) [] k p q = q
-each-at f P b (suc n) (c ∷ cs) zero p q = let e : b + 0 ≡ b = omega arith in subst (λ (m : ℕ). P (f m c)) e p
-each-at f P b (suc n) (c ∷ cs) (suc k) p q =
-    let e : b + suc k ≡ suc b + k = omega arith in
-    each-at f P (suc b) n cs k (subst (λ (m : ℕ). P (f m (getD cs k zeroRecord))) e p) q

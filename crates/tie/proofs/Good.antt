@@ -1,28 +1,23 @@
 -- EVERY EVENT LEAVES A GOOD MACHINE GOOD: the state sound, of sixteen records, and the memories as long as they were.
 -- Assumes nothing.
-use Prim.Native.Nat.{ℕ, _*_, _+_}
-use mathlib.Core.Path.{_≡_, refl, sym, ap, _∙_, subst}
+use Prim.Native.Nat.{ℕ}
+use mathlib.Core.Path.{_≡_, refl, sym, ap, _∙_}
 use mathlib.Core.Bool.{Bool, true, false, cond}
-use mathlib.Core.List.{List, []}
+use mathlib.Core.List.{List}
 use lib.Dec.{eqb, ltb}
-use lib.ListN.{length, set, replicate, length-set}
-use Rattle.wire.specs.Lay.{lay}
-use Rattle.wire.proofs.Lay.{lay-length}
-use Rattle.lists.specs.Fold.{foldFrom}
+use lib.ListN.{length, replicate, length-set}
 use Rattle.lists.proofs.Fold.{fold-keeps}
-use Rattle.feed.specs.Frame.{frame}
 use Rattle.rows.specs.Rows.{destinationOf}
 use Rattle.state.specs.declared.State.{State}
-use Rattle.state.specs.State.{recordAt}
 use Rattle.gate.specs.declared.Gate.{Gate}
 use Rattle.gate.specs.declared.Gate.the-variants.{Pass, Refused}
-use Rattle.gate.specs.Gate.{gateOf, gateAt, through, Passed}
+use Rattle.gate.specs.Gate.{gateOf, through, Passed}
 use Rattle.gate.specs.Sound.{recordsSound}
 use Rattle.keeps.proofs.Keeps.{event-passed, switch-all-passed, read-passed, clear-passed, tick-passed}
 use Rattle.kept.proofs.Arrived.{arrival-keeps}
 use Rattle.kept.proofs.Taken.{taken-keeps}
 use Rattle.kept.proofs.Transmitted.{transmit-keeps}
-use Rattle.receive.proofs.Keeps.{walk-passed, walk-records}
+use Rattle.receive.proofs.Keeps.{walk-passed}
 use Rattle.send.specs.Verdict.{isStored}
 use Rattle.send.specs.Send.{destinations, Sending, sending, appendOf, checkOf, wantedAt, storeOf, storeAll, transmitOf, transmittedOf}
 use Rattle.sending.specs.Sending.{notSent, sendOf, sentMemory, takenOf}
@@ -46,10 +41,9 @@ use Rattle.ticks.specs.Tick.{tickAt, tickedTo, unticked, tickEvent}
 use Rattle.waits.proofs.Append.{append-sixteen, append-long}
 use Rattle.send.specs.declared.Transmitted.{Transmitted}
 use Rattle.tie.proofs.Arrivals.{arrive-is, meeting-length}
-use Rattle.connection.specs.declared.Connection.{Connection}
-use Rattle.world.specs.World.{World, viewOf}
+use Rattle.world.specs.World.{World}
 use Rattle.world.specs.Events.{Own, change, segment, walk, take, Whole, datagram, accept, tick, transmit, switchAll, readCount, clearCount, Event, on, all}
-use Rattle.world.specs.Step.{at, left, step}
+use Rattle.world.specs.Step.{at, step}
 use Rattle.world.proofs.View.{view-length}
 use Rattle.runs.specs.Streams.{EventBytes}
 use Rattle.tie.specs.Table.{tableOf}
@@ -87,7 +81,7 @@ own-good image m k e b g =
     record { passed = own-passed image m k e b g; sixteen = records-left image m (afterOwn image k e m) k e (own-view image m g k e b) ∙ g .sixteen }
 
 -- events of a whole group or module: refused at the gate, or past it
-past-or : {A : Type 0} (P : A → Type 0) (g : Gate) (refused : Refusal → A) (event : A) → ((r : Refusal) → P (refused r)) → P event → P (through g refused event)
+pub past-or : {A : Type 0} (P : A → Type 0) (g : Gate) (refused : Refusal → A) (event : A) → ((r : Refusal) → P (refused r)) → P event → P (through g refused event)
 past-or P Pass refused event p q = q
 past-or P (Refused r) refused event p q = p r
 

@@ -1,32 +1,26 @@
 -- What an event of connection k leaves: its record, its stretches, and its protocol's count. Assumes nothing.
-use Prim.Native.Nat.{ℕ, zero, suc}
-use mathlib.Core.Path.{_≡_, refl, sym, ap, ap₂, _∙_}
+use Prim.Native.Nat.{ℕ}
+use mathlib.Core.Path.{_≡_, refl, sym, ap, _∙_}
 use mathlib.Core.Bool.{Bool, true, false, not}
 use mathlib.Core.List.{List, []}
-use lib.ListN.{getD, set}
+use lib.ListN.{set}
 use lib.Seq.{set-getD}
 use Rattle.connection.specs.declared.Connection.{Connection}
-use Rattle.connection.specs.Connection.{zeroRecord}
 use Rattle.feed.specs.Feed.{Out, drops}
 use Rattle.state.specs.declared.State.{State}
-use Rattle.state.specs.State.{recordAt, withRecord, countOf, withCount, counted, droppedOf}
+use Rattle.state.specs.State.{recordAt, withRecord}
 use Rattle.world.specs.World.{Held, World, blank, heldAt, stretch, heldOf, viewOf, follow}
-use Rattle.world.specs.Step.{Table, counts, countsIf, Acted, acted, left}
+use Rattle.world.specs.Step.{Table, counts, countsIf, acted, left}
 use Rattle.world.proofs.View.{view-at, view-one, Less, follow-held}
 
 -- a state with so many drops of a protocol more
 abbrev pub dropsOf : Bool → ℕ → State → State
 dropsOf tcp n s = record { connections = s .connections; «udp_drops» = countsIf (not tcp) n (s .«udp_drops»); «tcp_drops» = countsIf tcp n (s .«tcp_drops») }
 
-pub no-drop : (tcp : Bool) (s : State) → dropsOf tcp 0 s ≡ s
+no-drop : (tcp : Bool) (s : State) → dropsOf tcp 0 s ≡ s
 unfolding counts
 no-drop true s = refl
 no-drop false s = refl
-
-pub one-drop : (tcp : Bool) (s : State) → dropsOf tcp 1 s ≡ droppedOf tcp s
-unfolding counts
-one-drop true s = refl
-one-drop false s = refl
 
 none : (b : Bool) (n : ℕ) → countsIf b 0 n ≡ n
 unfolding counts

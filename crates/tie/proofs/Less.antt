@@ -1,11 +1,10 @@
 -- No event that writes no lent memory makes a record hold more. Assumes nothing.
-use Prim.Native.Nat.{ℕ, _-_, _≤_}
+use Prim.Native.Nat.{ℕ}
 use mathlib.Core.Path.{_≡_, refl, sym, ap, _∙_}
 use mathlib.Core.Bool.{Bool, true, false, cond, not, _&&_, _||_, false≢true}
 use native.Mathlib.Omega.{arith}
-use native.Mathlib.Nat.{le-refl, le-of-eq}
+use native.Mathlib.Nat.{le-of-eq}
 use lib.Dec.{eqb, ltb}
-use Rattle.part.specs.declared.Part.{Part}
 use Rattle.connection.specs.declared.Connection.{Connection}
 use Rattle.connection.specs.declared.Config.{Config}
 use Rattle.connection.specs.declared.Remote.{Remote}
@@ -13,7 +12,7 @@ use Rattle.connection.specs.declared.Event.{Event as Change}
 use Rattle.connection.specs.declared.Event.the-variants.{Open, Close, Connected, Lost, SetRemote, Switch}
 use Rattle.connection.specs.declared.Mode.{Mode}
 use Rattle.connection.specs.declared.Mode.the-variants.{Offline, Reconnect, Online}
-use Rattle.connection.specs.Connection.{isOffline, isReconnect, isOnline, wildcard, withMode, withRemote, become, withSend, metOf, switchedOf, closedOf, startOf, reachOf, runOf, tickOf}
+use Rattle.connection.specs.Connection.{isReconnect, isOnline, wildcard, withMode, withRemote, become, withSend, metOf, switchedOf, closedOf, startOf, reachOf, runOf, tickOf}
 use Rattle.connection.specs.Event.{known, allowed, after, stepOf}
 use Rattle.waiting.specs.Waiting.{takeOf}
 use Rattle.world.specs.World.{heldBy}

@@ -1,4 +1,5 @@
 -- The equations between entry points and the world. Assumes nothing.
+pub mod Places
 pub mod Less
 pub mod Rests
 pub mod Left
@@ -15,4 +16,3 @@ pub mod Walks
 pub mod Segments
 pub mod Steps
 pub mod Good
-pub mod Runs

@@ -1,13 +1,12 @@
 -- GROUP AND MODULE EVENTS that write no lent memory: what their entry points leave is the world's step. Assumes nothing.
 use Prim.Native.Nat.{ℕ}
-use mathlib.Core.Path.{_≡_, refl, sym, ap, _∙_, subst}
+use mathlib.Core.Path.{_≡_, refl, sym, ap, _∙_}
 use mathlib.Core.Bool.{Bool, true, false, cond}
 use mathlib.Core.List.{List}
 use lib.Dec.{eqb, ltb}
 use lib.ListN.{length}
 use Rattle.layout.specs.Layout.{rowsOf}
 use Rattle.layout.specs.declared.Kind.the-variants.{Connection as Connections}
-use Rattle.connection.specs.declared.Connection.{Connection}
 use Rattle.connection.specs.declared.Remote.{Remote}
 use Rattle.connection.specs.declared.Answer.the-variants.{Done}
 use Rattle.connection.specs.declared.Refusal.{Refusal}
@@ -26,7 +25,7 @@ use Rattle.events.specs.Change.{refusedBy}
 use Rattle.events.specs.Module.{switchAt, switchedAll, switchAllOf}
 use Rattle.events.specs.Count.{ofProtocol, readFrom, clearFrom, uncounted, readPast, clearPast, readOf, clearOf}
 use Rattle.world.specs.World.{World, viewOf, stateOf, leaves}
-use Rattle.world.specs.Events.{datagram, accept, tick, switchAll, readCount, clearCount, all}
+use Rattle.world.specs.Events.{tick, switchAll, readCount, clearCount, all}
 use Rattle.world.specs.Step.{step}
 use Rattle.world.proofs.View.{state-view, Fewer, fewer-same, fewer-each, view-leaves}
 use Rattle.tie.specs.Table.{tableOf}

@@ -1,10 +1,10 @@
 -- A sound record holds of its stream what a reader can go on from, and nothing unless it is online. Assumes nothing.
 use Prim.Native.Nat.{ℕ, _-_, _^_, _≤_, _<_}
-use mathlib.Core.Path.{_≡_, refl, sym, ap, ap₂, _∙_, subst}
+use mathlib.Core.Path.{_≡_, refl, sym, ap₂, subst}
 use mathlib.Core.Bool.{Bool, true, false, _&&_, _||_, false≢true}
 use mathlib.Core.List.{List}
 use native.Mathlib.Omega.{arith}
-use lib.Dec.{eqb, leb, ltb}
+use lib.Dec.{eqb, leb}
 use borrow.Author.Tests.{leb-true, ltb-true, eqb-true}
 use Rattle.lists.proofs.Both.{and-left, and-right}
 use Rattle.part.specs.declared.Part.{Part}
@@ -16,7 +16,7 @@ use Rattle.connection.specs.Sound.{Sound}
 use Rattle.feed.specs.Feed.{cell, header, ready}
 use Rattle.lengths.specs.Listed.{Held as Shaped}
 use Rattle.stream.specs.Stream.{cellOf}
-use Rattle.world.specs.World.{Held, cellAt}
+use Rattle.world.specs.World.{Held}
 use Rattle.runs.specs.Streams.{Rests}
 
 shape-cell : (p : Part) (received : List ℕ) → shaped p ≡ true → Shaped (cellOf p received)

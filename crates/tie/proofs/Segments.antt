@@ -1,39 +1,68 @@
 -- THE SEGMENT EVENT, accepted or refused: what the caller's takes leave is the world's step, and what they hand out is the world's
 -- list; a sound machine stays sound. Assumes nothing.
-use Prim.Native.Nat.{ℕ, zero, suc, _-_, _≤_, _<_}
+use Prim.Native.Nat.{ℕ, zero, suc}
 use mathlib.Core.Path.{_≡_, refl, sym, ap, ap₂, _∙_, subst}
-use mathlib.Core.Bool.{Bool, true, false, cond, not, _&&_, false≢true}
+use mathlib.Core.Bool.{Bool, true, false, cond, _&&_}
 use mathlib.Core.List.{List, [], _∷_, _++_, append-nil}
 use native.Mathlib.Omega.{arith}
 use lib.Dec.{ltb}
-use lib.ListN.{length, drop}
-use borrow.Author.Tests.{ltb-true, lt-ltb}
-use Rattle.lists.proofs.Both.{and-left, and-right, and-both}
+use lib.ListN.{length}
+use borrow.Author.Tests.{ltb-true}
+use Rattle.lists.proofs.Both.{and-left, and-right}
 use Rattle.layout.specs.Layout.{rowsOf}
 use Rattle.layout.specs.declared.Kind.the-variants.{Connection as Connections}
 use Rattle.connection.specs.declared.Connection.{Connection}
 use Rattle.state.specs.State.{recordAt}
 use Rattle.state.specs.Fresh.{configOf}
-use Rattle.feed.specs.Feed.{Routes, Cell, Ran, takes, segment as segmentOf, Took, takeB, Pdu, pdus}
+use Rattle.feed.specs.Feed.{segment as segmentOf, pdus}
 use Rattle.lengths.specs.Listed.{Bytes}
 use Rattle.lengths.proofs.Bytes.{bytes-drop}
-use Rattle.stream.specs.declared.Outcome.the-variants.{More}
 use Rattle.gate.specs.Gate.{Passed}
 use Rattle.receive.specs.declared.Answer.{Answer}
 use Rattle.receive.specs.declared.SegmentTaken.{SegmentTaken}
 use Rattle.receive.specs.Answer.{isDone}
 use Rattle.receive.specs.Segment.{noneTaken, segmentAnswer, segmentOf as segmentTaken, memoryOf, payloadOf}
-use Rattle.world.specs.World.{Held, World, heldAt, cellAt}
+use Rattle.world.specs.World.{Held, World, heldAt}
 use Rattle.world.specs.Events.{segment, Whole, on}
-use Rattle.world.specs.Step.{Acted, acted, receiving, streamed, routesAt, does, acts, at, left, step}
+use Rattle.world.specs.Step.{Acted, acted, receiving, streamed, acts, at, left, step}
 use Rattle.world.proofs.View.{view-at}
 use Rattle.runs.proofs.Same.{does-read, does-refused}
 use Rattle.tie.specs.Table.{tableOf}
 use Rattle.tie.specs.Machine.{Machine, seen, taken, afterOne, restOf, told, toldBy, goesOn, afterTakes, toldTakes, afterSegment, toldSegment}
 use Rattle.tie.proofs.Left.{left-nothing}
 use Rattle.tie.proofs.Answered.{done-is}
-use Rattle.tie.proofs.Take.{Open, answer-done, open-after}
+use Rattle.tie.proofs.Take.{Open, open-after}
 use Rattle.tie.proofs.Takes.{R, C, takes-view, takes-told}
+
+-- A TAKE THAT IS REFUSED: nothing is read, nothing changes, and the event ends
+module _ (image : List ℕ) (m : Machine) (k : ℕ) (bs : List ℕ) (not-done : isDone (segmentAnswer image (m .state) (length (m .rx)) (length (m .tx)) k) ≡ false) where
+  abbrev refusal : Answer
+  refusal = segmentAnswer image (m .state) (length (m .rx)) (length (m .tx)) k
+
+  none-taken : taken image k m bs ≡ noneTaken (m .state) refusal
+  unfolding segmentTaken
+  none-taken = rw not-done
+
+  same-memory : memoryOf image (m .state) (m .rx) (length (m .tx)) k bs ≡ m .rx
+  unfolding memoryOf
+  same-memory = rw not-done
+
+  stops-here : (rest : List ℕ) → goesOn image k (isDone (taken image k m bs .answer)) rest ≡ false
+  stops-here [] = refl
+  stops-here (x ∷ xs) = ap (λ (t : SegmentTaken). isDone (t .answer)) none-taken ∙ not-done
+
+  pub no-segment : afterSegment image k m bs ≡ m
+  unfolding afterTakes
+  no-segment =
+      ap (λ (b : Bool). cond b (afterTakes image k (length bs) (afterOne image k m bs) (restOf image k m bs)) (afterOne image k m bs)) (stops-here (restOf image k m bs))
+      ∙ ap₂ (λ (t : SegmentTaken) (r : List ℕ). record { state = t .state; rx = r; tx = m .tx }) none-taken same-memory
+
+  none-told : toldSegment image k m bs ≡ []
+  unfolding toldTakes
+  none-told =
+      ap (λ (b : Bool). toldBy image k m bs ++ cond b (toldTakes image k (length bs) (afterOne image k m bs) (restOf image k m bs)) []) (stops-here (restOf image k m bs))
+      ∙ append-nil (toldBy image k m bs)
+      ∙ ap (λ (t : SegmentTaken). told image k (payloadOf bs (afterOne image k m bs .rx) k (t .outcome)) (t .outcome)) none-taken
 
 module _ (image : List ℕ) (k : ℕ) where
   -- SOUND STAYS SOUND, over all takes
@@ -72,32 +101,6 @@ module _ (image : List ℕ) (k : ℕ) where
     refused : readable ≡ false → isDone answer ≡ false
     refused e = done-is image (m .state) (length (m .rx)) (length (m .tx)) k (configOf image k .tcp) passed ∙ e
 
-    -- refused: nothing is read, nothing changes, nothing comes out
-    none-taken : readable ≡ false → taken image k m bs ≡ noneTaken (m .state) answer
-    unfolding segmentTaken
-    none-taken e = rw (refused e)
-
-    same-memory : readable ≡ false → memoryOf image (m .state) (m .rx) (length (m .tx)) k bs ≡ m .rx
-    unfolding memoryOf
-    same-memory e = rw (refused e)
-
-    stops-here : readable ≡ false → (rest : List ℕ) → goesOn image k (isDone (taken image k m bs .answer)) rest ≡ false
-    stops-here e [] = refl
-    stops-here e (x ∷ xs) = ap (λ (t : SegmentTaken). isDone (t .answer)) (none-taken e) ∙ refused e
-
-    same-machine : readable ≡ false → afterSegment image k m bs ≡ m
-    unfolding afterTakes
-    same-machine e =
-        ap (λ (b : Bool). cond b (afterTakes image k (length bs) (afterOne image k m bs) (restOf image k m bs)) (afterOne image k m bs)) (stops-here e (restOf image k m bs))
-        ∙ ap₂ (λ (t : SegmentTaken) (r : List ℕ). record { state = t .state; rx = r; tx = m .tx }) (none-taken e) (same-memory e)
-
-    none-told : readable ≡ false → toldSegment image k m bs ≡ []
-    unfolding toldTakes
-    none-told e =
-        ap (λ (b : Bool). toldBy image k m bs ++ cond b (toldTakes image k (length bs) (afterOne image k m bs) (restOf image k m bs)) []) (stops-here e (restOf image k m bs))
-        ∙ append-nil (toldBy image k m bs)
-        ∙ ap (λ (t : SegmentTaken). told image k (payloadOf bs (afterOne image k m bs .rx) k (t .outcome)) (t .outcome)) (none-taken e)
-
     -- the world's side
     seen-c : heldAt (seen m) k .connection ≡ c
     seen-c = ap (λ (h : Held). h .connection) (view-at (m .state) (m .rx) (m .tx) k)
@@ -122,7 +125,7 @@ module _ (image : List ℕ) (k : ℕ) where
         go : (b : Bool) → readable ≡ b → seen (afterSegment image k m bs) ≡ left (tableOf image) (seen m) k (at (tableOf image) (seen m) k (segment bs))
         go true e = takes-view image k (suc (length bs)) m bs (opened e) bytes (omega arith) ∙ ap (left (tableOf image) (seen m) k) (sym (at-open e))
         go false e =
-            ap seen (same-machine e)
+            ap seen (no-segment image m k bs (refused e))
             ∙ sym (left-nothing (tableOf image) (seen m) k)
             ∙ ap (left (tableOf image) (seen m) k) (sym (at-refused (ltb k (rowsOf image Connections)) refl e))
 
@@ -133,7 +136,7 @@ module _ (image : List ℕ) (k : ℕ) where
       where
         go : (b : Bool) → readable ≡ b → toldSegment image k m bs ≡ pdus (at (tableOf image) (seen m) k (segment bs) .list)
         go true e = takes-told image k (suc (length bs)) m bs (opened e) bytes (omega arith) ∙ ap (λ (a : Acted). pdus (a .list)) (sym (at-open e))
-        go false e = none-told e ∙ ap (λ (a : Acted). pdus (a .list)) (sym (at-refused (ltb k (rowsOf image Connections)) refl e))
+        go false e = none-told image m k bs (refused e) ∙ ap (λ (a : Acted). pdus (a .list)) (sym (at-refused (ltb k (rowsOf image Connections)) refl e))
 
     -- SOUND STAYS SOUND
     pub segment-passed : Passed image (afterSegment image k m bs .state) (length (afterSegment image k m bs .rx)) (length (afterSegment image k m bs .tx))
@@ -141,4 +144,4 @@ module _ (image : List ℕ) (k : ℕ) where
       where
         go : (b : Bool) → readable ≡ b → Passed image (afterSegment image k m bs .state) (length (afterSegment image k m bs .rx)) (length (afterSegment image k m bs .tx))
         go true e = takes-open (suc (length bs)) m bs (opened e) bytes .passed
-        go false e = subst (λ (n : Machine). Passed image (n .state) (length (n .rx)) (length (n .tx))) (sym (same-machine e)) passed
+        go false e = subst (λ (n : Machine). Passed image (n .state) (length (n .rx)) (length (n .tx))) (sym (no-segment image m k bs (refused e))) passed

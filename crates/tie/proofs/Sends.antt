@@ -1,15 +1,13 @@
 -- A TRANSMIT: what it leaves in the state and in send memory is the world's transmit. Assumes nothing.
 use Prim.Native.Nat.{ℕ, zero, suc, _+_, _*_, _≤_, _<_}
-use mathlib.Core.Path.{_≡_, refl, sym, ap, ap₂, _∙_, subst}
+use mathlib.Core.Path.{_≡_, refl, sym, ap, _∙_, subst}
 use mathlib.Core.Bool.{Bool, true, false, cond}
 use mathlib.Core.List.{List, _++_}
 use native.Mathlib.Omega.{arith}
-use native.Mathlib.Nat.{zero-add}
-use lib.ListN.{length, getD, set, take, drop, length-append}
+use lib.ListN.{length, set, take, drop}
 use lib.Seq.{take-take, getD-set-other}
-use Rattle.wire.specs.Lay.{spell, lay}
+use Rattle.wire.specs.Lay.{lay}
 use Rattle.wire.proofs.Lay.{lay-held, lay-length}
-use Rattle.wire.proofs.Spell.{length-spell}
 use Rattle.feed.specs.Frame.{frame}
 use Rattle.lists.specs.Fold.{foldFrom}
 use Rattle.rows.specs.declared.DestinationRow.{DestinationRow}
@@ -17,16 +15,16 @@ use Rattle.rows.specs.Rows.{destinationOf}
 use Rattle.connection.specs.declared.Connection.{Connection}
 use Rattle.connection.specs.Connection.{zeroRecord}
 use Rattle.state.specs.declared.State.{State}
-use Rattle.state.specs.State.{recordAt, withRecord}
+use Rattle.state.specs.State.{recordAt}
 use Rattle.destination.specs.Destination.{sentOf}
 use Rattle.outbox.proofs.Laid.{frame-length}
 use Rattle.send.specs.Verdict.{isStored}
 use Rattle.send.specs.Send.{destinations, Sending, sending, appendOf, checkOf, wantedAt, storeOf, storeAll, transmitOf, Ready, Roomy}
 use Rattle.send.proofs.Store.{wanted-apart}
 use Rattle.send.proofs.Room.{clear-roomy}
-use Rattle.world.specs.World.{Held, World, heldAt, heldBy, stretch, heldOf, viewOf, stateOf}
+use Rattle.world.specs.World.{Held, World, heldBy, stretch, heldOf, viewOf}
 use Rattle.world.proofs.View.{state-view, view-at, view-one}
-use Rattle.world.proofs.Stretch.{ends-before, stretch-apart}
+use Rattle.world.proofs.Stretch.{stretch-apart}
 use Rattle.tie.specs.Send.{sentTo, appendTo, storeIn, transmitIn}
 
 -- the machine on the way

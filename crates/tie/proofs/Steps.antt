@@ -1,7 +1,7 @@
 -- EVERY ENTRY POINT: from a good machine, what an event leaves is the world's step, and what the caller is given is the world's list.
 -- Assumes nothing.
 use Prim.Native.Nat.{ℕ}
-use mathlib.Core.Path.{_≡_, refl, sym, ap, ap₂, _∙_, subst}
+use mathlib.Core.Path.{_≡_, refl, sym, ap, ap₂, _∙_}
 use mathlib.Core.Bool.{Bool, true, false, cond}
 use mathlib.Core.List.{List, []}
 use lib.Dec.{eqb, ltb}
@@ -14,14 +14,14 @@ use Rattle.state.specs.declared.State.{State}
 use Rattle.feed.specs.Feed.{Pdu, pdus}
 use Rattle.table.proofs.Facts.{accepted-facts}
 use Rattle.gate.specs.declared.Gate.{Gate}
-use Rattle.gate.specs.Gate.{gateOf, through, Passed}
+use Rattle.gate.specs.Gate.{gateOf, through}
 use Rattle.gate.proofs.Pass.{passed-gate}
 use Rattle.choose.specs.declared.Arrived.{Arrived}
 use Rattle.choose.specs.Choose.{refusedBy, arriveOf}
 use Rattle.arrivals.specs.Arrivals.{arrivalOf}
 use Rattle.send.specs.declared.Transmitted.{Transmitted}
-use Rattle.send.specs.Send.{Sending, transmitOf, transmittedOf}
-use Rattle.sending.specs.Sending.{notSent, sendOf, sentMemory, takenOf}
+use Rattle.send.specs.Send.{transmitOf, transmittedOf}
+use Rattle.sending.specs.Sending.{notSent, sendOf, sentMemory}
 use Rattle.sending.proofs.Past.{ready-from}
 use Rattle.world.specs.World.{Held, World, heldAt, viewOf, stateOf, leaves}
 use Rattle.world.specs.Events.{Own, change, segment, walk, take, Whole, datagram, accept, tick, transmit, switchAll, readCount, clearCount, Event, on, all}

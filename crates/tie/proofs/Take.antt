@@ -1,13 +1,12 @@
 -- ONE TAKE of a segment, on a TCP connection that receives: what the entry point leaves is the stream's take on its record, and no
 -- other record changes; and what the caller is given is the stream's PDU. Assumes nothing.
-use Prim.Native.Nat.{ℕ, _+_, _-_, _*_, _≤_, _<_}
+use Prim.Native.Nat.{ℕ, _-_, _*_}
 use mathlib.Core.Path.{_≡_, refl, sym, ap, ap₂, _∙_, subst}
-use mathlib.Core.Bool.{Bool, true, false, cond}
-use mathlib.Core.List.{List, [], _∷_, _++_}
+use mathlib.Core.Bool.{Bool, true, cond}
+use mathlib.Core.List.{List, [], _∷_}
 use native.Mathlib.Omega.{arith}
-use lib.ListN.{length, getD, set, take, drop}
+use lib.ListN.{length, take, drop}
 use lib.Seq.{getD-set-same}
-use Rattle.wire.specs.Lay.{lay}
 use Rattle.layout.specs.Layout.{bodyOf}
 use Rattle.layout.specs.declared.Kind.the-variants.{Route as Routes}
 use Rattle.part.specs.declared.Part.{Part}
@@ -15,13 +14,12 @@ use Rattle.part.specs.declared.Part.the-variants.{Header, Payload, Skip}
 use Rattle.connection.specs.declared.Connection.{Connection}
 use Rattle.connection.specs.Connection.{withPart}
 use Rattle.state.specs.declared.State.{State}
-use Rattle.state.specs.State.{recordAt, withRecord, counted}
+use Rattle.state.specs.State.{recordAt, withRecord}
 use Rattle.state.specs.Fresh.{configOf}
-use Rattle.feed.specs.Feed.{Cell, Out, nothing, pdu, dropped, emit, Took, takeB, Pdu, handed as given, pdus, drops}
+use Rattle.feed.specs.Feed.{Out, nothing, pdu, dropped, emit, Took, takeB, handed as given, pdus, drops}
 use Rattle.feed.proofs.Cut.{take-rest}
 use Rattle.lengths.specs.Listed.{Bytes}
-use Rattle.stream.specs.declared.Outcome.{Outcome}
-use Rattle.stream.specs.Stream.{cellOf, partFrom, heldIn, inSegment, outcomeOf, tookOf, takenOf, rxAfter, payloadAt, Fit}
+use Rattle.stream.specs.Stream.{cellOf, partFrom, heldIn, inSegment, outcomeOf, tookOf, takenOf, payloadAt}
 use Rattle.stream.proofs.Leaves.{leaves-cell, leaves-length, handed}
 use Rattle.route.specs.Route.{lookupOf}
 use Rattle.gate.proofs.Pass.{passed-gate-at}
@@ -31,13 +29,13 @@ use Rattle.receive.specs.Segment.{countTake, takenAt, stretchAt, takeOn, memory
 use Rattle.receive.proofs.Answers.{Clear}
 use Rattle.receive.proofs.Past.{passed-takes}
 use Rattle.receive.proofs.Keeps.{in-range, take-clear}
-use Rattle.world.specs.World.{Held, World, blank, heldAt, heldBy, stretch, heldOf, viewOf, cellAt, withCell}
-use Rattle.world.specs.Step.{counts, countsIf, receiving, acted, left}
+use Rattle.world.specs.World.{Held, blank, heldAt, heldBy, stretch, heldOf, viewOf, cellAt, withCell}
+use Rattle.world.specs.Step.{counts, acted, left}
 use Rattle.world.proofs.View.{view-length, view-at}
 use Rattle.world.proofs.Stretch.{stretch-apart, stretch-own}
 use Rattle.runs.proofs.Keeps.{cell-follow}
 use Rattle.tie.specs.Table.{tableOf}
-use Rattle.tie.specs.Machine.{Machine, machine, seen, taken, afterOne, restOf, told, toldBy}
+use Rattle.tie.specs.Machine.{Machine, seen, taken, afterOne, restOf, told, toldBy}
 use Rattle.tie.proofs.Left.{dropsOf, view-left}
 
 -- a machine whose connection k takes segments: nothing refuses a take on it

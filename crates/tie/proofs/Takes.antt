@@ -2,24 +2,21 @@
 -- segment event. Assumes nothing.
 use Prim.Native.Nat.{ℕ, zero, suc, _-_, _≤_, _<_}
 use mathlib.Core.Path.{_≡_, refl, sym, ap, ap₂, _∙_, subst}
-use mathlib.Core.Bool.{Bool, true, false, cond, not, _&&_}
+use mathlib.Core.Bool.{Bool, true, cond}
 use mathlib.Core.List.{List, [], _∷_, _++_, append-nil}
 use native.Mathlib.Omega.{arith}
-use lib.ListN.{length, drop, length-drop}
-use Rattle.feed.specs.Feed.{Routes, Cell, Out, emit, Took, takeB, Ran, ran, joined, takes, Pdu, pdus}
+use lib.ListN.{length}
+use Rattle.feed.specs.Feed.{Routes, Cell, Out, emit, Took, takeB, Ran, joined, takes, Pdu, pdus}
 use Rattle.feed.proofs.Cut.{emit-append, take-reads, pdus-append}
 use Rattle.lengths.specs.Listed.{Bytes}
 use Rattle.lengths.proofs.Bytes.{bytes-drop}
-use Rattle.stream.specs.Stream.{cellOf}
 use Rattle.layout.specs.Layout.{bodyOf}
 use Rattle.layout.specs.declared.Kind.the-variants.{Route as RouteBody}
 use Rattle.route.specs.Route.{lookupOf}
-use Rattle.state.specs.State.{recordAt}
-use Rattle.receive.specs.Answer.{isDone}
-use Rattle.world.specs.World.{Held, World, heldAt, stretch, cellAt, withCell}
+use Rattle.world.specs.World.{Held, World, heldAt, cellAt, withCell}
 use Rattle.world.specs.Step.{Acted, acted, streamed, routesAt, left}
 use Rattle.world.proofs.Cells.{snug-in, snug-take, cell-back}
-use Rattle.runs.proofs.Same.{following, left-following}
+use Rattle.runs.proofs.Same.{left-following}
 use Rattle.tie.specs.Table.{tableOf}
 use Rattle.tie.specs.Machine.{Machine, seen, taken, afterOne, restOf, toldBy, goesOn, afterTakes, toldTakes}
 use Rattle.tie.proofs.Take.{Open, tookAt, answer-done, rest-is, one-view, cell-is, switches-is, one-told, open-after, held-after}

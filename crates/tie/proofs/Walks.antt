@@ -1,9 +1,9 @@
 -- A STEP OF A WALK over a datagram: what the entry point leaves is the world's step: one drop more at most. Assumes nothing.
 use Prim.Native.Nat.{ℕ}
-use mathlib.Core.Path.{_≡_, refl, sym, ap, ap₂, _∙_}
+use mathlib.Core.Path.{_≡_, refl, sym, ap, _∙_}
 use mathlib.Core.Bool.{Bool, true, false, cond, not, _&&_}
 use mathlib.Core.List.{List, []}
-use lib.Dec.{leb, ltb}
+use lib.Dec.{ltb}
 use lib.ListN.{length}
 use lib.Seq.{set-getD}
 use borrow.Author.Tests.{not-true}
@@ -13,18 +13,18 @@ use Rattle.layout.specs.declared.Kind.the-variants.{Connection as Connections, 
 use Rattle.connection.specs.declared.Connection.{Connection}
 use Rattle.connection.specs.Connection.{zeroRecord}
 use Rattle.state.specs.declared.State.{State}
-use Rattle.state.specs.State.{recordAt, withRecord, counted}
+use Rattle.state.specs.State.{recordAt, withRecord}
 use Rattle.state.specs.Fresh.{configOf}
 use Rattle.feed.specs.Feed.{pdus, drops}
 use Rattle.walk.specs.Walk.{Found, the-end, a-pdu, a-drop, walkAt, told}
 use Rattle.route.specs.Route.{lookupOf}
 use Rattle.datagram.specs.Datagram.{outcomeOf, walkedOf}
 use Rattle.gate.specs.Gate.{Passed}
-use Rattle.receive.specs.Answer.{isDone, answerOf}
-use Rattle.receive.specs.Walk.{countWalk, walkOn, noneWalked, walkAllowed, walkAnswer, walkOf}
+use Rattle.receive.specs.Answer.{isDone}
+use Rattle.receive.specs.Walk.{countWalk, walkOn, walkAllowed, walkAnswer, walkOf}
 use Rattle.world.specs.World.{Held, World, heldAt, viewOf}
 use Rattle.world.specs.Events.{walk, Whole, on}
-use Rattle.world.specs.Step.{Acted, counts, receiving, routesAt, acted, does, acts, at, left, step}
+use Rattle.world.specs.Step.{Acted, counts, receiving, acted, does, acts, at, left, step}
 use Rattle.world.proofs.View.{view-at}
 use Rattle.datagram.specs.declared.Outcome.the-variants.{End}
 use Rattle.tie.specs.Table.{tableOf}

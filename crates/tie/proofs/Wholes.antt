@@ -1,13 +1,11 @@
 -- GROUP AND MODULE EVENTS of an image leave what a TCP connection holds of its stream, or end it (`gentle`). Assumes nothing.
-use Prim.Native.Nat.{ℕ, zero, suc, _+_, _<_}
+use Prim.Native.Nat.{ℕ, _+_}
 use mathlib.Core.Path.{_≡_, refl, sym, ap, _∙_, subst}
 use mathlib.Core.Bool.{Bool, true, false, cond}
-use mathlib.Core.List.{List, [], _∷_, map}
+use mathlib.Core.List.{List}
 use native.Mathlib.Omega.{arith}
-use native.Mathlib.Decide.{decLt, ℕ-discrete}
 use lib.Dec.{eqb, ltb}
-use lib.ListN.{length, getD, set, length-map, length-set, List·getD-map}
-use lib.Seq.{getD-set-same, getD-set-other, set-out}
+use lib.ListN.{length, getD, length-map, List·getD-map}
 use Rattle.layout.specs.Layout.{rowsOf}
 use Rattle.layout.specs.declared.Kind.the-variants.{Connection as Connections}
 use Rattle.connection.specs.declared.Connection.{Connection}
@@ -30,13 +28,14 @@ use Rattle.events.specs.Count.{ofProtocol, clearFrom, uncounted, clearPast}
 use Rattle.send.specs.Verdict.{isStored}
 use Rattle.send.specs.Send.{destinations, checkOf, wantedAt}
 use Rattle.world.specs.World.{Held, World, blank, heldAt, cellAt, follow, stateOf, leaves}
-use Rattle.world.specs.Events.{Whole, datagram, accept, tick, transmit, switchAll, readCount, clearCount}
+use Rattle.world.specs.Events.{datagram, accept, tick, transmit, switchAll, readCount, clearCount}
 use Rattle.runs.specs.Streams.{Quiet, Kept}
 use Rattle.runs.proofs.Keeps.{kept-same, kept-follow}
 use Rattle.runs.proofs.Streams.{Gentle}
 use Rattle.tie.specs.Send.{sentTo, appendTo, storeIn, transmitIn}
 use Rattle.tie.specs.Whole.{wholeOf}
-use Rattle.tie.proofs.Gentle.{kept-met, kept-switch, kept-tick, kept-leaves, each-at}
+use Rattle.tie.proofs.Gentle.{kept-met, kept-switch, kept-tick, kept-leaves}
+use Rattle.tie.proofs.Places.{each-at, one-at}
 use Rattle.tie.proofs.Arrivals.{arrive-is, meeting-length, meeting-at}
 
 module _ (image : List ℕ) (k : ℕ) (tcp : configOf image k .tcp ≡ true) (w : World) (q : Quiet (heldAt w k)) where
@@ -69,7 +68,7 @@ module _ (image : List ℕ) (k : ℕ) (tcp : configOf image k .tcp ≡ true) (w 
   kept-each : (f : ℕ → Connection → Connection) (n : ℕ) → ((c : Connection) → c ≡ h .connection → Fine (f k c)) → Fine (getD (eachTo f 0 n (stateOf w .connections)) k zeroRecord)
   kept-each f n p =
       let e : k ≡ 0 + k = omega arith in
-      each-at f Fine 0 n (stateOf w .connections) k (subst (λ (i : ℕ). Fine (f i (recordAt (stateOf w) k))) e (p (recordAt (stateOf w) k) record-is)) fine-same
+      each-at zeroRecord f Fine 0 n (stateOf w .connections) k (subst (λ (i : ℕ). Fine (f i (recordAt (stateOf w) k))) e (p (recordAt (stateOf w) k) record-is)) fine-same
 
   kept-ticks : Kept h (heldAt (leaves (tickedTo image (rowsOf image Connections) (stateOf w)) w) k)
   unfolding tickedTo
@@ -104,22 +103,10 @@ alike-kept : (h h′ : Held) → Quiet h → Alike h h′ → Kept h h′
 alike-kept h h′ q a = record { going = λ _. a .cell; gone = λ off. a .cell ∙ q (sym (a .online) ∙ off) }
 
 alike-append : (d : DestinationRow) (payload : List ℕ) (w : World) (k : ℕ) → Alike (heldAt w k) (heldAt (appendTo d payload w) k)
-alike-append d payload w k = go (ℕ-discrete k (d .connection)) (decLt k (length (w .held)))
-  where
-    h′ : Held
-    h′ = sentTo d payload (heldAt w (d .connection))
-
-    same : Alike (heldAt w k) (heldAt w k)
-    same = record { cell = refl; online = refl }
-
-    go : Dec (k ≡ d .connection) → Dec (k < length (w .held)) → Alike (heldAt w k) (getD (set (w .held) (d .connection) h′) k blank)
-    go (no ne) r = subst (Alike (heldAt w k)) (sym (getD-set-other (w .held) (d .connection) k h′ blank ne)) same
-    go (yes e) (yes lt) =
-        subst (Alike (heldAt w k)) (sym (ap (λ (i : ℕ). getD (set (w .held) i h′) k blank) (sym e) ∙ getD-set-same (w .held) k h′ blank lt))
-        (subst (λ (i : ℕ). Alike (heldAt w k) (sentTo d payload (heldAt w i))) e (record { cell = refl; online = refl }))
-    go (yes e) (no ge) =
-        subst (Alike (heldAt w k))
-        (sym (ap (λ (i : ℕ). getD (set (w .held) i h′) k blank) (sym e) ∙ ap (λ (l : List Held). getD l k blank) (set-out (w .held) k h′ (omega arith)))) same
+alike-append d payload w k =
+    one-at blank (w .held) (d .connection) k (sentTo d payload (heldAt w (d .connection))) (Alike (heldAt w k))
+    (λ e. subst (λ (i : ℕ). Alike (heldAt w k) (sentTo d payload (heldAt w i))) (sym e) (record { cell = refl; online = refl }))
+    (record { cell = refl; online = refl })
 
 alike-store : (image : List ℕ) (s : State) (pdu : ℕ) (payload : List ℕ) (w v : World) (k i : ℕ) → Alike (heldAt w k) (heldAt v k)
     → Alike (heldAt w k) (heldAt (storeIn image s pdu payload v i) k)

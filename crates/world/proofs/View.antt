@@ -1,6 +1,6 @@
 -- The view of a state and the lent memories: its records, one of them replaced, and what an event leaves that writes no memory.
 -- Assumes nothing.
-use Prim.Native.Nat.{ℕ, zero, suc, _+_, _*_, _≤_, _<_}
+use Prim.Native.Nat.{ℕ, zero, suc, _+_, _≤_, _<_}
 use mathlib.Core.Path.{_≡_, refl, sym, ap, ap₂, _∙_}
 use mathlib.Core.List.{List, [], _∷_, map}
 use native.Mathlib.Omega.{arith}
@@ -11,7 +11,7 @@ use Rattle.connection.specs.declared.Connection.{Connection}
 use Rattle.connection.specs.Connection.{zeroRecord}
 use Rattle.lists.specs.Each.{eachTo}
 use Rattle.state.specs.declared.State.{State}
-use Rattle.world.specs.World.{Held, World, blank, heldAt, heldBy, stretch, heldOf, viewFrom, viewOf, follow, stateOf, followAll, leaves}
+use Rattle.world.specs.World.{Held, blank, heldAt, heldBy, stretch, heldOf, viewFrom, viewOf, follow, stateOf, followAll, leaves}
 
 -- the records of a view are the state's
 records : (rx tx : List ℕ) (k : ℕ) (cs : List Connection) → map (λ (h : Held). h .connection) (viewFrom rx tx k cs) ≡ cs
@@ -58,10 +58,6 @@ module _ (rx tx rx′ tx′ : List ℕ) (i : ℕ) (same-rx : (j : ℕ) → (j �
 
   pub view-one : (cs : List Connection) (c : Connection) → viewFrom rx′ tx′ 0 (set cs i c) ≡ set (viewFrom rx tx 0 cs) i (heldOf rx′ tx′ i c)
   view-one cs c = view-write 0 cs i c (omega arith)
-
--- the same memories
-pub view-set : (rx tx : List ℕ) (cs : List Connection) (i : ℕ) (c : Connection) → viewFrom rx tx 0 (set cs i c) ≡ set (viewFrom rx tx 0 cs) i (heldOf rx tx i c)
-view-set rx tx cs i c = view-one rx tx rx tx i (λ j ne. refl) (λ j ne. refl) cs c
 
 -- A RECORD THAT HOLDS NO MORE than another
 pub record Less (c d : Connection) : Type 0 where

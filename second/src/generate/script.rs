@@ -7,10 +7,10 @@ use super::table::{remote, table_with_few_pdus};
 use crate::event::{run, Event};
 use crate::header::is_on;
 use crate::random::Random;
-use crate::script::{entry, write, write_start, START_STATE};
+use crate::script::{entry, image_end, write, write_start, START_STATE};
 use crate::state::{Config, Mode, Record, World, RECORDS};
 use crate::stream::{Part, READY};
-use crate::table::{Destination, Remote, Table, MOST_SEND_SIZE, TCP};
+use crate::table::{check, Destination, Remote, Table, MOST_SEND_SIZE, TCP};
 use crate::walk::walk;
 
 /// The most bytes of a segment or datagram in an entry.
@@ -309,12 +309,16 @@ pub fn misfit_script(random: &mut Random) -> Vec<u8> {
     [table.image(), start, write(&Event::Ticks(1))].concat()
 }
 
-/// A few events under any image, good or damaged, of any size.
+/// A few events under any image, good or damaged, of any size, that does not end with the input.
 pub fn image_script(random: &mut Random) -> Vec<u8> {
     let source = exact(random);
     let events = [Event::Ticks(2), Event::Open(0), Event::Datagram(0, source), Event::Accept(1, source), Event::ReadCount(1)];
-    let entries = events.iter().flat_map(write);
-    image(random).into_iter().chain(entries).collect()
+    loop {
+        let input: Vec<u8> = image(random).into_iter().chain(events.iter().flat_map(write)).collect();
+        if check(&input[..image_end(&input)]) != Err(2) {
+            return input;
+        }
+    }
 }
 
 /// An entry that is refused.

@@ -5,7 +5,7 @@ use crate::random::Random;
 use crate::sound::{broken, PAST_ROWS, RULES};
 use crate::state::{Config, Mode, Record, State, World, RECEIVE, RECORDS, SEND};
 use crate::stream::{Part, READY};
-use crate::table::{Remote, Table};
+use crate::table::{Remote, Table, MOST_SEND_SIZE};
 
 /// A remote without wildcard.
 pub fn exact(random: &mut Random) -> Remote {
@@ -94,7 +94,7 @@ fn disturb(random: &mut Random, table: &Table, state: &mut State) {
         2 => record.close_wanted = !record.close_wanted,
         3 => record.remote = *random.pick(&[Remote::default(), Remote { address: 1, port: 0 }, Remote { address: 0, port: 1 }]),
         4 => record.part = any_part(random, record.part),
-        5 => record.used = *random.pick(&[0, 1, room, room + 1, u16::MAX]),
+        5 => record.used = *random.pick(&[0, 1, room, (room + 1).min(MOST_SEND_SIZE), MOST_SEND_SIZE]),
         6 => record.timer = *random.pick(&[0, 1, u16::MAX]),
         7 => record.due = !record.due,
         _ => record.switches ^= 1,

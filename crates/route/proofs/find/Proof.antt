@@ -1,9 +1,10 @@
 -- `route::find` meets its contract. Assumes nothing.
-use borrow.Author.Needs.{needs}
 use Prim.Native.Nat.{_-_}
-use Rattle.route.specs.Route.{passed}
+use native.Mathlib.Omega.{arith}
+use borrow.Author.Needs.{needs}
+use Rattle.route.proofs.Laws.{row-at, find-on, find-hit, find-end}
 use Rattle.lists.proofs.Search.{Searched, search-start}
-use Rattle.route.proofs.Laws.{find-on, find-hit, find-end}
+use Rattle.route.specs.Route.{passed}
 use Rattle.route.proofs.find.Statement.{statement}
 use Rattle.route.proofs.find.Tie as tie
 
@@ -19,18 +20,32 @@ rows-in-requires c κs = search needs
 loop-holds : tie.Need-loop-holds Inv-loop μ-loop
 loop-holds c = search-start _ _
 
-route-in-requires : tie.Need-route-in-requires Inv-loop μ-loop
-route-in-requires c κs = search needs
+mul-at : tie.Need-mul-at Inv-loop μ-loop
+mul-at c = search needs
+
+add-row : tie.Need-add-row Inv-loop μ-loop
+add-row c = search needs
+
+sub-row : tie.Need-sub-row Inv-loop μ-loop
+sub-row c = search needs
+
+part-row-start : tie.Need-part-row-start Inv-loop μ-loop
+part-row-start c = search needs
+
+part-row-end : tie.Need-part-row-end Inv-loop μ-loop
+part-row-end c = search needs
 
 row-counts-requires : tie.Need-row-counts-requires Inv-loop μ-loop
 row-counts-requires c κs = search needs
 
 returns : tie.Need-returns Inv-loop μ-loop
 returns c =
-    let g = c .before .before in
-    let l = g .before .before in
-    let n = l .before in
-    (find-hit _ _ _ _ _ _ _ (l .loop .inv) (search needs) (n .rows-in .ensures .0) (g .route-in .ensures) (c .before .row-counts .ensures) (c .if1 .taken), search needs)
+    let l = c .before .before .before .before in
+    let n = l .before in (
+      find-hit _ _ _ _ _ _ _ (l .loop .inv) (search needs) (n .rows-in .ensures .is)
+          (row-at (n .before .before .args .routes .now) (l .loop .i) (omega (arith, n .rows-in .ensures .within))) (c .before .row-counts .ensures) (c .if1 .taken),
+      omega (arith, n .rows-in .ensures .most),
+    )
 
 add-i : tie.Need-add-i Inv-loop μ-loop
 add-i c = search needs
@@ -40,12 +55,15 @@ loop-less c = search needs
 
 loop-again : tie.Need-loop-again Inv-loop μ-loop
 loop-again c =
-    let g = c .before .before in
-    let l = g .before .before in
-    find-on _ _ _ _ _ _ _ (l .loop .inv) (search needs) (g .route-in .ensures) (c .before .row-counts .ensures) (c .if1 .left)
+    let l = c .before .before .before .before in
+    let n = l .before in
+    find-on _ _ _ _ _ _ _ (l .loop .inv) (search needs)
+    (row-at (n .before .before .args .routes .now) (l .loop .i) (omega (arith, n .rows-in .ensures .within))) (c .before .row-counts .ensures) (c .if1 .left)
 
 returns-2 : tie.Need-returns-2 Inv-loop μ-loop
-returns-2 c = (find-end _ _ _ _ _ (c .before .loop .inv) (search needs) (c .before .before .rows-in .ensures .0), search needs)
+returns-2 c =
+    let n = c .before .before in
+    (find-end _ _ _ _ _ (c .before .loop .inv) (search needs) (n .rows-in .ensures .is), omega (arith, n .rows-in .ensures .most))
 
 pub find-spec : {M : Type 1} → statement M
 find-spec =
@@ -55,7 +73,11 @@ find-spec =
     μ-loop
     rows-in-requires
     loop-holds
-    route-in-requires
+    mul-at
+    add-row
+    sub-row
+    part-row-start
+    part-row-end
     row-counts-requires
     returns
     add-i

@@ -27,8 +27,8 @@ returns c =
     let a = c .before .before .before .before .before .args in
     header-part (idOf (a .routes .now)) (lookupOf (a .routes .now) (a .connection) (a .switches)) (a .value) (a .held) (a .total) (c .gather .result) (a .rx .now) (a .rest .now) (omega arith) (c .before .if1 .taken) (c .gather .ensures .0)
 
-gather-requires-2 : tie.Need-gather-requires-2
-gather-requires-2 c κs = search needs
+header-number-requires : tie.Need-header-number-requires
+header-number-requires c κs = search needs
 
 cast-id : tie.Need-cast-id
 cast-id c = search needs
@@ -88,9 +88,9 @@ returns-2 c =
     let s = g .before .before .before .before .before in
     let a = s .args in
     let is = sym (l .lookup .ensures) ∙ k .route .given .1 in
-    header-accepted (idOf (a .routes .now)) (lookupOf (a .routes .now) (a .connection) (a .switches)) (a .value) _ (g .gather2 .result) _ _ _ (a .total) (a .rx .now) (a .rest .now) _ _
-    (omega (arith, s .pre .2)) (g .before .if1 .left) (g .gather2 .ensures .0) refl refl is
-    (b .take-body .ensures (lookupOf (a .routes .now) (a .connection) (a .switches)) (g .gather2 .result / 4294967296) (idOf (a .routes .now)) (accepted-id (a .routes .now) _ _ _ _ _ is))
+    header-accepted (idOf (a .routes .now)) (lookupOf (a .routes .now) (a .connection) (a .switches)) (a .value) _ (g .header-number .result) _ _ _ (a .total) (a .rx .now) (a .rest .now) _ _
+    (omega (arith, s .pre .2)) (g .before .if1 .left) (g .header-number .ensures .0) refl refl is
+    (b .take-body .ensures (lookupOf (a .routes .now) (a .connection) (a .switches)) (g .header-number .result / 4294967296) (idOf (a .routes .now)) (accepted-id (a .routes .now) _ _ _ _ _ is))
 
 returns-3 : tie.Need-returns-3
 returns-3 c =
@@ -98,8 +98,8 @@ returns-3 c =
     let l = k .before .before in
     let g = l .before in
     let a = g .before .before .before .before .before .args in
-    header-dropped (idOf (a .routes .now)) (lookupOf (a .routes .now) (a .connection) (a .switches)) (a .value) _ (g .gather2 .result) _ _ _ (a .total) (a .rx .now) (a .rest .now) _
-    (omega arith) (g .before .if1 .left) (g .gather2 .ensures .0) refl refl (sym (l .lookup .ensures) ∙ k .reason .given .1) (c .skipping .ensures)
+    header-dropped (idOf (a .routes .now)) (lookupOf (a .routes .now) (a .connection) (a .switches)) (a .value) _ (g .header-number .result) _ _ _ (a .total) (a .rx .now) (a .rest .now) _
+    (omega arith) (g .before .if1 .left) (g .header-number .ensures .0) refl refl (sym (l .lookup .ensures) ∙ k .reason .given .1) (c .skipping .ensures)
 
 pub take-header-spec : {M : Type 1} → statement M
 take-header-spec =
@@ -110,7 +110,7 @@ take-header-spec =
     cast-t20
     add-t21
     returns
-    gather-requires-2
+    header-number-requires
     cast-id
     cast-size
     lookup-requires

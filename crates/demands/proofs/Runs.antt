@@ -15,25 +15,24 @@ use Rattle.connection.specs.Sound.{Sound}
 use Rattle.state.specs.State.{recordAt}
 use Rattle.state.specs.Fresh.{configOf}
 use Rattle.gate.proofs.Records.{row-sound, record-at}
-use Rattle.feed.specs.Feed.{Pdu}
 use Rattle.lengths.specs.Listed.{Bytes}
 use Rattle.lengths.proofs.Bytes.{bytes-append}
 use Rattle.world.specs.World.{Held, World, heldAt, cellAt}
-use Rattle.world.specs.Events.{Own, change, segment, walk, take, Event, on, all}
-use Rattle.world.specs.Step.{step, run, hands, heard}
+use Rattle.world.specs.Events.{Event}
+use Rattle.world.specs.Step.{run, heard}
 use Rattle.world.proofs.View.{view-at}
 use Rattle.runs.specs.Same.{Same, swap, cut, join, same, later, both}
-use Rattle.runs.specs.Streams.{EventBytes, RunBytes, streamsOf, listedIn, Rests}
+use Rattle.runs.specs.Streams.{RunBytes, streamsOf, listedIn, Rests}
 use Rattle.runs.proofs.Same.{same-end, same-heard}
 use Rattle.runs.proofs.Streams.{heard-listed}
 use Rattle.tie.specs.Table.{tableOf}
 use Rattle.tie.specs.Whole.{wholeOf}
 use Rattle.tie.specs.Machine.{Machine, seen}
-use Rattle.tie.specs.Run.{afterEvent, given, afterRun, givenIn, Good}
+use Rattle.tie.specs.Run.{afterEvent, afterRun, givenIn, Good}
 use Rattle.tie.proofs.Steps.{event-view, event-given}
 use Rattle.tie.proofs.Good.{event-good}
 use Rattle.tie.proofs.Wholes.{gentle}
 use Rattle.tie.proofs.Rests.{sound-rests}
 
 module _ (image : List ℕ) where
   -- DEMAND 1, over runs: sound stays sound, and the memories keep their lengths

@@ -1,0 +1,8 @@
+-- The demands: 1 (Refusals, Refused), 2 (Trip, Waiting), 3 (Runs); uniqueness (Unique). Assumes nothing.
+pub mod Runs
+pub mod Refused
+pub mod Refusals
+pub mod Lasting
+pub mod Waiting
+pub mod Trip
+pub mod Unique

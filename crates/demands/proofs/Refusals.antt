@@ -1,0 +1,218 @@
+-- DEMAND 1: "A refusal carries its number and changes neither state nor lent memory": of every entry point, from any table, state and
+-- memory. Assumes nothing.
+use Prim.Native.Nat.{ℕ}
+use mathlib.Core.Path.{_≡_, refl, ap, _∙_}
+use mathlib.Core.Bool.{Bool, true, false, cond, or-true}
+use mathlib.Core.List.{List}
+use lib.Dec.{eqb, leb, ltb}
+use lib.ListN.{length, replicate}
+use lib.Seq.{set-getD}
+use Rattle.layout.specs.Layout.{rowsOf}
+use Rattle.layout.specs.declared.Kind.the-variants.{Connection as Connections, Group}
+use Rattle.connection.specs.declared.Connection.{Connection}
+use Rattle.connection.specs.declared.Remote.{Remote}
+use Rattle.connection.specs.declared.Refusal.the-variants.{Missing, Denied}
+use Rattle.connection.specs.declared.Answer.{Answer}
+use Rattle.connection.specs.declared.Answer.the-variants.{Done, Refused}
+use Rattle.connection.specs.declared.Event.{Event as Change}
+use Rattle.connection.specs.Connection.{zeroRecord}
+use Rattle.connection.specs.Event.{answerNumber, stepOf}
+use Rattle.state.specs.declared.State.{State}
+use Rattle.state.specs.State.{recordAt, withRecord}
+use Rattle.state.specs.Fresh.{configOf}
+use Rattle.gate.specs.declared.Gate.{Gate}
+use Rattle.gate.specs.declared.Gate.the-variants as Gated
+use Rattle.gate.specs.Gate.{gateOf, gateAt, through}
+use Rattle.events.specs.declared.Told.{Told}
+use Rattle.events.specs.declared.Counted.{Counted}
+use Rattle.events.specs.Change.{refusedBy, toldOf, changeOf, eventOf}
+use Rattle.events.specs.Module.{switchedAll, switchAllOf}
+use Rattle.events.specs.Count.{countNumber, ofProtocol, readFrom, clearFrom, uncounted, readPast, clearPast, readOf, clearOf}
+use Rattle.ticks.specs.declared.Ticked.{Ticked}
+use Rattle.ticks.specs.Tick.{tickedTo, unticked, tickEvent}
+use Rattle.choose.specs.declared.Arrived.{Arrived}
+use Rattle.choose.specs.declared.Chosen.{Chosen}
+use Rattle.choose.specs.declared.Chosen.the-variants.{Nobody, At}
+use Rattle.choose.specs.Choose.{arrivalNumber, meet, refusedBy as notMet, deniedOf, chosenIn, arriveOf}
+use Rattle.arrivals.specs.Arrivals.{arrivalOf}
+use Rattle.receive.specs.Answer.{answerNumber as receiveNumber, isDone}
+use Rattle.receive.specs.Segment.{takeOn, segmentAnswer, segmentOf}
+use Rattle.receive.specs.Walk.{walkOn, noneWalked, walkAnswer, walkOf}
+use Rattle.send.specs.declared.Transmission.{Transmission}
+use Rattle.send.specs.declared.Transmission.the-variants as Sent
+use Rattle.send.specs.Verdict.{transmissionNumber, isStored}
+use Rattle.send.specs.Send.{Sending, sending, checkOf, transmitOf, transmittedOf}
+use Rattle.waiting.specs.declared.Taking.the-variants as Took
+use Rattle.waiting.specs.Waiting.{takingNumber, takingOf, takeOf}
+use Rattle.sending.specs.declared.Taken.{Taken}
+use Rattle.sending.specs.Sending.{notSent, sendOf, sentMemory, notTaken, takePast, takenOf}
+use Rattle.world.specs.Events.{change, segment, walk, take, datagram, accept, tick, transmit, switchAll, readCount, clearCount, Event, on, all}
+use Rattle.tie.specs.Machine.{Machine, machine, taken, afterSegment}
+use Rattle.tie.specs.Run.{afterOwn, afterWhole, afterEvent}
+use Rattle.demands.specs.Numbers.{numberOf}
+use Rattle.tie.proofs.Good.{past-or}
+use Rattle.tie.proofs.Segments.{no-segment}
+
+-- a record put back where it was
+put-back : (s : State) (k : ℕ) → withRecord k (recordAt s k) s ≡ s
+put-back s k = ap (λ (l : List Connection). record { connections = l; «udp_drops» = s .«udp_drops»; «tcp_drops» = s .«tcp_drops» }) (set-getD (s .connections) k zeroRecord)
+
+module _ (image : List ℕ) (m : Machine) where
+  abbrev s : State
+  s = m .state
+
+  abbrev rx : ℕ
+  rx = length (m .rx)
+
+  abbrev tx : ℕ
+  tx = length (m .tx)
+
+  -- an answer that refuses comes with the state as it was
+  abbrev Stays : {A : Type 0} → (A → ℕ) → (A → State) → A → Type 0
+  Stays number after a = (number a ≡ 0 → ⊥) → after a ≡ s
+
+  told-stays : (k : ℕ) (a : Answer) (c : Connection) → (answerNumber a ≡ 0 → ⊥) → toldOf s k a c .state ≡ s
+  unfolding toldOf
+  told-stays k Done c no-zero = absurd (no-zero refl)
+  told-stays k (Refused r) c no-zero = refl
+
+  told-answer : (k : ℕ) (a : Answer) (c : Connection) → toldOf s k a c .answer ≡ a
+  unfolding toldOf
+  told-answer k Done c = refl
+  told-answer k (Refused r) c = refl
+
+  change-stays : (k : ℕ) (e : Change) → Stays (λ (t : Told). answerNumber (t .answer)) (λ (t : Told). t .state) (eventOf image s rx tx k e)
+  unfolding eventOf changeOf
+  change-stays k e =
+      past-or (Stays (λ (t : Told). answerNumber (t .answer)) (λ (t : Told). t .state)) (gateAt image s rx tx k) (refusedBy s) (changeOf image s k e) (λ r no-zero. refl)
+      (λ no-zero. told-stays k a c (λ z. no-zero (ap answerNumber (told-answer k a c) ∙ z)))
+    where
+      a : Answer
+      a = stepOf e (configOf image k) (recordAt s k) .answer
+
+      c : Connection
+      c = stepOf e (configOf image k) (recordAt s k) .connection
+
+  -- a take, a walk: nothing is made that is refused
+  not-made : (b : Bool) → (a : Bool) → a ≡ b → (a ≡ true → ⊥) → a ≡ false
+  not-made true a e no-true = absurd (no-true e)
+  not-made false a e no-true = e
+
+  refused-take : (k : ℕ) (bs : List ℕ) → (receiveNumber (taken image k m bs .answer) ≡ 0 → ⊥) → isDone (segmentAnswer image s rx tx k) ≡ false
+  unfolding segmentOf takeOn
+  refused-take k bs no-zero = not-made (isDone (segmentAnswer image s rx tx k)) (isDone (segmentAnswer image s rx tx k)) refl (λ e. no-zero (rw e))
+
+  segment-stays : (k : ℕ) (bs : List ℕ) → (receiveNumber (taken image k m bs .answer) ≡ 0 → ⊥) → afterSegment image k m bs ≡ m
+  segment-stays k bs no-zero = no-segment image m k bs (refused-take k bs no-zero)
+
+  walk-stays : (k : ℕ) (d : List ℕ) (p : ℕ) → (receiveNumber (walkOf image s rx tx k d p .answer) ≡ 0 → ⊥) → walkOf image s rx tx k d p .state ≡ s
+  unfolding walkOf walkOn
+  walk-stays k d p = go (isDone (walkAnswer image s rx tx k d p))
+    where
+      go : (b : Bool) → (receiveNumber (cond b (walkOn image s k d p) (noneWalked s p (walkAnswer image s rx tx k d p)) .answer) ≡ 0 → ⊥)
+          → cond b (walkOn image s k d p) (noneWalked s p (walkAnswer image s rx tx k d p)) .state ≡ s
+      go true no-zero = absurd (no-zero refl)
+      go false no-zero = refl
+
+  -- the waiting bytes: an out buffer that is too short
+  take-stays : (k room : ℕ) → Stays (λ (t : Taken). takingNumber (t .answer)) (λ (t : Taken). t .state) (takePast image s k room)
+  unfolding takingOf takeOf
+  take-stays k room = go (ltb room (recordAt s k .used)) refl
+    where
+      go : (b : Bool) → ltb room (recordAt s k .used) ≡ b → Stays (λ (t : Taken). takingNumber (t .answer)) (λ (t : Taken). t .state) (takePast image s k room)
+      go true e no-zero = rw (e, or-true (eqb (recordAt s k .used) 0)) (put-back s k)
+      go false e no-zero = absurd (no-zero (rw e))
+
+  taken-stays : (k : ℕ) (out : List ℕ) → Stays (λ (t : Taken). takingNumber (t .answer)) (λ (t : Taken). t .state) (takenOf image s rx (m .tx) k out)
+  unfolding takenOf
+  taken-stays k out =
+      past-or (Stays (λ (t : Taken). takingNumber (t .answer)) (λ (t : Taken). t .state)) (gateAt image s rx tx k) (notTaken s) (takePast image s k (length out)) (λ r no-zero. refl)
+      (take-stays k (length out))
+
+  -- a datagram, an accept
+  arrive-stays : (a : Bool) (group : ℕ) (source : Remote) → Stays (λ (t : Arrived). arrivalNumber (t .answer)) (λ (t : Arrived). t .state) (arriveOf image s a group source)
+  unfolding arriveOf
+  arrive-stays a group source = go (leb (rowsOf image Group) group) (deniedOf image a group source) (chosenIn image s a group source)
+    where
+      go : (x y : Bool) (c : Chosen) → Stays (λ (t : Arrived). arrivalNumber (t .answer)) (λ (t : Arrived). t .state) (cond x (notMet s Missing) (cond y (notMet s Denied) (meet s source c)))
+      go true y c no-zero = refl
+      go false true c no-zero = refl
+      go false false Nobody no-zero = refl
+      go false false (At k) no-zero = absurd (no-zero refl)
+
+  arrival-stays : (a : Bool) (group : ℕ) (source : Remote) → Stays (λ (t : Arrived). arrivalNumber (t .answer)) (λ (t : Arrived). t .state) (arrivalOf image s rx tx a group source)
+  unfolding arrivalOf
+  arrival-stays a group source =
+      past-or (Stays (λ (t : Arrived). arrivalNumber (t .answer)) (λ (t : Arrived). t .state)) (gateOf image s rx tx) (notMet s) (arriveOf image s a group source) (λ r no-zero. refl) (arrive-stays a group source)
+
+  tick-stays : Stays (λ (t : Ticked). answerNumber (t .answer)) (λ (t : Ticked). t .state) (tickEvent image s rx tx)
+  unfolding tickEvent
+  tick-stays =
+      past-or (Stays (λ (t : Ticked). answerNumber (t .answer)) (λ (t : Ticked). t .state)) (gateOf image s rx tx) (unticked s) (record { answer = Done; state = tickedTo image (rowsOf image Connections) s })
+      (λ r no-zero. refl) (λ no-zero. absurd (no-zero refl))
+
+  switches-stay : (n : ℕ) (b : Bool) → Stays (λ (t : Told). answerNumber (t .answer)) (λ (t : Told). t .state) (switchAllOf image s rx tx n b)
+  unfolding switchAllOf
+  switches-stay n b =
+      past-or (Stays (λ (t : Told). answerNumber (t .answer)) (λ (t : Told). t .state)) (gateOf image s rx tx) (refusedBy s)
+      (cond (ltb n 32) (record { answer = Done; state = switchedAll (rowsOf image Connections) n b s }) (refusedBy s Missing)) (λ r no-zero. refl) (go (ltb n 32))
+    where
+      go : (x : Bool) → Stays (λ (t : Told). answerNumber (t .answer)) (λ (t : Told). t .state) (cond x (record { answer = Done; state = switchedAll (rowsOf image Connections) n b s }) (refusedBy s Missing))
+      go true no-zero = absurd (no-zero refl)
+      go false no-zero = refl
+
+  -- a count: read it never changes the state; cleared it does, where it is not refused
+  count-stays : (f : Bool → Counted) → ((b : Bool) → countNumber (f b .answer) ≡ 0) → (p : ℕ) → Stays (λ (t : Counted). countNumber (t .answer)) (λ (t : Counted). t .state) (through (gateOf image s rx tx) (uncounted s) (ofProtocol f (uncounted s Denied) p))
+  unfolding ofProtocol
+  count-stays f zero p =
+      past-or (Stays (λ (t : Counted). countNumber (t .answer)) (λ (t : Counted). t .state)) (gateOf image s rx tx) (uncounted s) (ofProtocol f (uncounted s Denied) p) (λ r no-zero. refl) (go (eqb p 1) (eqb p 2))
+    where
+      go : (x y : Bool) → Stays (λ (t : Counted). countNumber (t .answer)) (λ (t : Counted). t .state) (cond x (f false) (cond y (f true) (uncounted s Denied)))
+      go true y no-zero = absurd (no-zero (zero false))
+      go false true no-zero = absurd (no-zero (zero true))
+      go false false no-zero = refl
+
+  read-stays : (p : ℕ) → Stays (λ (t : Counted). countNumber (t .answer)) (λ (t : Counted). t .state) (readOf image s rx tx p)
+  unfolding readOf readPast
+  read-stays p = count-stays (readFrom s) (λ b. refl) p
+
+  clear-stays : (p : ℕ) → Stays (λ (t : Counted). countNumber (t .answer)) (λ (t : Counted). t .state) (clearOf image s rx tx p)
+  unfolding clearOf clearPast
+  clear-stays p = count-stays (clearFrom s) (λ b. refl) p
+
+  -- a transmit: nothing is stored anywhere
+  not-stored : (a : Transmission) → (transmissionNumber a ≡ 0 → ⊥) → isStored a ≡ false
+  not-stored Sent.Stored no-zero = absurd (no-zero refl)
+  not-stored (Sent.Refused r) no-zero = refl
+  not-stored Sent.NoDestination no-zero = refl
+  not-stored Sent.SwitchedOff no-zero = refl
+  not-stored (Sent.RefusedAt n d) no-zero = refl
+
+  nothing-sent : (pdu : ℕ) (payload : List ℕ) → (transmissionNumber (checkOf image s pdu (length payload)) ≡ 0 → ⊥) → transmitOf image s pdu payload (m .tx) ≡ sending s (m .tx)
+  unfolding transmitOf
+  nothing-sent pdu payload no-zero = rw (not-stored (checkOf image s pdu (length payload)) no-zero)
+
+  transmit-stays : (pdu : ℕ) (payload : List ℕ) → (transmissionNumber (sendOf image s rx (m .tx) pdu payload .answer) ≡ 0 → ⊥)
+      → machine (sendOf image s rx (m .tx) pdu payload .state) (m .rx) (sentMemory image s rx (m .tx) pdu payload) ≡ m
+  unfolding sendOf sentMemory
+  transmit-stays pdu payload = go (gateOf image s rx tx)
+    where
+      go : (g : Gate) → (transmissionNumber (through g (notSent s) (transmittedOf image s pdu payload (m .tx)) .answer) ≡ 0 → ⊥)
+          → machine (through g (notSent s) (transmittedOf image s pdu payload (m .tx)) .state) (m .rx) (through g (λ r. m .tx) (transmitOf image s pdu payload (m .tx) .memory)) ≡ m
+      go Gated.Pass no-zero = ap (λ (x : Sending). machine (x .state) (m .rx) (x .memory)) (nothing-sent pdu payload no-zero)
+      go (Gated.Refused r) no-zero = refl
+
+  -- EVERY ENTRY POINT
+  pub refusal-stays : (e : Event) → (numberOf image m e ≡ 0 → ⊥) → afterEvent image e m ≡ m
+  unfolding afterEvent afterOwn afterWhole
+  refusal-stays (on k (change e)) no-zero = ap (λ (t : State). machine t (m .rx) (m .tx)) (change-stays k e no-zero)
+  refusal-stays (on k (segment bs)) no-zero = segment-stays k bs no-zero
+  refusal-stays (on k (walk d p)) no-zero = ap (λ (t : State). machine t (m .rx) (m .tx)) (walk-stays k d p no-zero)
+  refusal-stays (on k (take room)) no-zero = ap (λ (t : State). machine t (m .rx) (m .tx)) (taken-stays k (replicate room 0) no-zero)
+  refusal-stays (all (datagram group source)) no-zero = ap (λ (t : State). machine t (m .rx) (m .tx)) (arrival-stays false group source no-zero)
+  refusal-stays (all (accept group source)) no-zero = ap (λ (t : State). machine t (m .rx) (m .tx)) (arrival-stays true group source no-zero)
+  refusal-stays (all tick) no-zero = ap (λ (t : State). machine t (m .rx) (m .tx)) (tick-stays no-zero)
+  refusal-stays (all (transmit pdu payload)) no-zero = transmit-stays pdu payload no-zero
+  refusal-stays (all (switchAll n b)) no-zero = ap (λ (t : State). machine t (m .rx) (m .tx)) (switches-stay n b no-zero)
+  refusal-stays (all (readCount p)) no-zero = ap (λ (t : State). machine t (m .rx) (m .tx)) (read-stays p no-zero)
+  refusal-stays (all (clearCount p)) no-zero = ap (λ (t : State). machine t (m .rx) (m .tx)) (clear-stays p no-zero)

@@ -1,0 +1,206 @@
+-- SEND BUFFERS OVER RUNS: what waits on a connection is what waited at the start and the frames stored since, or only the frames since
+-- the last event that emptied it. Assumes nothing.
+use Prim.Native.Nat.{ℕ, zero, suc, _*_}
+use mathlib.Core.Path.{_≡_, refl, sym, ap, ap₂, _∙_, subst}
+use mathlib.Core.Bool.{Bool, true, false, cond}
+use mathlib.Core.List.{List, [], _∷_, _++_, append-nil, append-assoc}
+use lib.Dec.{eqb}
+use lib.ListN.{length, take as front, drop}
+use borrow.Author.Tests.{eqb-true, eqb-false}
+use Rattle.connection.specs.declared.Connection.{Connection}
+use Rattle.state.specs.declared.State.{State}
+use Rattle.state.specs.State.{recordAt}
+use Rattle.table.proofs.Facts.{accepted-facts}
+use Rattle.gate.specs.declared.Gate.{Gate}
+use Rattle.gate.specs.Gate.{through}
+use Rattle.gate.proofs.Pass.{passed-gate}
+use Rattle.send.specs.Verdict.{isStored}
+use Rattle.feed.specs.Frame.{frame, Sent, frames}
+use Rattle.rows.specs.Rows.{destinationOf}
+use Rattle.send.specs.Send.{destinations, checkOf, transmitOf, transmittedOf}
+use Rattle.sending.specs.Sending.{notSent, sendOf, sentMemory}
+use Rattle.sending.proofs.Past.{ready-from}
+use Rattle.waiting.specs.Waiting.{waitingOf}
+use Rattle.waits.specs.Waits.{waits, goesTo, framesFrom, addedTo, Turn, empties, stays, turned, afterAll, emptied as emptiedIn, since}
+use Rattle.waits.proofs.Held.{waits-after}
+use Rattle.waits.proofs.Since.{waits-since}
+use Rattle.kept.proofs.Transmitted.{all-fit}
+use Rattle.world.specs.World.{Held, World, heldAt}
+use Rattle.world.specs.Events.{Own, change, segment, walk, take, datagram, accept, tick, transmit, switchAll, readCount, clearCount, Event, on, all}
+use Rattle.world.specs.Step.{step}
+use Rattle.world.proofs.View.{view-at}
+use Rattle.runs.specs.Streams.{EventBytes, RunBytes}
+use Rattle.tie.specs.Table.{tableOf}
+use Rattle.tie.specs.Whole.{wholeOf}
+use Rattle.receive.specs.Answer.{isDone}
+use Rattle.tie.specs.Machine.{Machine, seen, taken, afterOne, restOf, goesOn, afterTakes}
+use Rattle.tie.specs.Run.{afterOwn, afterWhole, afterEvent, afterRun, Good}
+use Rattle.demands.specs.Waits.{emptied, turnOf, turnsOf}
+use Rattle.tie.proofs.Steps.{event-view}
+use Rattle.tie.proofs.Good.{event-good}
+use Rattle.demands.proofs.Lasting.{Lasting, NoTransmit, own, met, accepted, ticked, switched, counted, cleared, lasting}
+
+-- the record of a machine is its view's
+record-seen : (m : Machine) (j : ℕ) → heldAt (seen m) j .connection ≡ recordAt (m .state) j
+record-seen m j = ap (λ (h : Held). h .connection) (view-at (m .state) (m .rx) (m .tx) j)
+
+-- takes leave send memory
+takes-tx : (image : List ℕ) (k f : ℕ) (m : Machine) (bs : List ℕ) → afterTakes image k f m bs .tx ≡ m .tx
+unfolding afterTakes
+takes-tx image k zero m bs = refl
+takes-tx image k (suc f) m bs = go (goesOn image k (isDone (taken image k m bs .answer)) (restOf image k m bs)) (takes-tx image k f (afterOne image k m bs) (restOf image k m bs))
+  where
+    go : (b : Bool) → afterTakes image k f (afterOne image k m bs) (restOf image k m bs) .tx ≡ m .tx
+        → cond b (afterTakes image k f (afterOne image k m bs) (restOf image k m bs)) (afterOne image k m bs) .tx ≡ m .tx
+    go true e = e
+    go false e = refl
+
+own-tx : (image : List ℕ) (k : ℕ) (e : Own) (m : Machine) → afterOwn image k e m .tx ≡ m .tx
+unfolding afterOwn
+own-tx image k (change e) m = refl
+own-tx image k (segment bs) m = takes-tx image k (suc (length bs)) m bs
+own-tx image k (walk d p) m = refl
+own-tx image k (take room) m = refl
+
+module _ (image : List ℕ) (j : ℕ) (m : Machine) (good : Good image m) where
+  -- AN EVENT THAT IS NO TRANSMIT: the same send memory, and as many bytes as before or none
+  same-tx : (e : Event) → NoTransmit e → afterEvent image e m .tx ≡ m .tx
+  unfolding afterEvent afterWhole
+  same-tx _ (own k e) = own-tx image k e m
+  same-tx _ (met group source) = refl
+  same-tx _ (accepted group source) = refl
+  same-tx _ ticked = refl
+  same-tx _ (switched n b) = refl
+  same-tx _ (counted p) = refl
+  same-tx _ (cleared p) = refl
+
+  last : (e : Event) → NoTransmit e → EventBytes e → Lasting (recordAt (afterEvent image e m .state) j) (recordAt (m .state) j)
+  last e n b =
+      subst (λ (d : Connection). Lasting d (recordAt (m .state) j)) (ap (λ (w : World). heldAt w j .connection) (sym (event-view image m good e b)) ∙ record-seen (afterEvent image e m) j)
+      (subst (λ (d : Connection). Lasting (heldAt (step (tableOf image) (wholeOf image) (seen m) e) j .connection) d) (record-seen m j) (lasting image (seen m) j e n))
+
+  emptied-waits : (e : Event) → NoTransmit e → EventBytes e → waits (afterEvent image e m .state) (afterEvent image e m .tx) j ≡ turned (emptied image j m e) (waits (m .state) (m .tx) j)
+  unfolding waitingOf
+  emptied-waits e n b = go (eqb u 0) refl
+    where
+      u : ℕ
+      u = recordAt (afterEvent image e m .state) j .used
+
+      go : (x : Bool) → eqb u 0 ≡ x → waits (afterEvent image e m .state) (afterEvent image e m .tx) j ≡ turned (cond x empties stays) (waits (m .state) (m .tx) j)
+      go true p = ap (λ (i : ℕ). front i (drop (j * 1472) (afterEvent image e m .tx))) (eqb-true u 0 p)
+      go false p = ap₂ (λ (i : ℕ) (l : List ℕ). front i (drop (j * 1472) l)) (last e n b (eqb-false u 0 p)) (same-tx e n)
+
+  -- A TRANSMIT
+  abbrev stored : ℕ → List ℕ → Bool
+  stored pdu payload = isStored (checkOf image (m .state) pdu (length payload))
+
+  sent-waits : (pdu : ℕ) (payload : List ℕ) (b : Bool) → stored pdu payload ≡ b
+      → waits (transmitOf image (m .state) pdu payload (m .tx) .state) (transmitOf image (m .state) pdu payload (m .tx) .memory) j ≡ waits (m .state) (m .tx) j ++ addedTo image (m .state) pdu payload j
+  unfolding transmitOf addedTo
+  sent-waits pdu payload true e =
+      rw e
+      (waits-after image (ready-from image (accepted-facts image (good .passed .table))) (m .state) pdu payload (m .tx) (good .sixteen) (good .passed .send)
+      (all-fit image (accepted-facts image (good .passed .table)) (m .state) (good .sixteen) (good .passed .sound)) e j)
+  sent-waits pdu payload false e = rw e (sym (append-nil (waits (m .state) (m .tx) j)))
+
+  transmit-waits : (pdu : ℕ) (payload : List ℕ) → waits (afterEvent image (all (transmit pdu payload)) m .state) (afterEvent image (all (transmit pdu payload)) m .tx) j
+      ≡ turned (turnOf image j m (all (transmit pdu payload))) (waits (m .state) (m .tx) j)
+  unfolding afterEvent afterWhole sendOf sentMemory
+  transmit-waits pdu payload =
+      ap (λ (g : Gate). waits (through g (notSent (m .state)) (transmittedOf image (m .state) pdu payload (m .tx)) .state) (through g (λ r. m .tx) (transmitOf image (m .state) pdu payload (m .tx) .memory)) j)
+      (passed-gate image (m .state) (length (m .rx)) (length (m .tx)) (good .passed))
+      ∙ sent-waits pdu payload (stored pdu payload) refl
+
+  -- ANY EVENT
+  pub event-waits : (e : Event) → EventBytes e → waits (afterEvent image e m .state) (afterEvent image e m .tx) j ≡ turned (turnOf image j m e) (waits (m .state) (m .tx) j)
+  event-waits (on k e) b = emptied-waits (on k e) (own k e) b
+  event-waits (all (datagram group source)) b = emptied-waits (all (datagram group source)) (met group source) b
+  event-waits (all (accept group source)) b = emptied-waits (all (accept group source)) (accepted group source) b
+  event-waits (all tick) b = emptied-waits (all tick) ticked b
+  event-waits (all (transmit pdu payload)) b = transmit-waits pdu payload
+  event-waits (all (switchAll n x)) b = emptied-waits (all (switchAll n x)) (switched n x) b
+  event-waits (all (readCount p)) b = emptied-waits (all (readCount p)) (counted p) b
+  event-waits (all (clearCount p)) b = emptied-waits (all (clearCount p)) (cleared p) b
+
+-- ANY RUN
+turns-waits : (image : List ℕ) (j : ℕ) (m : Machine) (es : List Event) → RunBytes es → Good image m
+    → waits (afterRun image m es .state) (afterRun image m es .tx) j ≡ afterAll (turnsOf image j m es) (waits (m .state) (m .tx) j)
+unfolding afterRun turnsOf
+turns-waits image j m [] b g = refl
+turns-waits image j m (e ∷ es) (b, bs) g =
+    turns-waits image j (afterEvent image e m) es bs (event-good image m g e b) ∙ ap (afterAll (turnsOf image j (afterEvent image e m) es)) (event-waits image j m g e b)
+
+pub run-waits : (image : List ℕ) (j : ℕ) (m : Machine) (es : List Event) → RunBytes es → Good image m
+    → waits (afterRun image m es .state) (afterRun image m es .tx) j
+    ≡ cond (emptiedIn (turnsOf image j m es)) (since (turnsOf image j m es)) (waits (m .state) (m .tx) j ++ since (turnsOf image j m es))
+run-waits image j m es b g = turns-waits image j m es b g ∙ waits-since (turnsOf image j m es) (waits (m .state) (m .tx) j)
+
+-- FROM NOTHING WAITING, WHOLE FRAMES: so a reader on the other side gets those PDUs in order
+frames-append : (a b : List Sent) → frames (a ++ b) ≡ frames a ++ frames b
+unfolding frames
+frames-append [] b = refl
+frames-append (x ∷ a) b = ap (λ (l : List ℕ). frame (x .id) (x .body) ++ l) (frames-append a b) ∙ sym (append-assoc (frame (x .id) (x .body)) (frames a) (frames b))
+
+-- bytes that are whole frames
+abbrev pub Frames : List ℕ → Type 0
+Frames l = (ss : List Sent) × (l ≡ frames ss)
+
+no-frames : Frames []
+unfolding frames
+no-frames = ([], refl)
+
+both-frames : (a b : List ℕ) → Frames a → Frames b → Frames (a ++ b)
+both-frames a b (xs, p) (ys, q) = (xs ++ ys, ap₂ _++_ p q ∙ sym (frames-append xs ys))
+
+one-frame : (i : ℕ) (p : List ℕ) → Frames (frame i p)
+unfolding frames
+one-frame i p = (record { id = i; body = p } ∷ [], sym (append-nil (frame i p)))
+
+rows-frames : (image : List ℕ) (s : State) (pdu : ℕ) (payload : List ℕ) (k n i : ℕ) → Frames (framesFrom image s pdu payload k n i)
+unfolding framesFrom
+rows-frames image s pdu payload k zero i = no-frames
+rows-frames image s pdu payload k (suc n) i =
+    both-frames (cond (goesTo image s pdu payload k i) (frame (destinationOf image i .id) payload) []) (framesFrom image s pdu payload k n (suc i)) (go (goesTo image s pdu payload k i))
+    (rows-frames image s pdu payload k n (suc i))
+  where
+    go : (b : Bool) → Frames (cond b (frame (destinationOf image i .id) payload) [])
+    go true = one-frame (destinationOf image i .id) payload
+    go false = no-frames
+
+added-frames : (image : List ℕ) (s : State) (pdu : ℕ) (payload : List ℕ) (k : ℕ) → Frames (addedTo image s pdu payload k)
+unfolding addedTo
+added-frames image s pdu payload k = go (isStored (checkOf image s pdu (length payload)))
+  where
+    go : (b : Bool) → Frames (cond b (framesFrom image s pdu payload k (destinations image) 0) [])
+    go true = rows-frames image s pdu payload k (destinations image) 0
+    go false = no-frames
+
+-- a turn that keeps whole frames whole
+abbrev Whole-frames : Turn → Type 0
+Whole-frames t = (l : List ℕ) → Frames l → Frames (turned t l)
+
+emptied-frames : (image : List ℕ) (j : ℕ) (m : Machine) (e : Event) → Whole-frames (emptied image j m e)
+emptied-frames image j m e = go (eqb (recordAt (afterEvent image e m .state) j .used) 0)
+  where
+    go : (b : Bool) → Whole-frames (cond b empties stays)
+    go true = λ l f. no-frames
+    go false = λ l f. f
+
+turn-frames : (image : List ℕ) (j : ℕ) (m : Machine) (e : Event) → Whole-frames (turnOf image j m e)
+turn-frames image j m (on k e) = emptied-frames image j m (on k e)
+turn-frames image j m (all (datagram group source)) = emptied-frames image j m (all (datagram group source))
+turn-frames image j m (all (accept group source)) = emptied-frames image j m (all (accept group source))
+turn-frames image j m (all tick) = emptied-frames image j m (all tick)
+turn-frames image j m (all (transmit pdu payload)) = λ l f. both-frames l (addedTo image (m .state) pdu payload j) f (added-frames image (m .state) pdu payload j)
+turn-frames image j m (all (switchAll n x)) = emptied-frames image j m (all (switchAll n x))
+turn-frames image j m (all (readCount p)) = emptied-frames image j m (all (readCount p))
+turn-frames image j m (all (clearCount p)) = emptied-frames image j m (all (clearCount p))
+
+turns-frames : (image : List ℕ) (j : ℕ) (m : Machine) (es : List Event) (l : List ℕ) → Frames l → Frames (afterAll (turnsOf image j m es) l)
+unfolding turnsOf
+turns-frames image j m [] l f = f
+turns-frames image j m (e ∷ es) l f = turns-frames image j (afterEvent image e m) es (turned (turnOf image j m e) l) (turn-frames image j m e l f)
+
+pub run-frames : (image : List ℕ) (j : ℕ) (m : Machine) (es : List Event) → RunBytes es → Good image m → Frames (waits (m .state) (m .tx) j)
+    → Frames (waits (afterRun image m es .state) (afterRun image m es .tx) j)
+run-frames image j m es b g f = subst Frames (sym (turns-waits image j m es b g)) (turns-frames image j m es (waits (m .state) (m .tx) j) f)

@@ -1,0 +1,19 @@
+-- `reason::ask` meets its contract. Assumes nothing.
+use Rattle.reason.specs.Faults.{unless}
+use borrow.Author.Needs.{needs}
+use Rattle.reason.proofs.ask.Statement.{statement}
+use Rattle.reason.proofs.ask.Tie as tie
+
+told-of-requires : tie.Need-told-of-requires
+told-of-requires c κs = search needs
+
+returns : tie.Need-returns
+unfolding unless
+returns c = rw (c .if1 .taken)
+
+returns-2 : tie.Need-returns-2
+unfolding unless
+returns-2 c = rw (c .before .if1 .left) (c .told-of .ensures)
+
+pub ask-spec : {M : Type 1} → statement M
+ask-spec = tie.close (tie.spec told-of-requires returns returns-2)

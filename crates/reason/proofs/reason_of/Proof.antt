@@ -1,0 +1,18 @@
+-- `reason::reason_of` meets its contract. Assumes nothing.
+use Rattle.reason.specs.Faults.{reasonOf}
+use borrow.Author.Needs.{needs}
+use Rattle.reason.proofs.reason_of.Statement.{statement}
+use Rattle.reason.proofs.reason_of.Tie as tie
+
+spot-of-requires : tie.Need-spot-of-requires
+spot-of-requires c κs = search needs
+
+fault-at-requires : tie.Need-fault-at-requires
+fault-at-requires c κs = search needs
+
+returns : tie.Need-returns
+unfolding reasonOf
+returns c = cc
+
+pub reason-of-spec : {M : Type 1} → statement M
+reason-of-spec = tie.close (tie.spec spot-of-requires fault-at-requires returns)

@@ -1,0 +1,12 @@
+-- `reason::told_of` meets its contract. Assumes nothing.
+use Rattle.reason.specs.Faults.{toldOf}
+use mathlib.Core.Path.{refl}
+use Rattle.reason.proofs.told_of.Statement.{statement}
+use Rattle.reason.proofs.told_of.Tie as tie
+
+returns : tie.Need-returns
+unfolding toldOf
+returns c = refl
+
+pub told-of-spec : {M : Type 1} → statement M
+told-of-spec = tie.close (tie.spec returns)
