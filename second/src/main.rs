@@ -20,6 +20,7 @@ mod state;
 mod stored;
 mod stream;
 mod table;
+mod takes;
 mod transmit;
 mod vectors;
 mod verbs;
@@ -29,8 +30,8 @@ use std::path::{Path, PathBuf};
 use std::process::ExitCode;
 
 const USAGE: &str = "second compare PART [--seed N] [--count N] [--store FOLDER] -- PROGRAM ..
-    random cases: the program answers as this one expects. PART is table, walk or frame (PROGRAM is the C driver), or runs or
-    streams (PROGRAM is run); or, for a fixed list, changes (of the 86-byte image) or cuts (of a datagram)
+    random cases: the program answers as this one expects. PART is table, walk or frame (PROGRAM is the C driver), runs or
+    streams (PROGRAM is run), takes (PROGRAM is takes); or, for a fixed list, changes (of the 86-byte image) or cuts (of a datagram)
 second replay PART FOLDER -- PROGRAM ..
     the same for the cases stored in a folder
 second faults PART [--seed N] [--count N] -- PROGRAM ..
@@ -38,13 +39,14 @@ second faults PART [--seed N] [--count N] -- PROGRAM ..
 second vectors FILE -- PROGRAM ..
     what a file lists is read as outside dissectors read it, its datagrams by the C function, too
 second vector-streams FILE -- PROGRAM ..
-    the same with its streams and the program run
+second vector-takes FILE -- PROGRAM ..
+    the same with its streams and the program run, or takes
 second edges
     prints what tests/edges.c is to print
 second files FOLDER OUT
     writes the images stored in a folder as files of bytes, and prints what tests/edges.c is to print of them
-second simulate
-    prints what run is to print for its input";
+second simulate run|takes
+    prints what this program is to print for its input";
 
 /// The words of a command: verb and names, options, and the other program's command after `--`.
 pub struct Words {
@@ -72,17 +74,22 @@ fn parse(mut words: impl Iterator<Item = String>) -> Option<Words> {
 fn obey(words: &Words) -> Result<(), String> {
     let plain: Vec<&str> = words.plain.iter().map(String::as_str).collect();
     match plain[..] {
+        ["compare", "takes"] => verbs::compare_takes(words),
+        ["faults", "takes"] => verbs::fault_takes(words),
         ["compare", part] if verbs::is_script(part) => verbs::compare_scripts(part, words),
         ["compare", part] => verbs::compare_requests(part, words),
+        ["replay", "takes", folder] => verbs::replay_takes(Path::new(folder), words),
         ["replay", "runs", folder] => verbs::replay_scripts(Path::new(folder), words),
         ["replay", part, folder] => verbs::replay_requests(part, Path::new(folder), words),
         ["faults", part] if verbs::is_script(part) => verbs::fault_scripts(part, words),
         ["faults", part] => verbs::fault_requests(part, words),
         ["vectors", file] => verbs::vectors(file, words),
+        ["vector-takes", file] => verbs::vector_takes(file, words),
         ["vector-streams", file] => verbs::vector_streams(file, words),
         ["edges"] => verbs::edges(),
         ["files", folder, out] => verbs::files(Path::new(folder), Path::new(out)),
-        ["simulate"] => verbs::simulate(),
+        ["simulate", "run"] => verbs::simulate(|input| lines::lines(input, |_, _, _| ())),
+        ["simulate", "takes"] => verbs::simulate(|input| takes::lines(&takes::read(input))),
         _ => Err(USAGE.into()),
     }
 }

@@ -91,7 +91,7 @@ fn note(met: &mut Met, before: &State, after: &State, answer: &Answer) {
 }
 
 /// What the program prints for an input.
-fn printed(program: &[String], input: &[u8]) -> Result<Vec<String>, String> {
+pub fn printed(program: &[String], input: &[u8]) -> Result<Vec<String>, String> {
     let (name, words) = program.split_first().ok_or("no program was named")?;
     let start = Command::new(name).args(words).stdin(Stdio::piped()).stdout(Stdio::piped()).spawn();
     let mut child = start.map_err(|e| format!("the program did not start: {}", e))?;

@@ -6,6 +6,7 @@ use crate::exchange;
 use crate::script::write;
 use crate::stream::{takes, Line, Outcome, READY};
 use crate::table::{Connection, Group, Remote, Route, Table, LONGEST, MOST_SEND_SIZE, TCP, UDP};
+use crate::takes;
 use crate::walk::{walk, Found};
 
 /// One line: a stream in its segments, or a datagram as the only one, and what was read from it.
@@ -105,6 +106,11 @@ impl Vector {
         let image = self.table().image();
         let walked = if self.protocol == UDP { self.walked() } else { vec![] };
         walked.iter().map(|&(place, _)| exchange::walk(&image, 0, 0, &self.segments[0], place as u64)).collect()
+    }
+
+    /// The case for the program takes; nothing for a datagram.
+    pub fn case(&self) -> Option<takes::Case> {
+        (self.protocol == TCP).then(|| takes::stream(self.table().image(), &self.segments))
     }
 
     /// The script for the program run: a tick and a connection, then the stream's segments; nothing for a datagram.

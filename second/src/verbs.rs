@@ -6,10 +6,9 @@ use crate::generate::datagram::{walk_cuts, walk_request};
 use crate::generate::framing::framing;
 use crate::generate::image::{changes, image, single_changes};
 use crate::generate::script::{image_script, misfit_script, script, stream_script, unsound_script};
-use crate::lines::lines;
 use crate::random::Random;
 use crate::vectors::Vector;
-use crate::{exchange, runs, stored, table, vectors as lists, Words, USAGE};
+use crate::{exchange, runs, stored, table, takes, vectors as lists, Words, USAGE};
 use std::io::Read;
 use std::path::Path;
 
@@ -105,6 +104,10 @@ pub fn vectors(path: &str, words: &Words) -> Outcome {
     compare_source("vectors", "vectors", list(requests), words)
 }
 
+pub fn vector_takes(path: &str, words: &Words) -> Outcome {
+    compare_cases(read_vectors(path)?.iter().filter_map(Vector::case).collect(), words)
+}
+
 pub fn vector_streams(path: &str, words: &Words) -> Outcome {
     let vectors = read_vectors(path)?;
     let named = |(number, script)| (format!("stream-{}", number), script);
@@ -162,6 +165,61 @@ pub fn fault_scripts(part: &str, words: &Words) -> Outcome {
     tell_faults(faults, &noticed, &format!("{} scripts", scripts.len()))
 }
 
+/// Cases for the program takes: a fixed list of cuts, then `count` random ones.
+fn take_cases(words: &Words) -> Vec<takes::Case> {
+    let random = &mut Random::new(words.seed);
+    let cuts = if words.count > 0 { takes::cut_cases() } else { vec![] };
+    cuts.into_iter().chain((0..words.count).map(|_| takes::random_case(random))).collect()
+}
+
+/// A case, the lines that are expected of it and those printed.
+type Told = (takes::Case, Vec<String>, Vec<String>);
+
+/// Cases with the lines that are expected of each and those that the program prints; what it prints beyond goes with the last.
+fn printed_takes(cases: Vec<takes::Case>, words: &Words) -> Result<Vec<Told>, String> {
+    let input: Vec<u8> = cases.iter().flat_map(takes::input).collect();
+    let mut printed = runs::printed(&words.program, &input)?.into_iter();
+    let mut all: Vec<Told> = Vec::new();
+    for case in cases {
+        let want = takes::lines(&case);
+        let got = printed.by_ref().take(want.len()).collect();
+        all.push((case, want, got));
+    }
+    if let Some((_, _, got)) = all.last_mut() {
+        got.extend(printed);
+    }
+    Ok(all)
+}
+
+pub fn compare_takes(words: &Words) -> Outcome {
+    compare_cases(take_cases(words), words)
+}
+
+pub fn replay_takes(folder: &Path, words: &Words) -> Outcome {
+    compare_cases(stored::read(folder)?.iter().map(|(_, input)| takes::read(input)).collect(), words)
+}
+
+fn compare_cases(cases: Vec<takes::Case>, words: &Words) -> Outcome {
+    let all = printed_takes(cases, words)?;
+    let different: Vec<usize> = (0..all.len()).filter(|&number| all[number].1 != all[number].2).collect();
+    if let Some((case, want, got)) = different.first().map(|&number| &all[number]) {
+        let name = format!("takes-{}-{}", words.seed, different[0]);
+        println!("different: {}\n  program: {}\n  second program: {}", name, got.join("; "), want.join("; "));
+        stored::write(words.store.as_deref(), &name, &name, &takes::input(case));
+    }
+    let lines: usize = all.iter().map(|(_, want, _)| want.len()).sum();
+    println!("takes-{}: {} cases, {} lines, {} cases different", words.seed, all.len(), lines, different.len());
+    none_different(different.len())
+}
+
+pub fn fault_takes(words: &Words) -> Outcome {
+    let faults = fault::of("segment").ok_or(USAGE)?;
+    let all = printed_takes(take_cases(words), words)?;
+    let cases = |fault| all.iter().filter(|(case, _, got)| fault::with(fault, || takes::lines(case)) != *got).count();
+    let noticed: Vec<usize> = faults.iter().map(|&(fault, _)| cases(fault)).collect();
+    tell_faults(faults, &noticed, &format!("{} cases", all.len()))
+}
+
 /// A line of tests/edges.c.
 fn edge(what: &str, image: &[u8]) {
     match table::check(image) {
@@ -189,10 +247,10 @@ pub fn files(folder: &Path, out: &Path) -> Outcome {
     Ok(())
 }
 
-pub fn simulate() -> Outcome {
+pub fn simulate(lines: impl Fn(&[u8]) -> Vec<String>) -> Outcome {
     let mut input = Vec::new();
     std::io::stdin().read_to_end(&mut input).map_err(|e| e.to_string())?;
-    for line in lines(&input, |_, _, _| ()) {
+    for line in lines(&input) {
         println!("{}", line);
     }
     Ok(())

@@ -1,2 +1,3 @@
 -- The laws of the crate. Assumes nothing.
 pub mod Chain
+pub mod Reply

@@ -2,12 +2,38 @@
 use Prim.Native.Nat.{ℕ}
 use mathlib.Core.List.{List, _++_}
 use lib.ListN.{length}
-use Rattle.wire.specs.Lay.{spell}
+use Rattle.wire.specs.Lay.{spell, lay}
 use Rattle.connection.specs.declared.Remote.{Remote}
+use Rattle.connection.specs.declared.Refusal.{Refusal}
+use Rattle.connection.specs.Event.{refusalNumber}
+use Rattle.state.specs.declared.State.{State}
+use Rattle.answering.specs.declared.Verdict.{Verdict}
+use Rattle.answering.specs.declared.Verdict.the-variants.{Done}
+use Rattle.answering.specs.declared.Dispatched.{Dispatched}
 
 -- "Answer number (2). Then, when it is not 0: the place or the destination's row number (4), 0 where the answer has none"
 abbrev pub refused : ℕ → ℕ → List ℕ
 refused number place = spell 2 number ++ spell 4 place
+
+-- 11, 12, 2, 3
+abbrev pub refusal : Refusal → List ℕ
+refusal reason = refused (refusalNumber reason) 0
+
+-- WHAT AN EVENT LEAVES: its verdict, the state, both lent memories, and the out buffer
+pub record Effect : Type 0 where
+  pub verdict : Verdict
+  pub state : State
+  pub rx : List ℕ
+  pub tx : List ℕ
+  pub out : List ℕ
+
+-- an answer of these bytes, at the front of the out buffer
+abbrev pub answers : List ℕ → State → List ℕ → List ℕ → List ℕ → Effect
+answers bytes s rx tx out = record { verdict = Done (length bytes); state = s; rx = rx; tx = tx; out = lay out 0 bytes }
+
+-- what is handed back by value
+abbrev pub dispatched : Effect → Dispatched
+dispatched e = record { verdict = e .verdict; state = e .state }
 
 -- "any other: nothing"
 abbrev pub done : List ℕ

@@ -3,12 +3,30 @@
 ghost use mathlib.Core.Path.{_≡_};
 ghost use lib.ListN.{length};
 ghost use Rattle.wire.specs.Lay.{spell, lay};
+ghost use Rattle.connection.specs.Event.{refusalNumber};
 ghost use Rattle.answering.specs.Answers as Is;
+use connection::Refusal;
 use connection::Remote;
+use state::State;
 use wire::copy_in;
 use wire::put8;
 use wire::put16;
 use wire::put32;
+
+// What becomes of an event number and a body: an answer of so many bytes; a number that is no event's; a body that does not fit; an
+// out buffer that is too short.
+pub enum Verdict {
+    Done(usize),
+    Unknown,
+    Unfit,
+    Small,
+}
+
+// The verdict, with the state after it.
+pub struct Dispatched {
+    pub verdict: Verdict,
+    pub state: State,
+}
 
 // A number in four bytes.
 pub fn put_number(out: &mut [u8], at: usize, v: usize)
@@ -27,6 +45,25 @@ pub fn put_refused(out: &mut [u8], number: u16, place: usize) -> usize
     put16(out, 0, number);
     put_number(out, 2, place);
     6
+}
+
+// The paper's number of a refusal.
+fn refusal_number(reason: Refusal) -> u16
+    ensures { λ r. ⌜ r ≡ refusalNumber reason ⌝ }
+{
+    match reason {
+        Refusal::Memory => 11,
+        Refusal::Unsound => 12,
+        Refusal::Missing => 2,
+        Refusal::Denied => 3,
+    }
+}
+
+pub fn put_refusal(out: &mut [u8], reason: Refusal) -> usize
+    ensures { λ r. ⌜ r ≡ length (Is.refusal reason) ⌝ }
+    ensures { λ _. ⌜ now (out .exit) ≡ lay (now (out .entry)) 0 (Is.refusal reason) ⌝ }
+{
+    put_refused(out, refusal_number(reason), 0)
 }
 
 pub fn put_done(out: &mut [u8]) -> usize

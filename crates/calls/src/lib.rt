@@ -61,19 +61,19 @@ pub enum Call {
 
 // ---- numbers of a body, at their width
 
-fn one_byte(body: &[u8], at: usize) -> u8
+pub fn one_byte(body: &[u8], at: usize) -> u8
     ensures { λ r. ⌜ r ≡ be 1 (now (body .entry)) at ⌝ }
 {
     be8(body, at) as u8
 }
 
-fn two_bytes(body: &[u8], at: usize) -> u16
+pub fn two_bytes(body: &[u8], at: usize) -> u16
     ensures { λ r. ⌜ r ≡ be 2 (now (body .entry)) at ⌝ }
 {
     be16(body, at) as u16
 }
 
-fn four_bytes(body: &[u8], at: usize) -> u32
+pub fn four_bytes(body: &[u8], at: usize) -> u32
     ensures { λ r. ⌜ r ≡ be 4 (now (body .entry)) at ⌝ }
 {
     be32(body, at) as u32

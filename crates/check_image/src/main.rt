@@ -40,6 +40,12 @@ fn say_word(before: &[u8], n: u32) {
     io::print_hex(1, n as u64, 8);
 }
 
+// Text and 16 bits as four hexadecimal digits.
+fn say_half(before: &[u8], n: u16) {
+    say(before);
+    io::print_hex(1, n as u64, 4);
+}
+
 // ---- the rows
 
 fn address(a: u32) {
@@ -93,7 +99,7 @@ fn route(image: &[u8], i: usize) {
     say_number(b"  receive route ", i, b": connection ");
     number(row.connection as usize);
     say_word(b", header id 0x", row.id);
-    say_number(b", upper PDU ", row.pdu as usize, b"");
+    say_half(b", upper PDU 0x", row.pdu);
     say_number(b", longest payload ", row.longest as usize, b" bytes");
     say_word(b", routing groups 0x", row.groups);
     say(b"\n");
@@ -101,8 +107,8 @@ fn route(image: &[u8], i: usize) {
 
 fn destination(image: &[u8], i: usize) {
     let row = destination_row(image, i);
-    say_number(b"  destination ", i, b": PDU ");
-    number(row.pdu as usize);
+    say_number(b"  destination ", i, b": ");
+    say_half(b"PDU 0x", row.pdu);
     say_number(b", connection ", row.connection as usize, b"");
     say_word(b", header id 0x", row.id);
     say_number(b", longest payload ", row.longest as usize, b" bytes");

@@ -1,18 +1,18 @@
 -- A step of the walk, by the tests that led there. Assumes nothing.
-use Prim.Native.Nat.{ℕ, _+_, _-_, _≤_, _<_}
-use mathlib.Core.Path.{_≡_, refl, sym, ap, ap₂, _∙_}
-use mathlib.Core.List.{List, []}
+use Prim.Native.Nat.{ℕ, _+_, _-_, _≤_}
+use mathlib.Core.Path.{_≡_, ap, _∙_}
+use mathlib.Core.List.{List}
 use native.Mathlib.Omega.{arith}
-use lib.ListN.{length, take, drop, length-drop, drop-of-length-le}
+use lib.ListN.{length, take, drop, length-drop}
 use Rattle.feed.specs.declared.Decision.{Decision}
 use Rattle.feed.specs.Feed.{Routes}
 use Rattle.wire.specs.Be.{be}
-use Rattle.lengths.specs.Head.{Head, ended, short, beyond, whole, headOf}
-use Rattle.lengths.proofs.Heads.{head-end, head-short, head-beyond, head-whole}
-use Rattle.walk.specs.Walk.{walked, the-end, wholeAt, stepOf, walkAt}
+use Rattle.lengths.specs.Head.{Head, ended, whole, headOf}
+use Rattle.lengths.proofs.Heads.{head-end, head-whole}
+use Rattle.walk.specs.Walk.{wholeAt, stepOf, walkAt}
 use Rattle.walk.proofs.Steps.{rest-is}
 use Rattle.route.specs.Route.{lookupOf}
-use Rattle.datagram.specs.declared.Outcome.the-variants.{End, Pdu, Drop}
+use Rattle.datagram.specs.declared.Outcome.the-variants.{End}
 use Rattle.datagram.specs.declared.Walked.{Walked}
 use Rattle.datagram.specs.Datagram.{stepped, walkedOf}
 

@@ -6,13 +6,12 @@ use mathlib.Core.Bool.{Bool, true, false, cond, not, _&&_}
 use mathlib.Core.List.{List}
 use native.Mathlib.Omega.{arith}
 use borrow.Author.Tests.{ltb-true, ltb-false, eqb-true, not-false, lt-ltb, le-ltb}
-use lib.Dec.{leb, ltb, eqb}
+use lib.Dec.{ltb, eqb}
 use lib.ListN.{length, take, drop}
-use Rattle.feed.specs.declared.Decision.{Decision}
 use Rattle.feed.specs.declared.Decision.the-variants.{Accept, Refuse}
 use Rattle.lists.specs.Search.{badFrom, firstBad}
 use Rattle.lists.proofs.Both.{and-left, and-right}
-use Rattle.lists.proofs.Search.{Searched, search-start, search-on, search-found, search-ended}
+use Rattle.lists.proofs.Search.{Searched, search-on, search-found, search-ended}
 use Rattle.rows.specs.declared.RouteRow.{RouteRow}
 use Rattle.layout.proofs.Parts.{row-range}
 use Rattle.rows.specs.Rows.{routeRow, routeIn}

@@ -10,7 +10,7 @@ use lib.ListN.{length, getD, take, drop, length-append, take-append-drop}
 use lib.Seq.{take-append-seam, drop-append-seam, length-take-le}
 use Rattle.feed.specs.declared.Decision.{Decision}
 use Rattle.feed.specs.declared.Decision.the-variants.{Accept, Refuse}
-use Rattle.feed.specs.Feed.{Routes, Kind, header, payload, skip, Cell, cell, Out, nothing, pdu, dropped, fed, Took, took, goes, ready, takeB, decided, add, done, feed}
+use Rattle.feed.specs.Feed.{Routes, header, payload, skip, Cell, cell, Out, nothing, pdu, dropped, fed, Took, goes, ready, takeB, decided, done, feed}
 use Rattle.feed.proofs.Laws.{skipCell, grow}
 use Rattle.layout.proofs.Parts.{part-fits}
 use Rattle.layout.specs.Layout.{partOf}
@@ -24,7 +24,7 @@ use Rattle.rows.specs.Rows.{routeIn}
 use Rattle.wire.specs.Lay.{lay}
 use Rattle.wire.proofs.Lay.{lay-fits, lay-length}
 use Rattle.stream.specs.declared.Outcome.the-variants.{More}
-use Rattle.stream.specs.Stream.{cellOf, partFrom, heldIn, none, inSegment, wrote, tookOf, takenOf, rxAfter, payloadAt, lengthOf, Limits, Fit}
+use Rattle.stream.specs.Stream.{cellOf, partFrom, heldIn, none, inSegment, wrote, tookOf, takenOf, rxAfter, payloadAt, lengthOf, Fit}
 use Rattle.stream.proofs.Takes.{header-fit, payload-fit, skip-fit, accepted-short}
 
 -- a law of every byte is a law of a take

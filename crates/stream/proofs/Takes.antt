@@ -1,16 +1,15 @@
 -- The answers of a take on plain values: one law for each way that a take ends. Assumes nothing.
 use Prim.Native.Nat.{ℕ, zero, suc, _+_, _-_, _*_, _/_, _%_, _^_, _≤_, _<_}
 use mathlib.Core.Path.{_≡_, refl, sym, ap, ap₂, _∙_, subst}
-use mathlib.Core.Bool.{Bool, true, false, cond, _&&_}
+use mathlib.Core.Bool.{Bool, true, false, _&&_}
 use mathlib.Core.List.{List, [], _∷_, _++_}
 use native.Mathlib.Omega.{arith}
 use borrow.Author.Tests.{leb-true, ltb-true}
 use lib.Dec.{leb, ltb}
 use lib.ListN.{length, take, drop, getD, length-append, length-drop}
 use lib.Seq.{take-length, take-all, length-take-le}
-use Rattle.feed.specs.declared.Decision.{Decision}
 use Rattle.feed.specs.declared.Decision.the-variants.{Accept, Refuse}
-use Rattle.feed.specs.Feed.{Routes, Cell, cell, header, payload, skip, nothing, pdu, dropped, Took, took, ready, spelt, takeB, decided, resume}
+use Rattle.feed.specs.Feed.{Routes, cell, header, payload, skip, Took, spelt, takeB, decided, resume}
 use Rattle.feed.proofs.Laws.{spelt-take, rest-whole, rest-short, body-whole, body-short, header-short, header-on, refused, skipCell, skip-whole, skip-short}
 use Rattle.part.specs.declared.Part.{Part}
 use Rattle.part.specs.declared.Part.the-variants.{Header, Payload, Skip}

@@ -6,7 +6,7 @@ use mathlib.Core.Path.{_≡_}
 use mathlib.Core.Bool.{Bool, true, false, cond}
 use mathlib.Core.List.{List, [], _∷_}
 use lib.ListN.{length, take}
-use Rattle.feed.specs.Feed.{Cell, cell, header, payload, skip, Out, nothing, pdu, dropped, Took, takeB, readOf}
+use Rattle.feed.specs.Feed.{Cell, cell, header, payload, skip, Out, nothing, pdu, dropped, Took, takeB}
 use Rattle.layout.specs.Layout.{partOf}
 use Rattle.part.specs.declared.Part.{Part}
 use Rattle.part.specs.declared.Part.the-variants.{Header, Payload, Skip}

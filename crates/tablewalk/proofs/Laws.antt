@@ -1,6 +1,6 @@
 -- The walk by a table's own routes, by the tests that led there. Assumes nothing.
-use Prim.Native.Nat.{ℕ, _+_, _≤_, _<_}
-use mathlib.Core.Path.{_≡_, refl, sym, ap, _∙_}
+use Prim.Native.Nat.{ℕ, _≤_, _<_}
+use mathlib.Core.Path.{_≡_, sym, ap, _∙_}
 use mathlib.Core.Bool.{Bool, true, false}
 use mathlib.Core.List.{List}
 use native.Mathlib.Omega.{arith}
@@ -16,7 +16,6 @@ use Rattle.rows.specs.declared.GroupRow.{GroupRow}
 use Rattle.rows.specs.Rows.{groupOf, connectionOf}
 use Rattle.table.specs.declared.TableAnswer.{TableAnswer}
 use Rattle.table.specs.Table.{checkTable}
-use Rattle.tablewalk.specs.declared.TableWalk.{TableWalk}
 use Rattle.tablewalk.specs.declared.TableWalk.the-variants.{Refused, Step}
 use Rattle.tablewalk.specs.TableWalk.{isTcp, acceptedWalk, afterCheck, tableWalkOf}
 

@@ -47,9 +47,8 @@ pub data AsksMode : Type 0 where
 pub data Row : Type 0 where
   row : Happening → Asks → Asks → Asks → AsksMode → Asks → Asks → Place → Row
 
--- THE TABLE
+-- THE TABLE. Columns: event; TCP; automatic; a wildcard in the remote; mode; open wanted; close wanted; what it becomes
 unfoldable pub table : List Row
---           event    TCP        automatic  wildcard   mode              open       close      becomes
 table =
     row opens any (is false) any (only Offline) any (is false) (at Offline true false)
     ∷ row closes any (is false) any (only Offline) (is true) any (at Offline false true)

@@ -1,0 +1,66 @@
+-- The answers of a datagram, an accept, a transmit and a take of waiting bytes, as bytes (docs/EVENTS.md, "The answer").
+-- Assumes nothing: these are definitions.
+use Prim.Native.Nat.{ℕ, min}
+use mathlib.Core.List.{List}
+use lib.ListN.{length, take, replicate}
+use Rattle.connection.specs.declared.Remote.{Remote}
+use Rattle.state.specs.declared.State.{State}
+use Rattle.choose.specs.declared.Arrival.{Arrival}
+use Rattle.choose.specs.declared.Arrival.the-variants.{Met, Refused, Unmatched}
+use Rattle.choose.specs.declared.Arrived.{Arrived}
+use Rattle.arrivals.specs.Arrivals.{datagramOf, acceptOf}
+use Rattle.send.specs.declared.Transmission.{Transmission}
+use Rattle.send.specs.declared.Transmission.the-variants.{Stored, Refused as NotSent, NoDestination, SwitchedOff, RefusedAt}
+use Rattle.waiting.specs.declared.Taking.{Taking}
+use Rattle.waiting.specs.declared.Taking.the-variants.{Bytes, Refused as NotTaken, Short}
+use Rattle.sending.specs.declared.Taken.{Taken}
+use Rattle.sending.specs.Sending.{sendOf, sentMemory, takenOf, takenOut}
+use Rattle.answering.specs.Answers.{Effect, answers, refused, refusal, done, doneWith, waiting}
+
+-- "datagram, accept: connection (1)"
+abbrev pub arrivalBytes : Arrival → List ℕ
+arrivalBytes (Met k) = doneWith 1 k
+arrivalBytes (Refused r) = refusal r
+arrivalBytes Unmatched = refused 10 0
+
+-- "the destination's row number (4)" after 4, 7 and 8
+abbrev pub transmissionBytes : Transmission → List ℕ
+transmissionBytes Stored = done
+transmissionBytes (NotSent r) = refusal r
+transmissionBytes NoDestination = refused 5 0
+transmissionBytes SwitchedOff = refused 6 0
+transmissionBytes (RefusedAt number destination) = refused number destination
+
+-- "take waiting: count (4), address (19): the remote before the call, bytes": the first of the call's own out buffer
+abbrev pub takingBytes : Taking → List ℕ → List ℕ
+takingBytes (Bytes count remote) buffer = waiting remote (take count buffer)
+takingBytes (NotTaken r) buffer = refusal r
+takingBytes Short buffer = refused 9 0
+
+-- "a room above 1,472 answers as 1,472"
+abbrev pub roomOf : ℕ → ℕ
+roomOf room = min room 1472
+
+abbrev pub arrived : Arrived → List ℕ → List ℕ → List ℕ → Effect
+arrived a rx tx out = answers (arrivalBytes (a .answer)) (a .state) rx tx out
+
+module _ (image : List ℕ) (s : State) (rx tx out : List ℕ) where
+  unfoldable pub datagramEffect : ℕ → Remote → Effect
+  datagramEffect group source = arrived (datagramOf image s (length rx) (length tx) group source) rx tx out
+
+  unfoldable pub acceptEffect : ℕ → Remote → Effect
+  acceptEffect group source = arrived (acceptOf image s (length rx) (length tx) group source) rx tx out
+
+  unfoldable pub transmitEffect : ℕ → List ℕ → Effect
+  transmitEffect pdu payload =
+      answers (transmissionBytes (sendOf image s (length rx) tx pdu payload .answer)) (sendOf image s (length rx) tx pdu payload .state)
+      rx (sentMemory image s (length rx) tx pdu payload) out
+
+  -- with a buffer of the call's own
+  abbrev pub takeInto : ℕ → List ℕ → Effect
+  takeInto connection buffer =
+      answers (takingBytes (takenOf image s (length rx) tx connection buffer .answer) (takenOut image s (length rx) tx connection buffer))
+      (takenOf image s (length rx) tx connection buffer .state) rx tx out
+
+  unfoldable pub takeEffect : ℕ → ℕ → Effect
+  takeEffect connection room = takeInto connection (take (roomOf room) (replicate 1472 0))
