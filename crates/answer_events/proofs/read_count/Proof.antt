@@ -1,0 +1,24 @@
+-- `answer_events::read_count` meets its contract. Assumes nothing.
+use mathlib.Core.Path.{ap}
+use Rattle.answering.proofs.Reply.{reply}
+use Rattle.events.specs.declared.Counted.{Counted}
+use Rattle.answer_events.specs.Events.{countBytes, readEffect}
+use borrow.Author.Needs.{needs}
+use Rattle.answer_events.proofs.read_count.Statement.{statement}
+use Rattle.answer_events.proofs.read_count.Tie as tie
+
+read-count-requires : tie.Need-read-count-requires
+read-count-requires c κs = search needs
+
+put-count-requires : tie.Need-put-count-requires
+put-count-requires c κs = search needs
+
+same-length : tie.Need-same-length
+same-length c = search needs
+
+returns : tie.Need-returns
+unfolding readEffect
+returns c = let h = c .before .before .before .before .before .read-count .ensures in let p = c .before .before .put-count .ensures in reply (c .before .before .before .before .before .before .before .before .before .before .args .out .now) (p .0) (p .1) (ap (λ (t : Counted). countBytes (t .answer)) h) (ap (λ (t : Counted). t .state) h)
+
+pub read-count-spec : {M : Type 1} → statement M
+read-count-spec = tie.close (tie.spec read-count-requires put-count-requires same-length returns)

@@ -1,0 +1,73 @@
+-- The answers of the events that write no memory, as bytes (docs/EVENTS.md, "The answer"). Assumes nothing: these are definitions.
+use Prim.Native.Nat.{ℕ}
+use mathlib.Core.Bool.{Bool}
+use lib.ListN.{length}
+use mathlib.Core.List.{List}
+use Rattle.connection.specs.declared.Answer.{Answer}
+use Rattle.connection.specs.declared.Answer.the-variants.{Done, Refused}
+use Rattle.events.specs.declared.CountAnswer.{CountAnswer}
+use Rattle.events.specs.declared.CountAnswer.the-variants.{Count, Refused as Uncounted}
+use Rattle.connection.specs.declared.Event.{Event}
+use Rattle.state.specs.declared.State.{State}
+use Rattle.events.specs.declared.Told.{Told}
+use Rattle.events.specs.declared.Loss.{Loss}
+use Rattle.events.specs.declared.Counted.{Counted}
+use Rattle.events.specs.Change.{eventOf, lossOf}
+use Rattle.events.specs.Module.{switchAllOf}
+use Rattle.events.specs.Count.{readOf, clearOf}
+use Rattle.ticks.specs.declared.Ticked.{Ticked}
+use Rattle.ticks.specs.Tick.{ticksEvent}
+use Rattle.answering.specs.Answers.{Effect, answers, refusal, done, doneWith}
+
+-- "any other: nothing"
+abbrev pub toldBytes : Answer → List ℕ
+toldBytes Done = done
+toldBytes (Refused r) = refusal r
+
+-- "lost: failed (1): 0, kept"
+abbrev pub lossBytes : Answer → List ℕ
+lossBytes Done = doneWith 1 0
+lossBytes (Refused r) = refusal r
+
+-- "n ticks: failed connections (2): 0, kept"
+abbrev pub ticksBytes : Answer → List ℕ
+ticksBytes Done = doneWith 2 0
+ticksBytes (Refused r) = refusal r
+
+-- "counts: value (4)"
+abbrev pub countBytes : CountAnswer → List ℕ
+countBytes (Count v) = doneWith 4 v
+countBytes (Uncounted r) = refusal r
+
+-- what each leaves: the state that its entry point gives, both memories as they were
+abbrev pub told : Told → List ℕ → List ℕ → List ℕ → Effect
+told t rx tx out = answers (toldBytes (t .answer)) (t .state) rx tx out
+
+abbrev pub lost : Loss → List ℕ → List ℕ → List ℕ → Effect
+lost t rx tx out = answers (lossBytes (t .answer)) (t .state) rx tx out
+
+abbrev pub ticked : Ticked → List ℕ → List ℕ → List ℕ → Effect
+ticked t rx tx out = answers (ticksBytes (t .answer)) (t .state) rx tx out
+
+abbrev pub counted : Counted → List ℕ → List ℕ → List ℕ → Effect
+counted t rx tx out = answers (countBytes (t .answer)) (t .state) rx tx out
+
+module _ (image : List ℕ) (s : State) (rx tx out : List ℕ) where
+  -- open, close, connected, set remote, switch
+  unfoldable pub ownEffect : ℕ → Event → Effect
+  ownEffect connection event = told (eventOf image s (length rx) (length tx) connection event) rx tx out
+
+  unfoldable pub lostEffect : ℕ → Effect
+  lostEffect connection = lost (lossOf image s (length rx) (length tx) connection) rx tx out
+
+  unfoldable pub ticksEffect : ℕ → Effect
+  ticksEffect count = ticked (ticksEvent image s (length rx) (length tx) count) rx tx out
+
+  unfoldable pub switchAllEffect : ℕ → Bool → Effect
+  switchAllEffect number on = told (switchAllOf image s (length rx) (length tx) number on) rx tx out
+
+  unfoldable pub readEffect : ℕ → Effect
+  readEffect protocol = counted (readOf image s (length rx) (length tx) protocol) rx tx out
+
+  unfoldable pub clearEffect : ℕ → Effect
+  clearEffect protocol = counted (clearOf image s (length rx) (length tx) protocol) rx tx out

@@ -1,0 +1,186 @@
+// The events that write no memory, each with its answer written to an out buffer. Assumes nothing: every function is total.
+ghost use mathlib.Core.Path.{_≡_};
+ghost use lib.ListN.{length};
+ghost use Rattle.wire.specs.Lay.{lay};
+ghost use Rattle.answering.specs.Answers.{dispatched};
+ghost use Rattle.answer_events.specs.Events as Is;
+use answering::Dispatched;
+use answering::Verdict;
+use answering::put_done;
+use answering::put_done1;
+use answering::put_done2;
+use answering::put_done4;
+use answering::put_refusal;
+use connection::Answer;
+use connection::Event;
+use events::CountAnswer;
+use state::State;
+
+fn put_told(out: &mut [u8], answer: Answer) -> usize
+    ensures { λ r. ⌜ r ≡ length (Is.toldBytes answer) ⌝ }
+    ensures { λ _. ⌜ now (out .exit) ≡ lay (now (out .entry)) 0 (Is.toldBytes answer) ⌝ }
+{
+    match answer {
+        Answer::Done => put_done(out),
+        Answer::Refused(reason) => put_refusal(out, reason),
+    }
+}
+
+fn put_loss(out: &mut [u8], answer: Answer) -> usize
+    ensures { λ r. ⌜ r ≡ length (Is.lossBytes answer) ⌝ }
+    ensures { λ _. ⌜ now (out .exit) ≡ lay (now (out .entry)) 0 (Is.lossBytes answer) ⌝ }
+{
+    match answer {
+        Answer::Done => put_done1(out, 0),
+        Answer::Refused(reason) => put_refusal(out, reason),
+    }
+}
+
+fn put_ticks(out: &mut [u8], answer: Answer) -> usize
+    ensures { λ r. ⌜ r ≡ length (Is.ticksBytes answer) ⌝ }
+    ensures { λ _. ⌜ now (out .exit) ≡ lay (now (out .entry)) 0 (Is.ticksBytes answer) ⌝ }
+{
+    match answer {
+        Answer::Done => put_done2(out, 0),
+        Answer::Refused(reason) => put_refusal(out, reason),
+    }
+}
+
+fn put_count(out: &mut [u8], answer: CountAnswer) -> usize
+    ensures { λ r. ⌜ r ≡ length (Is.countBytes answer) ⌝ }
+    ensures { λ _. ⌜ now (out .exit) ≡ lay (now (out .entry)) 0 (Is.countBytes answer) ⌝ }
+{
+    match answer {
+        CountAnswer::Count(value) => put_done4(out, value),
+        CountAnswer::Refused(reason) => put_refusal(out, reason),
+    }
+}
+
+// Open, close, connected, set remote, switch.
+pub fn own(
+    image: &[u8],
+    state: State,
+    rx: &[u8],
+    tx: &[u8],
+    connection: u8,
+    event: Event,
+    out: &mut [u8],
+) -> Dispatched
+    ensures { λ r. ⌜ r ≡ dispatched (Is.ownEffect (now (image .entry)) state (now (rx .entry)) (now (tx .entry)) (now (out .entry)) connection event) ⌝ }
+    ensures { λ _. ⌜ now (out .exit) ≡ Is.ownEffect (now (image .entry)) state (now (rx .entry)) (now (tx .entry)) (now (out .entry)) connection event .out ⌝ }
+{
+    let entry = events::happen(image, state, rx, tx, connection, event);
+    let answer = entry.answer;
+    let after = entry.state;
+    let n = put_told(out, answer);
+    Dispatched {
+        verdict: Verdict::Done(n),
+        state: after,
+    }
+}
+
+pub fn lost(
+    image: &[u8],
+    state: State,
+    rx: &[u8],
+    tx: &[u8],
+    connection: u8,
+    out: &mut [u8],
+) -> Dispatched
+    ensures { λ r. ⌜ r ≡ dispatched (Is.lostEffect (now (image .entry)) state (now (rx .entry)) (now (tx .entry)) (now (out .entry)) connection) ⌝ }
+    ensures { λ _. ⌜ now (out .exit) ≡ Is.lostEffect (now (image .entry)) state (now (rx .entry)) (now (tx .entry)) (now (out .entry)) connection .out ⌝ }
+{
+    let entry = events::lost(image, state, rx, tx, connection);
+    let answer = entry.answer;
+    let after = entry.state;
+    let n = put_loss(out, answer);
+    Dispatched {
+        verdict: Verdict::Done(n),
+        state: after,
+    }
+}
+
+pub fn many_ticks(
+    image: &[u8],
+    state: State,
+    rx: &[u8],
+    tx: &[u8],
+    count: u32,
+    out: &mut [u8],
+) -> Dispatched
+    ensures { λ r. ⌜ r ≡ dispatched (Is.ticksEffect (now (image .entry)) state (now (rx .entry)) (now (tx .entry)) (now (out .entry)) count) ⌝ }
+    ensures { λ _. ⌜ now (out .exit) ≡ Is.ticksEffect (now (image .entry)) state (now (rx .entry)) (now (tx .entry)) (now (out .entry)) count .out ⌝ }
+{
+    let entry = ticks::ticks(image, state, rx, tx, count);
+    let answer = entry.answer;
+    let after = entry.state;
+    let n = put_ticks(out, answer);
+    Dispatched {
+        verdict: Verdict::Done(n),
+        state: after,
+    }
+}
+
+pub fn switch_all(
+    image: &[u8],
+    state: State,
+    rx: &[u8],
+    tx: &[u8],
+    number: u8,
+    on: bool,
+    out: &mut [u8],
+) -> Dispatched
+    ensures { λ r. ⌜ r ≡ dispatched (Is.switchAllEffect (now (image .entry)) state (now (rx .entry)) (now (tx .entry)) (now (out .entry)) number on) ⌝ }
+    ensures { λ _. ⌜ now (out .exit) ≡ Is.switchAllEffect (now (image .entry)) state (now (rx .entry)) (now (tx .entry)) (now (out .entry)) number on .out ⌝ }
+{
+    let entry = events::switch_all(image, state, rx, tx, number, on);
+    let answer = entry.answer;
+    let after = entry.state;
+    let n = put_told(out, answer);
+    Dispatched {
+        verdict: Verdict::Done(n),
+        state: after,
+    }
+}
+
+pub fn read_count(
+    image: &[u8],
+    state: State,
+    rx: &[u8],
+    tx: &[u8],
+    protocol: u8,
+    out: &mut [u8],
+) -> Dispatched
+    ensures { λ r. ⌜ r ≡ dispatched (Is.readEffect (now (image .entry)) state (now (rx .entry)) (now (tx .entry)) (now (out .entry)) protocol) ⌝ }
+    ensures { λ _. ⌜ now (out .exit) ≡ Is.readEffect (now (image .entry)) state (now (rx .entry)) (now (tx .entry)) (now (out .entry)) protocol .out ⌝ }
+{
+    let entry = events::read_count(image, state, rx, tx, protocol);
+    let answer = entry.answer;
+    let after = entry.state;
+    let n = put_count(out, answer);
+    Dispatched {
+        verdict: Verdict::Done(n),
+        state: after,
+    }
+}
+
+pub fn clear_count(
+    image: &[u8],
+    state: State,
+    rx: &[u8],
+    tx: &[u8],
+    protocol: u8,
+    out: &mut [u8],
+) -> Dispatched
+    ensures { λ r. ⌜ r ≡ dispatched (Is.clearEffect (now (image .entry)) state (now (rx .entry)) (now (tx .entry)) (now (out .entry)) protocol) ⌝ }
+    ensures { λ _. ⌜ now (out .exit) ≡ Is.clearEffect (now (image .entry)) state (now (rx .entry)) (now (tx .entry)) (now (out .entry)) protocol .out ⌝ }
+{
+    let entry = events::clear_count(image, state, rx, tx, protocol);
+    let answer = entry.answer;
+    let after = entry.state;
+    let n = put_count(out, answer);
+    Dispatched {
+        verdict: Verdict::Done(n),
+        state: after,
+    }
+}

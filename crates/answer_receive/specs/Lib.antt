@@ -1,0 +1,4 @@
+-- What the contracts of this crate cite. Assumes nothing.
+pub mod Walk
+pub mod Segment
+pub mod Turn

@@ -1,0 +1,43 @@
+-- The answer of a walk as bytes (docs/EVENTS.md, "The answer"). Assumes nothing: these are definitions.
+use Prim.Native.Nat.{ℕ}
+use mathlib.Core.List.{List, _++_}
+use lib.ListN.{length}
+use Rattle.wire.specs.Lay.{spell}
+use Rattle.state.specs.declared.State.{State}
+use Rattle.datagram.specs.declared.Outcome.{Outcome}
+use Rattle.datagram.specs.declared.Outcome.the-variants.{End, Pdu, Drop}
+use Rattle.receive.specs.declared.Answer.{Answer}
+use Rattle.receive.specs.declared.Answer.the-variants.{Done, Refused, NotReceiving}
+use Rattle.receive.specs.declared.DatagramWalked.{DatagramWalked}
+use Rattle.receive.specs.Walk.{walkOf}
+use Rattle.answering.specs.Answers.{Effect, answers, refused, refusal, done, found}
+
+-- a refusal's bytes; where there is none, these
+abbrev pub orRefused : Answer → List ℕ → List ℕ
+orRefused Done bytes = bytes
+orRefused (Refused r) bytes = refusal r
+orRefused NotReceiving bytes = refused 4 0
+
+-- "next place (4), kind (1: 0 the end, 1 PDU, 2 drop), route or reason (1), id (4), length (4)"
+abbrev pub stepBytes : ℕ → ℕ → ℕ → ℕ → ℕ → List ℕ
+stepBytes next kind which id n = done ++ found next kind which id n
+
+-- "For a PDU then the payload's place in the datagram (4)"
+abbrev pub pduBytes : ℕ → ℕ → ℕ → ℕ → ℕ → List ℕ
+pduBytes next route id n at = stepBytes next 1 route id n ++ spell 4 at
+
+-- "for the end these three are 0"
+abbrev pub walkBytes : ℕ → Outcome → List ℕ
+walkBytes next End = stepBytes next 0 0 0 0
+walkBytes next (Pdu route id at n) = pduBytes next route id n at
+walkBytes next (Drop reason id n) = stepBytes next 2 reason id n
+
+abbrev pub walkedBytes : DatagramWalked → List ℕ
+walkedBytes w = orRefused (w .answer) (walkBytes (w .next) (w .outcome))
+
+-- what a walk leaves
+unfoldable pub walkEffect : List ℕ → State → List ℕ → List ℕ → List ℕ → ℕ → ℕ → List ℕ → Effect
+walkEffect image s rx tx out connection place datagram =
+    answers (walkedBytes (walkOf image s (length rx) (length tx) connection datagram place))
+    (walkOf image s (length rx) (length tx) connection datagram place .state)
+    rx tx out

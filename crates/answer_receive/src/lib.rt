@@ -1,0 +1,360 @@
+// A walk and a segment event, each with its answer written to an out buffer. A segment event is the takes over one segment until all
+// is read, one at least. Assumes nothing: every function is total.
+ghost use mathlib.Core.Path.{_≡_};
+ghost use Prim.Native.Nat.{_+_};
+ghost use lib.ListN.{length};
+ghost use Rattle.wire.specs.Lay.{spell, lay};
+ghost use Rattle.pieces.specs.Pieces.{placeAfter};
+ghost use Rattle.receive.specs.Answer.{isDone};
+ghost use Rattle.answering.specs.Answers.{dispatched, found};
+ghost use Rattle.answer_receive.specs.Walk as Wk;
+ghost use Rattle.answer_receive.specs.Segment as Seg;
+ghost use Rattle.answer_receive.specs.Turn as Turning;
+use answering::Dispatched;
+use answering::Verdict;
+use answering::put_done;
+use answering::put_done2;
+use answering::put_found;
+use answering::put_number;
+use answering::put_refusal;
+use answering::put_refused;
+use calls::bytes_from;
+use pieces::after;
+use receive::Answer;
+use receive::segment_payload;
+use receive::segment_take;
+use receive::walk_datagram;
+use state::State;
+use stream::Outcome;
+use wire::copy_in;
+use wire::put8;
+
+// ---- a walk
+
+// What a walk found, after the answer number 0: 16 bytes.
+fn put_step(out: &mut [u8], next: usize, kind: u8, which: u8, id: u32, n: u32) -> usize
+    ensures { λ r. ⌜ r ≡ length (Wk.stepBytes next kind which id n) ⌝ }
+    ensures { λ _. ⌜ now (out .exit) ≡ lay (now (out .entry)) 0 (Wk.stepBytes next kind which id n) ⌝ }
+{
+    if out.len() < 16 {
+        return 16;
+    }
+    put_done(out);
+    put_found(out, 2, next, kind, which, id, n);
+    16
+}
+
+// A PDU: with the payload's place, 20 bytes.
+fn put_walk_pdu(out: &mut [u8], next: usize, route: u8, id: u32, n: u32, at: usize) -> usize
+    ensures { λ r. ⌜ r ≡ length (Wk.pduBytes next route id n at) ⌝ }
+    ensures { λ _. ⌜ now (out .exit) ≡ lay (now (out .entry)) 0 (Wk.pduBytes next route id n at) ⌝ }
+{
+    if out.len() < 20 {
+        return 20;
+    }
+    put_step(out, next, 1, route, id, n);
+    put_number(out, 16, at);
+    20
+}
+
+fn put_walk(out: &mut [u8], next: usize, outcome: datagram::Outcome) -> usize
+    ensures { λ r. ⌜ r ≡ length (Wk.walkBytes next outcome) ⌝ }
+    ensures { λ _. ⌜ now (out .exit) ≡ lay (now (out .entry)) 0 (Wk.walkBytes next outcome) ⌝ }
+{
+    match outcome {
+        datagram::Outcome::End => put_step(out, next, 0, 0, 0, 0),
+        datagram::Outcome::Pdu {
+            route,
+            id,
+            at,
+            length,
+        } => put_walk_pdu(out, next, route, id, length, at),
+        datagram::Outcome::Drop { reason, id, length } => put_step(
+            out,
+            next,
+            2,
+            reason,
+            id,
+            length,
+        ),
+    }
+}
+
+fn put_walked(out: &mut [u8], answer: Answer, next: usize, outcome: datagram::Outcome) -> usize
+    ensures { λ r. ⌜ r ≡ length (Wk.orRefused answer (Wk.walkBytes next outcome)) ⌝ }
+    ensures { λ _. ⌜ now (out .exit) ≡ lay (now (out .entry)) 0 (Wk.orRefused answer (Wk.walkBytes next outcome)) ⌝ }
+{
+    match answer {
+        Answer::Done => put_walk(out, next, outcome),
+        Answer::Refused(reason) => put_refusal(out, reason),
+        Answer::NotReceiving => put_refused(out, 4, 0),
+    }
+}
+
+pub fn walk(
+    image: &[u8],
+    state: State,
+    rx: &[u8],
+    tx: &[u8],
+    connection: u8,
+    place: usize,
+    datagram: &[u8],
+    out: &mut [u8],
+) -> Dispatched
+    ensures { λ r. ⌜ r ≡ dispatched (Wk.walkEffect (now (image .entry)) state (now (rx .entry)) (now (tx .entry)) (now (out .entry)) connection place (now (datagram .entry))) ⌝ }
+    ensures { λ _. ⌜ now (out .exit) ≡ Wk.walkEffect (now (image .entry)) state (now (rx .entry)) (now (tx .entry)) (now (out .entry)) connection place (now (datagram .entry)) .out ⌝ }
+{
+    let walked = walk_datagram(image, state, rx, tx, connection, datagram, place);
+    let answer = walked.answer;
+    let outcome = walked.outcome;
+    let state = walked.state;
+    let n = put_walked(out, answer, walked.next, outcome);
+    Dispatched {
+        verdict: Verdict::Done(n),
+        state: state,
+    }
+}
+
+// ---- a segment
+
+// A sum in four bytes.
+fn put_sum(out: &mut [u8], at: usize, a: usize, b: usize)
+    ensures { λ _. ⌜ now (out .exit) ≡ lay (now (out .entry)) at (spell 4 (a + b)) ⌝ }
+{
+    put_number(out, at, a % 4294967296 + b % 4294967296);
+}
+
+// What a take found, and no more: 14 bytes.
+fn put_row(out: &mut [u8], place: usize, read: usize, kind: u8, which: u8, id: u32, n: u32) -> usize
+    ensures { λ r. ⌜ r ≡ placeAfter (now (out .entry)) place (found read kind which id n) ⌝ }
+    ensures { λ _. ⌜ now (out .exit) ≡ lay (now (out .entry)) place (found read kind which id n) ⌝ }
+{
+    let next = after(out.len(), place, 14);
+    put_found(out, place, read, kind, which, id, n);
+    next
+}
+
+// A PDU whose payload stands in the segment: 19 bytes.
+fn put_here(
+    out: &mut [u8],
+    place: usize,
+    read: usize,
+    route: u8,
+    id: u32,
+    n: u32,
+    from: usize,
+    at: usize,
+) -> usize
+    ensures { λ r. ⌜ r ≡ placeAfter (now (out .entry)) place (Seg.hereBytes read route id n from at) ⌝ }
+    ensures { λ _. ⌜ now (out .exit) ≡ lay (now (out .entry)) place (Seg.hereBytes read route id n from at) ⌝ }
+{
+    if out.len() < place {
+        return place;
+    }
+    if out.len() - place < 19 {
+        return place;
+    }
+    put_found(out, place, read, 1, route, id, n);
+    put8(out, place + 14, 0);
+    put_sum(out, place + 15, from, at);
+    place + 19
+}
+
+// A PDU whose payload stands in receive memory: 15 bytes and the payload's.
+fn put_held(
+    out: &mut [u8],
+    place: usize,
+    read: usize,
+    route: u8,
+    id: u32,
+    n: u32,
+    payload: &[u8],
+) -> usize
+    ensures { λ r. ⌜ r ≡ placeAfter (now (out .entry)) place (Seg.heldBytes read route id n (now (payload .entry))) ⌝ }
+    ensures { λ _. ⌜ now (out .exit) ≡ lay (now (out .entry)) place (Seg.heldBytes read route id n (now (payload .entry))) ⌝ }
+{
+    let long = payload.len() + 15;
+    if out.len() < place {
+        return place;
+    }
+    if out.len() - place < long {
+        return place;
+    }
+    put_found(out, place, read, 1, route, id, n);
+    put8(out, place + 14, 1);
+    copy_in(out, place + 15, payload);
+    place + long
+}
+
+// The bytes of one take, that began at the place `from` of the segment.
+fn put_take(
+    out: &mut [u8],
+    place: usize,
+    from: usize,
+    read: usize,
+    outcome: Outcome,
+    payload: &[u8],
+) -> usize
+    ensures { λ r. ⌜ r ≡ placeAfter (now (out .entry)) place (Seg.takeBytes from read outcome (now (payload .entry))) ⌝ }
+    ensures { λ _. ⌜ now (out .exit) ≡ lay (now (out .entry)) place (Seg.takeBytes from read outcome (now (payload .entry))) ⌝ }
+{
+    match outcome {
+        Outcome::More => put_row(out, place, read, 0, 0, 0, 0),
+        Outcome::Pdu {
+            route,
+            id,
+            in_segment,
+            at,
+            length,
+        } => {
+            if in_segment {
+                put_here(out, place, read, route, id, length as u32, from, at)
+            } else {
+                put_held(out, place, read, route, id, length as u32, payload)
+            }
+        }
+        Outcome::Drop { reason, id, length } => put_row(out, place, read, 2, reason, id, length),
+    }
+}
+
+fn is_done(answer: Answer) -> bool
+    ensures { λ r. ⌜ r ≡ isDone answer ⌝ }
+{
+    match answer {
+        Answer::Done => true,
+        Answer::Refused(_) => false,
+        Answer::NotReceiving => false,
+    }
+}
+
+// One take and its bytes: its answer, the bytes read, the place for the next in the out buffer, and the state afterwards.
+struct Turn {
+    answer: Answer,
+    read: usize,
+    place: usize,
+    state: State,
+}
+
+fn take_once(
+    image: &[u8],
+    state: State,
+    rx: &mut [u8],
+    tx: &[u8],
+    connection: u8,
+    segment: &[u8],
+    from: usize,
+    out: &mut [u8],
+    place: usize,
+) -> Turn
+    ensures { λ r. ⌜ r ≡ Turning.turnOf (now (image .entry)) (length (now (tx .entry))) connection (now (segment .entry)) state (now (rx .entry)) from (now (out .entry)) place ⌝ }
+    ensures { λ _. ⌜ now (rx .exit) ≡ Seg.memoryAt (now (image .entry)) (length (now (tx .entry))) connection (now (segment .entry)) state (now (rx .entry)) from ⌝ }
+    ensures { λ _. ⌜ now (out .exit) ≡ lay (now (out .entry)) place (Seg.bytesAt (now (image .entry)) (length (now (tx .entry))) connection (now (segment .entry)) state (now (rx .entry)) from) ⌝ }
+{
+    let rest = bytes_from(segment, from);
+    let taken = segment_take(image, state, rx, tx, connection, rest);
+    let answer = taken.answer;
+    let outcome = taken.outcome;
+    let state = taken.state;
+    let read = taken.read;
+    let done = is_done(answer);
+    if !done {
+        return Turn {
+            answer: answer,
+            read: read,
+            place: place,
+            state: state,
+        };
+    }
+    let payload = segment_payload(rest, rx, connection, outcome);
+    let next = put_take(out, place, from, read, outcome, payload);
+    Turn {
+        answer: answer,
+        read: read,
+        place: next,
+        state: state,
+    }
+}
+
+// Takes until all is read: the answer of the last, how many, the place after their bytes, and the state afterwards.
+struct Takes {
+    answer: Answer,
+    count: usize,
+    place: usize,
+    state: State,
+}
+
+fn take_all(
+    image: &[u8],
+    state: State,
+    rx: &mut [u8],
+    tx: &[u8],
+    connection: u8,
+    segment: &[u8],
+    out: &mut [u8],
+) -> Takes
+    ensures { λ r. ⌜ r ≡ Turning.takesOf (Seg.allTakes (now (image .entry)) (length (now (tx .entry))) connection (now (segment .entry)) state (now (rx .entry)) (now (out .entry))) ⌝ }
+    ensures { λ _. ⌜ now (rx .exit) ≡ Seg.allTakes (now (image .entry)) (length (now (tx .entry))) connection (now (segment .entry)) state (now (rx .entry)) (now (out .entry)) .rx ⌝ }
+    ensures { λ _. ⌜ now (out .exit) ≡ Seg.allTakes (now (image .entry)) (length (now (tx .entry))) connection (now (segment .entry)) state (now (rx .entry)) (now (out .entry)) .out ⌝ }
+{
+    let mut now = state;
+    let mut at: usize = 0;
+    let mut place: usize = 4;
+    let mut count: usize = 0;
+    loop {
+        let t = take_once(image, now, rx, tx, connection, segment, at, out, place);
+        let answer = t.answer;
+        let state = t.state;
+        let done = is_done(answer);
+        at += t.read;
+        place = t.place;
+        count += 1;
+        let goes_on = done & (at < segment.len());
+        if !goes_on {
+            return Takes {
+                answer: answer,
+                count: count,
+                place: place,
+                state: state,
+            };
+        }
+        now = state;
+    }
+}
+
+// The number of takes before their bytes, or the refusal of the first.
+fn put_takes(out: &mut [u8], answer: Answer, count: usize, place: usize) -> usize
+    ensures { λ r. ⌜ r ≡ Seg.lengthOf answer place ⌝ }
+    ensures { λ _. ⌜ now (out .exit) ≡ lay (now (out .entry)) 0 (Seg.frontOf answer count) ⌝ }
+{
+    match answer {
+        Answer::Done => {
+            put_done2(out, (count % 65536) as u16);
+            place
+        }
+        Answer::Refused(reason) => put_refusal(out, reason),
+        Answer::NotReceiving => put_refused(out, 4, 0),
+    }
+}
+
+pub fn segment(
+    image: &[u8],
+    state: State,
+    rx: &mut [u8],
+    tx: &[u8],
+    connection: u8,
+    segment: &[u8],
+    out: &mut [u8],
+) -> Dispatched
+    ensures { λ r. ⌜ r ≡ dispatched (Seg.segmentEffect (now (image .entry)) state (now (rx .entry)) (now (tx .entry)) (now (out .entry)) connection (now (segment .entry))) ⌝ }
+    ensures { λ _. ⌜ now (rx .exit) ≡ Seg.segmentEffect (now (image .entry)) state (now (rx .entry)) (now (tx .entry)) (now (out .entry)) connection (now (segment .entry)) .rx ⌝ }
+    ensures { λ _. ⌜ now (out .exit) ≡ Seg.segmentEffect (now (image .entry)) state (now (rx .entry)) (now (tx .entry)) (now (out .entry)) connection (now (segment .entry)) .out ⌝ }
+{
+    let taken = take_all(image, state, rx, tx, connection, segment, out);
+    let answer = taken.answer;
+    let state = taken.state;
+    let n = put_takes(out, answer, taken.count, taken.place);
+    Dispatched {
+        verdict: Verdict::Done(n),
+        state: state,
+    }
+}
