@@ -1,0 +1,133 @@
+// One dispatcher for all events: an event number and a body in, the answer into a lent out buffer. Assumes nothing: it is total.
+ghost use mathlib.Core.Path.{_≡_};
+ghost use Rattle.answering.specs.Answers.{dispatched};
+ghost use Rattle.dispatch.specs.Dispatch.{effectOf, dispatchOf};
+use answering::Dispatched;
+use answering::Verdict;
+use calls::Call;
+use calls::bytes_from;
+use calls::call_of;
+use connection::Event;
+use state::State;
+
+// The step of a call, whose bytes stand in the body.
+fn answer_call(
+    image: &[u8],
+    state: State,
+    rx: &mut [u8],
+    tx: &mut [u8],
+    body: &[u8],
+    call: Call,
+    out: &mut [u8],
+) -> Dispatched
+    ensures { λ r. ⌜ r ≡ dispatched (effectOf (now (image .entry)) state (now (rx .entry)) (now (tx .entry)) (now (out .entry)) (now (body .entry)) call) ⌝ }
+    ensures { λ _. ⌜ now (rx .exit) ≡ effectOf (now (image .entry)) state (now (rx .entry)) (now (tx .entry)) (now (out .entry)) (now (body .entry)) call .rx ⌝ }
+    ensures { λ _. ⌜ now (tx .exit) ≡ effectOf (now (image .entry)) state (now (rx .entry)) (now (tx .entry)) (now (out .entry)) (now (body .entry)) call .tx ⌝ }
+    ensures { λ _. ⌜ now (out .exit) ≡ effectOf (now (image .entry)) state (now (rx .entry)) (now (tx .entry)) (now (out .entry)) (now (body .entry)) call .out ⌝ }
+{
+    match call {
+        Call::Unknown => Dispatched {
+            verdict: Verdict::Unknown,
+            state: state,
+        },
+        Call::Unfit => Dispatched {
+            verdict: Verdict::Unfit,
+            state: state,
+        },
+        Call::Ticks(n) => answer_events::many_ticks(image, state, rx, tx, n, out),
+        Call::Open(c) => answer_events::own(image, state, rx, tx, c, Event::Open, out),
+        Call::Close(c) => answer_events::own(image, state, rx, tx, c, Event::Close, out),
+        Call::Connected(c) => answer_events::own(image, state, rx, tx, c, Event::Connected, out),
+        Call::Lost(c) => answer_events::lost(image, state, rx, tx, c, out),
+        Call::SetRemote { connection, remote } => answer_events::own(
+            image,
+            state,
+            rx,
+            tx,
+            connection,
+            Event::SetRemote(remote),
+            out,
+        ),
+        Call::Switch {
+            connection,
+            number,
+            on,
+        } => answer_events::own(
+            image,
+            state,
+            rx,
+            tx,
+            connection,
+            Event::Switch { number, on },
+            out,
+        ),
+        Call::Segment { connection, at } => answer_receive::segment(
+            image,
+            state,
+            rx,
+            tx,
+            connection,
+            bytes_from(body, at),
+            out,
+        ),
+        Call::Walk {
+            connection,
+            place,
+            at,
+        } => answer_receive::walk(
+            image,
+            state,
+            rx,
+            tx,
+            connection,
+            place as usize,
+            bytes_from(body, at),
+            out,
+        ),
+        Call::TakeWaiting { connection, room } => {
+            answer_send::take_waiting(image, state, rx, tx, connection, room, out)
+        }
+        Call::Datagram { group, source } => {
+            answer_send::datagram(image, state, rx, tx, group, source, out)
+        }
+        Call::Accept { group, source } => {
+            answer_send::accept(image, state, rx, tx, group, source, out)
+        }
+        Call::Transmit { pdu, at } => {
+            answer_send::transmit(image, state, rx, tx, pdu, bytes_from(body, at), out)
+        }
+        Call::SwitchAll { number, on } => {
+            answer_events::switch_all(image, state, rx, tx, number, on, out)
+        }
+        Call::ReadCount(protocol) => {
+            answer_events::read_count(image, state, rx, tx, protocol, out)
+        }
+        Call::ClearCount(protocol) => {
+            answer_events::clear_count(image, state, rx, tx, protocol, out)
+        }
+    }
+}
+
+pub fn dispatch(
+    image: &[u8],
+    state: State,
+    rx: &mut [u8],
+    tx: &mut [u8],
+    number: u16,
+    body: &[u8],
+    out: &mut [u8],
+) -> Dispatched
+    ensures { λ r. ⌜ r ≡ dispatched (dispatchOf (now (image .entry)) state (now (rx .entry)) (now (tx .entry)) (now (out .entry)) number (now (body .entry))) ⌝ }
+    ensures { λ _. ⌜ now (rx .exit) ≡ dispatchOf (now (image .entry)) state (now (rx .entry)) (now (tx .entry)) (now (out .entry)) number (now (body .entry)) .rx ⌝ }
+    ensures { λ _. ⌜ now (tx .exit) ≡ dispatchOf (now (image .entry)) state (now (rx .entry)) (now (tx .entry)) (now (out .entry)) number (now (body .entry)) .tx ⌝ }
+    ensures { λ _. ⌜ now (out .exit) ≡ dispatchOf (now (image .entry)) state (now (rx .entry)) (now (tx .entry)) (now (out .entry)) number (now (body .entry)) .out ⌝ }
+{
+    if out.len() < 16384 {
+        return Dispatched {
+            verdict: Verdict::Small,
+            state: state,
+        };
+    }
+    let call = call_of(number, body);
+    answer_call(image, state, rx, tx, body, call, out)
+}
