@@ -6,3 +6,4 @@ pub mod Lasting
 pub mod Waiting
 pub mod Trip
 pub mod Unique
+pub mod Ends

@@ -119,7 +119,7 @@ alike-store image s pdu payload w v k i a = go (wantedAt image s pdu payload i)
         record { cell = b .cell ∙ a .cell; online = b .online ∙ a .online }
     go false = a
 
-alike-transmit : (image : List ℕ) (pdu : ℕ) (payload : List ℕ) (w : World) (k : ℕ) → Alike (heldAt w k) (heldAt (transmitIn image pdu payload w) k)
+pub alike-transmit : (image : List ℕ) (pdu : ℕ) (payload : List ℕ) (w : World) (k : ℕ) → Alike (heldAt w k) (heldAt (transmitIn image pdu payload w) k)
 unfolding transmitIn
 alike-transmit image pdu payload w k = go (isStored (checkOf image (stateOf w) pdu (length payload)))
   where
