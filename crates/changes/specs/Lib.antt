@@ -1,0 +1,2 @@
+-- What each event changes, as one table. Assumes nothing.
+pub mod Changes
