@@ -150,7 +150,7 @@ fn compare_all(scripts: &[(String, Vec<u8>)], words: &Words) -> Result<runs::Met
 pub fn compare_scripts(part: &str, words: &Words) -> Outcome {
     let met = compare_all(&scripts(part, words), words)?;
     let to_meet = if part == "runs" { runs::TO_MEET } else { &[] };
-    often_enough(to_meet, 20, |kind| met.get(kind).copied().unwrap_or(0))
+    often_enough(to_meet, 100, |kind| met.get(kind).copied().unwrap_or(0))
 }
 
 pub fn replay_scripts(folder: &Path, words: &Words) -> Outcome {
