@@ -1,0 +1,74 @@
+// The datagram reader: a struct that holds a datagram and its place, over the entry point that walks a datagram. Each function
+// over it is thin and takes it apart; the last has plain parameters. Assumes nothing: no function relies on its caller.
+ghost use mathlib.Core.Path.{_≡_};
+ghost use lib.ListN.{length};
+ghost use Rattle.receive.specs.Walk.{walkOf};
+ghost use Rattle.reader.specs.Reader.{opened, movedTo, answerAt};
+use receive::DatagramWalked;
+use state::State;
+
+pub struct DatagramReader<'a> {
+    pub datagram: &'a [u8],
+    pub place: usize,
+}
+
+// A reader at the start of a datagram.
+pub fn new<'a>(datagram: &'a [u8]) -> DatagramReader<'a>
+    ensures { λ r. ⌜ r ≡ opened (datagram .entry) ⌝ }
+{
+    DatagramReader { datagram, place: 0 }
+}
+
+// The reader moved to a place.
+pub fn moved<'a>(reader: DatagramReader<'a>, place: usize) -> DatagramReader<'a>
+    ensures { λ r. ⌜ r ≡ movedTo (reader .entry) place ⌝ }
+{
+    DatagramReader {
+        datagram: reader.datagram,
+        place,
+    }
+}
+
+// The next answer, with the next place; a refusal gives the reader's own place.
+pub fn next<'a>(
+    reader: DatagramReader<'a>,
+    image: &[u8],
+    state: State,
+    rx: &[u8],
+    tx: &[u8],
+    connection: u8,
+) -> DatagramWalked
+    ensures { λ r. ⌜ r ≡ answerAt (reader .entry) (now (image .entry)) state (length (now (rx .entry))) (length (now (tx .entry))) connection ⌝ }
+{
+    receive::walk_datagram(
+        image,
+        state,
+        rx,
+        tx,
+        connection,
+        reader.datagram,
+        reader.place,
+    )
+}
+
+// The answer at a place of a datagram, by a reader that is moved there: plain parameters.
+pub fn walk_from(
+    datagram: &[u8],
+    place: usize,
+    image: &[u8],
+    state: State,
+    rx: &[u8],
+    tx: &[u8],
+    connection: u8,
+) -> DatagramWalked
+    ensures { λ r. ⌜ r ≡ walkOf (now (image .entry)) state (length (now (rx .entry))) (length (now (tx .entry))) connection (now (datagram .entry)) place ⌝ }
+{
+    next(
+        moved(new(datagram), place),
+        image,
+        state,
+        rx,
+        tx,
+        connection,
+    )
+}
