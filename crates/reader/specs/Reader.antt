@@ -1,8 +1,12 @@
 -- The datagram reader (document 01, "The core takes the datagram and a place; afterwards a datagram reader that holds the
 -- datagram and its place is wanted over it"). Assumes nothing: these are definitions.
-use Prim.Native.Nat.{ℕ}
-use mathlib.Core.List.{List}
+use Prim.Native.Nat.{ℕ, zero, suc}
+use mathlib.Core.List.{List, [], _∷_}
 use denote.Ref.{RefT, now}
+use Rattle.feed.specs.Feed.{Out, pdu, dropped}
+use Rattle.layout.specs.Layout.{partOf}
+use Rattle.datagram.specs.declared.Outcome.{Outcome}
+use Rattle.datagram.specs.declared.Outcome.the-variants.{End, Pdu, Drop}
 use Rattle.state.specs.declared.State.{State}
 use Rattle.receive.specs.declared.DatagramWalked.{DatagramWalked}
 use Rattle.receive.specs.Walk.{walkOf}
@@ -19,3 +23,22 @@ movedTo r place = record { datagram = r .datagram; place = place }
 -- "gives the next PDU, a drop, or the end, with the next place": the walk's answer for the reader's datagram at its place
 abbrev pub answerAt : DatagramReader → List ℕ → State → ℕ → ℕ → ℕ → DatagramWalked
 answerAt r image s rx tx connection = walkOf image s rx tx connection (now (r .datagram)) (r .place)
+
+-- the payload of the PDU that was found: the part of the datagram where it stands; where none was found there is none
+unfoldable pub payloadIn : List ℕ → Outcome → List ℕ
+payloadIn datagram End = []
+payloadIn datagram (Pdu route id at n) = partOf datagram at n
+payloadIn datagram (Drop reason id n) = []
+
+-- what an answer tells, before what later answers tell: a PDU with its payload, a drop, or nothing any more
+abbrev pub tellOf : List ℕ → Outcome → List Out → List Out
+tellOf datagram End later = []
+tellOf datagram (Pdu route id at n) later = pdu route (payloadIn datagram (Pdu route id at n)) ∷ later
+tellOf datagram (Drop reason id n) later = dropped reason id n ∷ later
+
+-- ANSWER AFTER ANSWER until the end, f at most: the reader is moved each time to the next place, and the state handed on
+unfoldable pub readAll : List ℕ → ℕ → ℕ → ℕ → ℕ → DatagramReader → State → List Out
+readAll image rx tx connection zero r s = []
+readAll image rx tx connection (suc f) r s =
+    tellOf (now (r .datagram)) (answerAt r image s rx tx connection .outcome)
+    (readAll image rx tx connection f (movedTo r (answerAt r image s rx tx connection .next)) (answerAt r image s rx tx connection .state))

@@ -3,7 +3,9 @@
 ghost use mathlib.Core.Path.{_≡_};
 ghost use lib.ListN.{length};
 ghost use Rattle.receive.specs.Walk.{walkOf};
-ghost use Rattle.reader.specs.Reader.{opened, movedTo, answerAt};
+ghost use Rattle.reader.specs.Reader.{opened, movedTo, answerAt, payloadIn};
+use datagram::Outcome;
+use layout::part_of;
 use receive::DatagramWalked;
 use state::State;
 
@@ -49,6 +51,33 @@ pub fn next<'a>(
         reader.datagram,
         reader.place,
     )
+}
+
+// The payload of a PDU that a walk found in a datagram, as the part where it stands; where none was found, an empty part.
+pub fn payload_in(datagram: &[u8], outcome: Outcome) -> &[u8]
+    ensures { λ r. ⌜ now r ≡ payloadIn (now (datagram .entry)) outcome ⌝ }
+{
+    match outcome {
+        Outcome::End => &datagram[..0],
+        Outcome::Pdu {
+            route: _,
+            id: _,
+            at,
+            length,
+        } => part_of(datagram, at, length as usize),
+        Outcome::Drop {
+            reason: _,
+            id: _,
+            length: _,
+        } => &datagram[..0],
+    }
+}
+
+// The same, in the reader's datagram.
+pub fn payload_of<'a>(reader: DatagramReader<'a>, outcome: Outcome) -> &'a [u8]
+    ensures { λ r. ⌜ now r ≡ payloadIn (now (reader .entry .datagram)) outcome ⌝ }
+{
+    payload_in(reader.datagram, outcome)
 }
 
 // The answer at a place of a datagram, by a reader that is moved there: plain parameters.

@@ -1,0 +1,3 @@
+-- Laws of the reader. Assumes nothing.
+pub mod Payload
+pub mod Stepping

@@ -1,0 +1,37 @@
+-- The payload that a reader hands out. Assumes nothing.
+use Prim.Native.Nat.{ℕ, _+_, _≤_}
+use mathlib.Core.Path.{_≡_, refl, sym, ap, _∙_}
+use mathlib.Core.List.{List}
+use lib.ListN.{length, drop}
+use borrow.Author.Tests.{le-leb}
+use Rattle.feed.specs.declared.Decision.{Decision}
+use Rattle.feed.specs.declared.Decision.the-variants.{Accept, Refuse}
+use Rattle.feed.specs.Feed.{Routes, Out}
+use Rattle.layout.specs.Layout.{partOf}
+use Rattle.lengths.specs.Head.{Head, ended, short, beyond, whole, headOf}
+use Rattle.walk.specs.Walk.{wholeAt, stepOf, walkAt, told}
+use Rattle.walk.proofs.Steps.{rest-is, whole-place}
+use Rattle.datagram.specs.declared.Outcome.{Outcome}
+use Rattle.datagram.specs.declared.Outcome.the-variants.{Pdu}
+use Rattle.datagram.specs.Datagram.{outcomeOf}
+use Rattle.reader.specs.Reader.{payloadIn, tellOf}
+
+-- an outcome that is a PDU
+pub payload-pdu : (d : List ℕ) (o : Outcome) (route id at n : ℕ) → o ≡ Pdu route id at n → (r : List ℕ) → r ≡ partOf d at n → r ≡ payloadIn d o
+unfolding payloadIn
+payload-pdu d o route id at n e r h = h ∙ sym (ap (payloadIn d) e)
+
+-- THE PAYLOAD HANDED OUT is all of the payload that the walk found there
+pub told-is : (R : Routes) (d : List ℕ) (p : ℕ) (later : List Out) → p ≤ length d → tellOf d (outcomeOf (walkAt R d p .found)) later ≡ told d (walkAt R d p .found) later
+unfolding walkAt payloadIn partOf
+told-is R d p later le = go (headOf (drop p d)) refl
+  where
+    by : (q : Decision) (i n : ℕ) → p + 8 + n ≤ length d → tellOf d (outcomeOf (wholeAt q p i n .found)) later ≡ told d (wholeAt q p i n .found) later
+    by (Accept r) i n w = rw (le-leb (p + 8 + n) (length d) w)
+    by (Refuse k) i n w = refl
+
+    go : (h : Head) → headOf (drop p d) ≡ h → tellOf d (outcomeOf (stepOf R (length d) p h .found)) later ≡ told d (stepOf R (length d) p h .found) later
+    go ended e = refl
+    go short e = refl
+    go (beyond i n) e = refl
+    go (whole i n) e = by (R i n) i n (whole-place d p i n le (ap headOf (rest-is d p) ∙ e))
