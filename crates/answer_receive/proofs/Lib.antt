@@ -1,4 +1,6 @@
 -- The laws of the crate. Assumes nothing.
 pub mod Written
+pub mod Size
+pub mod Room
 pub mod Once
 pub mod Run

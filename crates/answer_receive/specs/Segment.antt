@@ -1,11 +1,11 @@
 -- A segment event: "the takes over one segment until all is read, one at least", and its answer as bytes (docs/EVENTS.md).
 -- Assumes nothing: these are definitions.
-use Prim.Native.Nat.{ℕ, zero, suc, _+_}
+use Prim.Native.Nat.{ℕ, zero, suc, _+_, _*_}
 use mathlib.Core.Bool.{Bool, true, false, cond, _&&_}
 use mathlib.Core.List.{List, [], _++_}
 use lib.Dec.{ltb}
 use lib.ListN.{length, drop}
-use Rattle.wire.specs.Lay.{spell, lay}
+use Rattle.wire.specs.Lay.{spell}
 use Rattle.state.specs.declared.State.{State}
 use Rattle.stream.specs.declared.Outcome.{Outcome}
 use Rattle.stream.specs.declared.Outcome.the-variants.{More, Pdu, Drop}
@@ -14,9 +14,7 @@ use Rattle.receive.specs.declared.Answer.the-variants.{Done, Refused, NotReceiv
 use Rattle.receive.specs.declared.SegmentTaken.{SegmentTaken}
 use Rattle.receive.specs.Answer.{isDone}
 use Rattle.receive.specs.Segment.{segmentOf, memoryOf, payloadOf}
-use Rattle.pieces.specs.Pieces.{placeAfter}
-use Rattle.answering.specs.declared.Verdict.the-variants.{Done as Written}
-use Rattle.answering.specs.Answers.{Effect, refused, refusal, doneWith, found}
+use Rattle.answering.specs.Answers.{Effect, answers, refused, refusal, doneWith, found}
 
 -- a PDU: "where its payload stood: 0 (1) and the place in the segment (4)", for a take that began at the place from of the segment ..
 abbrev pub hereBytes : ℕ → ℕ → ℕ → ℕ → ℕ → ℕ → List ℕ
@@ -40,20 +38,19 @@ bytesOf Done bytes = bytes
 bytesOf (Refused r) bytes = []
 bytesOf NotReceiving bytes = []
 
--- HOW FAR A SEGMENT EVENT IS: the answer of its last take, state and receive memory after it, the out buffer and the place for the
--- next take there, the takes so far, and the bytes read
+-- HOW FAR A SEGMENT EVENT IS: the answer of its last take, state and receive memory after it, the bytes of the takes so far, how many
+-- takes, and the bytes read
 pub record Run : Type 0 where
   pub answer : Answer
   pub state : State
   pub rx : List ℕ
-  pub out : List ℕ
-  pub place : ℕ
+  pub bytes : List ℕ
   pub count : ℕ
   pub at : ℕ
 
--- before the first take: four bytes of the answer come before its own
-abbrev pub begun : State → List ℕ → List ℕ → Run
-begun s rx out = record { answer = Done; state = s; rx = rx; out = out; place = 4; count = 0; at = 0 }
+-- before the first take
+abbrev pub begun : State → List ℕ → Run
+begun s rx = record { answer = Done; state = s; rx = rx; bytes = []; count = 0; at = 0 }
 
 module _ (image : List ℕ) (tx connection : ℕ) (segment : List ℕ) where
   -- the take over what is left of the segment, receive memory after it, and its bytes of the answer
@@ -76,8 +73,7 @@ module _ (image : List ℕ) (tx connection : ℕ) (segment : List ℕ) where
         answer = takeAt (r .state) (r .rx) (r .at) .answer;
         state = takeAt (r .state) (r .rx) (r .at) .state;
         rx = memoryAt (r .state) (r .rx) (r .at);
-        out = lay (r .out) (r .place) (bytesAt (r .state) (r .rx) (r .at));
-        place = placeAfter (r .out) (r .place) (bytesAt (r .state) (r .rx) (r .at));
+        bytes = r .bytes ++ bytesAt (r .state) (r .rx) (r .at);
         count = r .count + 1;
         at = r .at + takeAt (r .state) (r .rx) (r .at) .read;
       }
@@ -91,31 +87,24 @@ module _ (image : List ℕ) (tx connection : ℕ) (segment : List ℕ) where
   runOf zero r = step r
   runOf (suc n) r = cond (goesOn (step r)) (runOf n (step r)) (step r)
 
-  abbrev pub allTakes : State → List ℕ → List ℕ → Run
-  allTakes s rx out = runOf (length segment) (begun s rx out)
+  abbrev pub allTakes : State → List ℕ → Run
+  allTakes s rx = runOf (length segment) (begun s rx)
 
--- "number of takes (2)" before the takes' bytes; "a refusal of the first take is the event's answer (later takes are never refused)"
-abbrev pub frontOf : Answer → ℕ → List ℕ
-frontOf Done count = doneWith 2 count
-frontOf (Refused r) count = refusal r
-frontOf NotReceiving count = refused 4 0
+-- "number of takes (2), then for every take" its bytes; "a refusal of the first take is the event's answer (later takes are never
+-- refused)": so the last take's answer is the first's (proofs/Run `first-answer`)
+abbrev pub eventBytes : Answer → ℕ → List ℕ → List ℕ
+eventBytes Done count bytes = doneWith 2 count ++ bytes
+eventBytes (Refused r) count bytes = refusal r
+eventBytes NotReceiving count bytes = refused 4 0
 
--- the length of the answer: up to the place after the last take's bytes
-abbrev pub lengthOf : Answer → ℕ → ℕ
-lengthOf Done place = place
-lengthOf (Refused r) place = length (refusal r)
-lengthOf NotReceiving place = length (refused 4 0)
+abbrev pub leaves : Run → List ℕ → List ℕ → Effect
+leaves r tx out = answers (eventBytes (r .answer) (r .count) (r .bytes)) (r .state) (r .rx) tx out
 
-abbrev pub leaves : Run → List ℕ → Effect
-leaves r tx =
-    record {
-      verdict = Written (lengthOf (r .answer) (r .place));
-      state = r .state;
-      rx = r .rx;
-      tx = tx;
-      out = lay (r .out) 0 (frontOf (r .answer) (r .count));
-    }
-
--- what a segment event leaves
+-- what a segment event leaves: its answer is written whole, for it always fits (crate dispatch, proofs/Whole `whole`)
 unfoldable pub segmentEffect : List ℕ → State → List ℕ → List ℕ → List ℕ → ℕ → List ℕ → Effect
-segmentEffect image s rx tx out connection segment = leaves (allTakes image (length tx) connection segment s rx out) tx
+segmentEffect image s rx tx out connection segment = leaves (allTakes image (length tx) connection segment s rx) tx out
+
+-- THE ROOM that the event's answer never exceeds, whatever the takes find (proofs/Room `event-fits`): a payload out of receive memory
+-- and what comes with it once, and three bytes for each of the segment
+abbrev pub roomFor : List ℕ → ℕ
+roomFor segment = 1502 + 3 * length segment

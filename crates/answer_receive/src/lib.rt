@@ -1,7 +1,7 @@
 // A walk and a segment event, each with its answer written to an out buffer. A segment event is the takes over one segment until all
 // is read, one at least. Assumes nothing: every function is total.
 ghost use mathlib.Core.Path.{_≡_};
-ghost use Prim.Native.Nat.{_+_};
+ghost use Prim.Native.Nat.{_+_, _≤_};
 ghost use lib.ListN.{length};
 ghost use Rattle.wire.specs.Lay.{spell, lay};
 ghost use Rattle.pieces.specs.Pieces.{placeAfter};
@@ -275,7 +275,7 @@ fn take_once(
     }
 }
 
-// Takes until all is read: the answer of the last, how many, the place after their bytes, and the state afterwards.
+// Takes until all is read: the answer of the last, how many, the place after their bytes, and the state afterwards. All their bytes fit.
 struct Takes {
     answer: Answer,
     count: usize,
@@ -292,9 +292,10 @@ fn take_all(
     segment: &[u8],
     out: &mut [u8],
 ) -> Takes
-    ensures { λ r. ⌜ r ≡ Turning.takesOf (Seg.allTakes (now (image .entry)) (length (now (tx .entry))) connection (now (segment .entry)) state (now (rx .entry)) (now (out .entry))) ⌝ }
-    ensures { λ _. ⌜ now (rx .exit) ≡ Seg.allTakes (now (image .entry)) (length (now (tx .entry))) connection (now (segment .entry)) state (now (rx .entry)) (now (out .entry)) .rx ⌝ }
-    ensures { λ _. ⌜ now (out .exit) ≡ Seg.allTakes (now (image .entry)) (length (now (tx .entry))) connection (now (segment .entry)) state (now (rx .entry)) (now (out .entry)) .out ⌝ }
+    requires { ⌜ Seg.roomFor (now segment) ≤ length (now out) ⌝ }
+    ensures { λ r. ⌜ r ≡ Turning.takesOf (Seg.allTakes (now (image .entry)) (length (now (tx .entry))) connection (now (segment .entry)) state (now (rx .entry))) ⌝ }
+    ensures { λ _. ⌜ now (rx .exit) ≡ Seg.allTakes (now (image .entry)) (length (now (tx .entry))) connection (now (segment .entry)) state (now (rx .entry)) .rx ⌝ }
+    ensures { λ _. ⌜ now (out .exit) ≡ lay (now (out .entry)) 4 (Turning.takenBytes (Seg.allTakes (now (image .entry)) (length (now (tx .entry))) connection (now (segment .entry)) state (now (rx .entry)))) ⌝ }
 {
     let mut now = state;
     let mut at: usize = 0;
@@ -323,8 +324,8 @@ fn take_all(
 
 // The number of takes before their bytes, or the refusal of the first.
 fn put_takes(out: &mut [u8], answer: Answer, count: usize, place: usize) -> usize
-    ensures { λ r. ⌜ r ≡ Seg.lengthOf answer place ⌝ }
-    ensures { λ _. ⌜ now (out .exit) ≡ lay (now (out .entry)) 0 (Seg.frontOf answer count) ⌝ }
+    ensures { λ r. ⌜ r ≡ Turning.lengthOf answer place ⌝ }
+    ensures { λ _. ⌜ now (out .exit) ≡ lay (now (out .entry)) 0 (Turning.frontOf answer count) ⌝ }
 {
     match answer {
         Answer::Done => {
@@ -336,6 +337,7 @@ fn put_takes(out: &mut [u8], answer: Answer, count: usize, place: usize) -> usiz
     }
 }
 
+// A segment event, into an out buffer that has room for the answer, whatever the takes find.
 pub fn segment(
     image: &[u8],
     state: State,
@@ -345,6 +347,7 @@ pub fn segment(
     segment: &[u8],
     out: &mut [u8],
 ) -> Dispatched
+    requires { ⌜ Seg.roomFor (now segment) ≤ length (now out) ⌝ }
     ensures { λ r. ⌜ r ≡ dispatched (Seg.segmentEffect (now (image .entry)) state (now (rx .entry)) (now (tx .entry)) (now (out .entry)) connection (now (segment .entry))) ⌝ }
     ensures { λ _. ⌜ now (rx .exit) ≡ Seg.segmentEffect (now (image .entry)) state (now (rx .entry)) (now (tx .entry)) (now (out .entry)) connection (now (segment .entry)) .rx ⌝ }
     ensures { λ _. ⌜ now (out .exit) ≡ Seg.segmentEffect (now (image .entry)) state (now (rx .entry)) (now (tx .entry)) (now (out .entry)) connection (now (segment .entry)) .out ⌝ }

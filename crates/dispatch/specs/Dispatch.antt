@@ -18,7 +18,7 @@ use Rattle.answer_receive.specs.Walk.{walkEffect}
 use Rattle.answer_receive.specs.Segment.{segmentEffect}
 use Rattle.answer_send.specs.Send.{datagramEffect, acceptEffect, transmitEffect, takeEffect}
 
--- enough for the answer to any body of 4,096 bytes
+-- enough for the answer to any body of 4,096 bytes (proofs/Whole `whole`: every answer stands whole)
 abbrev pub room : ℕ
 room = 16384
 

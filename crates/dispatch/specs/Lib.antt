@@ -1,2 +1,4 @@
 -- What the contracts of this crate cite. Assumes nothing.
 pub mod Dispatch
+pub mod Room
+pub mod Whole

@@ -18,7 +18,10 @@ abbrev μ-loop : tie.MeasureT-loop
 μ-loop image rx₀ tx connection segment out₀ now₀ at₀ place₀ count₀ rx out now at place count = length segment - count
 
 loop-holds : tie.Need-loop-holds Inv-loop μ-loop
-loop-holds c = let a = c .before .before .before .before .before .args in (going-start (a .image .now) (length (a .tx .now)) (a .connection) (a .segment .now) (a .state) (a .rx .now) (a .out .now), (refl, refl))
+loop-holds c =
+    let b = c .before .before .before .before .before in
+    let a = b .args in
+    (going-start (a .image .now) (length (a .tx .now)) (a .connection) (a .segment .now) (a .state) (a .rx .now) (a .out .now) (b .pre), (refl, refl))
 
 take-once-requires : tie.Need-take-once-requires Inv-loop μ-loop
 take-once-requires c κs = search needs
@@ -42,10 +45,10 @@ returns : tie.Need-returns Inv-loop μ-loop
 returns c = let a = c .before .before .before .before .before .before .before .before .before .before .before .before .before .before .before .before .before .args in let l = c .before .before .before .before .before .before .before .before .before .before .before .loop in let h = c .before .before .before .before .before .before .before .before .take-once .ensures in going-end (a .image .now) (length (a .tx .now)) (a .connection) (a .segment .now) (l .now) (l .rx) (l .out) (l .place) (l .count) (l .at) (h .0) (h .1 .0) (h .1 .1) (l .inv .0) (ap (λ (d : Bool). d && ltb (l .at + c .before .before .before .before .before .before .before .before .take-once .result .read) (length (a .segment .now))) (sym (c .before .before .is-done .ensures)) ∙ not-true _ (c .if1 .taken))
 
 loop-less : tie.Need-loop-less Inv-loop μ-loop
-loop-less c = let a = c .before .before .before .before .before .before .before .before .before .before .before .before .before .before .before .before .before .args in let l = c .before .before .before .before .before .before .before .before .before .before .before .loop in let h = c .before .before .before .before .before .before .before .before .take-once .ensures in let g = going-on (a .image .now) (length (a .tx .now)) (a .connection) (a .segment .now) (l .now) (l .rx) (l .out) (l .place) (l .count) (l .at) (h .0) (h .1 .0) (h .1 .1) (l .inv .0) (ap (λ (d : Bool). d && ltb (l .at + c .before .before .before .before .before .before .before .before .take-once .result .read) (length (a .segment .now))) (sym (c .before .before .is-done .ensures)) ∙ not-false _ (c .if1 .left)) in omega (arith, l .inv .0 .low, g .low, g .within)
+loop-less c = let a = c .before .before .before .before .before .before .before .before .before .before .before .before .before .before .before .before .before .args in let l = c .before .before .before .before .before .before .before .before .before .before .before .loop in let h = c .before .before .before .before .before .before .before .before .take-once .ensures in let g = going-on (a .image .now) (length (a .tx .now)) (a .connection) (a .segment .now) (l .now) (l .rx) (l .out) (l .place) (l .count) (l .at) (h .0) (h .1 .0) (h .1 .1) (λ i. c .before .before .before .before .before .before .before .before .before .before .before .before .before .shared-slice-known3 .given i .fits) (l .inv .0) (ap (λ (d : Bool). d && ltb (l .at + c .before .before .before .before .before .before .before .before .take-once .result .read) (length (a .segment .now))) (sym (c .before .before .is-done .ensures)) ∙ not-false _ (c .if1 .left)) in omega (arith, l .inv .0 .low, g .low, g .within)
 
 loop-again : tie.Need-loop-again Inv-loop μ-loop
-loop-again c = let a = c .before .before .before .before .before .before .before .before .before .before .before .before .before .before .before .before .before .args in let l = c .before .before .before .before .before .before .before .before .before .before .before .loop in let h = c .before .before .before .before .before .before .before .before .take-once .ensures in (going-on (a .image .now) (length (a .tx .now)) (a .connection) (a .segment .now) (l .now) (l .rx) (l .out) (l .place) (l .count) (l .at) (h .0) (h .1 .0) (h .1 .1) (l .inv .0) (ap (λ (d : Bool). d && ltb (l .at + c .before .before .before .before .before .before .before .before .take-once .result .read) (length (a .segment .now))) (sym (c .before .before .is-done .ensures)) ∙ not-false _ (c .if1 .left)), (omega arith, omega arith))
+loop-again c = let a = c .before .before .before .before .before .before .before .before .before .before .before .before .before .before .before .before .before .args in let l = c .before .before .before .before .before .before .before .before .before .before .before .loop in let h = c .before .before .before .before .before .before .before .before .take-once .ensures in (going-on (a .image .now) (length (a .tx .now)) (a .connection) (a .segment .now) (l .now) (l .rx) (l .out) (l .place) (l .count) (l .at) (h .0) (h .1 .0) (h .1 .1) (λ i. c .before .before .before .before .before .before .before .before .before .before .before .before .before .shared-slice-known3 .given i .fits) (l .inv .0) (ap (λ (d : Bool). d && ltb (l .at + c .before .before .before .before .before .before .before .before .take-once .result .read) (length (a .segment .now))) (sym (c .before .before .is-done .ensures)) ∙ not-false _ (c .if1 .left)), (omega arith, omega arith))
 
 pub take-all-spec : {M : Type 1} → statement M
 take-all-spec =

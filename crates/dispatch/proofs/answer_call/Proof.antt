@@ -64,7 +64,9 @@ bytes-from-requires : tie.Need-bytes-from-requires
 bytes-from-requires c κs = search needs
 
 segment-requires : tie.Need-segment-requires
-segment-requires c κs = search needs
+segment-requires c κs =
+    let k = c .before .before .before .before .before in
+    rw (c .before .bytes-from .ensures) (k .before .before .before .before .before .before .before .pre _ _ (k .call8 .given .1))
 
 enum-known-call-9 : tie.Need-enum-known-call-9
 enum-known-call-9 c = search needs

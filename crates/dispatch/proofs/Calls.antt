@@ -1,0 +1,81 @@
+-- A SEGMENT CALL CARRIES 4,090 BYTES AT MOST, for its body has 4,096 at most: so an out buffer of 16,384 bytes has room for its answer.
+-- Assumes nothing.
+use Prim.Native.Nat.{ℕ, _+_, _≤_}
+use mathlib.Core.Path.{_≡_, refl, subst}
+use mathlib.Core.Bool.{Bool, true, false, cond, _&&_}
+use mathlib.Core.List.{List}
+use native.Mathlib.Omega.{arith}
+use borrow.Author.Tests.{leb-true}
+use lib.Dec.{eqb, leb}
+use lib.ListN.{length, drop, length-drop}
+use Rattle.wire.specs.Be.{be}
+use Rattle.lists.proofs.Both.{and-right}
+use Rattle.calls.specs.declared.Call.{Call}
+use Rattle.calls.specs.declared.Call.the-variants.{Unknown, Unfit, Ticks, Open, Close, Connected, Lost, SetRemote, Switch, Segment, Walk, TakeWaiting, Datagram, Accept, Transmit, SwitchAll, ReadCount, ClearCount}
+use Rattle.calls.specs.Calls.{fitted, plain, counted, addressed, remoteIn, positioned, callOf}
+use Rattle.dispatch.specs.Room.{Enough}
+
+-- the bytes that a segment call carries
+unfoldable pub carried : List ℕ → Call → ℕ
+carried b Unknown = 0
+carried b Unfit = 0
+carried b (Ticks n) = 0
+carried b (Open c) = 0
+carried b (Close c) = 0
+carried b (Connected c) = 0
+carried b (Lost c) = 0
+carried b (SetRemote c r) = 0
+carried b (Switch c n on) = 0
+carried b (Segment c at) = length (drop at b)
+carried b (Walk c p at) = 0
+carried b (TakeWaiting c n) = 0
+carried b (Datagram g r) = 0
+carried b (Accept g r) = 0
+carried b (Transmit p at) = 0
+carried b (SwitchAll n on) = 0
+carried b (ReadCount p) = 0
+carried b (ClearCount p) = 0
+
+abbrev pub Short : List ℕ → Call → Type 0
+Short b call = carried b call ≤ 4090
+
+either : (b : List ℕ) (t : Bool) (x y : Call) → Short b x → Short b y → Short b (cond t x y)
+either b true x y p q = p
+either b false x y p q = q
+
+fits-short : (b : List ℕ) (t : Bool) (x : Call) → (t ≡ true → Short b x) → Short b (fitted t x)
+unfolding carried
+fits-short b true x p = p refl
+fits-short b false x p = omega arith
+
+segment-short : (b : List ℕ) → counted b 2 ≡ true → Short b (Segment (be 1 b 1) 6)
+unfolding carried
+segment-short b e =
+    omega (arith, length-drop 6 b, leb-true (length b) 4096 (and-right (eqb (be 4 b 2 + (2 + 4)) (length b) && eqb (be 1 b 0) 0) (leb (length b) 4096) e))
+
+pub call-short : (n : ℕ) (b : List ℕ) → Short b (callOf n b)
+unfolding callOf carried
+call-short n b =
+    either b (eqb n 0) _ _ (fits-short b (eqb (length b) 4) (Ticks (be 4 b 0)) (λ _. omega arith))
+    (either b (eqb n 1) _ _ (fits-short b (plain b 2) (Open (be 1 b 1)) (λ _. omega arith))
+    (either b (eqb n 2) _ _ (fits-short b (plain b 2) (Close (be 1 b 1)) (λ _. omega arith))
+    (either b (eqb n 3) _ _ (fits-short b (plain b 2) (Connected (be 1 b 1)) (λ _. omega arith))
+    (either b (eqb n 4) _ _ (fits-short b (plain b 2) (Lost (be 1 b 1)) (λ _. omega arith))
+    (either b (eqb n 5) _ _ (fits-short b (addressed b) (SetRemote (be 1 b 1) (remoteIn (drop 2 b))) (λ _. omega arith))
+    (either b (eqb n 6) _ _ (fits-short b (positioned b 4 3) (Switch (be 1 b 1) (be 1 b 2) (eqb (be 1 b 3) 1)) (λ _. omega arith))
+    (either b (eqb n 7) _ _ (fits-short b (counted b 2) (Segment (be 1 b 1) 6) (segment-short b))
+    (either b (eqb n 8) _ _ (fits-short b (counted b 6) (Walk (be 1 b 1) (be 4 b 2) 10) (λ _. omega arith))
+    (either b (eqb n 9) _ _ (fits-short b (plain b 6) (TakeWaiting (be 1 b 1) (be 4 b 2)) (λ _. omega arith))
+    (either b (eqb n 10) _ _ (fits-short b (addressed b) (Datagram (be 1 b 1) (remoteIn (drop 2 b))) (λ _. omega arith))
+    (either b (eqb n 11) _ _ (fits-short b (addressed b) (Accept (be 1 b 1) (remoteIn (drop 2 b))) (λ _. omega arith))
+    (either b (eqb n 12) _ _ (fits-short b (counted b 3) (Transmit (be 2 b 1) 7) (λ _. omega arith))
+    (either b (eqb n 13) _ _ (fits-short b (positioned b 3 2) (SwitchAll (be 1 b 1) (eqb (be 1 b 2) 1)) (λ _. omega arith))
+    (either b (eqb n 14) _ _ (fits-short b (plain b 2) (ReadCount (be 1 b 1)) (λ _. omega arith))
+    (either b (eqb n 15) _ _ (fits-short b (plain b 2) (ClearCount (be 1 b 1)) (λ _. omega arith))
+    (omega arith))))))))))))))))
+
+pub call-enough : (n : ℕ) (body out : List ℕ) → 16384 ≤ length out → Enough out body (callOf n body)
+unfolding carried
+call-enough n body out h c at e =
+    let s : carried body (Segment c at) ≤ 4090 = subst (λ (call : Call). carried body call ≤ 4090) e (call-short n body) in
+    omega (arith, s)

@@ -1,0 +1,4 @@
+-- The laws of the crate. Assumes nothing.
+pub mod Calls
+pub mod Sizes
+pub mod Whole

@@ -1,0 +1,15 @@
+-- AN ANSWER THAT STANDS WHOLE in the out buffer. Assumes nothing: this is a definition.
+use Prim.Native.Nat.{ℕ, _≤_}
+use mathlib.Core.List.{List, _++_}
+use lib.ListN.{length, drop}
+use Rattle.answering.specs.declared.Verdict.{Verdict}
+use Rattle.answering.specs.declared.Verdict.the-variants.{Done, Unknown, Unfit, Small}
+use Rattle.dispatch.specs.Dispatch.{room}
+
+-- of a verdict and the out buffer afterwards: all bytes of the answer at the front, and behind them the buffer as it was; where
+-- there is no answer, the buffer as it was
+pub data Whole (out : List ℕ) : Verdict → List ℕ → Type 0 where
+  answer : (bytes : List ℕ) → length bytes ≤ room → Whole out (Done (length bytes)) (bytes ++ drop (length bytes) out)
+  unknown : Whole out Unknown out
+  unfit : Whole out Unfit out
+  small : Whole out Small out
