@@ -3,6 +3,7 @@
 #
 #   need COMMAND PACKAGE     installs a package where its command is missing
 #   compile OUT WORD ..      compiles and links C files (and archives, and flags) into the program OUT
+#   hosted                   sets headers to the flags that give a C file the C library's headers, where it wants them
 #   ${start[@]} OUT WORD ..  runs such a program
 #   ${kit_start[@]} OUT ..   runs a program that rt has built
 #
@@ -10,14 +11,15 @@
 # x86-64, gcc the headers that belong to no C library (stdint.h, stddef.h, ..), and the kit's emulator runs the program, or
 # qemu-user's where the kit has none.
 
-need() {
-    command -v "$1" >/dev/null && return
-    echo "installing $2" >&2
-    apt-get install -y -q "$2" >/dev/null 2>&1 || { apt-get update -q >/dev/null 2>&1 && apt-get install -y -q "$2" >/dev/null; } || {
-        echo "$1 is missing, and the package $2 cannot be installed" >&2
+install_package() {
+    echo "installing $1" >&2
+    apt-get install -y -q "$1" >/dev/null 2>&1 || { apt-get update -q >/dev/null 2>&1 && apt-get install -y -q "$1" >/dev/null; } || {
+        echo "the package $1 cannot be installed" >&2
         return 1
     }
 }
+
+need() { command -v "$1" >/dev/null || install_package "$2"; }
 
 kit_tools() { echo "$(cd "$(dirname "$(rt doc)")/.." && pwd -P)/on/$(uname -m)/toolchain"; }
 
@@ -60,6 +62,7 @@ if [ "$(uname -m)" = x86_64 ] && [ -z "${CROSS:-}" ]; then
     # shellcheck disable=SC2207
     kit_start=($(loader))
     compile() { compile_native "$@"; }
+    hosted() { headers=(); }
 else
     emulator=$(kit_tools)/bin/qemu-x86_64
     [ -x "$emulator" ] || { need qemu-x86_64 qemu-user && emulator=qemu-x86_64; }
@@ -67,4 +70,9 @@ else
     start=("$emulator" $(loader))
     kit_start=("${start[@]}")
     compile() { compile_cross "$@"; }
+    # the C library's headers for x86-64, out of Debian's package for cross compilers
+    hosted() {
+        headers=(-isystem/usr/x86_64-linux-gnu/include)
+        [ -f /usr/x86_64-linux-gnu/include/stdio.h ] || install_package libc6-dev-amd64-cross
+    }
 fi

@@ -1,0 +1,132 @@
+/* bench.c: the bench computer's side, in three calls: checks a table, walks a captured datagram, frames a setpoint.
+ *
+ *   bench TABLE CONNECTION SWITCHES DATAGRAM ID VALUE
+ *
+ * TABLE and DATAGRAM are files; CONNECTION is the row the datagram came in on, SWITCHES its routing switches; a setpoint of VALUE is
+ * framed with header id ID. The header's id is the unit: 0x101 is bar, 0x102 kilopascal, and a number without a unit is not printed.
+ * The last line is OK or REFUSED; the status is 0 or 1, and 2 for a call that is not understood.
+ *
+ *   cc -I include -o bench examples/bench.c target/staticlib/libsoad.a
+ *   ./bench examples/debarker.table 3 0x3 examples/scanner.datagram 0x101 180
+ */
+#include "soad.h"
+
+#include <inttypes.h>
+#include <stdio.h>
+#include <stdlib.h>
+
+struct bytes {
+    uint8_t at[65536];
+    size_t length;
+};
+
+static void read_file(const char *name, struct bytes *bytes)
+{
+    FILE *file = fopen(name, "rb");
+    if (file == NULL) {
+        perror(name);
+        exit(2);
+    }
+    bytes->length = fread(bytes->at, 1, sizeof bytes->at, file);
+    fclose(file);
+}
+
+static const char *unit_of(uint32_t id)
+{
+    return id == 0x101 ? "bar" : id == 0x102 ? "kPa" : NULL;
+}
+
+static const char *reason_of(uint32_t drop)
+{
+    switch (drop) {
+    case SOAD_DROP_NO_ROUTE:
+        return "no route for this id";
+    case SOAD_DROP_SWITCHED_OFF:
+        return "its route is switched off";
+    case SOAD_DROP_TOO_LONG:
+        return "longer than its route allows";
+    default:
+        return "cut off: no whole header, or a length beyond the end";
+    }
+}
+
+static int refused(const char *call, uint32_t answer)
+{
+    printf("%s: refused, answer number %" PRIu32 " (include/soad.h says why)\nREFUSED\n", call, answer);
+    return 1;
+}
+
+/* A pressure in two bytes, with its unit; the bytes as they are where the id names no unit. */
+static void print_payload(uint32_t id, const uint8_t *payload, uint32_t length)
+{
+    const char *unit = unit_of(id);
+    if (unit != NULL && length == 2) {
+        printf("%u %s", payload[0] * 256u + payload[1], unit);
+        return;
+    }
+    printf("%" PRIu32 " bytes, no known unit", length);
+}
+
+/* Step after step until the end. */
+static int walk(const struct bytes *table, size_t connection, uint32_t switches, const struct bytes *datagram)
+{
+    size_t place = 0, next = 0, at = 0;
+    uint32_t kind = SOAD_WALK_PDU, number, id, length;
+    for (; kind != SOAD_WALK_END; place = next) {
+        uint32_t answer = soad_walk(table->at, table->length, connection, switches, datagram->at, datagram->length, place, &next, &kind,
+                                    &number, &id, &length, &at);
+        if (answer != SOAD_DONE)
+            return refused("walk", answer);
+        printf("datagram byte %zu: ", place);
+        if (kind == SOAD_WALK_PDU) {
+            printf("PDU, receive route %" PRIu32 ", header id 0x%08" PRIx32 ": ", number, id);
+            print_payload(id, datagram->at + at, length);
+        } else if (kind == SOAD_WALK_DROP) {
+            printf("dropped, reason %" PRIu32 " (%s)", number, reason_of(number));
+        } else {
+            printf("the end");
+        }
+        printf("\n");
+    }
+    return 0;
+}
+
+static int frame(uint32_t id, unsigned value)
+{
+    uint8_t payload[2] = {(uint8_t)(value >> 8), (uint8_t)value}, out[10];
+    uint32_t answer = soad_frame(id, payload, sizeof payload, out, sizeof out);
+    if (answer != SOAD_DONE)
+        return refused("framing", answer);
+    printf("setpoint ");
+    print_payload(id, payload, sizeof payload);
+    printf(", framed in %zu bytes:", sizeof out);
+    for (size_t i = 0; i < sizeof out; i++)
+        printf(" %02x", out[i]);
+    printf("\nOK\n");
+    return 0;
+}
+
+int main(int count, char **words)
+{
+    static struct bytes table, datagram;
+    size_t place = 0;
+    if (count != 7) {
+        fprintf(stderr, "usage: bench TABLE CONNECTION SWITCHES DATAGRAM ID VALUE\n");
+        return 2;
+    }
+    read_file(words[1], &table);
+    read_file(words[4], &datagram);
+    uint32_t id = (uint32_t)strtoul(words[5], NULL, 0);
+    unsigned long value = strtoul(words[6], NULL, 0);
+    if (unit_of(id) == NULL || value > 65535) {
+        fprintf(stderr, "bench: a setpoint needs the id of a unit (0x101 bar, 0x102 kPa) and a value up to 65535 of it\n");
+        return 2;
+    }
+    if (soad_table_check(table.at, table.length, &place) != SOAD_DONE) {
+        printf("table: refused, answer number 1, at byte %zu\nREFUSED\n", place);
+        return 1;
+    }
+    printf("table: accepted, %zu bytes\n", table.length);
+    int status = walk(&table, strtoul(words[2], NULL, 0), (uint32_t)strtoul(words[3], NULL, 0), &datagram);
+    return status != 0 ? status : frame(id, (unsigned)value);
+}
