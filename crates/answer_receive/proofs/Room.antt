@@ -26,7 +26,7 @@ use Rattle.state.specs.Fresh.{configOf}
 use Rattle.route.specs.Route.{lookupOf}
 use Rattle.gate.proofs.Pass.{passed-gate-at}
 use Rattle.stream.specs.Stream.{cellOf, idOf, tookOf, takenOf}
-use Rattle.world.specs.World.{stretch}
+use Rattle.state.specs.Memory.{stretch}
 use Rattle.receive.specs.declared.Answer.{Answer}
 use Rattle.receive.specs.declared.Answer.the-variants.{Done, Refused, NotReceiving}
 use Rattle.receive.specs.declared.SegmentTaken.{SegmentTaken}

@@ -21,7 +21,7 @@ use Rattle.layout.specs.Layout.{bodyOf}
 use Rattle.layout.specs.declared.Kind.the-variants.{Route as RouteRows}
 use Rattle.route.specs.Route.{lookupOf}
 use Rattle.state.specs.State.{recordAt}
-use Rattle.world.specs.World.{stretch}
+use Rattle.state.specs.Memory.{stretch}
 use Rattle.stream.specs.Stream.{cellOf, takenOf, tookOf}
 use Rattle.receive.specs.declared.Answer.{Answer}
 use Rattle.receive.specs.declared.Answer.the-variants.{Done, Refused, NotReceiving}

@@ -17,7 +17,7 @@ use Rattle.part.specs.declared.Part.the-variants.{Header, Payload, Skip}
 use Rattle.stream.specs.declared.Outcome.{Outcome}
 use Rattle.stream.specs.declared.Outcome.the-variants.{More, Pdu, Drop}
 use Rattle.stream.specs.Stream.{cellOf, partFrom, inSegment, outcomeOf}
-use Rattle.world.specs.World.{stretch}
+use Rattle.state.specs.Memory.{stretch}
 use Rattle.receive.specs.Segment.{payloadOf}
 use Rattle.answering.proofs.Chain.{length-found}
 use Rattle.answer_receive.specs.Segment.{takeBytes}

@@ -1,29 +1,27 @@
 -- Each method leaves a sound record sound. Assumes nothing.
-use Prim.Native.Nat.{ℕ, _-_, _≤_}
+use Prim.Native.Nat.{ℕ, _-_}
 use lib.Dec.{eqb, leb, ltb, leb·zero}
 use mathlib.Core.Path.{_≡_, refl, sym, ap, _∙_}
 use mathlib.Core.Bool.{Bool, true, false, cond, not, _&&_, _||_, or-true}
-use borrow.Author.Tests.{eqb-true, eqb-false, ne-eqb, eq-eqb, not-true, not-false}
+use borrow.Author.Tests.{eqb-true, eq-eqb, not-true}
 use native.Mathlib.Omega.{arith}
 use Rattle.part.specs.declared.Part.{Part}
 use Rattle.part.specs.Part.{shaped, emptyPart}
-use Rattle.lists.proofs.Both.{and-left, and-right}
+use Rattle.lists.proofs.Both.{impossible, and-left, and-right, and3}
 use Rattle.connection.specs.declared.Mode.{Mode}
 use Rattle.connection.specs.declared.Mode.the-variants.{Offline, Reconnect, Online}
 use Rattle.connection.specs.declared.Remote.{Remote}
 use Rattle.connection.specs.declared.Connection.{Connection}
 use Rattle.connection.specs.declared.Config.{Config}
-use Rattle.connection.specs.declared.Refusal.the-variants.{Missing, Denied}
-use Rattle.connection.specs.declared.Answer.the-variants.{Done}
 use Rattle.connection.specs.declared.Event.{Event}
 use Rattle.connection.specs.declared.Event.the-variants.{Open, Close, Connected, Lost, SetRemote, Switch}
-use Rattle.connection.specs.Connection.{isOffline, isReconnect, isOnline, wildcard, withMode, withRemote, withSwitches, withPart, withSend, freshOf, become, openOf, closeOf, connectedOf, lostOf, remoteOf, metOf, switchOf, switchedOf, closedOf, startOf, reachOf, runOf, tickOf}
-use Rattle.connection.specs.Event.{openAllowed, closeAllowed, connectedAllowed, lostAllowed, remoteAllowed, allowed, known, after, refusedBy, stepOf}
+use Rattle.connection.specs.Connection.{isOffline, isReconnect, isOnline, wildcard, withMode, withSwitches, withPart, withSend, freshOf, become, openOf, closeOf, connectedOf, lostOf, remoteOf, metOf, closedOf, startOf, reachOf, runOf, tickOf}
+use Rattle.connection.specs.Event.{openAllowed, closeAllowed, connectedAllowed, lostAllowed, remoteAllowed, allowed, after, stepOf}
 use Rattle.connection.specs.Sound.{Sound}
-use Rattle.connection.proofs.Rules.{impossible}
+use Rattle.connection.proofs.Ticks.{step-either, started}
 
 -- a mode is one of the three
-online-not-offline : (m : Mode) → isOnline m ≡ true → isOffline m ≡ false
+pub online-not-offline : (m : Mode) → isOnline m ≡ true → isOffline m ≡ false
 online-not-offline Offline p = sym p
 online-not-offline Reconnect p = refl
 online-not-offline Online p = refl
@@ -37,13 +35,6 @@ reconnect-is : (m : Mode) → isReconnect m ≡ true → m ≡ Reconnect
 reconnect-is Offline p = impossible p
 reconnect-is Reconnect p = refl
 reconnect-is Online p = impossible p
-
--- tests of three and four parts that hold
-three : (a b c : Bool) → (a && b && c) ≡ true → (a ≡ true) × (b ≡ true) × (c ≡ true)
-three true true true p = (refl, refl, refl)
-three false b c p = impossible p
-three true false c p = impossible p
-three true true false p = impossible p
 
 or-left : (a b c : Bool) → a ≡ true → (a || b || c) ≡ true
 or-left true b c p = refl
@@ -80,8 +71,10 @@ pub fresh-sound : (g : Config) → Sound g (freshOf g)
 fresh-sound g = bare-sound g g
 
 module _ (g : Config) (c : Connection) (s : Sound g c) where
-  pub open-keeps : openAllowed g c ≡ true → Sound g (openOf c)
-  open-keeps a =
+  -- other wishes, where their two rules allow them
+  wishes-keep : (o k : Bool) → (not o || (not (g .automatic) && isOffline (c .mode) && not k)) ≡ true → (not k || not (g .automatic) || (g .tcp && not (isOffline (c .mode)))) ≡ true
+      → Sound g (withMode (c .mode) o k c)
+  wishes-keep o k p q =
       record {
         fits = s .fits;
         shape = s .shape;
@@ -90,23 +83,15 @@ module _ (g : Config) (c : Connection) (s : Sound g c) where
         timing = s .timing;
         once = s .once;
         reached = s .reached;
-        opening = a;
-        closing = s .closing;
+        opening = p;
+        closing = q;
       }
 
+  pub open-keeps : openAllowed g c ≡ true → Sound g (openOf c)
+  open-keeps a = wishes-keep true (c .«close_wanted») a (s .closing)
+
   pub close-keeps : closeAllowed g c ≡ true → Sound g (closeOf c)
-  close-keeps a =
-      record {
-        fits = s .fits;
-        shape = s .shape;
-        receiving = s .receiving;
-        sending = s .sending;
-        timing = s .timing;
-        once = s .once;
-        reached = s .reached;
-        opening = refl;
-        closing = rw (and-left (not (g .automatic)) _ a);
-      }
+  close-keeps a = wishes-keep false true refl (rw (and-left (not (g .automatic)) _ a))
 
   -- a record that is not offline goes online: no open is wanted, and no close that was not
   up-keeps : (r : Remote) → isOffline (c .mode) ≡ false → not (c .«close_wanted») ≡ true → wildcard r ≡ false → Sound g (metOf r c)
@@ -125,7 +110,7 @@ module _ (g : Config) (c : Connection) (s : Sound g c) where
 
   pub connected-keeps : connectedAllowed g c ≡ true → Sound g (connectedOf c)
   connected-keeps a =
-      let t = three (g .tcp && isReconnect (c .mode)) (not (c .«close_wanted»)) (not (wildcard (c .remote))) a in
+      let t = and3 (g .tcp && isReconnect (c .mode)) (not (c .«close_wanted»)) (not (wildcard (c .remote))) a in
       let m : c .mode ≡ Reconnect = reconnect-is (c .mode) (and-right (g .tcp) _ (t .0)) in
       up-keeps (c .remote) (ap isOffline m) (t .1) (not-true _ (t .2))
 
@@ -217,14 +202,7 @@ module _ (g : Config) (c : Connection) (s : Sound g c) where
 
   -- every event, allowed or not
   pub step-keeps : (e : Event) → Sound g (stepOf e g c .connection)
-  unfolding stepOf
-  step-keeps e = go (known e) (allowed e g c) refl
-    where
-      go : (k a : Bool) → allowed e g c ≡ a
-          → Sound g (cond (not k) (refusedBy Missing c) (cond (not a) (refusedBy Denied c) (record { answer = Done; connection = after e g c })) .connection)
-      go false a q = s
-      go true false q = s
-      go true true q = after-keeps e q
+  step-keeps e = step-either e g c (Sound g) (λ _. s) (after-keeps e)
 
   -- the three steps of a tick that goes on
   pub start-keeps : Sound g (startOf g c)
@@ -255,7 +233,7 @@ module _ (g : Config) (c : Connection) (s : Sound g c) where
       go : (b : Bool) → (isReconnect (c .mode) && not (g .tcp) && not (wildcard (c .remote))) ≡ b → Sound g (cond b (become Online c) c)
       go false e = s
       go true e =
-          let t = three (isReconnect (c .mode)) (not (g .tcp)) (not (wildcard (c .remote))) e in
+          let t = and3 (isReconnect (c .mode)) (not (g .tcp)) (not (wildcard (c .remote))) e in
           let m : c .mode ≡ Reconnect = reconnect-is (c .mode) (t .0) in
           up-keeps (c .remote) (ap isOffline m) (ap not k) (not-true _ (t .2))
 
@@ -277,19 +255,10 @@ module _ (g : Config) (c : Connection) (s : Sound g c) where
           let quiet : c .due ≡ false = not-true _ (rw e at (s .once)) in
           send-keeps (c .used) (c .timer - 1) (eqb (c .timer) 1 || c .due) (s .fits) (s .sending) (rw waiting (or-true (eqb (c .timer - 1) 0 && not (eqb (c .timer) 1 || c .due)))) (last (eqb (c .timer) 1) (c .due) refl quiet)
 
--- starting leaves the wish to close
-start-wish : (g : Config) (c : Connection) → startOf g c .«close_wanted» ≡ c .«close_wanted»
-unfolding startOf
-start-wish g c = go (isOffline (c .mode) && (c .«open_wanted» || g .automatic))
-  where
-    go : (b : Bool) → cond b (withMode Reconnect false (c .«close_wanted») c) c .«close_wanted» ≡ c .«close_wanted»
-    go true = refl
-    go false = refl
-
 pub tick-keeps : (g : Config) (c : Connection) → Sound g c → Sound g (tickOf g c)
 unfolding tickOf
 tick-keeps g c s = go (c .«close_wanted») refl
   where
     go : (b : Bool) → c .«close_wanted» ≡ b → Sound g (cond b (closedOf g c) (runOf (reachOf g (startOf g c))))
     go true e = switches-keep g (freshOf g) (fresh-sound g) (c .switches)
-    go false e = run-keeps g (reachOf g (startOf g c)) (reach-keeps g (startOf g c) (start-keeps g c s) (start-wish g c ∙ e))
+    go false e = run-keeps g (reachOf g (startOf g c)) (reach-keeps g (startOf g c) (start-keeps g c s) (started g c .wish ∙ e))

@@ -1,25 +1,18 @@
 -- The rules of a sound record, from the test and back; the zero record. Assumes nothing.
-use Prim.Native.Nat.{ℕ}
 use lib.Dec.{eqb}
-use mathlib.Core.Path.{_≡_, refl, sym, ap, _∙_}
+use mathlib.Core.Path.{_≡_, refl}
 use mathlib.Core.Bool.{Bool, true, false, not, _&&_}
 use borrow.Author.Tests.{eqb-true, not-true}
-use native.Mathlib.Omega.{arith}
 use Rattle.part.specs.declared.Part.{Part}
 use Rattle.part.specs.declared.Part.the-variants.{Header, Payload, Skip}
 use Rattle.part.specs.Part.{emptyPart, ready}
-use Rattle.lists.proofs.Both.{and-left, and-right}
+use Rattle.lists.proofs.Both.{impossible, and-left, and-right}
 use Rattle.connection.specs.declared.Mode.{Mode}
 use Rattle.connection.specs.declared.Mode.the-variants.{Offline, Reconnect, Online}
-use Rattle.connection.specs.declared.Remote.{Remote}
 use Rattle.connection.specs.declared.Connection.{Connection}
 use Rattle.connection.specs.declared.Config.{Config}
 use Rattle.connection.specs.Connection.{isOffline, wildFields, zeroRecord}
 use Rattle.connection.specs.Sound.{usedFits, partShaped, receives, sends, timed, neverBoth, onlineRemote, openRule, closeRule, soundOf, Sound, zeroOf}
-
--- a test that is not true
-pub impossible : {P : Type 0} → false ≡ true → P
-impossible p = absurd (let z : _≡_ {A = ℕ} 0 1 = cc in omega arith)
 
 -- nine tests that hold together hold each
 nine : (a b c d e f g h i : Bool) → (a && b && c && d && e && f && g && h && i) ≡ true

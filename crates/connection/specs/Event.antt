@@ -45,6 +45,10 @@ lostAllowed g c = g .tcp && isOnline (c .mode)
 abbrev pub remoteAllowed : Connection → Bool
 remoteAllowed c = not (isOnline (c .mode))
 
+-- online without close wanted: 4 otherwise, where bytes come in
+abbrev pub receiving : Connection → Bool
+receiving c = isOnline (c .mode) && not (c .«close_wanted»)
+
 -- a switch number above 31 is not there: 2
 abbrev pub known : Event → Bool
 known Open = true

@@ -10,7 +10,7 @@ use Rattle.wire.specs.Be.{be}
 use Rattle.lengths.specs.Head.{Head, ended, whole, headOf}
 use Rattle.lengths.proofs.Heads.{head-end, head-whole}
 use Rattle.walk.specs.Walk.{wholeAt, stepOf, walkAt}
-use Rattle.walk.proofs.Steps.{rest-is}
+use Rattle.wire.proofs.Part.{rest-is}
 use Rattle.route.specs.Route.{lookupOf}
 use Rattle.datagram.specs.declared.Outcome.the-variants.{End}
 use Rattle.datagram.specs.declared.Walked.{Walked}

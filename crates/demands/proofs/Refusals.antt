@@ -6,7 +6,6 @@ use mathlib.Core.Bool.{Bool, true, false, cond, or-true}
 use mathlib.Core.List.{List}
 use lib.Dec.{eqb, leb, ltb}
 use lib.ListN.{length, replicate}
-use lib.Seq.{set-getD}
 use Rattle.layout.specs.Layout.{rowsOf}
 use Rattle.layout.specs.declared.Kind.the-variants.{Connection as Connections, Group}
 use Rattle.connection.specs.declared.Connection.{Connection}
@@ -15,10 +14,9 @@ use Rattle.connection.specs.declared.Refusal.the-variants.{Missing, Denied}
 use Rattle.connection.specs.declared.Answer.{Answer}
 use Rattle.connection.specs.declared.Answer.the-variants.{Done, Refused}
 use Rattle.connection.specs.declared.Event.{Event as Change}
-use Rattle.connection.specs.Connection.{zeroRecord}
 use Rattle.connection.specs.Event.{answerNumber, stepOf}
 use Rattle.state.specs.declared.State.{State}
-use Rattle.state.specs.State.{recordAt, withRecord}
+use Rattle.state.specs.State.{recordAt}
 use Rattle.state.specs.Fresh.{configOf}
 use Rattle.gate.specs.declared.Gate.{Gate}
 use Rattle.gate.specs.declared.Gate.the-variants as Gated
@@ -50,12 +48,9 @@ use Rattle.world.specs.Events.{change, segment, walk, take, datagram, accept, t
 use Rattle.tie.specs.Machine.{Machine, machine, taken, afterSegment}
 use Rattle.tie.specs.Run.{afterOwn, afterWhole, afterEvent}
 use Rattle.demands.specs.Numbers.{numberOf}
-use Rattle.tie.proofs.Good.{past-or}
+use Rattle.state.proofs.Records.{put-back}
+use Rattle.keeps.proofs.Past.{past-or}
 use Rattle.tie.proofs.Segments.{no-segment}
-
--- a record put back where it was
-put-back : (s : State) (k : ℕ) → withRecord k (recordAt s k) s ≡ s
-put-back s k = ap (λ (l : List Connection). record { connections = l; «udp_drops» = s .«udp_drops»; «tcp_drops» = s .«tcp_drops» }) (set-getD (s .connections) k zeroRecord)
 
 module _ (image : List ℕ) (m : Machine) where
   abbrev s : State
@@ -85,7 +80,7 @@ module _ (image : List ℕ) (m : Machine) where
   unfolding eventOf changeOf
   change-stays k e =
       past-or (Stays (λ (t : Told). answerNumber (t .answer)) (λ (t : Told). t .state)) (gateAt image s rx tx k) (refusedBy s) (changeOf image s k e) (λ r no-zero. refl)
-      (λ no-zero. told-stays k a c (λ z. no-zero (ap answerNumber (told-answer k a c) ∙ z)))
+      (λ _ no-zero. told-stays k a c (λ z. no-zero (ap answerNumber (told-answer k a c) ∙ z)))
     where
       a : Answer
       a = stepOf e (configOf image k) (recordAt s k) .answer
@@ -127,7 +122,7 @@ module _ (image : List ℕ) (m : Machine) where
   unfolding takenOf
   taken-stays k out =
       past-or (Stays (λ (t : Taken). takingNumber (t .answer)) (λ (t : Taken). t .state)) (gateAt image s rx tx k) (notTaken s) (takePast image s k (length out)) (λ r no-zero. refl)
-      (take-stays k (length out))
+      (λ _. take-stays k (length out))
 
   -- a datagram, an accept
   arrive-stays : (a : Bool) (group : ℕ) (source : Remote) → Stays (λ (t : Arrived). arrivalNumber (t .answer)) (λ (t : Arrived). t .state) (arriveOf image s a group source)
@@ -143,19 +138,19 @@ module _ (image : List ℕ) (m : Machine) where
   arrival-stays : (a : Bool) (group : ℕ) (source : Remote) → Stays (λ (t : Arrived). arrivalNumber (t .answer)) (λ (t : Arrived). t .state) (arrivalOf image s rx tx a group source)
   unfolding arrivalOf
   arrival-stays a group source =
-      past-or (Stays (λ (t : Arrived). arrivalNumber (t .answer)) (λ (t : Arrived). t .state)) (gateOf image s rx tx) (notMet s) (arriveOf image s a group source) (λ r no-zero. refl) (arrive-stays a group source)
+      past-or (Stays (λ (t : Arrived). arrivalNumber (t .answer)) (λ (t : Arrived). t .state)) (gateOf image s rx tx) (notMet s) (arriveOf image s a group source) (λ r no-zero. refl) (λ _. arrive-stays a group source)
 
   tick-stays : Stays (λ (t : Ticked). answerNumber (t .answer)) (λ (t : Ticked). t .state) (tickEvent image s rx tx)
   unfolding tickEvent
   tick-stays =
       past-or (Stays (λ (t : Ticked). answerNumber (t .answer)) (λ (t : Ticked). t .state)) (gateOf image s rx tx) (unticked s) (record { answer = Done; state = tickedTo image (rowsOf image Connections) s })
-      (λ r no-zero. refl) (λ no-zero. absurd (no-zero refl))
+      (λ r no-zero. refl) (λ _ no-zero. absurd (no-zero refl))
 
   switches-stay : (n : ℕ) (b : Bool) → Stays (λ (t : Told). answerNumber (t .answer)) (λ (t : Told). t .state) (switchAllOf image s rx tx n b)
   unfolding switchAllOf
   switches-stay n b =
       past-or (Stays (λ (t : Told). answerNumber (t .answer)) (λ (t : Told). t .state)) (gateOf image s rx tx) (refusedBy s)
-      (cond (ltb n 32) (record { answer = Done; state = switchedAll (rowsOf image Connections) n b s }) (refusedBy s Missing)) (λ r no-zero. refl) (go (ltb n 32))
+      (cond (ltb n 32) (record { answer = Done; state = switchedAll (rowsOf image Connections) n b s }) (refusedBy s Missing)) (λ r no-zero. refl) (λ _. go (ltb n 32))
     where
       go : (x : Bool) → Stays (λ (t : Told). answerNumber (t .answer)) (λ (t : Told). t .state) (cond x (record { answer = Done; state = switchedAll (rowsOf image Connections) n b s }) (refusedBy s Missing))
       go true no-zero = absurd (no-zero refl)
@@ -165,7 +160,7 @@ module _ (image : List ℕ) (m : Machine) where
   count-stays : (f : Bool → Counted) → ((b : Bool) → countNumber (f b .answer) ≡ 0) → (p : ℕ) → Stays (λ (t : Counted). countNumber (t .answer)) (λ (t : Counted). t .state) (through (gateOf image s rx tx) (uncounted s) (ofProtocol f (uncounted s Denied) p))
   unfolding ofProtocol
   count-stays f zero p =
-      past-or (Stays (λ (t : Counted). countNumber (t .answer)) (λ (t : Counted). t .state)) (gateOf image s rx tx) (uncounted s) (ofProtocol f (uncounted s Denied) p) (λ r no-zero. refl) (go (eqb p 1) (eqb p 2))
+      past-or (Stays (λ (t : Counted). countNumber (t .answer)) (λ (t : Counted). t .state)) (gateOf image s rx tx) (uncounted s) (ofProtocol f (uncounted s Denied) p) (λ r no-zero. refl) (λ _. go (eqb p 1) (eqb p 2))
     where
       go : (x y : Bool) → Stays (λ (t : Counted). countNumber (t .answer)) (λ (t : Counted). t .state) (cond x (f false) (cond y (f true) (uncounted s Denied)))
       go true y no-zero = absurd (no-zero (zero false))

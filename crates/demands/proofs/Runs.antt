@@ -31,7 +31,7 @@ use Rattle.tie.specs.Machine.{Machine, seen}
 use Rattle.tie.specs.Run.{afterEvent, afterRun, givenIn, Good}
 use Rattle.tie.proofs.Steps.{event-view, event-given}
 use Rattle.tie.proofs.Good.{event-good}
-use Rattle.tie.proofs.Wholes.{gentle}
+use Rattle.tie.proofs.Gentle.{gentle}
 use Rattle.tie.proofs.Rests.{sound-rests}
 
 module _ (image : List ℕ) where

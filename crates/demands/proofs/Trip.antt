@@ -2,17 +2,14 @@
 -- connection; if they are frames, then, cut into segments in any way, a TCP connection of another machine that is online, ready and at
 -- a header's first byte, with routes for those ids, switched on and allowing those lengths, hands out the same PDUs in the same order.
 -- Assumes nothing.
-use Prim.Native.Nat.{ℕ, _+_, _*_, _≤_, _<_}
+use Prim.Native.Nat.{ℕ, _*_, _≤_, _<_}
 use mathlib.Core.Path.{_≡_, sym, ap, _∙_, subst}
-use mathlib.Core.Bool.{Bool, true, cond}
+use mathlib.Core.Bool.{true}
 use mathlib.Core.List.{List, flatten}
 use native.Mathlib.Omega.{arith}
 use lib.Dec.{ltb}
-use lib.ListN.{length, take, drop, length-drop}
-use lib.Seq.{take-take, length-take-le}
-use borrow.Author.Tests.{le-ltb}
-use Rattle.wire.specs.Lay.{lay}
-use Rattle.wire.proofs.Lay.{lay-held}
+use lib.ListN.{length, take, drop}
+use lib.Seq.{take-take, take-at}
 use Rattle.layout.specs.Layout.{rowsOf, bodyOf}
 use Rattle.layout.specs.declared.Kind.the-variants.{Connection as Connections, Route as Routes}
 use Rattle.connection.specs.declared.Connection.{Connection}
@@ -22,15 +19,14 @@ use Rattle.feed.specs.Feed.{ready, Pdu}
 use Rattle.feed.specs.Frame.{Sent, frames, Routed}
 use Rattle.route.specs.Route.{lookupOf}
 use Rattle.table.proofs.Facts.{accepted-facts}
-use Rattle.gate.specs.declared.Gate.{Gate}
-use Rattle.gate.specs.Gate.{through}
 use Rattle.gate.proofs.Pass.{passed-gate-at}
-use Rattle.kept.proofs.Transmitted.{all-fit}
-use Rattle.waiting.specs.Waiting.{waitingOf, outOf}
+use Rattle.keeps.proofs.Transmitted.{all-fit}
+use Rattle.turns.proofs.Entries.{waits-length, taken-bytes}
+use Rattle.waiting.specs.Waiting.{waitingOf}
 use Rattle.sending.specs.Sending.{takenOut}
 use Rattle.world.specs.World.{Held, heldAt, cellAt}
-use Rattle.world.specs.Step.{receiving}
-use Rattle.world.proofs.View.{view-at}
+use Rattle.connection.specs.Event.{receiving}
+use Rattle.world.proofs.View.{view-at, view-record}
 use Rattle.runs.specs.Streams.{RunBytes}
 use Rattle.runs.proofs.Trip.{Reads, given, trip}
 use Rattle.tie.specs.Table.{tableOf}
@@ -45,29 +41,18 @@ module _ (image : List ℕ) (m : Machine) (good : Good image m) (j : ℕ) (there
   n = recordAt (m .state) j .used
 
   fits : n ≤ 1472
-  fits = all-fit image (accepted-facts image (good .passed .table)) (m .state) (good .sixteen) (good .passed .sound) j
+  fits = all-fit image (accepted-facts image (good .passed .table)) (m .state) (good .passed .sound) j
 
   waits-are : waitingOf (m .tx) j n ≡ heldAt (seen m) j .waiting
   unfolding waitingOf
   waits-are = sym (ap (λ (h : Held). h .waiting) (view-at (m .state) (m .rx) (m .tx) j) ∙ take-take n 1472 (drop (j * 1472) (m .tx)) fits)
 
-  long : length (waitingOf (m .tx) j n) ≡ n
-  unfolding waitingOf
-  long =
-      let small : j < 16 = omega (arith, accepted-facts image (good .passed .table) .most Connections) in
-      length-take-le n (drop (j * 1472) (m .tx)) (omega (arith, length-drop (j * 1472) (m .tx), good .passed .send, fits))
-
-  as-long : n ≡ 0 + length (waitingOf (m .tx) j n)
-  as-long = omega (arith, long)
-
   pub given-out : n ≤ length out → take n (takenOut image (m .state) (length (m .rx)) (m .tx) j out) ≡ heldAt (seen m) j .waiting
-  unfolding takenOut outOf
   given-out room =
-      ap (λ (g : Gate). take n (through g (λ r. out) (outOf (recordAt (m .state) j) (waitingOf (m .tx) j n) out)))
-      (passed-gate-at image (m .state) (length (m .rx)) (length (m .tx)) j (good .passed) there)
-      ∙ ap (λ (b : Bool). take n (cond b out (lay out 0 (waitingOf (m .tx) j n)))) (le-ltb (length out) n room)
-      ∙ ap (λ (l : ℕ). take l (lay out 0 (waitingOf (m .tx) j n))) as-long
-      ∙ lay-held out 0 0 (waitingOf (m .tx) j n) (omega (arith, long))
+      let small : j < 16 = omega (arith, accepted-facts image (good .passed .table) .most Connections) in
+      ap (take n)
+      (taken-bytes image (m .state) (length (m .rx)) (m .tx) j out (good .passed .sound) (passed-gate-at image (m .state) (length (m .rx)) (length (m .tx)) j (good .passed) there) room)
+      ∙ take-at (waitingOf (m .tx) j n) (drop n out) n (waits-length (m .tx) j n small (good .passed .send) fits)
       ∙ waits-are
 
 -- WHAT THE READER HANDS OUT
@@ -77,7 +62,7 @@ module _ (image : List ℕ) (m : Machine) (good : Good image m) (k : ℕ) (there
   c = recordAt (m .state) k
 
   seen-c : heldAt (seen m) k .connection ≡ c
-  seen-c = ap (λ (h : Held). h .connection) (view-at (m .state) (m .rx) (m .tx) k)
+  seen-c = view-record (m .state) (m .rx) (m .tx) k
 
   reads : Reads (tableOf image) (seen m) k
   reads = record { there = there; tcp = tcp; receives = ap receiving seen-c ∙ receives; at-header = at-header }

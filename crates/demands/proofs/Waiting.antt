@@ -7,28 +7,25 @@ use mathlib.Core.List.{List, [], _∷_, _++_, append-nil, append-assoc}
 use lib.Dec.{eqb}
 use lib.ListN.{length, take as front, drop}
 use borrow.Author.Tests.{eqb-true, eqb-false}
+use Rattle.lists.proofs.Both.{impossible}
 use Rattle.connection.specs.declared.Connection.{Connection}
 use Rattle.state.specs.declared.State.{State}
 use Rattle.state.specs.State.{recordAt}
-use Rattle.table.proofs.Facts.{accepted-facts}
 use Rattle.gate.specs.declared.Gate.{Gate}
 use Rattle.gate.specs.Gate.{through}
 use Rattle.gate.proofs.Pass.{passed-gate}
 use Rattle.send.specs.Verdict.{isStored}
 use Rattle.feed.specs.Frame.{frame, Sent, frames}
 use Rattle.rows.specs.Rows.{destinationOf}
-use Rattle.send.specs.Send.{destinations, checkOf, transmitOf, transmittedOf}
-use Rattle.sending.specs.Sending.{notSent, sendOf, sentMemory}
-use Rattle.sending.proofs.Past.{ready-from}
+use Rattle.send.specs.Send.{destinations, checkOf}
 use Rattle.waiting.specs.Waiting.{waitingOf}
 use Rattle.waits.specs.Waits.{waits, goesTo, framesFrom, addedTo, Turn, empties, stays, turned, afterAll, emptied as emptiedIn, since}
-use Rattle.waits.proofs.Held.{waits-after}
 use Rattle.waits.proofs.Since.{waits-since}
-use Rattle.kept.proofs.Transmitted.{all-fit}
-use Rattle.world.specs.World.{Held, World, heldAt}
+use Rattle.turns.proofs.Entries.{transmit-turn}
+use Rattle.world.specs.World.{World, heldAt}
 use Rattle.world.specs.Events.{Own, change, segment, walk, take, datagram, accept, tick, transmit, switchAll, readCount, clearCount, Event, on, all}
 use Rattle.world.specs.Step.{step}
-use Rattle.world.proofs.View.{view-at}
+use Rattle.world.proofs.View.{view-record}
 use Rattle.runs.specs.Streams.{EventBytes, RunBytes}
 use Rattle.tie.specs.Table.{tableOf}
 use Rattle.tie.specs.Whole.{wholeOf}
@@ -38,11 +35,7 @@ use Rattle.tie.specs.Run.{afterOwn, afterWhole, afterEvent, afterRun, Good}
 use Rattle.demands.specs.Waits.{emptied, turnOf, turnsOf}
 use Rattle.tie.proofs.Steps.{event-view}
 use Rattle.tie.proofs.Good.{event-good}
-use Rattle.demands.proofs.Lasting.{Lasting, NoTransmit, own, met, accepted, ticked, switched, counted, cleared, lasting}
-
--- the record of a machine is its view's
-record-seen : (m : Machine) (j : ℕ) → heldAt (seen m) j .connection ≡ recordAt (m .state) j
-record-seen m j = ap (λ (h : Held). h .connection) (view-at (m .state) (m .rx) (m .tx) j)
+use Rattle.demands.proofs.Lasting.{Lasting, isTransmit, lasting}
 
 -- takes leave send memory
 takes-tx : (image : List ℕ) (k f : ℕ) (m : Machine) (bs : List ℕ) → afterTakes image k f m bs .tx ≡ m .tx
@@ -64,22 +57,23 @@ own-tx image k (take room) m = refl
 
 module _ (image : List ℕ) (j : ℕ) (m : Machine) (good : Good image m) where
   -- AN EVENT THAT IS NO TRANSMIT: the same send memory, and as many bytes as before or none
-  same-tx : (e : Event) → NoTransmit e → afterEvent image e m .tx ≡ m .tx
+  same-tx : (e : Event) → isTransmit e ≡ false → afterEvent image e m .tx ≡ m .tx
   unfolding afterEvent afterWhole
-  same-tx _ (own k e) = own-tx image k e m
-  same-tx _ (met group source) = refl
-  same-tx _ (accepted group source) = refl
-  same-tx _ ticked = refl
-  same-tx _ (switched n b) = refl
-  same-tx _ (counted p) = refl
-  same-tx _ (cleared p) = refl
+  same-tx (on k e) n = own-tx image k e m
+  same-tx (all (datagram group source)) n = refl
+  same-tx (all (accept group source)) n = refl
+  same-tx (all tick) n = refl
+  same-tx (all (transmit pdu payload)) n = impossible (sym n)
+  same-tx (all (switchAll k b)) n = refl
+  same-tx (all (readCount p)) n = refl
+  same-tx (all (clearCount p)) n = refl
 
-  last : (e : Event) → NoTransmit e → EventBytes e → Lasting (recordAt (afterEvent image e m .state) j) (recordAt (m .state) j)
+  last : (e : Event) → isTransmit e ≡ false → EventBytes e → Lasting (recordAt (afterEvent image e m .state) j) (recordAt (m .state) j)
   last e n b =
-      subst (λ (d : Connection). Lasting d (recordAt (m .state) j)) (ap (λ (w : World). heldAt w j .connection) (sym (event-view image m good e b)) ∙ record-seen (afterEvent image e m) j)
-      (subst (λ (d : Connection). Lasting (heldAt (step (tableOf image) (wholeOf image) (seen m) e) j .connection) d) (record-seen m j) (lasting image (seen m) j e n))
+      subst (λ (d : Connection). Lasting d (recordAt (m .state) j)) (ap (λ (w : World). heldAt w j .connection) (sym (event-view image m good e b)) ∙ view-record (afterEvent image e m .state) (afterEvent image e m .rx) (afterEvent image e m .tx) j)
+      (subst (λ (d : Connection). Lasting (heldAt (step (tableOf image) (wholeOf image) (seen m) e) j .connection) d) (view-record (m .state) (m .rx) (m .tx) j) (lasting image (seen m) j e n))
 
-  emptied-waits : (e : Event) → NoTransmit e → EventBytes e → waits (afterEvent image e m .state) (afterEvent image e m .tx) j ≡ turned (emptied image j m e) (waits (m .state) (m .tx) j)
+  emptied-waits : (e : Event) → isTransmit e ≡ false → EventBytes e → waits (afterEvent image e m .state) (afterEvent image e m .tx) j ≡ turned (emptied image j m e) (waits (m .state) (m .tx) j)
   unfolding waitingOf
   emptied-waits e n b = go (eqb u 0) refl
     where
@@ -91,36 +85,23 @@ module _ (image : List ℕ) (j : ℕ) (m : Machine) (good : Good image m) where
       go false p = ap₂ (λ (i : ℕ) (l : List ℕ). front i (drop (j * 1472) l)) (last e n b (eqb-false u 0 p)) (same-tx e n)
 
   -- A TRANSMIT
-  abbrev stored : ℕ → List ℕ → Bool
-  stored pdu payload = isStored (checkOf image (m .state) pdu (length payload))
-
-  sent-waits : (pdu : ℕ) (payload : List ℕ) (b : Bool) → stored pdu payload ≡ b
-      → waits (transmitOf image (m .state) pdu payload (m .tx) .state) (transmitOf image (m .state) pdu payload (m .tx) .memory) j ≡ waits (m .state) (m .tx) j ++ addedTo image (m .state) pdu payload j
-  unfolding transmitOf addedTo
-  sent-waits pdu payload true e =
-      rw e
-      (waits-after image (ready-from image (accepted-facts image (good .passed .table))) (m .state) pdu payload (m .tx) (good .sixteen) (good .passed .send)
-      (all-fit image (accepted-facts image (good .passed .table)) (m .state) (good .sixteen) (good .passed .sound)) e j)
-  sent-waits pdu payload false e = rw e (sym (append-nil (waits (m .state) (m .tx) j)))
-
   transmit-waits : (pdu : ℕ) (payload : List ℕ) → waits (afterEvent image (all (transmit pdu payload)) m .state) (afterEvent image (all (transmit pdu payload)) m .tx) j
       ≡ turned (turnOf image j m (all (transmit pdu payload))) (waits (m .state) (m .tx) j)
-  unfolding afterEvent afterWhole sendOf sentMemory
+  unfolding afterEvent afterWhole
   transmit-waits pdu payload =
-      ap (λ (g : Gate). waits (through g (notSent (m .state)) (transmittedOf image (m .state) pdu payload (m .tx)) .state) (through g (λ r. m .tx) (transmitOf image (m .state) pdu payload (m .tx) .memory)) j)
-      (passed-gate image (m .state) (length (m .rx)) (length (m .tx)) (good .passed))
-      ∙ sent-waits pdu payload (stored pdu payload) refl
+      transmit-turn image (m .state) (length (m .rx)) (m .tx) pdu payload (good .sixteen) (good .passed .sound) j
+      ∙ ap (λ (g : Gate). waits (m .state) (m .tx) j ++ through g (λ r. []) (addedTo image (m .state) pdu payload j)) (passed-gate image (m .state) (length (m .rx)) (length (m .tx)) (good .passed))
 
   -- ANY EVENT
   pub event-waits : (e : Event) → EventBytes e → waits (afterEvent image e m .state) (afterEvent image e m .tx) j ≡ turned (turnOf image j m e) (waits (m .state) (m .tx) j)
-  event-waits (on k e) b = emptied-waits (on k e) (own k e) b
-  event-waits (all (datagram group source)) b = emptied-waits (all (datagram group source)) (met group source) b
-  event-waits (all (accept group source)) b = emptied-waits (all (accept group source)) (accepted group source) b
-  event-waits (all tick) b = emptied-waits (all tick) ticked b
+  event-waits (on k e) b = emptied-waits (on k e) refl b
+  event-waits (all (datagram group source)) b = emptied-waits (all (datagram group source)) refl b
+  event-waits (all (accept group source)) b = emptied-waits (all (accept group source)) refl b
+  event-waits (all tick) b = emptied-waits (all tick) refl b
   event-waits (all (transmit pdu payload)) b = transmit-waits pdu payload
-  event-waits (all (switchAll n x)) b = emptied-waits (all (switchAll n x)) (switched n x) b
-  event-waits (all (readCount p)) b = emptied-waits (all (readCount p)) (counted p) b
-  event-waits (all (clearCount p)) b = emptied-waits (all (clearCount p)) (cleared p) b
+  event-waits (all (switchAll n x)) b = emptied-waits (all (switchAll n x)) refl b
+  event-waits (all (readCount p)) b = emptied-waits (all (readCount p)) refl b
+  event-waits (all (clearCount p)) b = emptied-waits (all (clearCount p)) refl b
 
 -- ANY RUN
 turns-waits : (image : List ℕ) (j : ℕ) (m : Machine) (es : List Event) → RunBytes es → Good image m

@@ -65,7 +65,8 @@ take-reads R c b (x ∷ bs) = go (stops (feed R c b .out)) (take-reads R (feed R
     go true h = omega arith
     go false h = omega arith
 
-take-less : (R : Routes) (c : Cell) (bs : List ℕ) → length (takeB R c bs .rest) ≤ length bs - 1
+-- a take leaves fewer bytes than it was given, if any
+pub take-less : (R : Routes) (c : Cell) (bs : List ℕ) → length (takeB R c bs .rest) ≤ length bs - 1
 unfolding takeB
 take-less R c [] = omega arith
 take-less R c (b ∷ bs) = omega (arith, take-reads R c b bs)

@@ -1,34 +1,27 @@
 -- The fresh state of an accepted table passes the gate. Assumes nothing.
-use Prim.Native.Nat.{ℕ, suc, _≤_}
-use mathlib.Core.Path.{_≡_, refl, sym, ap, _∙_}
+use Prim.Native.Nat.{ℕ, _≤_}
+use mathlib.Core.Path.{_≡_, refl, sym}
 use mathlib.Core.Bool.{Bool, true, false}
-use mathlib.Core.List.{List, [], _∷_}
+use mathlib.Core.List.{List, []}
 use lib.Dec.{ltb}
-use lib.ListN.{length, replicate}
+use lib.ListN.{replicate}
 use borrow.Author.Tests.{ltb-true, ltb-false}
 use Rattle.wire.specs.Be.{be}
-use Rattle.layout.specs.Layout.{rowsOf, bodyOf, rowOf, rowIn}
+use Rattle.layout.specs.Layout.{rowsOf, bodyOf, rowOf}
 use Rattle.layout.specs.declared.Kind.the-variants.{Connection as Connections}
 use Rattle.layout.proofs.Parts.{row-none, body-rows}
 use Rattle.rows.specs.Rows.{connectionRow}
 use Rattle.table.specs.declared.TableAnswer.the-variants.{Accepted}
 use Rattle.table.specs.Table.{checkTable}
-use Rattle.table.specs.Accepts.{Accepts}
 use Rattle.table.proofs.Facts.{accepted-facts}
 use Rattle.connection.specs.declared.Connection.{Connection}
 use Rattle.connection.specs.Connection.{freshOf, zeroRecord}
 use Rattle.connection.proofs.Keeps.{fresh-sound}
-use Rattle.lists.specs.Each.{all, each}
-use Rattle.lists.proofs.Both.{and-both}
+use Rattle.lists.proofs.Each.{all-changed}
 use Rattle.state.specs.Fresh.{configOf, freshAt, freshState}
 use Rattle.gate.specs.Sound.{soundAt, recordsSound}
 use Rattle.gate.specs.Gate.{Passed}
 use Rattle.gate.proofs.Records.{sound-row, zero-past}
-
--- every element changed into one that meets its test: for any element
-all-changed : {A : Type 0} (test : ℕ → A → Bool) (f : ℕ → A → A) → ((j : ℕ) (x : A) → test j (f j x) ≡ true) → (k : ℕ) (xs : List A) → all test k (each f k xs) ≡ true
-all-changed test f q k [] = refl
-all-changed test f q k (x ∷ xs) = and-both (q k x) (all-changed test f q (suc k) xs)
 
 module _ (image : List ℕ) (accepted : checkTable image ≡ Accepted) where
   -- past the rows the fresh record is the zero record

@@ -1,24 +1,23 @@
--- "Every event leaves a sound state sound": what passes the gate passes it again after an event. Assumes nothing.
-use Prim.Native.Nat.{ℕ, _+_, _<_, _≤_}
-use mathlib.Core.Path.{_≡_, refl, sym, ap, _∙_}
+-- "Every event leaves a sound state sound": what passes the gate passes it again after a connection event, a switch on all connections, a
+-- count read or cleared, and a tick. Assumes nothing.
+use Prim.Native.Nat.{ℕ, _<_}
+use mathlib.Core.Path.{_≡_, ap, _∙_}
 use mathlib.Core.Bool.{Bool, true, false, cond}
 use mathlib.Core.List.{List}
 use native.Mathlib.Omega.{arith}
-use lib.Dec.{eqb, ltb}
+use lib.Dec.{ltb}
 use Rattle.layout.specs.Layout.{rowsOf}
 use Rattle.layout.specs.declared.Kind.the-variants.{Connection as Connections}
 use Rattle.connection.specs.declared.Connection.{Connection}
 use Rattle.connection.specs.declared.Answer.{Answer}
 use Rattle.connection.specs.declared.Answer.the-variants as Answers
-use Rattle.connection.specs.declared.Refusal.the-variants.{Missing, Denied}
+use Rattle.connection.specs.declared.Refusal.the-variants.{Missing}
 use Rattle.connection.specs.declared.Event.{Event}
 use Rattle.connection.specs.declared.Event.the-variants.{Lost}
-use Rattle.connection.specs.Event.{stepOf}
-use Rattle.lists.specs.Fold.{foldFrom}
+use Rattle.lists.proofs.Each.{all-each}
 use Rattle.lists.proofs.Fold.{fold-keeps}
 use Rattle.state.specs.declared.State.{State}
-use Rattle.state.specs.State.{recordAt, withRecord}
-use Rattle.state.specs.Fresh.{configOf}
+use Rattle.state.specs.State.{recordAt}
 use Rattle.gate.specs.declared.Gate.{Gate}
 use Rattle.gate.specs.declared.Gate.the-variants.{Pass, Refused}
 use Rattle.gate.specs.Sound.{soundAt, recordsSound}
@@ -28,17 +27,15 @@ use Rattle.gate.proofs.Records.{record-set}
 use Rattle.events.specs.Change.{refusedBy, toldOf, changeOf, eventOf, lossOf}
 use Rattle.events.specs.Module.{switchAt, switchedAll, switchAllOf}
 use Rattle.events.specs.declared.Told.{Told}
-use Rattle.events.specs.Count.{uncounted, ofProtocol, readFrom, readPast, clearFrom, clearPast, readOf, clearOf}
+use Rattle.events.specs.Count.{uncounted, readPast, clearPast, readOf, clearOf}
 use Rattle.events.specs.declared.Counted.{Counted}
+use Rattle.events.proofs.Counts.{read-state, clear-records}
 use Rattle.ticks.specs.declared.Ticked.{Ticked}
 use Rattle.ticks.specs.Tick.{tickAt, tickedTo, tickOnce, ticksTo, unticked, tickEvent, ticksEvent}
-use Rattle.keeps.proofs.Rows.{row-at, step-sound, switch-sound, tick-sound, all-each}
+use Rattle.keeps.proofs.Past.{past-or, from-sound}
+use Rattle.keeps.proofs.Rows.{row-at, step-sound, switch-sound, tick-sound}
 
 module _ (image : List ℕ) (s : State) (rx tx : ℕ) (passed : Passed image s rx tx) where
-  -- another state whose records are sound
-  sounder : (t : State) → recordsSound image (t .connections) ≡ true → Passed image t rx tx
-  sounder t p = record { receive = passed .receive; send = passed .send; table = passed .table; sound = p }
-
   -- a connection event: past the gate its own record is replaced by a sound one
   told-sound : (n : ℕ) (a : Answer) (c : Connection) → soundAt image n c ≡ true → recordsSound image (toldOf s n a c .state .connections) ≡ true
   unfolding toldOf
@@ -47,13 +44,11 @@ module _ (image : List ℕ) (s : State) (rx tx : ℕ) (passed : Passed image s r
 
   pub event-passed : (n : ℕ) (e : Event) → Passed image (eventOf image s rx tx n e .state) rx tx
   unfolding eventOf changeOf
-  event-passed n e = go (gateAt image s rx tx n) refl
-    where
-      go : (g : Gate) → gateAt image s rx tx n ≡ g → Passed image (through g (refusedBy s) (changeOf image s n e) .state) rx tx
-      go (Refused r) q = passed
-      go Pass q =
-          let h : n < rowsOf image Connections = gate-at-passed image s rx tx n q .1 in
-          sounder _ (told-sound n _ _ (step-sound image n (recordAt s n) (row-at image (s .connections) n (passed .sound) h) h e))
+  event-passed n e =
+      past-or (λ (t : Told). Passed image (t .state) rx tx) (gateAt image s rx tx n) (refusedBy s) (changeOf image s n e) (λ r. passed)
+      (λ q.
+      let h : n < rowsOf image Connections = gate-at-passed image s rx tx n q .1 in
+      from-sound image s _ rx tx passed (told-sound n _ _ (step-sound image n (recordAt s n) (row-at image (s .connections) n (passed .sound) h) h e)))
 
   pub loss-passed : (n : ℕ) → Passed image (lossOf image s rx tx n .state) rx tx
   unfolding lossOf
@@ -74,28 +69,20 @@ module _ (image : List ℕ) (s : State) (rx tx : ℕ) (passed : Passed image s r
           → Passed image (through g (refusedBy s) (cond b (record { answer = Answers.Done; state = switchedAll (rowsOf image Connections) number on s }) (refusedBy s Missing)) .state) rx tx
       go (Refused r) b = passed
       go Pass false = passed
-      go Pass true = sounder _ (switched-sound number on)
+      go Pass true = from-sound image s _ rx tx passed (switched-sound number on)
 
   -- the counts: the records stay
   pub read-passed : (p : ℕ) → Passed image (readOf image s rx tx p .state) rx tx
-  unfolding readOf readPast ofProtocol
-  read-passed p = go (gateOf image s rx tx) (eqb p 1) (eqb p 2)
-    where
-      go : (g : Gate) (a b : Bool) → Passed image (through g (uncounted s) (cond a (readFrom s false) (cond b (readFrom s true) (uncounted s Denied))) .state) rx tx
-      go (Refused r) a b = passed
-      go Pass true b = passed
-      go Pass false true = passed
-      go Pass false false = passed
+  unfolding readOf
+  read-passed p =
+      past-or (λ (t : Counted). Passed image (t .state) rx tx) (gateOf image s rx tx) (uncounted s) (readPast s p) (λ r. passed)
+      (λ _. from-sound image s _ rx tx passed (ap (λ (t : State). recordsSound image (t .connections)) (read-state s p) ∙ passed .sound))
 
   pub clear-passed : (p : ℕ) → Passed image (clearOf image s rx tx p .state) rx tx
-  unfolding clearOf clearPast ofProtocol
-  clear-passed p = go (gateOf image s rx tx) (eqb p 1) (eqb p 2)
-    where
-      go : (g : Gate) (a b : Bool) → Passed image (through g (uncounted s) (cond a (clearFrom s false) (cond b (clearFrom s true) (uncounted s Denied))) .state) rx tx
-      go (Refused r) a b = passed
-      go Pass true b = sounder _ (passed .sound)
-      go Pass false true = sounder _ (passed .sound)
-      go Pass false false = passed
+  unfolding clearOf
+  clear-passed p =
+      past-or (λ (t : Counted). Passed image (t .state) rx tx) (gateOf image s rx tx) (uncounted s) (clearPast s p) (λ r. passed)
+      (λ _. from-sound image s _ rx tx passed (ap (recordsSound image) (clear-records s p) ∙ passed .sound))
 
 -- a tick of every row
 pub ticked-sound : (image : List ℕ) (s : State) → recordsSound image (s .connections) ≡ true → recordsSound image (tickedTo image (rowsOf image Connections) s .connections) ≡ true
@@ -111,16 +98,12 @@ ticks-sound image s count p =
 module _ (image : List ℕ) (s : State) (rx tx : ℕ) (passed : Passed image s rx tx) where
   pub tick-passed : Passed image (tickEvent image s rx tx .state) rx tx
   unfolding tickEvent
-  tick-passed = go (gateOf image s rx tx)
-    where
-      go : (g : Gate) → Passed image (through g (unticked s) (record { answer = Answers.Done; state = tickedTo image (rowsOf image Connections) s }) .state) rx tx
-      go (Refused r) = passed
-      go Pass = sounder image s rx tx passed _ (ticked-sound image s (passed .sound))
+  tick-passed =
+      past-or (λ (t : Ticked). Passed image (t .state) rx tx) (gateOf image s rx tx) (unticked s) (record { answer = Answers.Done; state = tickedTo image (rowsOf image Connections) s }) (λ r. passed)
+      (λ _. from-sound image s _ rx tx passed (ticked-sound image s (passed .sound)))
 
   pub ticks-passed : (count : ℕ) → Passed image (ticksEvent image s rx tx count .state) rx tx
   unfolding ticksEvent
-  ticks-passed count = go (gateOf image s rx tx)
-    where
-      go : (g : Gate) → Passed image (through g (unticked s) (record { answer = Answers.Done; state = ticksTo image (rowsOf image Connections) count s }) .state) rx tx
-      go (Refused r) = passed
-      go Pass = sounder image s rx tx passed _ (ticks-sound image s count (passed .sound))
+  ticks-passed count =
+      past-or (λ (t : Ticked). Passed image (t .state) rx tx) (gateOf image s rx tx) (unticked s) (record { answer = Answers.Done; state = ticksTo image (rowsOf image Connections) count s }) (λ r. passed)
+      (λ _. from-sound image s _ rx tx passed (ticks-sound image s count (passed .sound)))

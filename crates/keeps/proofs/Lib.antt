@@ -1,5 +1,12 @@
--- The laws of the crate. Assumes nothing.
+-- Laws of the crate: what passes the gate passes it after a connection event, a switch on all, a count, a tick (Keeps), a datagram or an
+-- accept (Arrived), a transmit (Transmitted), a take of waiting bytes (Taken); so does the fresh state (Fresh). A take or walk of received
+-- bytes: crate receive, proofs/Keeps. Assumes nothing.
+pub mod Past
 pub mod Rows
-pub mod Keeps
+pub mod Records
 pub mod Fresh
+pub mod Keeps
 pub mod Single
+pub mod Arrived
+pub mod Transmitted
+pub mod Taken

@@ -8,10 +8,8 @@ use Rattle.connection.specs.declared.Answer.the-variants.{Done}
 use Rattle.lists.specs.Fold.{foldFrom}
 use Rattle.state.specs.declared.State.{State}
 use Rattle.gate.specs.declared.Gate.{Gate}
-use Rattle.gate.specs.declared.Gate.the-variants.{Pass}
-use Rattle.gate.specs.Gate.{gateOf, through, Passed}
+use Rattle.gate.specs.Gate.{through, Passed}
 use Rattle.gate.proofs.Pass.{passed-gate}
-use Rattle.ticks.specs.declared.Ticked.{Ticked}
 use Rattle.ticks.specs.Tick.{tickedTo, tickOnce, ticksTo, unticked, tickEvent, ticksEvent}
 use Rattle.keeps.specs.Calls.{calls}
 use Rattle.keeps.proofs.Keeps.{tick-passed}

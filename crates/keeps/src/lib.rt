@@ -1,1 +1,2 @@
-// Laws of the events alone: a state that passes the gate passes it after every event. No code. Assumes nothing.
+// Every entry leaves a sound state sound: what passes the gate passes it again after each event, one file for each kind of event. No code.
+// Assumes nothing.

@@ -31,7 +31,7 @@ module _ (s : List ℕ) (at n : ℕ) where
   part-length h = ap length (part-fits h) ∙ length-take-le n (drop at s) (omega (arith, length-drop at s))
 
 -- row i of n ends within its body
-row-below : (i rows n : ℕ) → i < rows → i * n + n ≤ rows * n
+pub row-below : (i rows n : ℕ) → i < rows → i * n + n ≤ rows * n
 row-below i rows n h = rw (← suc-mul i n) (mul-le-mul-right n h)
 
 module _ (n : ℕ) (body : List ℕ) (i : ℕ) where
@@ -61,10 +61,6 @@ module _ (s : List ℕ) (l : Laid s) where
   body-within Connection = omega (arith, l .whole)
   body-within Route = omega (arith, l .whole)
   body-within Destination = omega (arith, l .whole)
-
-  pub body-is : (k : Kind) → bodyOf s k ≡ take (bodyBytes s k) (drop (startOf s k) s)
-  unfolding bodyOf
-  body-is k = part-fits s (startOf s k) (bodyBytes s k) (body-within k)
 
   pub body-length : (k : Kind) → length (bodyOf s k) ≡ bodyBytes s k
   unfolding bodyOf

@@ -1,14 +1,15 @@
 -- Laws of lists whose elements are changed or tested one after the other. Assumes nothing.
 use Prim.Native.Nat.{ℕ, zero, suc, _+_, _<_}
-use mathlib.Core.Path.{_≡_, refl, ap, sym, _∙_}
+use mathlib.Core.Path.{_≡_, refl, ap, sym, subst, _∙_}
 use mathlib.Core.List.{List, [], _∷_, map}
 use mathlib.Core.Bool.{Bool, true, _&&_, and-true, and-assoc}
+use native.Mathlib.Decide.{decLt, ℕ-discrete}
 use native.Mathlib.Omega.{arith}
 use native.Mathlib.Numerals.{add-one}
-use lib.Seq.{getD-set-other, set-comm}
+use lib.Seq.{getD-set-same, getD-set-other, set-out}
 use lib.ListN.{length, getD, set, length-map}
-use Rattle.lists.specs.Each.{each, eachTo, all, allTo, upd}
-use Rattle.lists.proofs.Both.{and-left, and-right}
+use Rattle.lists.specs.Each.{each, eachTo, all, allTo}
+use Rattle.lists.proofs.Both.{and-left, and-right, and-both}
 
 module _ {A : Type 0} (f : ℕ → A → A) where
   pub each-get : (k i : ℕ) (xs : List A) (d : A) → getD (eachTo f k i xs) i d ≡ getD xs i d
@@ -74,6 +75,18 @@ module _ {A : Type 0} (f : ℕ → A → Bool) where
       let e : k + suc i ≡ suc k + i = omega arith in
       rw (and-left (f k x) _ p) (all-set (suc k) i xs y (and-right (f k x) _ p) (rw e at q))
 
+-- the first i elements changed, or every one, each into one that meets its test
+module _ {A : Type 0} (test : ℕ → A → Bool) (f : ℕ → A → A) where
+  pub all-each : (k i : ℕ) (xs : List A) → all test k xs ≡ true → ((j : ℕ) (x : A) → j < k + i → test j x ≡ true → test j (f j x) ≡ true) → all test k (eachTo f k i xs) ≡ true
+  all-each k zero xs p q = p
+  all-each k (suc i) [] p q = refl
+  all-each k (suc i) (x ∷ xs) p q =
+      and-both (q k x (omega arith) (and-left (test k x) _ p)) (all-each (suc k) i xs (and-right (test k x) _ p) (λ j y l t. q j y (omega arith) t))
+
+  pub all-changed : ((j : ℕ) (x : A) → test j (f j x) ≡ true) → (k : ℕ) (xs : List A) → all test k (each f k xs) ≡ true
+  all-changed q k [] = refl
+  all-changed q k (x ∷ xs) = and-both (q k x) (all-changed q (suc k) xs)
+
 -- one turn of a loop that joins the tests
 pub all-turn : {A : Type 0} (f : ℕ → A → Bool) (xs : List A) (d : A) (i : ℕ) (b ok one : Bool) → i < length xs
     → ok ≡ (b && allTo f 0 i xs) → one ≡ f i (getD xs i d) → (ok && one) ≡ (b && allTo f 0 (i + 1) xs)
@@ -83,14 +96,26 @@ all-turn f xs d i b ok one h p q =
     ∙ and-assoc b (allTo f 0 i xs) one
     ∙ ap (λ (o : Bool). b && o) (ap (λ (o : Bool). allTo f 0 i xs && o) (q ∙ ap (λ (k : ℕ). f k (getD xs i d)) z) ∙ all-more f 0 i xs d h ∙ ap (λ (k : ℕ). allTo f 0 k xs) (sym (add-one i)))
 
--- two changes at different places of a list
+-- what stands at a place of a list after a change
 module _ {A : Type 0} (d : A) where
-  -- what stands elsewhere is not changed
-  pub upd-other : (f : A → A) (i j : ℕ) (xs : List A) → (j ≡ i → ⊥) → getD (upd d f i xs) j d ≡ getD xs j d
-  upd-other f i j xs ne = getD-set-other xs i j (f (getD xs i d)) d ne
+  -- one replaced: there it is the new one, elsewhere as it was
+  pub one-at : (xs : List A) (j k : ℕ) (x : A) (P : A → Type 0) → (j ≡ k → P x) → P (getD xs k d) → P (getD (set xs j x) k d)
+  one-at xs j k x P p q = go (ℕ-discrete j k) (decLt k (length xs))
+    where
+      go : Dec (j ≡ k) → Dec (k < length xs) → P (getD (set xs j x) k d)
+      go (no ne) r = subst P (sym (getD-set-other xs j k x d (λ e. ne (sym e)))) q
+      go (yes e) (yes lt) = subst P (sym (ap (λ (i : ℕ). getD (set xs i x) k d) e ∙ getD-set-same xs k x d lt)) (p e)
+      go (yes e) (no ge) = subst P (sym (ap (λ (i : ℕ). getD (set xs i x) k d) e ∙ ap (λ (l : List A). getD l k d) (set-out xs k x (omega arith)))) q
 
-  pub upd-comm : (f g : A → A) (i j : ℕ) (xs : List A) → (i ≡ j → ⊥) → upd d g j (upd d f i xs) ≡ upd d f i (upd d g j xs)
-  upd-comm f g i j xs ne =
-      ap (λ (x : A). set (upd d f i xs) j (g x)) (upd-other f i j xs (λ e. ne (sym e)))
-      ∙ set-comm xs i j (f (getD xs i d)) (g (getD xs j d)) ne
-      ∙ ap (λ (x : A). set (upd d g j xs) i (f x)) (sym (upd-other g j i xs ne))
+  -- so what the new one has of the old one's, each has
+  pub part-kept : {B : Type 0} (f : A → B) (xs : List A) (i j : ℕ) (y : A) → f y ≡ f (getD xs i d) → f (getD (set xs i y) j d) ≡ f (getD xs j d)
+  part-kept f xs i j y e = one-at xs i j y (λ (x : A). f x ≡ f (getD xs j d)) (λ q. e ∙ ap (λ (k : ℕ). f (getD xs k d)) q) refl
+
+  -- some changed by what their number says: each is changed, or as it was
+  pub each-at : (f : ℕ → A → A) (P : A → Type 0) (b n : ℕ) (xs : List A) (k : ℕ) → P (f (b + k) (getD xs k d)) → P (getD xs k d) → P (getD (eachTo f b n xs) k d)
+  each-at f P b zero xs k p q = q
+  each-at f P b (suc n) [] k p q = q
+  each-at f P b (suc n) (x ∷ xs) zero p q = let e : b + 0 ≡ b = omega arith in subst (λ (m : ℕ). P (f m x)) e p
+  each-at f P b (suc n) (x ∷ xs) (suc k) p q =
+      let e : b + suc k ≡ suc b + k = omega arith in
+      each-at f P (suc b) n xs k (subst (λ (m : ℕ). P (f m (getD xs k d))) e p) q

@@ -9,13 +9,14 @@ use native.Mathlib.Omega.{arith}
 use Rattle.lists.specs.Search.{badFrom, firstBad, every}
 use Rattle.lists.proofs.Both.{and-left, and-right, and-both, and-second}
 
+-- one row less is left
+pub left-over : {n i : ℕ} → i < n → n - i ≡ suc (n - suc i)
+left-over h = omega arith
+
 module _ (good : ℕ → Bool) where
   -- a search for the first bad one, at i: what is left of it has the whole one's answer
   abbrev pub Searched : ℕ → ℕ → Type 0
   Searched n i = (i ≤ n) × (badFrom good (n - i) i ≡ firstBad good n)
-
-  left-over : {n i : ℕ} → i < n → n - i ≡ suc (n - suc i)
-  left-over h = omega arith
 
   pub search-start : (n : ℕ) → Searched n 0
   search-start n = (omega arith, rw (sub-zero n))

@@ -3,7 +3,6 @@
 use Prim.Native.Nat.{ℕ, zero, suc}
 use mathlib.Core.List.{List, [], _∷_}
 use mathlib.Core.Bool.{Bool, true, _&&_}
-use lib.ListN.{getD, set}
 
 module _ {A : Type 0} (f : ℕ → A → A) where
   -- each element changed by f at its index, the first of which is k
@@ -28,8 +27,3 @@ module _ {A : Type 0} (f : ℕ → A → Bool) where
   allTo k zero xs = true
   allTo k (suc i) [] = true
   allTo k (suc i) (x ∷ xs) = f k x && allTo (suc k) i xs
-
-module _ {A : Type 0} (d : A) where
-  -- the element at i changed by f
-  abbrev pub upd : (A → A) → ℕ → List A → List A
-  upd f i xs = set xs i (f (getD xs i d))

@@ -10,7 +10,8 @@ use Rattle.feed.specs.Feed.{Routes, Out}
 use Rattle.layout.specs.Layout.{partOf}
 use Rattle.lengths.specs.Head.{Head, ended, short, beyond, whole, headOf}
 use Rattle.walk.specs.Walk.{wholeAt, stepOf, walkAt, told}
-use Rattle.walk.proofs.Steps.{rest-is, whole-place}
+use Rattle.wire.proofs.Part.{rest-is}
+use Rattle.walk.proofs.Steps.{whole-place}
 use Rattle.datagram.specs.declared.Outcome.{Outcome}
 use Rattle.datagram.specs.declared.Outcome.the-variants.{Pdu}
 use Rattle.datagram.specs.Datagram.{outcomeOf}

@@ -3,8 +3,8 @@ use Prim.Native.Nat.{ℕ, _<_}
 use mathlib.Core.Path.{_≡_, refl, sym, ap, _∙_}
 use mathlib.Core.Bool.{Bool, true, false, cond, not, _&&_}
 use mathlib.Core.List.{List}
-use native.Mathlib.Omega.{arith}
 use borrow.Author.Tests.{not-true, not-false}
+use Rattle.lists.proofs.Both.{impossible}
 use Rattle.layout.specs.Layout.{rowsOf}
 use Rattle.layout.specs.declared.Kind.the-variants.{Connection as Connections}
 use Rattle.connection.specs.declared.Connection.{Connection}
@@ -17,13 +17,10 @@ use Rattle.gate.specs.declared.Gate.{Gate}
 use Rattle.gate.specs.declared.Gate.the-variants as Gated
 use Rattle.gate.specs.Gate.{gateAt, through, Passed}
 use Rattle.gate.proofs.Pass.{gate-at-passed}
-use Rattle.world.specs.Step.{receiving}
+use Rattle.connection.specs.Event.{receiving}
 use Rattle.receive.specs.declared.Answer.{Answer}
 use Rattle.receive.specs.declared.Answer.the-variants.{Done, Refused, NotReceiving}
 use Rattle.receive.specs.Answer.{isDone, judgedOf, answerOf}
-
-never : {P : Type 0} → false ≡ true → P
-never p = absurd (let z : _≡_ {A = ℕ} 0 1 = cc in omega arith)
 
 -- WHAT IS KNOWN WHEN NOTHING REFUSES
 pub record Clear (image : List ℕ) (s : State) (rx tx n : ℕ) (allowed : Bool) : Type 0 where
@@ -38,8 +35,8 @@ judged-clear allowed c p = go allowed (receiving c) refl refl p
   where
     go : (a b : Bool) → allowed ≡ a → receiving c ≡ b → isDone (cond a (cond b Done NotReceiving) (Refused Denied)) ≡ true → (allowed ≡ true) × (receiving c ≡ true)
     go true true e f q = (e, f)
-    go true false e f q = never q
-    go false b e f q = never q
+    go true false e f q = impossible q
+    go false b e f q = impossible q
 
 pub done-clear : (image : List ℕ) (s : State) (rx tx n : ℕ) (allowed : Bool) → isDone (answerOf image s rx tx n allowed) ≡ true → Clear image s rx tx n allowed
 unfolding answerOf
@@ -50,7 +47,7 @@ done-clear image s rx tx n allowed p = go (gateAt image s rx tx n) refl p
         let g : Passed image s rx tx × (n < rowsOf image Connections) = gate-at-passed image s rx tx n e in
         let j : (allowed ≡ true) × (receiving (recordAt s n) ≡ true) = judged-clear allowed (recordAt s n) q in
         record { passed = g .0; there = g .1; allows = j .0; receives = j .1 }
-    go (Gated.Refused r) e q = never q
+    go (Gated.Refused r) e q = impossible q
 
 -- the three cases past the gate
 module _ (allowed : Bool) (c : Connection) where

@@ -19,8 +19,8 @@ use Rattle.stream.specs.declared.Outcome.the-variants.{More, Pdu, Drop}
 use Rattle.stream.proofs.Leaves.{leaves-length}
 use Rattle.datagram.specs.declared.Outcome.{Outcome as Found}
 use Rattle.datagram.specs.declared.Outcome.the-variants as Met
-use Rattle.world.specs.World.{stretch}
-use Rattle.world.proofs.Stretch.{stretch-apart}
+use Rattle.state.specs.Memory.{stretch}
+use Rattle.state.proofs.Stretch.{stretch-apart}
 use Rattle.receive.specs.Answer.{isDone}
 use Rattle.receive.specs.Segment.{countTake, takenAt, stretchAt, takeOn, memoryOn, Takes, noneTaken, segmentAnswer, segmentOf, memoryOf}
 use Rattle.receive.specs.Walk.{countWalk, walkedAt, walkOn, noneWalked, walkAnswer, walkOf}

@@ -28,8 +28,8 @@ use Rattle.datagram.specs.declared.Outcome.the-variants as Met
 use Rattle.gate.specs.Sound.{soundAt, recordsSound}
 use Rattle.gate.specs.Gate.{Passed}
 use Rattle.gate.proofs.Records.{row-sound, row-routed, sound-row, record-at, record-set}
-use Rattle.world.specs.World.{stretch}
-use Rattle.world.specs.Step.{receiving}
+use Rattle.state.specs.Memory.{stretch}
+use Rattle.connection.specs.Event.{receiving}
 use Rattle.receive.specs.Answer.{isDone}
 use Rattle.receive.specs.Segment.{countTake, takenAt, stretchAt, takeOn, memoryOn, Takes, noneTaken, segmentAnswer, segmentOf, memoryOf}
 use Rattle.receive.specs.Walk.{countWalk, walkedAt, walkOn, noneWalked, walkAnswer, walkOf}

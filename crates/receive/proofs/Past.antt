@@ -30,7 +30,7 @@ use Rattle.stream.specs.Stream.{lengthOf, Limits, Fit}
 use Rattle.gate.specs.Sound.{routed, soundAt}
 use Rattle.gate.specs.Gate.{Passed}
 use Rattle.gate.proofs.Records.{row-sound, row-routed, record-at}
-use Rattle.world.specs.World.{stretch}
+use Rattle.state.specs.Memory.{stretch}
 use Rattle.receive.specs.Segment.{Takes}
 
 -- an accepted table has sixteen connections at most, and no route of more than 1,464 bytes: a row that is not there allows none

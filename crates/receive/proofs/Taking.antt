@@ -23,7 +23,7 @@ use Rattle.stream.specs.declared.Outcome.the-variants.{Pdu}
 use Rattle.stream.specs.declared.Taken.{Taken}
 use Rattle.stream.specs.Stream.{takenOf, rxAfter, payloadAt, Fit}
 use Rattle.stream.proofs.Leaves.{leaves-length}
-use Rattle.world.specs.World.{stretch}
+use Rattle.state.specs.Memory.{stretch}
 use Rattle.receive.specs.declared.Answer.{Answer}
 use Rattle.receive.specs.declared.Answer.the-variants.{Done}
 use Rattle.receive.specs.declared.SegmentTaken.{SegmentTaken}

@@ -4,11 +4,10 @@ use mathlib.Core.Bool.{Bool, true, false, cond}
 use mathlib.Core.List.{List}
 use Rattle.connection.specs.declared.Connection.{Connection}
 use Rattle.connection.specs.declared.Refusal.the-variants.{Denied}
-use Rattle.connection.specs.Event.{refusalNumber}
+use Rattle.connection.specs.Event.{receiving, refusalNumber}
 use Rattle.state.specs.declared.State.{State}
 use Rattle.state.specs.State.{recordAt}
 use Rattle.gate.specs.Gate.{gateAt, through}
-use Rattle.world.specs.Step.{receiving}
 use Rattle.receive.specs.declared.Answer.{Answer}
 use Rattle.receive.specs.declared.Answer.the-variants.{Done, Refused, NotReceiving}
 

@@ -4,7 +4,7 @@
 ghost use mathlib.Core.Path.{_≡_};
 ghost use Prim.Native.Nat.{_<_};
 ghost use lib.ListN.{length};
-ghost use Rattle.world.specs.World.{stretch};
+ghost use Rattle.state.specs.Memory.{stretch};
 ghost use Rattle.receive.specs.Answer as Is;
 ghost use Rattle.receive.specs.Segment as Seg;
 ghost use Rattle.receive.specs.Walk as Wk;

@@ -1,25 +1,27 @@
 -- While a TCP connection is online, nothing but its segments changes what it holds of its stream; and one that is not online
 -- holds nothing of it. Here for connection events.
 -- Assumes nothing.
-use Prim.Native.Nat.{ℕ, _-_, _<_, _≤_}
-use mathlib.Core.Path.{_≡_, refl, sym, ap, _∙_, subst}
-use mathlib.Core.Bool.{Bool, true, false, _&&_, _||_, true≢false, false≢true}
+use Prim.Native.Nat.{ℕ, _-_}
+use mathlib.Core.Path.{_≡_, refl, sym, ap, _∙_}
+use mathlib.Core.Bool.{Bool, true, false, true≢false, false≢true}
 use mathlib.Core.List.{List, []}
-use lib.ListN.{length, getD, set, take as front}
-use lib.Seq.{take-take, getD-set-same, set-out}
-use lib.Dec.{eqb, ltb}
+use lib.ListN.{getD, set, take as front}
+use lib.Seq.{take-take}
+use lib.Dec.{ltb}
 use native.Mathlib.Nat.{le-refl}
-use native.Mathlib.Omega.{arith}
+use Rattle.lists.proofs.Each.{one-at}
 use Rattle.part.specs.declared.Part.{Part}
 use Rattle.part.specs.declared.Part.the-variants.{Header, Payload, Skip}
 use Rattle.connection.specs.declared.Connection.{Connection}
 use Rattle.connection.specs.declared.Config.{Config}
 use Rattle.connection.specs.declared.Event.{Event as Change}
 use Rattle.connection.specs.declared.Event.the-variants.{Open, Close, Connected, Lost, SetRemote, Switch}
-use Rattle.connection.specs.Connection.{isOnline, wildcard}
-use Rattle.connection.specs.Event.{known, allowed, after, stepOf}
+use Rattle.connection.specs.Connection.{isOnline}
+use Rattle.connection.specs.Event.{after}
 use Rattle.feed.specs.Feed.{cell, payload}
+use Rattle.connection.proofs.Ticks.{step-either}
 use Rattle.waiting.specs.Waiting.{takeOf}
+use Rattle.waiting.proofs.Taken.{take-part, take-mode}
 use Rattle.stream.specs.Stream.{cellOf}
 use Rattle.world.specs.World.{Held, blank, heldBy, cellAt, follow}
 use Rattle.world.specs.Events.{Own, change, walk, take, on}
@@ -52,20 +54,6 @@ kept-after Lost g h q = record { going = λ on. absurd (false≢true on); gone =
 kept-after (SetRemote r) g h q = kept-follow (after (SetRemote r) g (h .connection)) h refl refl q
 kept-after (Switch n b) g h q = kept-follow (after (Switch n b) g (h .connection)) h refl refl q
 
-kept-step : (e : Change) (g : Config) (h : Held) (k a : Bool) → known e ≡ k → allowed e g (h .connection) ≡ a → Quiet h → Kept h (follow (stepOf e g (h .connection) .connection) h)
-unfolding stepOf
-kept-step e g h false a p r q = rw p (kept-follow (h .connection) h refl refl q)
-kept-step e g h true false p r q = rw (p, r) (kept-follow (h .connection) h refl refl q)
-kept-step e g h true true p r q = rw (p, r) (kept-after e g h q)
-
--- taking the waiting bytes of a TCP connection
-taken-part : (g : Config) (room : ℕ) (c : Connection) (x y : Bool) → (eqb (c .used) 0 || ltb room (c .used)) ≡ x → (g .automatic && wildcard (g .remote)) ≡ y → g .tcp ≡ true
-    → (takeOf g room c .part ≡ c .part) × (takeOf g room c .mode ≡ c .mode)
-unfolding takeOf
-taken-part g room c true y p r t = rw p (refl, refl)
-taken-part g room c false true p r t = rw (p, r, t) (refl, refl)
-taken-part g room c false false p r t = rw (p, r) (refl, refl)
-
 -- what an event is, if no segment
 pub data Other : Own → Type 0 where
   a-change : (e : Change) → Other (change e)
@@ -75,11 +63,11 @@ pub data Other : Own → Type 0 where
 module _ (T : Table) (k : ℕ) (tcp : T .config k .tcp ≡ true) where
   kept-does : (e : Own) → Other e → (h : Held) → Quiet h → Kept h (does T k e h .to)
   unfolding does
-  kept-does _ (a-change e) h q = kept-step e (T .config k) h (known e) (allowed e (T .config k) (h .connection)) refl refl q
+  kept-does _ (a-change e) h q =
+      step-either e (T .config k) (h .connection) (λ (c : Connection). Kept h (follow c h)) (λ _. kept-follow (h .connection) h refl refl q) (λ _. kept-after e (T .config k) h q)
   kept-does _ (a-walk d p) h q = rw tcp (kept-same h q)
   kept-does _ (a-take room) h q =
-      let s = taken-part (T .config k) room (h .connection) _ _ refl refl tcp in
-      kept-follow (takeOf (T .config k) room (h .connection)) h (s .0) (s .1) q
+      kept-follow (takeOf (T .config k) room (h .connection)) h (take-part (T .config k) room (h .connection)) (take-mode (T .config k) room (h .connection) tcp) q
 
   pub kept-acts : (e : Own) → Other e → (h : Held) (there : Bool) → ltb k (T .rows) ≡ there → Quiet h → Kept h (acts T k e h .to)
   unfolding acts
@@ -99,8 +87,5 @@ module _ (T : Table) (k : ℕ) (tcp : T .config k .tcp ≡ true) where
   acts-nothing e o h false p = rw p
 
 -- at its place in the world; past the last record nothing is there
-pub kept-set : (hs : List Held) (k : ℕ) (h′ : Held) → Quiet (getD hs k blank) → Kept (getD hs k blank) h′ → Dec (k < length hs) → Kept (getD hs k blank) (getD (set hs k h′) k blank)
-kept-set hs k h′ q r (yes lt) = subst (Kept (getD hs k blank)) (sym (getD-set-same hs k h′ blank lt)) r
-kept-set hs k h′ q r (no ge) =
-    let out : length hs ≤ k = omega arith in
-    subst (λ (l : List Held). Kept (getD hs k blank) (getD l k blank)) (sym (set-out hs k h′ out)) (kept-same (getD hs k blank) q)
+pub kept-set : (hs : List Held) (k : ℕ) (h′ : Held) → Quiet (getD hs k blank) → Kept (getD hs k blank) h′ → Kept (getD hs k blank) (getD (set hs k h′) k blank)
+kept-set hs k h′ q r = one-at blank hs k k h′ (Kept (getD hs k blank)) (λ _. r) (kept-same (getD hs k blank) q)

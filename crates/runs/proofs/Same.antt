@@ -15,7 +15,8 @@ use Rattle.feed.specs.Feed.{Routes, Cell, segment as segmentOf, Pdu, pdus, drop
 use Rattle.feed.proofs.Cut.{cut as cut-segment, pdus-append, drops-append}
 use Rattle.world.specs.World.{Held, World, blank, cellAt, withCell}
 use Rattle.world.specs.Events.{Own, segment, Whole, Event, on}
-use Rattle.world.specs.Step.{Table, countsIf, Acted, acted, receiving, streamed, routesAt, does, acts, at, left, step, run, hands, heard}
+use Rattle.connection.specs.Event.{receiving}
+use Rattle.world.specs.Step.{Table, countsIf, Acted, acted, streamed, routesAt, does, acts, at, left, step, run, hands, heard}
 use Rattle.world.proofs.Counts.{countsIf-comm, countsIf-add}
 use Rattle.world.proofs.Cells.{snug-in, snug-segment, cell-back}
 use Rattle.runs.specs.Same.{Same, swap, cut, join, same, later, both}

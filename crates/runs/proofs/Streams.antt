@@ -17,7 +17,8 @@ use Rattle.feed.specs.Feed.{Routes, Cell, ready, Ran, ran, segment as segmentOf
 use Rattle.feed.proofs.Cut.{pdus-append}
 use Rattle.world.specs.World.{Held, World, blank, heldAt, cellAt}
 use Rattle.world.specs.Events.{Own, change, segment, walk, take, Whole, Event, on, all}
-use Rattle.world.specs.Step.{Table, Acted, acted, receiving, streamed, routesAt, acts, at, step, hands, heard}
+use Rattle.connection.specs.Event.{receiving}
+use Rattle.world.specs.Step.{Table, Acted, acted, streamed, routesAt, acts, at, step, hands, heard}
 use Rattle.world.proofs.Cells.{snug-in, snug-segment, cell-back}
 use Rattle.lengths.specs.Listed.{Marked, mark, bytesOf, readTo, readOut, Bytes}
 use Rattle.lengths.proofs.Bytes.{bytes-append, bytes-mark}
@@ -82,7 +83,7 @@ module _ (T : Table) (whole : Whole → World → World) (k : ℕ) (tcp : T .con
   unfolding hands step pdus
   turn-own w e o q =
       silent (rw (eq-eqb k k refl) (ap pdus (acts-nothing T k tcp e o (heldAt w k) (ltb k (T .rows)) refl))) (reads-none w e o)
-      (kept-set (w .held) k (at T w k e .to) q (kept-acts T k tcp e o (heldAt w k) (ltb k (T .rows)) refl q) (decLt k (length (w .held))))
+      (kept-set (w .held) k (at T w k e .to) q (kept-acts T k tcp e o (heldAt w k) (ltb k (T .rows)) refl q))
 
   -- a segment: refused, or read
   acts-read : (h : Held) (bs : List ℕ) → ltb k (T .rows) ≡ true → (T .config k .tcp && receiving (h .connection)) ≡ true

@@ -13,7 +13,8 @@ use Rattle.feed.specs.Frame.{Sent, frames, Routed}
 use Rattle.feed.proofs.Trip.{asOut, round-trip}
 use Rattle.world.specs.World.{World, heldAt, cellAt}
 use Rattle.world.specs.Events.{segment, Whole, Event, on}
-use Rattle.world.specs.Step.{Table, Acted, receiving, routesAt, acts, at, hands, heard}
+use Rattle.connection.specs.Event.{receiving}
+use Rattle.world.specs.Step.{Table, Acted, routesAt, acts, at, hands, heard}
 use Rattle.runs.specs.Same.{Same, join, same, later, both}
 use Rattle.runs.proofs.Same.{does-read, same-heard}
 

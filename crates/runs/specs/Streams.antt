@@ -11,7 +11,8 @@ use Rattle.feed.specs.Feed.{Routes, Cell, ready, Pdu}
 use Rattle.lengths.specs.Listed.{Marked, mark, listed, listedFrom, Bytes, Held as Shaped}
 use Rattle.world.specs.World.{Held, World, heldAt, cellAt}
 use Rattle.world.specs.Events.{change, segment, walk, take, Whole, Event, on, all}
-use Rattle.world.specs.Step.{Table, receiving, step}
+use Rattle.connection.specs.Event.{receiving}
+use Rattle.world.specs.Step.{Table, step}
 
 abbrev pub online : World → ℕ → Bool
 online w k = isOnline (heldAt w k .connection .mode)

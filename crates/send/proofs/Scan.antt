@@ -5,19 +5,17 @@ use mathlib.Core.Bool.{Bool, true, false, cond, not, _&&_, _||_}
 use mathlib.Core.List.{List}
 use native.Mathlib.Omega.{arith}
 use native.Mathlib.Numerals.{add-one}
-use lib.Dec.{eqb, ltb}
+use lib.Dec.{eqb}
 use borrow.Author.Tests.{eqb-true, lt-ltb, le-ltb, eq-eqb, ne-eqb}
-use Rattle.connection.specs.declared.Connection.{Connection}
 use Rattle.destination.specs.Destination.{lookOf}
 use Rattle.lists.specs.Search.{firstBad, every}
-use Rattle.lists.proofs.Both.{and-left, and-right}
+use Rattle.lists.proofs.Both.{and-left, and-right, neither}
 use Rattle.lists.proofs.Search.{Searched, search-start, search-on, search-found, search-ended, Passed, pass-start, pass-on, pass-failed, every-at, every-all}
 use Rattle.rows.specs.declared.ConnectionRow.{ConnectionRow}
 use Rattle.rows.specs.declared.DestinationRow.{DestinationRow}
 use Rattle.rows.specs.Rows.{connectionOf, destinationOf}
 use Rattle.state.specs.declared.State.{State}
 use Rattle.state.specs.State.{recordAt}
-use Rattle.send.specs.declared.Transmission.{Transmission}
 use Rattle.send.specs.declared.Transmission.the-variants.{Stored, NoDestination, SwitchedOff, RefusedAt}
 use Rattle.send.specs.Verdict.{isOut, passes, decidedAt, verdictOf, joinOf, outcomeOf}
 use Rattle.send.specs.Send.{lookAt}
@@ -36,10 +34,6 @@ passing a h = go (eqb a 0) refl (eqb a 5) refl (eqb a 6) refl h
     go false p true q z r h = subst Passing (sym (eqb-true a 5 q)) other
     go false p false q true r h = subst Passing (sym (eqb-true a 6 r)) off
     go false p false q false r h = absurd (let o : _≡_ {A = ℕ} 0 1 = cc in omega arith)
-
-neither : (a b : Bool) → (a || b) ≡ false → (a ≡ false) × (b ≡ false)
-neither true b h = absurd (let o : _≡_ {A = ℕ} 0 1 = cc in omega arith)
-neither false b h = (refl, h)
 
 -- what is seen so far, with one row more
 step : (a b : Bool) (l : ℕ) → (a ≡ true → b ≡ true) → Passing l → joinOf (cond a 5 (cond b 6 0)) l ≡ cond (a && eqb l 5) 5 (cond (b && isOut l) 6 0)

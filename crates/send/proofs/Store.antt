@@ -1,20 +1,18 @@
 -- The store, row after row, at the places where its loop stands. Assumes nothing.
 use Prim.Native.Nat.{ℕ, _+_, _*_, _<_, _≤_}
-use mathlib.Core.Path.{_≡_, refl, sym, ap, ap₂, subst, _∙_}
-use mathlib.Core.Bool.{Bool, true, false, cond, _&&_}
+use mathlib.Core.Path.{_≡_, refl, sym, ap, ap₂, _∙_}
+use mathlib.Core.Bool.{Bool, true, false, _&&_}
 use mathlib.Core.List.{List}
 use native.Mathlib.Omega.{arith}
-use native.Mathlib.Decide.{decLt, ℕ-discrete}
 use lib.Dec.{eqb}
-use lib.ListN.{length, getD, set}
-use lib.Seq.{getD-set-same, getD-set-other, set-out}
+use lib.ListN.{length}
+use lib.Seq.{getD-set-other}
 use borrow.Author.Tests.{eqb-true, eq-eqb, ne-eqb}
 use Rattle.connection.specs.declared.Connection.{Connection}
 use Rattle.connection.specs.Connection.{zeroRecord}
 use Rattle.destination.specs.Destination.{sentOf}
-use Rattle.feed.specs.Frame.{frame}
-use Rattle.lists.specs.Fold.{foldFrom}
 use Rattle.lists.proofs.Both.{and-left}
+use Rattle.lists.proofs.Each.{part-kept}
 use Rattle.lists.proofs.Fold.{Folded, fold-start, fold-on, fold-ended}
 use Rattle.outbox.specs.Outbox.{appendedOf}
 use Rattle.outbox.proofs.Laid.{appended-is}
@@ -23,17 +21,7 @@ use Rattle.rows.specs.declared.DestinationRow.{DestinationRow}
 use Rattle.rows.specs.Rows.{destinationOf}
 use Rattle.state.specs.declared.State.{State}
 use Rattle.state.specs.State.{recordAt, withRecord}
-use Rattle.wire.specs.Lay.{lay}
 use Rattle.send.specs.Send.{destinations, Sending, sending, appendOf, wantedAt, storeOf, storeAll, Ready}
-
--- what a store at i leaves of each element's part, where it leaves it of i's
-pub part-kept : {A B : Type 0} (f : A → B) (l : List A) (i j : ℕ) (y d : A) → f y ≡ f (getD l i d) → f (getD (set l i y) j d) ≡ f (getD l j d)
-part-kept f l i j y d e = go (ℕ-discrete j i) (decLt i (length l))
-  where
-    go : Dec (j ≡ i) → Dec (i < length l) → f (getD (set l i y) j d) ≡ f (getD l j d)
-    go (no ne) x = ap f (getD-set-other l i j y d ne)
-    go (yes q) (yes h) = rw (q, getD-set-same l i y d h) e
-    go (yes q) (no n) = rw (set-out l i y (omega (arith, n)))
 
 -- one append, as the code makes it
 appended : (payload : List ℕ) (d : DestinationRow) (next : State) (tx : List ℕ) (c : Connection) (tx′ : List ℕ) → length payload ≤ 1464
@@ -109,7 +97,7 @@ module _ (image : List ℕ) (s : State) (pdu : ℕ) (payload : List ℕ) where
                 getD-set-other (next .connections) (d .connection) (destinationOf image j .connection) c zeroRecord
                 (λ z. wanted-apart r i j (omega arith) u w q (z ∙ ap (λ (x : DestinationRow). x .connection) e))
                 ∙ v .same j (omega arith) u q;
-            switched = λ k. part-kept (λ (x : Connection). x .switches) (next .connections) (d .connection) k c zeroRecord (ap (λ (x : Connection). x .switches) ec) ∙ v .switched k;
+            switched = λ k. part-kept zeroRecord (λ (x : Connection). x .switches) (next .connections) (d .connection) k c (ap (λ (x : Connection). x .switches) ec) ∙ v .switched k;
           }
 
       pub store-end : destinations image ≤ i → sending next tx ≡ storeAll image s pdu payload tx₀

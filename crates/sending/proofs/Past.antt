@@ -11,8 +11,8 @@ use Rattle.table.specs.Accepts.{Accepts}
 use Rattle.table.proofs.Facts.{accepted-facts}
 use Rattle.gate.specs.declared.Gate.{Gate}
 use Rattle.gate.specs.declared.Gate.the-variants.{Pass}
-use Rattle.gate.specs.Gate.{gateOf, gateAt}
-use Rattle.gate.proofs.Pass.{gate-passed, gate-at-passed}
+use Rattle.gate.specs.Gate.{gateOf}
+use Rattle.gate.proofs.Pass.{gate-passed}
 use Rattle.rows.specs.Rows.{destinationOf}
 use Rattle.send.specs.Send.{destinations, Ready}
 use Rattle.state.specs.declared.State.{State}
@@ -42,11 +42,6 @@ ready-from image a =
 module _ (image : List ℕ) (s : State) (rx tx : ℕ) where
   pub past-gate : (g : Gate) → g ≡ gateOf image s rx tx → g ≡ Pass → Ready image × (tx ≡ 23552)
   past-gate g e p = let q = gate-passed image s rx tx (sym e ∙ p) in (ready-from image (accepted-facts image (q .table)), q .send)
-
-  pub past-small : (n : ℕ) (g : Gate) → g ≡ gateAt image s rx tx n → g ≡ Pass → n < 16
-  past-small n g e p =
-      let q = gate-at-passed image s rx tx n (sym e ∙ p) in
-      omega (arith, q .1, accepted-facts image (q .0 .table) .most Connections)
 
 -- past the gate, what the code makes of one record is the definition's
 module _ (image : List ℕ) (s : State) (n room : ℕ) where

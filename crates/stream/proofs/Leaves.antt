@@ -22,7 +22,7 @@ use Rattle.route.specs.Route.{lookupOf, rowsIn}
 use Rattle.route.proofs.Laws.{Allows, accepted}
 use Rattle.rows.specs.Rows.{routeIn}
 use Rattle.wire.specs.Lay.{lay}
-use Rattle.wire.proofs.Lay.{lay-fits, lay-length}
+use Rattle.wire.proofs.Lay.{lay-fits, lay-own, lay-length}
 use Rattle.stream.specs.declared.Outcome.the-variants.{More}
 use Rattle.stream.specs.Stream.{cellOf, partFrom, heldIn, none, inSegment, wrote, tookOf, takenOf, rxAfter, payloadAt, lengthOf, Fit}
 use Rattle.stream.proofs.Takes.{header-fit, payload-fit, skip-fit, accepted-short}
@@ -112,9 +112,6 @@ module _ (P : ℕ → ℕ → Type 0) where
   sane-shape (cell n skip) s = lt-ltb 0 n s
 
 -- THE PART AND THE MEMORY THAT A TAKE LEAVES ARE THE CELL THAT IT LEAVES
-lay-short : (rx h : List ℕ) → length h ≤ length rx → take (length h) (lay rx 0 h) ≡ h
-lay-short rx h le = ap (take (length h)) (lay-fits rx 0 h (omega arith) ∙ append-assoc [] h (drop (0 + length h) rx)) ∙ take-append-seam h (drop (0 + length h) rx)
-
 abbrev Short : ℕ → ℕ → Type 0
 Short r n = n ≤ 1464
 
@@ -122,7 +119,7 @@ back-held : (rx : List ℕ) (c : Cell) → length rx ≡ 1464 → Sane Short c �
 back-held rx (cell n (header v)) e s = ap (λ (m : ℕ). cell m (header v)) (omega arith)
 back-held rx (cell n (payload r h)) e s =
     let m : n + length h - length h ≡ n = omega arith in
-    ap₂ (λ (k : ℕ) (l : List ℕ). cell k (payload r l)) m (lay-short rx h (omega (arith, s .1)))
+    ap₂ (λ (k : ℕ) (l : List ℕ). cell k (payload r l)) m (lay-own rx 0 h (omega (arith, s .1)))
 back-held rx (cell n skip) e s = refl
 
 back : (s : Bool) (rx : List ℕ) (o : Out) (c : Cell) → length rx ≡ 1464 → Sane Short c → Told Short o c → cellOf (partFrom c) (wrote s o c rx) ≡ c
@@ -287,7 +284,7 @@ module _ (routes : List ℕ) (connection switches : ℕ) (part : Part) (rx segme
       go (x ∷ h) f l =
           ap (λ (o : Out). partOf (wrote false o (t .to) rx) 0 (length p)) e
           ∙ part-fits (lay rx 0 p) 0 (length p) (omega (arith, lay-length rx 0 p, fit .room))
-          ∙ lay-short rx p (omega (arith, fit .room))
+          ∙ lay-own rx 0 p (omega (arith, fit .room))
 
 -- A TAKE OF NO BYTE reads none, wants more and leaves the part and receive memory as they are
 part-back : (routes : List ℕ) (part : Part) (rx : List ℕ) → Fit routes part rx → partFrom (cellOf part rx) ≡ part

@@ -6,21 +6,22 @@ use mathlib.Core.List.{List, [], _∷_, _++_}
 use native.Mathlib.Omega.{arith}
 use borrow.Author.Tests.{leb-true, ltb-true}
 use lib.Dec.{leb, ltb}
-use lib.ListN.{length, take, drop, getD, length-append, length-drop}
-use lib.Seq.{take-length, take-all, length-take-le}
+use lib.ListN.{length, take, drop, length-append, length-drop}
+use lib.Seq.{take-length, length-take-le}
 use Rattle.feed.specs.declared.Decision.the-variants.{Accept, Refuse}
 use Rattle.feed.specs.Feed.{Routes, cell, header, payload, skip, Took, spelt, takeB, decided, resume}
-use Rattle.feed.proofs.Laws.{spelt-take, rest-whole, rest-short, body-whole, body-short, header-short, header-on, refused, skipCell, skip-whole, skip-short}
+use Rattle.feed.proofs.Laws.{spelt-be, rest-whole, rest-short, body-whole, body-short, header-short, header-on, refused, skipCell, skip-whole, skip-short}
 use Rattle.part.specs.declared.Part.{Part}
 use Rattle.part.specs.declared.Part.the-variants.{Header, Payload, Skip}
 use Rattle.part.specs.Part.{shaped}
 use Rattle.lists.proofs.Both.{and-left, and-right}
 use Rattle.route.specs.Route.{lookupOf}
 use Rattle.route.proofs.Laws.{accepted}
-use Rattle.wire.specs.Be.{be, Number}
+use Rattle.wire.specs.Be.{Number}
 use Rattle.wire.specs.Lay.{lay}
 use Rattle.wire.proofs.Join.{join}
 use Rattle.wire.proofs.Lay.{lay-fits}
+use Rattle.wire.proofs.Part.{rest-is}
 use Rattle.stream.specs.declared.Outcome.{Outcome}
 use Rattle.stream.specs.declared.Outcome.the-variants.{More, Pdu, Drop}
 use Rattle.stream.specs.declared.Taken.{Taken}
@@ -38,13 +39,6 @@ lay-front rx held x h =
     ∙ sym (lay-fits rx 0 (take held rx ++ x) (omega arith))
 
 -- a header that stands whole in one piece, read at once
-spelt-be : (w : ℕ) (bs : List ℕ) → w ≤ length bs → spelt 0 (take w bs) ≡ be w bs 0
-unfolding be
-spelt-be zero bs h = refl
-spelt-be (suc w) bs h =
-    let e : w ≡ 0 + w = omega arith in
-    spelt-take 0 bs w (omega arith) ∙ ap₂ (λ (a k : ℕ). a * 256 + getD bs k 0) (spelt-be w bs (omega arith)) e
-
 pub at-once : (value held n a b : ℕ) (bs : List ℕ) → value < 256 ^ held → held + n ≤ 8 → n ≤ length bs → n ≡ 8 → Number 4 bs 0 a → Number 4 bs 4 b
     → (a * 4294967296 + b ≡ spelt value (take n bs)) × (a * 4294967296 + b < 256 ^ (held + n))
 at-once value held n a b bs small fits there e x y =
@@ -52,13 +46,9 @@ at-once value held n a b bs small fits there e x y =
     let v : value ≡ 0 = omega (arith, subst (λ (k : ℕ). value < 256 ^ k) h small) in
     let w : Number 8 bs 0 (a * 256 ^ 4 + b) = join 4 4 x y in
     let m : 8 ≡ held + n = omega arith in (
-      w .is ∙ sym (spelt-be 8 bs (omega arith)) ∙ ap₂ (λ (u k : ℕ). spelt u (take k bs)) (sym v) (sym e),
+      w .is ∙ omega arith ∙ sym (spelt-be 0 8 bs (omega arith)) ∙ ap₂ (λ (u k : ℕ). spelt u (take k bs)) (sym v) (sym e),
       subst (λ (k : ℕ). a * 4294967296 + b < 256 ^ k) m (w .small),
     )
-
--- the part of the segment that is handed on is all that is left of it
-pub left-over : (n : ℕ) (seg : List ℕ) → take (length seg - n) (drop n seg) ≡ drop n seg
-left-over n seg = take-all (length seg - n) (drop n seg) (omega (arith, length-drop n seg))
 
 module _ (ids : ℕ → ℕ) where
   pub move : {s : Bool} {n : ℕ} {t t′ : Took} {rx : List ℕ} {r : Taken} {rx′ : List ℕ} → t ≡ t′ → Answers ids s n t′ rx r rx′ → Answers ids s n t rx r rx′
@@ -153,7 +143,7 @@ module _ (ids : ℕ → ℕ) where
   header-accepted R v n w r i m total rx seg rx′ t pos le e ei em is a =
       move (header-on R v n w (Accept r) seg pos le e (ap₂ R (sym ei) (sym em) ∙ is)
       ∙ ap₂ (λ (x y : ℕ). resume R (decided (Accept r) x y) (drop n seg)) (sym ei) (sym em)
-      ∙ ap (resume R (decided (Accept r) i m)) (sym (left-over n seg))) a
+      ∙ ap (resume R (decided (Accept r) i m)) (sym (rest-is seg n))) a
 
   -- BYTES TO SKIP: more than stand here, or not
   pub skip-part : (R : Routes) (n : ℕ) (rx seg : List ℕ) → length seg < n
@@ -166,7 +156,7 @@ module _ (ids : ℕ → ℕ) where
   pub skip-over : (R : Routes) (n : ℕ) (rx seg rx′ : List ℕ) (t : Taken) → 0 < n → n ≤ length seg
       → Answers ids true (length seg) (takeB R (cell 8 (header 0)) (take (length seg - n) (drop n seg))) rx t rx′
       → Answers ids true (length seg) (takeB R (cell n skip) seg) rx t rx′
-  skip-over R n rx seg rx′ t pos le a = move (skip-whole R n seg pos le ∙ ap (takeB R (cell 8 (header 0))) (sym (left-over n seg))) a
+  skip-over R n rx seg rx′ t pos le a = move (skip-whole R n seg pos le ∙ ap (takeB R (cell 8 (header 0))) (sym (rest-is seg n))) a
 
 pub skip-some : (n : ℕ) → (n ≡ 0 → ⊥) → Skip n ≡ skipPart n
 skip-some zero h = absurd (h refl)

@@ -8,7 +8,7 @@ use lib.Dec.{leb, ltb, eqb}
 use lib.ListN.{length}
 use borrow.Author.Tests.{leb-true, ltb-true, eqb-true, eq-eqb, not-true}
 use Rattle.wire.specs.Be.{be}
-use Rattle.lists.proofs.Both.{and-left, and-right, and-both}
+use Rattle.lists.proofs.Both.{and-left, and-right, and3, and4, and-both}
 use Rattle.lists.proofs.Search.{none-bad, every-at}
 use Rattle.layout.specs.Layout.{number, mostRows, entryAt, rowsOf, startOf, endOf, rowAt, bodyOf, rowOf, Laid}
 use Rattle.layout.specs.declared.Kind.{Kind}
@@ -20,12 +20,6 @@ use Rattle.table.specs.Table.{entryGood, rule, rowGood, badRow, demand, 
 use Rattle.table.specs.Accepts.{Accepts}
 use Rattle.table.specs.declared.TableAnswer.the-variants.{Accepted}
 use Rattle.table.proofs.Answers.{then-first, then-second, demand-held}
-
-and3 : (a b c : Bool) → a && b && c ≡ true → (a ≡ true) × (b ≡ true) × (c ≡ true)
-and3 a b c e = let ab = and-left (a && b) c e in (and-left a b ab, and-right a b ab, and-right (a && b) c e)
-
-and4 : (a b c d : Bool) → a && b && c && d ≡ true → (a ≡ true) × (b ≡ true) × (c ≡ true) × (d ≡ true)
-and4 a b c d e = let f = and3 a b c (and-left (a && b && c) d e) in (f .0, f .1, f .2, and-right (a && b && c) d e)
 
 -- good contents have no kind with too many rows
 module _ (s : List ℕ) (good : headPlace s ≡ Accepted) where

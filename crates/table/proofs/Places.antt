@@ -3,7 +3,6 @@ use Prim.Native.Nat.{ℕ, _+_, _*_, _/_, _<_, _≤_}
 use mathlib.Core.Path.{_≡_, ap, _∙_}
 use mathlib.Core.List.{List}
 use native.Mathlib.Omega.{arith}
-use native.Mathlib.Nat.{mul-le-mul}
 use lib.Dec.{leb}
 use lib.ListN.{length}
 use borrow.Author.Tests.{le-leb, lt-leb}
@@ -26,9 +25,6 @@ module _ (s : List ℕ) (k : Kind) (rows bad start size : ℕ) (er : rows ≡ ro
   pub some-place : start ≡ startOf s k → size ≡ rowBytes s k → bad < rows → Refused (start + bad * size) ≡ demand (leb (rowsOf s k) bad) (rowAt s k bad)
   unfolding rowAt
   some-place es ez h = rw (lt-leb (rowsOf s k) bad (omega arith), es, ez)
-
-pub place-small : (bad rows size : ℕ) → bad < rows → rows < 65536 → size ≤ 16 → bad * size ≤ 1048576
-place-small bad rows size h r z = let l : bad ≤ 65536 = omega arith in mul-le-mul l z
 
 -- each kind, by values that are its body and its numbers
 module _ (s : List ℕ) (l : Laid s) (r : TableAnswer) (bad : ℕ) where

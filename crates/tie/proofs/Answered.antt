@@ -16,7 +16,7 @@ use Rattle.gate.specs.Gate.{gateAt, thenThere, through, Passed}
 use Rattle.gate.proofs.Pass.{passed-gate}
 use Rattle.receive.specs.declared.Answer.the-variants.{Done, Refused, NotReceiving}
 use Rattle.receive.specs.Answer.{isDone, judgedOf, answerOf}
-use Rattle.world.specs.Step.{receiving}
+use Rattle.connection.specs.Event.{receiving}
 
 pub done-is : (image : List ℕ) (s : State) (rx tx k : ℕ) (allowed : Bool) → Passed image s rx tx
     → isDone (answerOf image s rx tx k allowed) ≡ (ltb k (rowsOf image Connections) && (allowed && receiving (recordAt s k)))

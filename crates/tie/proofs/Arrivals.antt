@@ -17,7 +17,7 @@ use Rattle.choose.specs.declared.Chosen.{Chosen}
 use Rattle.choose.specs.declared.Chosen.the-variants.{Nobody, At}
 use Rattle.choose.specs.Choose.{meet, refusedBy, deniedOf, chosenIn, arriveOf}
 use Rattle.world.proofs.View.{Fewer, fewer-same, fewer-set}
-use Rattle.tie.proofs.Places.{one-at}
+use Rattle.lists.proofs.Each.{one-at}
 use Rattle.tie.proofs.Less.{met-less}
 
 -- the state after it

@@ -5,7 +5,6 @@ use mathlib.Core.Path.{_≡_, refl, sym, ap, _∙_}
 use mathlib.Core.Bool.{Bool, true, false}
 use mathlib.Core.List.{List, []}
 use lib.ListN.{length}
-use lib.Seq.{set-getD}
 use lib.Dec.{ltb}
 use borrow.Author.Tests.{ltb-true}
 use Rattle.layout.specs.Layout.{rowsOf}
@@ -14,11 +13,11 @@ use Rattle.connection.specs.declared.Connection.{Connection}
 use Rattle.connection.specs.declared.Event.{Event as Change}
 use Rattle.connection.specs.declared.Refusal.{Refusal}
 use Rattle.connection.specs.declared.Refusal.the-variants.{Missing}
-use Rattle.connection.specs.Connection.{zeroRecord}
 use Rattle.connection.specs.Event.{known, allowed, stepOf}
 use Rattle.state.specs.declared.State.{State}
 use Rattle.state.specs.State.{recordAt, withRecord}
 use Rattle.state.specs.Fresh.{configOf}
+use Rattle.state.proofs.Records.{put-back}
 use Rattle.gate.specs.declared.Gate.{Gate}
 use Rattle.gate.specs.declared.Gate.the-variants.{Refused}
 use Rattle.gate.specs.Gate.{gateAt, through, Passed}
@@ -31,7 +30,7 @@ use Rattle.sending.specs.Sending.{notTaken, takePast, takenOf}
 use Rattle.world.specs.World.{Held, World, heldAt, viewOf, follow}
 use Rattle.world.specs.Events.{Own, change, take, Whole, on}
 use Rattle.world.specs.Step.{acted, does, acts, left, step}
-use Rattle.world.proofs.View.{view-at, Less}
+use Rattle.world.proofs.View.{view-record, Less}
 use Rattle.tie.specs.Table.{tableOf}
 use Rattle.tie.proofs.Less.{step-less, take-less}
 use Rattle.tie.proofs.Left.{view-follow, left-nothing}
@@ -41,12 +40,9 @@ told-state : (image : List ℕ) (s : State) (n : ℕ) (e : Change) → changeOf 
 unfolding changeOf toldOf stepOf
 told-state image s n e = go (known e) (allowed e (configOf image n) (recordAt s n)) refl refl
   where
-    same : s ≡ withRecord n (recordAt s n) s
-    same = ap (λ (l : List Connection). record { connections = l; «udp_drops» = s .«udp_drops»; «tcp_drops» = s .«tcp_drops» }) (sym (set-getD (s .connections) n zeroRecord))
-
     go : (k a : Bool) → known e ≡ k → allowed e (configOf image n) (recordAt s n) ≡ a → changeOf image s n e .state ≡ withRecord n (stepOf e (configOf image n) (recordAt s n) .connection) s
-    go false a p q = rw p same
-    go true false p q = rw (p, q) same
+    go false a p q = rw p (sym (put-back s n))
+    go true false p q = rw (p, q) (sym (put-back s n))
     go true true p q = rw (p, q)
 
 module _ (image : List ℕ) (s : State) (rx tx : List ℕ) (whole : Whole → World → World) (passed : Passed image s (length rx) (length tx)) where
@@ -87,7 +83,7 @@ module _ (image : List ℕ) (s : State) (rx tx : List ℕ) (whole : Whole → Wo
       go true h =
           ap (λ (u : State). viewOf u rx tx) (there h)
           ∙ view-follow (tableOf image) s rx tx k (f (recordAt s k)) less
-          ∙ ap (λ (d : Connection). left (tableOf image) w k (acted (follow (f d) (heldAt w k)) [])) (sym (ap (λ (x : Held). x .connection) (view-at s rx tx k)))
+          ∙ ap (λ (d : Connection). left (tableOf image) w k (acted (follow (f d) (heldAt w k)) [])) (sym (view-record s rx tx k))
           ∙ ap (left (tableOf image) w k) (sym (acts-there k e h ∙ is (heldAt w k)))
       go false h =
           ap (λ (u : State). viewOf u rx tx) (away h) ∙ sym (left-nothing (tableOf image) w k) ∙ ap (left (tableOf image) w k) (sym (acts-missing k e h))

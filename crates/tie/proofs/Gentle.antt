@@ -1,30 +1,31 @@
--- What group and module events do to one connection: while it is a TCP connection online, they leave what it holds of its stream,
--- or they end it. Assumes nothing.
-use Prim.Native.Nat.{ℕ, zero, suc}
-use mathlib.Core.Path.{_≡_, refl, sym, _∙_, subst}
+-- GROUP AND MODULE EVENTS of an image leave what a TCP connection holds of its stream while it is online, or end it (`gentle`).
+-- Assumes nothing.
+use Prim.Native.Nat.{ℕ}
+use mathlib.Core.Path.{_≡_, refl, sym, _∙_}
 use mathlib.Core.Bool.{Bool, true, true≢false, false≢true}
-use mathlib.Core.List.{List, [], _∷_}
-use native.Mathlib.Omega.{arith}
-use lib.ListN.{length, getD}
+use mathlib.Core.List.{List}
 use Rattle.connection.specs.declared.Connection.{Connection}
 use Rattle.connection.specs.declared.Config.{Config}
 use Rattle.connection.specs.declared.Remote.{Remote}
-use Rattle.connection.specs.Connection.{zeroRecord, metOf, switchedOf, tickOf}
-use Rattle.state.specs.declared.State.{State}
-use Rattle.state.specs.State.{recordAt}
-use Rattle.world.specs.World.{Held, World, blank, heldAt, follow, followAll, leaves}
+use Rattle.connection.specs.Connection.{metOf, switchedOf, tickOf}
+use Rattle.connection.proofs.Ticks.{Tick, closes, goes-on, tick-is}
+use Rattle.state.specs.Fresh.{configOf}
+use Rattle.world.specs.World.{Held, heldAt, follow}
+use Rattle.world.specs.Events.{Whole}
 use Rattle.runs.specs.Streams.{Quiet, Kept}
-use Rattle.runs.proofs.Keeps.{follows, kept-follow}
-use Rattle.tie.proofs.Less.{Tick, closes, goes-on, tick-is}
+use Rattle.runs.proofs.Keeps.{kept-same, follows, kept-follow}
+use Rattle.runs.proofs.Streams.{Gentle}
+use Rattle.tie.specs.Whole.{wholeOf}
+use Rattle.tie.proofs.Becomes.{Alike, Becomes, untouched, same, met, ticked, switched, sent, becomes}
 
 -- one record
-pub kept-met : (r : Remote) (h : Held) → Kept h (follow (metOf r (h .connection)) h)
+kept-met : (r : Remote) (h : Held) → Kept h (follow (metOf r (h .connection)) h)
 kept-met r h = record { going = λ _. follows (metOf r (h .connection)) h refl; gone = λ off. absurd (true≢false off) }
 
-pub kept-switch : (n : ℕ) (b : Bool) (h : Held) → Quiet h → Kept h (follow (switchedOf n b (h .connection)) h)
+kept-switch : (n : ℕ) (b : Bool) (h : Held) → Quiet h → Kept h (follow (switchedOf n b (h .connection)) h)
 kept-switch n b h q = kept-follow (switchedOf n b (h .connection)) h refl refl q
 
-pub kept-tick : (g : Config) (h : Held) → g .tcp ≡ true → Quiet h → Kept h (follow (tickOf g (h .connection)) h)
+kept-tick : (g : Config) (h : Held) → g .tcp ≡ true → Quiet h → Kept h (follow (tickOf g (h .connection)) h)
 kept-tick g h tcp q = go (tickOf g (h .connection)) (tick-is g (h .connection))
   where
     go : (d : Connection) → Tick g (h .connection) d → Kept h (follow d h)
@@ -32,12 +33,17 @@ kept-tick g h tcp q = go (tickOf g (h .connection)) (tick-is g (h .connection))
     go d (goes-on _ e t) =
         record { going = λ _. follows d h (t .part); gone = λ off. follows d h (t .part) ∙ q (sym (t .online tcp) ∙ off) }
 
--- the record at its place, among as many
-pub follow-at : (cs : List Connection) (hs : List Held) (k : ℕ) → length cs ≡ length hs → getD (followAll cs hs) k blank ≡ follow (getD cs k zeroRecord) (getD hs k blank)
-follow-at [] hs k e = refl
-follow-at (c ∷ cs) [] k e = absurd (omega arith)
-follow-at (c ∷ cs) (h ∷ hs) zero e = refl
-follow-at (c ∷ cs) (h ∷ hs) (suc k) e = follow-at cs hs k (omega arith)
+alike-kept : (h h′ : Held) → Quiet h → Alike h h′ → Kept h h′
+alike-kept h h′ q a = record { going = λ _. a .cell; gone = λ off. a .cell ∙ q (sym (a .online) ∙ off) }
 
-pub kept-leaves : (s : State) (w : World) (k : ℕ) → length (s .connections) ≡ length (w .held) → Kept (heldAt w k) (follow (recordAt s k) (heldAt w k)) → Kept (heldAt w k) (heldAt (leaves s w) k)
-kept-leaves s w k e r = subst (Kept (heldAt w k)) (sym (follow-at (s .connections) (w .held) k e)) r
+-- ANY OF THEM
+pub gentle : (image : List ℕ) (k : ℕ) → configOf image k .tcp ≡ true → Gentle (wholeOf image) k
+gentle image k tcp e w q = go e (heldAt (wholeOf image e w) k) (becomes image k w e)
+  where
+    go : (e : Whole) (h : Held) → Becomes image k (heldAt w k) e h → Kept (heldAt w k) h
+    go _ _ (untouched e) = kept-same (heldAt w k) q
+    go _ _ (same e) = kept-follow (heldAt w k .connection) (heldAt w k) refl refl q
+    go _ _ (met e source) = kept-met source (heldAt w k)
+    go _ _ ticked = kept-tick (configOf image k) (heldAt w k) tcp q
+    go _ _ (switched e n b) = kept-switch n b (heldAt w k) q
+    go _ _ (sent pdu payload h a) = alike-kept (heldAt w k) h q a

@@ -4,30 +4,27 @@ use Prim.Native.Nat.{ℕ}
 use mathlib.Core.Path.{_≡_, refl, sym, ap, _∙_}
 use mathlib.Core.Bool.{Bool, true, false, cond}
 use mathlib.Core.List.{List}
-use lib.Dec.{eqb, ltb}
+use lib.Dec.{ltb}
 use lib.ListN.{length, replicate, length-set}
 use Rattle.lists.proofs.Fold.{fold-keeps}
 use Rattle.rows.specs.Rows.{destinationOf}
 use Rattle.state.specs.declared.State.{State}
-use Rattle.gate.specs.declared.Gate.{Gate}
-use Rattle.gate.specs.declared.Gate.the-variants.{Pass, Refused}
-use Rattle.gate.specs.Gate.{gateOf, through, Passed}
-use Rattle.gate.specs.Sound.{recordsSound}
+use Rattle.gate.specs.Gate.{gateOf, Passed}
 use Rattle.keeps.proofs.Keeps.{event-passed, switch-all-passed, read-passed, clear-passed, tick-passed}
-use Rattle.kept.proofs.Arrived.{arrival-keeps}
-use Rattle.kept.proofs.Taken.{taken-keeps}
-use Rattle.kept.proofs.Transmitted.{transmit-keeps}
+use Rattle.keeps.proofs.Past.{past-or}
+use Rattle.keeps.proofs.Arrived.{arrival-passed}
+use Rattle.keeps.proofs.Taken.{taken-passed}
+use Rattle.keeps.proofs.Transmitted.{transmit-keeps}
 use Rattle.receive.proofs.Keeps.{walk-passed}
 use Rattle.send.specs.Verdict.{isStored}
 use Rattle.send.specs.Send.{destinations, Sending, sending, appendOf, checkOf, wantedAt, storeOf, storeAll, transmitOf, transmittedOf}
-use Rattle.sending.specs.Sending.{notSent, sendOf, sentMemory, takenOf}
+use Rattle.sending.specs.Sending.{notSent, sendOf, sentMemory}
 use Rattle.arrivals.specs.Arrivals.{arrivalOf}
 use Rattle.layout.specs.Layout.{rowsOf}
 use Rattle.layout.specs.declared.Kind.the-variants.{Connection as Connections}
 use Rattle.lists.proofs.Each.{each-length}
 use Rattle.connection.specs.declared.Remote.{Remote}
-use Rattle.connection.specs.declared.Refusal.{Refusal}
-use Rattle.connection.specs.declared.Refusal.the-variants.{Missing, Denied}
+use Rattle.connection.specs.declared.Refusal.the-variants.{Missing}
 use Rattle.connection.specs.declared.Answer.the-variants.{Done}
 use Rattle.choose.specs.declared.Arrived.{Arrived}
 use Rattle.choose.specs.Choose.{refusedBy, arriveOf}
@@ -35,7 +32,8 @@ use Rattle.events.specs.declared.Told.{Told}
 use Rattle.events.specs.declared.Counted.{Counted}
 use Rattle.events.specs.Change.{refusedBy as notTold}
 use Rattle.events.specs.Module.{switchAt, switchedAll, switchAllOf}
-use Rattle.events.specs.Count.{ofProtocol, readFrom, clearFrom, uncounted, readPast, clearPast, readOf, clearOf}
+use Rattle.events.specs.Count.{uncounted, readPast, clearPast, readOf, clearOf}
+use Rattle.events.proofs.Counts.{read-state, clear-records}
 use Rattle.ticks.specs.declared.Ticked.{Ticked}
 use Rattle.ticks.specs.Tick.{tickAt, tickedTo, unticked, tickEvent}
 use Rattle.waits.proofs.Append.{append-sixteen, append-long}
@@ -53,10 +51,6 @@ use Rattle.tie.specs.Run.{afterOwn, afterWhole, afterEvent, Good}
 use Rattle.tie.proofs.Segments.{segment-passed}
 use Rattle.tie.proofs.Steps.{own-view}
 
--- the same memories, and records that are sound
-from-sound : (image : List ℕ) (s t : State) (rx tx : ℕ) → Passed image s rx tx → recordsSound image (t .connections) ≡ true → Passed image t rx tx
-from-sound image s t rx tx p h = record { receive = p .receive; send = p .send; table = p .table; sound = h }
-
 -- SIXTEEN RECORDS: an event of a connection replaces one
 records-left : (image : List ℕ) (m m′ : Machine) (k : ℕ) (e : Own) → seen m′ ≡ step (tableOf image) (wholeOf image) (seen m) (on k e) → length (m′ .state .connections) ≡ length (m .state .connections)
 unfolding step
@@ -72,19 +66,13 @@ unfolding afterOwn
 own-passed image m k (change e) b g = event-passed image (m .state) (length (m .rx)) (length (m .tx)) (g .passed) k e
 own-passed image m k (segment bytes) b g = segment-passed image k m bytes (g .passed) b (wholeOf image)
 own-passed image m k (walk d p) b g = walk-passed image (m .state) (length (m .rx)) (length (m .tx)) k d p (g .passed)
-own-passed image m k (take room) b g =
-    from-sound image (m .state) (takenOf image (m .state) (length (m .rx)) (m .tx) k (replicate room 0) .state) (length (m .rx)) (length (m .tx)) (g .passed)
-    (taken-keeps image (m .state) (length (m .rx)) (m .tx) k (replicate room 0) (g .sixteen) (g .passed .sound))
+own-passed image m k (take room) b g = taken-passed image (m .state) (length (m .rx)) (m .tx) k (replicate room 0) (g .passed)
 
 own-good : (image : List ℕ) (m : Machine) (k : ℕ) (e : Own) → EventBytes (on k e) → Good image m → Good image (afterOwn image k e m)
 own-good image m k e b g =
     record { passed = own-passed image m k e b g; sixteen = records-left image m (afterOwn image k e m) k e (own-view image m g k e b) ∙ g .sixteen }
 
 -- events of a whole group or module: refused at the gate, or past it
-pub past-or : {A : Type 0} (P : A → Type 0) (g : Gate) (refused : Refusal → A) (event : A) → ((r : Refusal) → P (refused r)) → P event → P (through g refused event)
-past-or P Pass refused event p q = q
-past-or P (Refused r) refused event p q = p r
-
 module _ (image : List ℕ) (m : Machine) (g : Good image m) where
   abbrev s : State
   s = m .state
@@ -106,49 +94,39 @@ module _ (image : List ℕ) (m : Machine) (g : Good image m) where
   unfolding arrivalOf
   arrival-good a group source =
       with-state (arrivalOf image s rx tx a group source .state)
-      (from-sound image s (arrivalOf image s rx tx a group source .state) rx tx (g .passed) (arrival-keeps image s rx tx a group source (g .sixteen) (g .passed .sound)))
+      (arrival-passed image s rx tx a group source (g .passed))
       (past-or (λ (t : Arrived). Sixteen (t .state)) (gateOf image s rx tx) (refusedBy s) (arriveOf image s a group source) (λ r. g .sixteen)
-      (meeting-length s (arriveOf image s a group source .state) source (arrive-is image s a group source) ∙ g .sixteen))
+      (λ _. meeting-length s (arriveOf image s a group source .state) source (arrive-is image s a group source) ∙ g .sixteen))
 
   tick-good : Good image (machine (tickEvent image s rx tx .state) (m .rx) (m .tx))
   unfolding tickEvent tickedTo
   tick-good =
       with-state (tickEvent image s rx tx .state) (tick-passed image s rx tx (g .passed))
       (past-or (λ (t : Ticked). Sixteen (t .state)) (gateOf image s rx tx) (unticked s) (record { answer = Done; state = tickedTo image (rowsOf image Connections) s }) (λ r. g .sixteen)
-      (each-length (tickAt image) 0 (rowsOf image Connections) (s .connections) ∙ g .sixteen))
+      (λ _. each-length (tickAt image) 0 (rowsOf image Connections) (s .connections) ∙ g .sixteen))
 
   switches-good : (n : ℕ) (b : Bool) → Good image (machine (switchAllOf image s rx tx n b .state) (m .rx) (m .tx))
   unfolding switchAllOf switchedAll
   switches-good n b =
       with-state (switchAllOf image s rx tx n b .state) (switch-all-passed image s rx tx (g .passed) n b)
       (past-or (λ (t : Told). Sixteen (t .state)) (gateOf image s rx tx) (notTold s)
-      (cond (ltb n 32) (record { answer = Done; state = switchedAll (rowsOf image Connections) n b s }) (notTold s Missing)) (λ r. g .sixteen) (go (ltb n 32)))
+      (cond (ltb n 32) (record { answer = Done; state = switchedAll (rowsOf image Connections) n b s }) (notTold s Missing)) (λ r. g .sixteen) (λ _. go (ltb n 32)))
     where
       go : (x : Bool) → Sixteen (cond x (record { answer = Done; state = switchedAll (rowsOf image Connections) n b s }) (notTold s Missing) .state)
       go true = each-length (switchAt n b) 0 (rowsOf image Connections) (s .connections) ∙ g .sixteen
       go false = g .sixteen
 
   read-good : (p : ℕ) → Good image (machine (readOf image s rx tx p .state) (m .rx) (m .tx))
-  unfolding readOf readPast ofProtocol
+  unfolding readOf
   read-good p =
       with-state (readOf image s rx tx p .state) (read-passed image s rx tx (g .passed) p)
-      (past-or (λ (t : Counted). Sixteen (t .state)) (gateOf image s rx tx) (uncounted s) (readPast s p) (λ r. g .sixteen) (go (eqb p 1) (eqb p 2)))
-    where
-      go : (x y : Bool) → Sixteen (cond x (readFrom s false) (cond y (readFrom s true) (uncounted s Denied)) .state)
-      go true y = g .sixteen
-      go false true = g .sixteen
-      go false false = g .sixteen
+      (past-or (λ (t : Counted). Sixteen (t .state)) (gateOf image s rx tx) (uncounted s) (readPast s p) (λ r. g .sixteen) (λ _. ap (λ (t : State). length (t .connections)) (read-state s p) ∙ g .sixteen))
 
   clear-good : (p : ℕ) → Good image (machine (clearOf image s rx tx p .state) (m .rx) (m .tx))
-  unfolding clearOf clearPast ofProtocol
+  unfolding clearOf
   clear-good p =
       with-state (clearOf image s rx tx p .state) (clear-passed image s rx tx (g .passed) p)
-      (past-or (λ (t : Counted). Sixteen (t .state)) (gateOf image s rx tx) (uncounted s) (clearPast s p) (λ r. g .sixteen) (go (eqb p 1) (eqb p 2)))
-    where
-      go : (x y : Bool) → Sixteen (cond x (clearFrom s false) (cond y (clearFrom s true) (uncounted s Denied)) .state)
-      go true y = g .sixteen
-      go false true = g .sixteen
-      go false false = g .sixteen
+      (past-or (λ (t : Counted). Sixteen (t .state)) (gateOf image s rx tx) (uncounted s) (clearPast s p) (λ r. g .sixteen) (λ _. ap length (clear-records s p) ∙ g .sixteen))
 
   -- a transmit: as many records, and send memory as long as it was
   abbrev Sized : Sending → Type 0
@@ -174,8 +152,8 @@ module _ (image : List ℕ) (m : Machine) (g : Good image m) where
   send-sized : (pdu : ℕ) (payload : List ℕ) → Sixteen (sendOf image s rx (m .tx) pdu payload .state) × (length (sentMemory image s rx (m .tx) pdu payload) ≡ tx)
   unfolding sendOf sentMemory
   send-sized pdu payload = (
-    past-or (λ (t : Transmitted). Sixteen (t .state)) (gateOf image s rx tx) (notSent s) (transmittedOf image s pdu payload (m .tx)) (λ r. g .sixteen) (sent-sized pdu payload .0),
-    past-or (λ (l : List ℕ). length l ≡ tx) (gateOf image s rx tx) (λ r. m .tx) (transmitOf image s pdu payload (m .tx) .memory) (λ r. refl) (sent-sized pdu payload .1),
+    past-or (λ (t : Transmitted). Sixteen (t .state)) (gateOf image s rx tx) (notSent s) (transmittedOf image s pdu payload (m .tx)) (λ r. g .sixteen) (λ _. sent-sized pdu payload .0),
+    past-or (λ (l : List ℕ). length l ≡ tx) (gateOf image s rx tx) (λ r. m .tx) (transmitOf image s pdu payload (m .tx) .memory) (λ r. refl) (λ _. sent-sized pdu payload .1),
   )
 
   transmit-good : (pdu : ℕ) (payload : List ℕ) → Good image (machine (sendOf image s rx (m .tx) pdu payload .state) (m .rx) (sentMemory image s rx (m .tx) pdu payload))

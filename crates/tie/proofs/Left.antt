@@ -9,7 +9,8 @@ use Rattle.connection.specs.declared.Connection.{Connection}
 use Rattle.feed.specs.Feed.{Out, drops}
 use Rattle.state.specs.declared.State.{State}
 use Rattle.state.specs.State.{recordAt, withRecord}
-use Rattle.world.specs.World.{Held, World, blank, heldAt, stretch, heldOf, viewOf, follow}
+use Rattle.state.specs.Memory.{stretch}
+use Rattle.world.specs.World.{Held, World, blank, heldAt, heldOf, viewOf, follow}
 use Rattle.world.specs.Step.{Table, counts, countsIf, acted, left}
 use Rattle.world.proofs.View.{view-at, view-one, Less, follow-held}
 

@@ -1,13 +1,12 @@
 -- The equations between entry points and the world. Assumes nothing.
-pub mod Places
 pub mod Less
 pub mod Rests
 pub mod Left
-pub mod Gentle
 pub mod Follows
 pub mod Arrivals
 pub mod Sends
-pub mod Wholes
+pub mod Becomes
+pub mod Gentle
 pub mod Modules
 pub mod Take
 pub mod Takes

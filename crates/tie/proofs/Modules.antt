@@ -1,16 +1,17 @@
 -- GROUP AND MODULE EVENTS that write no lent memory: what their entry points leave is the world's step. Assumes nothing.
 use Prim.Native.Nat.{ℕ}
-use mathlib.Core.Path.{_≡_, refl, sym, ap, _∙_}
+use mathlib.Core.Path.{_≡_, refl, sym, ap, _∙_, subst}
 use mathlib.Core.Bool.{Bool, true, false, cond}
 use mathlib.Core.List.{List}
-use lib.Dec.{eqb, ltb}
+use lib.Dec.{ltb}
 use lib.ListN.{length}
 use Rattle.layout.specs.Layout.{rowsOf}
 use Rattle.layout.specs.declared.Kind.the-variants.{Connection as Connections}
+use Rattle.connection.specs.declared.Connection.{Connection}
 use Rattle.connection.specs.declared.Remote.{Remote}
 use Rattle.connection.specs.declared.Answer.the-variants.{Done}
 use Rattle.connection.specs.declared.Refusal.{Refusal}
-use Rattle.connection.specs.declared.Refusal.the-variants.{Missing, Denied}
+use Rattle.connection.specs.declared.Refusal.the-variants.{Missing}
 use Rattle.state.specs.declared.State.{State}
 use Rattle.state.specs.Fresh.{configOf}
 use Rattle.gate.specs.declared.Gate.{Gate}
@@ -23,7 +24,8 @@ use Rattle.events.specs.declared.Told.{Told}
 use Rattle.events.specs.declared.Counted.{Counted}
 use Rattle.events.specs.Change.{refusedBy}
 use Rattle.events.specs.Module.{switchAt, switchedAll, switchAllOf}
-use Rattle.events.specs.Count.{ofProtocol, readFrom, clearFrom, uncounted, readPast, clearPast, readOf, clearOf}
+use Rattle.events.specs.Count.{uncounted, readPast, clearPast, readOf, clearOf}
+use Rattle.events.proofs.Counts.{read-state, clear-records}
 use Rattle.world.specs.World.{World, viewOf, stateOf, leaves}
 use Rattle.world.specs.Events.{tick, switchAll, readCount, clearCount, all}
 use Rattle.world.specs.Step.{step}
@@ -48,7 +50,7 @@ module _ (image : List ℕ) (s : State) (rx tx : List ℕ) where
       (meeting-fewer s (arriveOf image s a group source .state) source (arrive-is image s a group source))
 
   -- past the gate
-  past : {A : Type 0} (refused : Refusal → A) (event : A) → Passed image s (length rx) (length tx) → through (gateOf image s (length rx) (length tx)) refused event ≡ event
+  pub past : {A : Type 0} (refused : Refusal → A) (event : A) → Passed image s (length rx) (length tx) → through (gateOf image s (length rx) (length tx)) refused event ≡ event
   past refused event p = ap (λ (g : Gate). through g refused event) (passed-gate image s (length rx) (length tx) p)
 
   -- a tick
@@ -79,26 +81,12 @@ module _ (image : List ℕ) (s : State) (rx tx : List ℕ) where
   -- a count read, and read and cleared
   pub read-view : (protocol : ℕ) → Passed image s (length rx) (length tx)
       → viewOf (readOf image s (length rx) (length tx) protocol .state) rx tx ≡ step (tableOf image) (wholeOf image) w (all (readCount protocol))
-  unfolding readOf step readPast ofProtocol
-  read-view n p = ap (λ (t : Counted). viewOf (t .state) rx tx) (past (uncounted s) (readPast s n) p) ∙ go (eqb n 1) (eqb n 2)
-    where
-      go : (x y : Bool) → viewOf (cond x (readFrom s false) (cond y (readFrom s true) (uncounted s Denied)) .state) rx tx ≡ w
-      go true y = refl
-      go false true = refl
-      go false false = refl
-
-  clear-fewer : (n : ℕ) → Fewer (clearPast s n .state .connections) (s .connections)
-  unfolding clearPast ofProtocol
-  clear-fewer n = go (eqb n 1) (eqb n 2)
-    where
-      go : (x y : Bool) → Fewer (cond x (clearFrom s false) (cond y (clearFrom s true) (uncounted s Denied)) .state .connections) (s .connections)
-      go true y = fewer-same (s .connections)
-      go false true = fewer-same (s .connections)
-      go false false = fewer-same (s .connections)
+  unfolding readOf step
+  read-view n p = ap (λ (t : Counted). viewOf (t .state) rx tx) (past (uncounted s) (readPast s n) p) ∙ ap (λ (t : State). viewOf t rx tx) (read-state s n)
 
   pub clear-view : (protocol : ℕ) → Passed image s (length rx) (length tx)
       → viewOf (clearOf image s (length rx) (length tx) protocol .state) rx tx ≡ step (tableOf image) (wholeOf image) w (all (clearCount protocol))
   unfolding clearOf step
   clear-view n p =
       ap (λ (t : Counted). viewOf (t .state) rx tx) (past (uncounted s) (clearPast s n) p)
-      ∙ leaves-view (λ (t : State). clearPast t n .state) s rx tx (clear-fewer n)
+      ∙ leaves-view (λ (t : State). clearPast t n .state) s rx tx (subst (λ (l : List Connection). Fewer l (s .connections)) (sym (clear-records s n)) (fewer-same (s .connections)))

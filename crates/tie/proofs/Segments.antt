@@ -22,10 +22,11 @@ use Rattle.receive.specs.declared.Answer.{Answer}
 use Rattle.receive.specs.declared.SegmentTaken.{SegmentTaken}
 use Rattle.receive.specs.Answer.{isDone}
 use Rattle.receive.specs.Segment.{noneTaken, segmentAnswer, segmentOf as segmentTaken, memoryOf, payloadOf}
-use Rattle.world.specs.World.{Held, World, heldAt}
+use Rattle.world.specs.World.{World, heldAt}
 use Rattle.world.specs.Events.{segment, Whole, on}
-use Rattle.world.specs.Step.{Acted, acted, receiving, streamed, acts, at, left, step}
-use Rattle.world.proofs.View.{view-at}
+use Rattle.connection.specs.Event.{receiving}
+use Rattle.world.specs.Step.{Acted, acted, streamed, acts, at, left, step}
+use Rattle.world.proofs.View.{view-record}
 use Rattle.runs.proofs.Same.{does-read, does-refused}
 use Rattle.tie.specs.Table.{tableOf}
 use Rattle.tie.specs.Machine.{Machine, seen, taken, afterOne, restOf, told, toldBy, goesOn, afterTakes, toldTakes, afterSegment, toldSegment}
@@ -103,7 +104,7 @@ module _ (image : List ℕ) (k : ℕ) where
 
     -- the world's side
     seen-c : heldAt (seen m) k .connection ≡ c
-    seen-c = ap (λ (h : Held). h .connection) (view-at (m .state) (m .rx) (m .tx) k)
+    seen-c = view-record (m .state) (m .rx) (m .tx) k
 
     at-open : readable ≡ true → at (tableOf image) (seen m) k (segment bs) ≡ streamed (heldAt (seen m) k) (segmentOf (R image k m) (C image k m) bs)
     unfolding acts

@@ -9,20 +9,15 @@ use lib.ListN.{length, replicate, length-replicate}
 use Rattle.layout.specs.Layout.{rowsOf}
 use Rattle.layout.specs.declared.Kind.the-variants.{Connection as Connections}
 use Rattle.connection.specs.declared.Remote.{Remote}
-use Rattle.connection.specs.declared.Refusal.{Refusal}
 use Rattle.state.specs.declared.State.{State}
 use Rattle.feed.specs.Feed.{Pdu, pdus}
 use Rattle.table.proofs.Facts.{accepted-facts}
-use Rattle.gate.specs.declared.Gate.{Gate}
-use Rattle.gate.specs.Gate.{gateOf, through}
-use Rattle.gate.proofs.Pass.{passed-gate}
 use Rattle.choose.specs.declared.Arrived.{Arrived}
 use Rattle.choose.specs.Choose.{refusedBy, arriveOf}
 use Rattle.arrivals.specs.Arrivals.{arrivalOf}
 use Rattle.send.specs.declared.Transmitted.{Transmitted}
 use Rattle.send.specs.Send.{transmitOf, transmittedOf}
 use Rattle.sending.specs.Sending.{notSent, sendOf, sentMemory}
-use Rattle.sending.proofs.Past.{ready-from}
 use Rattle.world.specs.World.{Held, World, heldAt, viewOf, stateOf, leaves}
 use Rattle.world.specs.Events.{Own, change, segment, walk, take, Whole, datagram, accept, tick, transmit, switchAll, readCount, clearCount, Event, on, all}
 use Rattle.world.specs.Step.{acted, does, acts, step, hands}
@@ -35,7 +30,7 @@ use Rattle.tie.specs.Run.{afterOwn, afterWhole, afterEvent, given, Good}
 use Rattle.tie.proofs.Follows.{change-view, take-view}
 use Rattle.tie.proofs.Segments.{segment-view, segment-told}
 use Rattle.tie.proofs.Walks.{walk-view, walk-told}
-use Rattle.tie.proofs.Modules.{arrive-view, tick-view, switch-all-view, read-view, clear-view}
+use Rattle.tie.proofs.Modules.{past, arrive-view, tick-view, switch-all-view, read-view, clear-view}
 use Rattle.tie.proofs.Sends.{transmit-view}
 
 module _ (image : List ℕ) (m : Machine) (good : Good image m) where
@@ -51,19 +46,15 @@ module _ (image : List ℕ) (m : Machine) (good : Good image m) where
   abbrev W : Whole → World → World
   W = wholeOf image
 
-  -- past the gate
-  past : {A : Type 0} (refused : Refusal → A) (event : A) → through (gateOf image s (length rx) (length tx)) refused event ≡ event
-  past refused event = ap (λ (g : Gate). through g refused event) (passed-gate image s (length rx) (length tx) (good .passed))
-
   arrival-view : (a : Bool) (group : ℕ) (source : Remote) → viewOf (arrivalOf image s (length rx) (length tx) a group source .state) rx tx ≡ leaves (arriveOf image (stateOf (seen m)) a group source .state) (seen m)
   unfolding arrivalOf
-  arrival-view a group source = ap (λ (t : Arrived). viewOf (t .state) rx tx) (past (refusedBy s) (arriveOf image s a group source)) ∙ arrive-view image s rx tx a group source
+  arrival-view a group source = ap (λ (t : Arrived). viewOf (t .state) rx tx) (past image s rx tx (refusedBy s) (arriveOf image s a group source) (good .passed)) ∙ arrive-view image s rx tx a group source
 
   send-view : (pdu : ℕ) (payload : List ℕ) → viewOf (sendOf image s (length rx) tx pdu payload .state) rx (sentMemory image s (length rx) tx pdu payload) ≡ transmitIn image pdu payload (seen m)
   unfolding sendOf sentMemory
   send-view pdu payload =
-      ap₂ (λ (t : Transmitted) (z : List ℕ). viewOf (t .state) rx z) (past (notSent s) (transmittedOf image s pdu payload tx)) (past (λ r. tx) (transmitOf image s pdu payload tx .memory))
-      ∙ transmit-view image rx tx payload s pdu (ready-from image (accepted-facts image (good .passed .table))) (good .passed .send)
+      ap₂ (λ (t : Transmitted) (z : List ℕ). viewOf (t .state) rx z) (past image s rx tx (notSent s) (transmittedOf image s pdu payload tx) (good .passed)) (past image s rx tx (λ r. tx) (transmitOf image s pdu payload tx .memory) (good .passed))
+      ∙ transmit-view image rx tx payload s pdu (good .passed .send) (good .sixteen) (accepted-facts image (good .passed .table)) (good .passed .sound)
 
   -- ONE EVENT OF A CONNECTION
   pub own-view : (k : ℕ) (e : Own) → EventBytes (on k e) → seen (afterOwn image k e m) ≡ step (tableOf image) W (seen m) (on k e)

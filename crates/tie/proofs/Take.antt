@@ -29,10 +29,11 @@ use Rattle.receive.specs.Segment.{countTake, takenAt, stretchAt, takeOn, memory
 use Rattle.receive.proofs.Answers.{Clear}
 use Rattle.receive.proofs.Past.{passed-takes}
 use Rattle.receive.proofs.Keeps.{in-range, take-clear}
-use Rattle.world.specs.World.{Held, blank, heldAt, heldBy, stretch, heldOf, viewOf, cellAt, withCell}
+use Rattle.state.specs.Memory.{stretch}
+use Rattle.world.specs.World.{Held, blank, heldAt, heldBy, heldOf, viewOf, cellAt, withCell}
 use Rattle.world.specs.Step.{counts, acted, left}
 use Rattle.world.proofs.View.{view-length, view-at}
-use Rattle.world.proofs.Stretch.{stretch-apart, stretch-own}
+use Rattle.state.proofs.Stretch.{stretch-apart, stretch-own}
 use Rattle.runs.proofs.Keeps.{cell-follow}
 use Rattle.tie.specs.Table.{tableOf}
 use Rattle.tie.specs.Machine.{Machine, seen, taken, afterOne, restOf, told, toldBy}

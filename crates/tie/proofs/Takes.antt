@@ -7,7 +7,7 @@ use mathlib.Core.List.{List, [], _∷_, _++_, append-nil}
 use native.Mathlib.Omega.{arith}
 use lib.ListN.{length}
 use Rattle.feed.specs.Feed.{Routes, Cell, Out, emit, Took, takeB, Ran, joined, takes, Pdu, pdus}
-use Rattle.feed.proofs.Cut.{emit-append, take-reads, pdus-append}
+use Rattle.feed.proofs.Cut.{emit-append, take-less, pdus-append}
 use Rattle.lengths.specs.Listed.{Bytes}
 use Rattle.lengths.proofs.Bytes.{bytes-drop}
 use Rattle.layout.specs.Layout.{bodyOf}
@@ -20,12 +20,6 @@ use Rattle.runs.proofs.Same.{left-following}
 use Rattle.tie.specs.Table.{tableOf}
 use Rattle.tie.specs.Machine.{Machine, seen, taken, afterOne, restOf, toldBy, goesOn, afterTakes, toldTakes}
 use Rattle.tie.proofs.Take.{Open, tookAt, answer-done, rest-is, one-view, cell-is, switches-is, one-told, open-after, held-after}
-
--- a take leaves fewer bytes than it was given, if any
-take-less : (R : Routes) (c : Cell) (bs : List ℕ) → length (takeB R c bs .rest) ≤ length bs - 1
-unfolding takeB
-take-less R c [] = omega arith
-take-less R c (b ∷ bs) = omega (arith, take-reads R c b bs)
 
 module _ (image : List ℕ) (k : ℕ) where
   -- the takes as the world has them, on connection k of a machine

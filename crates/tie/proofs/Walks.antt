@@ -24,7 +24,8 @@ use Rattle.receive.specs.Answer.{isDone}
 use Rattle.receive.specs.Walk.{countWalk, walkOn, walkAllowed, walkAnswer, walkOf}
 use Rattle.world.specs.World.{Held, World, heldAt, viewOf}
 use Rattle.world.specs.Events.{walk, Whole, on}
-use Rattle.world.specs.Step.{Acted, counts, receiving, acted, does, acts, at, left, step}
+use Rattle.connection.specs.Event.{receiving}
+use Rattle.world.specs.Step.{Acted, counts, acted, does, acts, at, left, step}
 use Rattle.world.proofs.View.{view-at}
 use Rattle.datagram.specs.declared.Outcome.the-variants.{End}
 use Rattle.tie.specs.Table.{tableOf}

@@ -1,11 +1,8 @@
 -- The table is the events' effect on every sound record. Assumes nothing.
-use Prim.Native.Nat.{ℕ, _-_}
+use Prim.Native.Nat.{_-_}
 use lib.Dec.{eqb}
-use mathlib.Core.Path.{_≡_, refl, sym, ap, subst, _∙_}
+use mathlib.Core.Path.{_≡_, refl, ap, _∙_}
 use mathlib.Core.Bool.{Bool, true, false, cond, not, _&&_, _||_, Bool·beq}
-use mathlib.Core.List.{List}
-use native.Mathlib.Omega.{arith}
-use borrow.Author.Tests.{eqb-true}
 use Rattle.connection.specs.declared.Mode.{Mode}
 use Rattle.connection.specs.declared.Mode.the-variants.{Offline, Reconnect, Online}
 use Rattle.connection.specs.declared.Connection.{Connection}
@@ -14,10 +11,10 @@ use Rattle.connection.specs.declared.Refusal.the-variants.{Missing, Denied}
 use Rattle.connection.specs.declared.Answer.the-variants.{Done}
 use Rattle.connection.specs.declared.Event.{Event}
 use Rattle.connection.specs.declared.Event.the-variants.{Open, Close, Connected, Lost, SetRemote, Switch}
-use Rattle.connection.specs.Connection.{isOffline, isReconnect, isOnline, wildcard, withMode, withSend, become, closedOf, switchedOf, startOf, reachOf, runOf, tickOf}
+use Rattle.connection.specs.Connection.{isOffline, isReconnect, isOnline, wildcard, withMode, withSend, become, closedOf, startOf, reachOf, runOf, tickOf}
 use Rattle.connection.specs.Event.{known, allowed, after, refusedBy, stepOf}
-use Rattle.connection.specs.Sound.{openRule, closeRule, Sound}
-use Rattle.connection.proofs.Rules.{impossible}
+use Rattle.connection.specs.Sound.{Sound}
+use Rattle.lists.proofs.Both.{impossible}
 use Rattle.lists.proofs.Both.{and-left, and-right, and-both}
 use Rattle.transitions.specs.Table.{Place, at, placeOf, Happening, opens, closes, connects, loses, sets, switches, ticks, happeningOf, modeNumber, table, firstIn, move}
 

@@ -1,3 +1,2 @@
 -- The laws of the crate. Assumes nothing.
 pub mod Effect
-pub mod Changes

@@ -1,3 +1,2 @@
 -- The definitions of the crate. Assumes nothing.
 pub mod Table
-pub mod Changes

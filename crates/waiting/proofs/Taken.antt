@@ -1,6 +1,6 @@
--- Each answer of a take, as the code gives it. Assumes nothing.
+-- Each answer of a take, as the code gives it, and what a take makes of a record. Assumes nothing.
 use Prim.Native.Nat.{ℕ, _+_, _-_, _*_, _<_, _≤_}
-use mathlib.Core.Path.{_≡_, refl, sym, ap, ap₂, _∙_}
+use mathlib.Core.Path.{_≡_, refl, sym, ap, _∙_}
 use mathlib.Core.Bool.{Bool, true, false, cond, not, _&&_, _||_, or-true}
 use mathlib.Core.List.{List, []}
 use native.Mathlib.Omega.{arith}
@@ -8,13 +8,13 @@ use native.Mathlib.Nat.{add-sub-cancel-left}
 use lib.Dec.{eqb, ltb}
 use lib.ListN.{length, take, drop, length-drop, drop-of-length-le}
 use lib.Seq.{take-all}
-use borrow.Author.Tests.{lt-ltb, le-ltb, eq-eqb, ne-eqb, not-true, not-false}
+use borrow.Author.Tests.{lt-ltb, le-ltb, eqb-true, eq-eqb, ne-eqb, not-true, not-false}
+use Rattle.lists.proofs.Both.{impossible, neither}
 use Rattle.connection.specs.declared.Mode.the-variants.{Reconnect}
 use Rattle.connection.specs.declared.Config.{Config}
 use Rattle.connection.specs.declared.Connection.{Connection}
 use Rattle.connection.specs.Connection.{wildcard, withMode, withRemote, withSend, become}
 use Rattle.wire.specs.Lay.{lay}
-use Rattle.waiting.specs.declared.Taking.{Taking}
 use Rattle.waiting.specs.declared.Taking.the-variants.{Bytes, Short}
 use Rattle.waiting.specs.declared.Drained.{Drained}
 use Rattle.waiting.specs.Waiting.{waitingOf, takingOf, outOf, afterTake, takeOf}
@@ -74,3 +74,50 @@ module _ (g : Config) (c : Connection) (waiting out : List ℕ) where
     pub take-some : (c .used ≡ 0 → ⊥) → (d : Connection) → d ≡ afterTake g (withSend 0 0 false c) → Answers (record { answer = Bytes (c .used) (c .remote); connection = d }) o
     unfolding takingOf takeOf outOf
     take-some z d p = (rw (le-ltb _ _ h, ne-eqb _ _ z) (ap (λ (x : Connection). record { answer = Bytes (c .used) (c .remote); connection = x }) p), rw (le-ltb _ _ h) e)
+
+-- what follows a take, in its three ways
+pub after-either : (g : Config) (d : Connection) (P : Connection → Type 0) → P d → (g .automatic ≡ true → g .tcp ≡ true → P (withMode (d .mode) (d .«open_wanted») true d))
+    → (g .automatic ≡ true → g .tcp ≡ false → P (become Reconnect (withRemote (g .remote) d))) → P (afterTake g d)
+after-either g d P p q r = go (g .automatic) refl (wildcard (g .remote)) (g .tcp) refl
+  where
+    go : (a : Bool) → g .automatic ≡ a → (w t : Bool) → g .tcp ≡ t → P (cond (a && w) (cond t (withMode (d .mode) (d .«open_wanted») true d) (become Reconnect (withRemote (g .remote) d))) d)
+    go false e w t f = p
+    go true e false t f = p
+    go true e true true f = q e f
+    go true e true false f = r e f
+
+-- THE RECORD after a take: as it was (nothing waits, or it is refused), or emptied
+module _ (g : Config) (room : ℕ) (c : Connection) where
+  pub take-either : (P : Connection → Type 0) → ((eqb (c .used) 0 || ltb room (c .used)) ≡ true → P c) → ((eqb (c .used) 0 || ltb room (c .used)) ≡ false → P (afterTake g (withSend 0 0 false c)))
+      → P (takeOf g room c)
+  unfolding takeOf
+  take-either P p q = go (eqb (c .used) 0 || ltb room (c .used)) refl
+    where
+      go : (b : Bool) → (eqb (c .used) 0 || ltb room (c .used)) ≡ b → P (cond b c (afterTake g (withSend 0 0 false c)))
+      go true e = p e
+      go false e = q e
+
+  pub take-part : takeOf g room c .part ≡ c .part
+  take-part =
+      take-either (λ (d : Connection). d .part ≡ c .part) (λ _. refl)
+      (λ _. after-either g (withSend 0 0 false c) (λ (d : Connection). d .part ≡ c .part) refl (λ _ _. refl) (λ _ _. refl))
+
+  -- a TCP connection stays in its mode
+  pub take-mode : g .tcp ≡ true → takeOf g room c .mode ≡ c .mode
+  take-mode tcp =
+      take-either (λ (d : Connection). d .mode ≡ c .mode) (λ _. refl)
+      (λ _. after-either g (withSend 0 0 false c) (λ (d : Connection). d .mode ≡ c .mode) refl (λ _ _. refl) (λ _ t. impossible (sym t ∙ tcp)))
+
+  -- what waits is taken unless it is refused
+  pub take-used : takeOf g room c .used ≡ cond (not (ltb room (c .used))) 0 (c .used)
+  take-used =
+      take-either (λ (d : Connection). d .used ≡ cond (not (ltb room (c .used))) 0 (c .used)) (kept (eqb (c .used) 0) (ltb room (c .used)) refl)
+      (λ e. after-either g (withSend 0 0 false c) (λ (d : Connection). d .used ≡ cond (not (ltb room (c .used))) 0 (c .used)) (taken e) (λ _ _. taken e) (λ _ _. taken e))
+    where
+      kept : (z r : Bool) → eqb (c .used) 0 ≡ z → (z || r) ≡ true → c .used ≡ cond (not r) 0 (c .used)
+      kept z true e h = refl
+      kept true false e h = eqb-true _ _ e
+      kept false false e h = impossible h
+
+      taken : (eqb (c .used) 0 || ltb room (c .used)) ≡ false → 0 ≡ cond (not (ltb room (c .used))) 0 (c .used)
+      taken e = rw (neither (eqb (c .used) 0) (ltb room (c .used)) e .1)

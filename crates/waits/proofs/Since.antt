@@ -1,6 +1,6 @@
 -- THE LAW FOR A READER: what waits after any events is what waited at the start with all that was added since, or, once
 -- something emptied it, only what was added since the last that did. Assumes nothing.
-use mathlib.Core.Path.{_≡_, refl, sym, ap, _∙_}
+use mathlib.Core.Path.{_≡_, refl, sym, _∙_}
 use mathlib.Core.Bool.{Bool, true, false, cond}
 use mathlib.Core.List.{List, [], _∷_, _++_, append-assoc, append-nil}
 use Prim.Native.Nat.{ℕ}
@@ -19,11 +19,3 @@ waits-since (empties ∷ ts) w = waits-since ts [] ∙ go (emptied ts)
     go true = refl
     go false = refl
 waits-since (stays ∷ ts) w = waits-since ts w
-
--- from nothing: the frames since
-pub waits-from-none : (ts : List Turn) → afterAll ts [] ≡ since ts
-waits-from-none ts = waits-since ts [] ∙ go (emptied ts)
-  where
-    go : (b : Bool) → cond b (since ts) ([] ++ since ts) ≡ since ts
-    go true = refl
-    go false = refl

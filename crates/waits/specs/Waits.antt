@@ -1,5 +1,5 @@
 -- WHAT WAITS ON A CONNECTION, and what a transmit adds to it. Assumes nothing.
-use Prim.Native.Nat.{ℕ, zero, suc, _+_}
+use Prim.Native.Nat.{ℕ, zero, suc}
 use mathlib.Core.Bool.{Bool, true, false, cond, _&&_}
 use mathlib.Core.List.{List, [], _∷_, _++_}
 use lib.Dec.{eqb}
@@ -9,7 +9,6 @@ use Rattle.connection.specs.declared.Connection.{Connection}
 use Rattle.connection.specs.declared.Event.{Event}
 use Rattle.connection.specs.declared.Event.the-variants.{Open, Close, Connected, Lost, SetRemote, Switch}
 use Rattle.connection.specs.Event.{lostAllowed}
-use Rattle.destination.specs.Destination.{sentOf}
 use Rattle.feed.specs.Frame.{frame}
 use Rattle.rows.specs.Rows.{destinationOf}
 use Rattle.state.specs.declared.State.{State}
@@ -37,10 +36,6 @@ module _ (image : List ℕ) (s : State) (pdu : ℕ) (payload : List ℕ) (k : �
   unfoldable pub addedTo : List ℕ
   addedTo = cond (isStored (checkOf image s pdu (length payload))) (framesFrom (destinations image) 0) []
 
-  -- what one row makes of connection k's record
-  abbrev pub recordStep : Connection → ℕ → Connection
-  recordStep c i = cond (goesTo i) (sentOf (destinationOf image i) (c .used + 8 + length payload) c) c
-
 -- what an event makes of the waiting bytes: it adds some, empties them (a non-empty take, a closing tick, a loss), or leaves them
 pub data Turn : Type 0 where
   adds : List ℕ → Turn
@@ -64,13 +59,6 @@ emptied (adds bytes ∷ ts) = emptied ts
 emptied (empties ∷ ts) = true
 emptied (stays ∷ ts) = emptied ts
 
--- all that they add
-abbrev pub added : List Turn → List ℕ
-added [] = []
-added (adds bytes ∷ ts) = bytes ++ added ts
-added (empties ∷ ts) = added ts
-added (stays ∷ ts) = added ts
-
 -- all that they add since the last that empties
 abbrev pub since : List Turn → List ℕ
 since [] = []
@@ -86,7 +74,3 @@ loses Connected g c = false
 loses Lost g c = lostAllowed g c
 loses (SetRemote r) g c = false
 loses (Switch n on) g c = false
-
--- an event that empties, or leaves
-abbrev pub emptiesWhen : Bool → Turn
-emptiesWhen b = cond b empties stays

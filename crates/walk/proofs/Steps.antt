@@ -8,7 +8,7 @@ use native.Mathlib.Omega.{arith}
 use native.Mathlib.Decide.{decLt}
 use native.Mathlib.Nat.{add-assoc}
 use lib.ListN.{length, take, drop, length-drop}
-use lib.Seq.{drop-drop, take-all, length-take-le}
+use lib.Seq.{drop-drop, length-take-le}
 use Rattle.feed.specs.declared.Decision.{Decision}
 use Rattle.feed.specs.declared.Decision.the-variants.{Accept, Refuse}
 use Rattle.feed.specs.Feed.{Routes, Out, pdu, dropped}
@@ -17,16 +17,8 @@ use Rattle.lengths.specs.Head.{Head, ended, short, beyond, whole, headOf}
 use Rattle.lengths.specs.Split.{sent, Split, splitBy, splits}
 use Rattle.lengths.proofs.Heads.{View, at-end, at-short, at-beyond, at-whole, view, head-end, whole-fits}
 use Rattle.lengths.proofs.Splits.{split-enough}
+use Rattle.wire.proofs.Part.{rest-is}
 use Rattle.walk.specs.Walk.{the-end, Walked, walked, wholeAt, stepOf, walkAt, told, walks, placeAfter, judge, leftOver, listOf}
-
--- `&datagram[place..]`, as the borrow checker says it
-pub rest-is : (d : List ℕ) (p : ℕ) → take (length d - p) (drop p d) ≡ drop p d
-rest-is d p = take-all (length d - p) (drop p d) (omega (arith, length-drop p d))
-
--- a step, by the head of that part
-pub step-in : (R : Routes) (d : List ℕ) (p : ℕ) (h : Head) → headOf (take (length d - p) (drop p d)) ≡ h → stepOf R (length d) p h ≡ walkAt R d p
-unfolding walkAt
-step-in R d p h e = rw (sym e, rest-is d p)
 
 -- a whole PDU stands within the datagram
 pub whole-place : (d : List ℕ) (p i n : ℕ) → p ≤ length d → headOf (take (length d - p) (drop p d)) ≡ whole i n → p + 8 + n ≤ length d

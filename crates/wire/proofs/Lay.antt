@@ -2,7 +2,7 @@
 use Prim.Native.Nat.{ℕ, suc, _+_, _-_, _≤_, _<_}
 use mathlib.Core.Path.{_≡_, refl, sym, ap, ap₂, _∙_}
 use mathlib.Core.Bool.{Bool, true, false, cond}
-use mathlib.Core.List.{List, [], _∷_, _++_, append-assoc}
+use mathlib.Core.List.{List, [], _∷_, _++_, append-nil, append-assoc}
 use native.Mathlib.Omega.{arith}
 use lib.Dec.{leb}
 use lib.ListN.{length, take, drop, set, length-append, length-drop, take-append-drop}
@@ -99,6 +99,19 @@ lay-held d base used x h =
     ap (λ (z : List ℕ). take (used + length x) (drop base z)) e
     ∙ ap (take (used + length x)) (drop-at (take base d) (take used (drop base d) ++ x ++ drop (base + used + length x) d) base n)
     ∙ take-at (take used (drop base d) ++ x) (drop (base + used + length x) d) (used + length x) (length-append (take used (drop base d)) x ∙ ap (λ (k : ℕ). k + length x) m)
+
+-- what is laid, by itself
+pub lay-own : (d : List ℕ) (at : ℕ) (x : List ℕ) → at + length x ≤ length d → take (length x) (drop at (lay d at x)) ≡ x
+lay-own d at x h =
+    let z : at ≡ at + 0 = omega arith in
+    let n : length x ≡ 0 + length x = omega arith in
+    ap₂ (λ (k m : ℕ). take k (drop at (lay d m x))) n z ∙ lay-held d at 0 x (omega arith)
+
+-- no bytes
+pub lay-nothing : (d : List ℕ) (at : ℕ) → lay d at [] ≡ d
+lay-nothing d at =
+    let z : at + 0 ≡ at = omega arith in
+    lay-cases d at [] (λ (l : List ℕ). l ≡ d) (λ h. ap₂ (λ (a : List ℕ) (k : ℕ). a ++ drop k d) (append-nil (take at d)) z ∙ take-append-drop at d) refl
 
 -- one byte
 pub lay-one : (d : List ℕ) (at v : ℕ) → at < length d → set d at v ≡ lay d at (v ∷ [])

@@ -2,4 +2,3 @@
 pub mod Cells
 pub mod Counts
 pub mod View
-pub mod Stretch

@@ -11,7 +11,9 @@ use Rattle.connection.specs.declared.Connection.{Connection}
 use Rattle.connection.specs.Connection.{zeroRecord}
 use Rattle.lists.specs.Each.{eachTo}
 use Rattle.state.specs.declared.State.{State}
-use Rattle.world.specs.World.{Held, blank, heldAt, heldBy, stretch, heldOf, viewFrom, viewOf, follow, stateOf, followAll, leaves}
+use Rattle.state.specs.State.{recordAt}
+use Rattle.state.specs.Memory.{stretch}
+use Rattle.world.specs.World.{Held, blank, heldAt, heldBy, heldOf, viewFrom, viewOf, follow, stateOf, followAll, leaves}
 
 -- the records of a view are the state's
 records : (rx tx : List ℕ) (k : ℕ) (cs : List Connection) → map (λ (h : Held). h .connection) (viewFrom rx tx k cs) ≡ cs
@@ -37,6 +39,9 @@ pub view-at : (s : State) (rx tx : List ℕ) (i : ℕ) → heldAt (viewOf s rx t
 view-at s rx tx i =
     let e : 0 + i ≡ i = omega arith in
     view-get rx tx 0 (s .connections) i ∙ ap (λ (j : ℕ). heldOf rx tx j (getD (s .connections) i zeroRecord)) e
+
+pub view-record : (s : State) (rx tx : List ℕ) (i : ℕ) → heldAt (viewOf s rx tx) i .connection ≡ recordAt s i
+view-record s rx tx i = ap (λ (h : Held). h .connection) (view-at s rx tx i)
 
 -- ONE CONNECTION: another record there, and memories that differ in its stretches alone
 module _ (rx tx rx′ tx′ : List ℕ) (i : ℕ) (same-rx : (j : ℕ) → (j ≡ i → ⊥) → stretch 1464 j rx′ ≡ stretch 1464 j rx) (same-tx : (j : ℕ) → (j ≡ i → ⊥) → stretch 1472 j tx′ ≡ stretch 1472 j tx) where

@@ -5,10 +5,8 @@ use mathlib.Core.Bool.{Bool, true, false, cond, not, _&&_}
 use mathlib.Core.List.{List, [], _∷_, _++_}
 use lib.ListN.{length, set}
 use lib.Dec.{eqb, leb, ltb}
-use Rattle.connection.specs.declared.Connection.{Connection}
 use Rattle.connection.specs.declared.Config.{Config}
-use Rattle.connection.specs.Connection.{isOnline}
-use Rattle.connection.specs.Event.{stepOf}
+use Rattle.connection.specs.Event.{receiving, stepOf}
 use Rattle.state.specs.State.{counted}
 use Rattle.feed.specs.Feed.{Routes, Out, Ran, segment as segmentOf, Pdu, pdus, drops}
 use Rattle.walk.specs.Walk.{walkAt, told}
@@ -39,10 +37,6 @@ pub record Acted : Type 0 where
 
 abbrev pub acted : Held → List Out → Acted
 acted h os = record { to = h; list = os }
-
--- online without close wanted: 4 otherwise
-abbrev pub receiving : Connection → Bool
-receiving c = isOnline (c .mode) && not (c .«close_wanted»)
 
 -- what the takes over a segment leave and give
 abbrev pub streamed : Held → Ran → Acted

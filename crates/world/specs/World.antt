@@ -1,14 +1,15 @@
 -- THE WORLD: the connections with the bytes they hold, and the two drop counts. Unused room of the lent memory is no part of
 -- it, so "same state" ("same numbers and same held bytes; unused room may differ") is plain equality of worlds.
 -- Assumes nothing: these are definitions.
-use Prim.Native.Nat.{ℕ, suc, _*_}
+use Prim.Native.Nat.{ℕ, suc}
 use mathlib.Core.List.{List, [], _∷_, map}
-use lib.ListN.{getD, take, drop}
+use lib.ListN.{getD, take}
 use Rattle.part.specs.declared.Part.{Part}
 use Rattle.part.specs.declared.Part.the-variants.{Header, Payload, Skip}
 use Rattle.connection.specs.declared.Connection.{Connection}
 use Rattle.connection.specs.Connection.{zeroRecord, withPart}
 use Rattle.state.specs.declared.State.{State}
+use Rattle.state.specs.Memory.{stretch}
 use Rattle.feed.specs.Feed.{Cell}
 use Rattle.stream.specs.Stream.{cellOf, partFrom, heldIn}
 
@@ -36,10 +37,6 @@ abbrev pub heldBy : Part → ℕ
 heldBy (Header held value) = 0
 heldBy (Payload route length held) = held
 heldBy (Skip bytes) = 0
-
--- "one stretch per connection in number order, each filled from its front"
-abbrev pub stretch : ℕ → ℕ → List ℕ → List ℕ
-stretch size k memory = take size (drop (k * size) memory)
 
 -- connection k with the bytes it holds in the two lent memories: "receive .. (16 of 1,464), send .. (16 of 1,472)"
 abbrev pub heldOf : List ℕ → List ℕ → ℕ → Connection → Held

@@ -1,13 +1,14 @@
 -- `sending::take_waiting` meets its contract. Assumes nothing.
 use Prim.Native.Nat.{ℕ, _<_}
-use mathlib.Core.Path.{ap, _∙_}
+use mathlib.Core.Path.{sym, ap, _∙_}
 use mathlib.Core.List.{List}
 use native.Mathlib.Omega.{arith}
 use denote.Ref.{now}
 use Rattle.state.specs.State.{recordAt}
 use Rattle.waiting.specs.Waiting.{outOf}
 use Rattle.sending.specs.Sending.{takenOf, takenOut}
-use Rattle.sending.proofs.Past.{past-small, taken-is}
+use Rattle.gate.proofs.Pass.{in-sixteen}
+use Rattle.sending.proofs.Past.{taken-is}
 use borrow.Author.Needs.{needs}
 use Rattle.sending.proofs.take_waiting.Statement.{statement}
 use Rattle.sending.proofs.take_waiting.Tie as tie
@@ -23,7 +24,7 @@ enum-told c = search needs
 
 -- the number is one of the sixteen
 small : (c : tie.After-enum-told) → c .before .before .before .before .before .before .before .args .connection < 16
-small c = past-small _ _ _ _ _ _ (c .before .before .ask-at .ensures) (c .enum-told .given .1)
+small c = in-sixteen _ _ _ _ _ (sym (c .before .before .ask-at .ensures) ∙ c .enum-told .given .1)
 
 mul-c : tie.Need-mul-c
 mul-c c = search needs

@@ -4,7 +4,8 @@ use mathlib.Core.Path.{refl, sym, _∙_}
 use Prim.Native.Nat.{_-_, _/_}
 use native.Mathlib.Omega.{arith}
 use borrow.Author.Needs.{needs}
-use Rattle.stream.proofs.Takes.{header-part, header-dropped, header-accepted, accepted-short, accepted-id, left-over}
+use Rattle.stream.proofs.Takes.{header-part, header-dropped, header-accepted, accepted-short, accepted-id}
+use Rattle.wire.proofs.Part.{rest-is}
 use Rattle.stream.specs.Stream.{idOf}
 use Rattle.route.specs.Route.{lookupOf}
 use Rattle.stream.proofs.take_header.Statement.{statement}
@@ -64,7 +65,7 @@ take-body-requires c κs =
     let l = k .before .before in
     let s = l .before .before .before .before .before .before in (
       omega (arith, accepted-short (s .args .routes .now) _ _ _ _ _ (sym (l .lookup .ensures) ∙ k .route .given .1) (s .pre .0), s .pre .1),
-      rw left-over (omega (arith, length-drop (8 - s .args .held) (s .args .rest .now))),
+      rw rest-is (omega (arith, length-drop (8 - s .args .held) (s .args .rest .now))),
     )
 
 enum-known-reason : tie.Need-enum-known-reason

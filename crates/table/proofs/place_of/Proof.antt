@@ -1,5 +1,6 @@
 -- `table::place_of` meets its contract. Assumes nothing.
-use Rattle.table.proofs.Places.{no-place, some-place, place-small}
+use Rattle.table.proofs.Places.{no-place, some-place}
+use Rattle.layout.proofs.Parts.{product-small}
 use native.Mathlib.Omega.{arith}
 use borrow.Author.Needs.{needs}
 use Rattle.table.proofs.place_of.Statement.{statement}
@@ -15,10 +16,10 @@ row-bytes-requires : tie.Need-row-bytes-requires
 row-bytes-requires c κs = search needs
 
 mul-t9 : tie.Need-mul-t9
-mul-t9 c = omega (arith, place-small (c .before .before .before .before .before .args .bad) (c .before .before .before .rows-of .result) (c .row-bytes .result) (omega arith) (omega arith) (omega arith))
+mul-t9 c = omega (arith, product-small (c .before .before .before .before .before .args .bad) (c .row-bytes .result) (omega arith) (omega arith))
 
 add-t10 : tie.Need-add-t10
-add-t10 c = omega (arith, place-small (c .before .before .before .before .before .args .bad) (c .before .before .before .rows-of .result) (c .row-bytes .result) (omega arith) (omega arith) (omega arith))
+add-t10 c = omega (arith, product-small (c .before .before .before .before .before .args .bad) (c .row-bytes .result) (omega arith) (omega arith))
 
 returns : tie.Need-returns
 returns c = no-place _ _ (c .before .rows-of .result) _ 0 0 (c .before .rows-of .ensures .0) (c .if1 .taken)

@@ -1,60 +1,52 @@
 -- A transmit leaves a sound state sound. Assumes nothing.
-use Prim.Native.Nat.{ℕ, zero, suc, _+_, _<_, _≤_}
-use mathlib.Core.Path.{_≡_, refl, sym, ap, subst, _∙_}
+use Prim.Native.Nat.{ℕ, _<_, _≤_}
+use mathlib.Core.Path.{_≡_, refl, sym, ap, subst}
 use mathlib.Core.Bool.{Bool, true, false, cond}
 use mathlib.Core.List.{List}
 use native.Mathlib.Omega.{arith}
 use native.Mathlib.Decide.{decLt}
-use lib.ListN.{length, getD, List·getD-eq-default}
+use lib.ListN.{length, List·getD-eq-default}
 use borrow.Author.Tests.{leb-true}
 use Rattle.connection.specs.declared.Connection.{Connection}
 use Rattle.connection.specs.Connection.{zeroRecord}
-use Rattle.connection.specs.Sound.{Sound}
-use Rattle.destination.specs.Destination.{sentOf}
 use Rattle.gate.specs.declared.Gate.{Gate}
 use Rattle.gate.specs.declared.Gate.the-variants.{Pass, Refused}
 use Rattle.gate.specs.Gate.{gateOf, through}
 use Rattle.gate.specs.Sound.{recordsSound}
 use Rattle.gate.proofs.Pass.{gate-passed}
-use Rattle.gate.proofs.Records.{row-sound, row-routed, sound-row, past-zero, record-at, record-set}
+use Rattle.gate.proofs.Records.{row-sound, past-zero, record-at}
 use Rattle.layout.specs.Layout.{rowsOf}
-use Rattle.layout.specs.declared.Kind.the-variants.{Connection as Connections, Destination}
-use Rattle.lists.specs.Fold.{foldFrom}
+use Rattle.layout.specs.declared.Kind.the-variants.{Connection as Connections}
+use Rattle.lists.proofs.Fold.{fold-goes}
 use Rattle.rows.specs.Rows.{connectionOf, destinationOf}
 use Rattle.state.specs.declared.State.{State}
-use Rattle.state.specs.State.{recordAt, withRecord}
+use Rattle.state.specs.State.{recordAt}
 use Rattle.state.specs.Fresh.{configOf}
 use Rattle.table.specs.Accepts.{Accepts}
 use Rattle.table.proofs.Facts.{accepted-facts}
 use Rattle.send.specs.Verdict.{isStored}
-use Rattle.send.specs.Send.{destinations, Sending, sending, appendOf, wantedAt, storeOf, storeAll, checkOf, transmitOf, transmittedOf, Ready, Roomy}
+use Rattle.send.specs.Send.{destinations, Sending, sending, appendOf, wantedAt, storeOf, storeAll, checkOf, transmitOf, transmittedOf, Ready}
 use Rattle.send.proofs.Room.{Meets, clear-meets, clear-roomy}
 use Rattle.sending.specs.Sending.{notSent, sendOf}
 use Rattle.sending.proofs.Past.{ready-from, row-there}
 use Rattle.waits.proofs.Held.{Fine, fine-step, begin}
-use Rattle.kept.proofs.Records.{sent-keeps}
+use Rattle.keeps.proofs.Rows.{same, row-at, row-set}
+use Rattle.keeps.proofs.Records.{sent-keeps}
 
 -- no connection of a sound state has more bytes waiting than its stretch holds
-pub all-fit : (image : List ℕ) → Accepts image → (s : State) → length (s .connections) ≡ 16 → recordsSound image (s .connections) ≡ true → (k : ℕ) → recordAt s k .used ≤ 1472
+pub all-fit : (image : List ℕ) → Accepts image → (s : State) → recordsSound image (s .connections) ≡ true → (k : ℕ) → recordAt s k .used ≤ 1472
 unfolding configOf
-all-fit image a s sixteen h k = go (decLt k 16) (decLt k (rowsOf image Connections))
+all-fit image a s h k = go (decLt k (rowsOf image Connections)) (decLt k (length (s .connections)))
   where
-    go : Dec (k < 16) → Dec (k < rowsOf image Connections) → recordAt s k .used ≤ 1472
-    go (no n) d = let e : recordAt s k ≡ zeroRecord = List·getD-eq-default (s .connections) zeroRecord (omega (arith, n)) in omega (arith, ap (λ (c : Connection). c .used) e)
-    go (yes l) (yes r) =
-        let one = row-sound image k (recordAt s k) (record-at image (s .connections) k h (omega arith)) r in
-        omega (arith, leb-true (recordAt s k .used) (configOf image k .size) (one .fits), a .sized k r .1)
-    go (yes l) (no n) =
-        let e : recordAt s k ≡ zeroRecord = past-zero image k (recordAt s k) (record-at image (s .connections) k h (omega arith)) (omega (arith, n)) in
-        omega (arith, ap (λ (c : Connection). c .used) e)
+    none : recordAt s k ≡ zeroRecord → recordAt s k .used ≤ 1472
+    none e = omega (arith, ap (λ (c : Connection). c .used) e)
 
--- a row's record may be replaced by a sound one with the same receive part
-pub row-set : (image : List ℕ) (s : State) (k : ℕ) (c : Connection) → recordsSound image (s .connections) ≡ true → k < rowsOf image Connections → k < length (s .connections)
-    → (Sound (configOf image k) (recordAt s k) → Sound (configOf image k) c) → c .part ≡ recordAt s k .part → recordsSound image (withRecord k c s .connections) ≡ true
-row-set image s k c h r l keeps e =
-    let a = record-at image (s .connections) k h l in
-    record-set image (s .connections) k c h
-    (sound-row image k c r (keeps (row-sound image k (recordAt s k) a r)) (rw e (row-routed image k (recordAt s k) a r)))
+    go : Dec (k < rowsOf image Connections) → Dec (k < length (s .connections)) → recordAt s k .used ≤ 1472
+    go (yes r) d =
+        let one = row-sound image k (recordAt s k) (row-at image (s .connections) k h r) r in
+        omega (arith, leb-true (recordAt s k .used) (configOf image k .size) (one .fits), a .sized k r .1)
+    go (no n) (yes l) = none (past-zero image k (recordAt s k) (record-at image (s .connections) k h l) (omega (arith, n)))
+    go (no n) (no o) = none (List·getD-eq-default (s .connections) zeroRecord (omega (arith, o)))
 
 module _ (image : List ℕ) (ready : Ready image) (there : (i : ℕ) → i < destinations image → destinationOf image i .connection < rowsOf image Connections)
     (s : State) (pdu : ℕ) (payload : List ℕ) (clear : isStored (checkOf image s pdu (length payload)) ≡ true) where
@@ -68,8 +60,8 @@ module _ (image : List ℕ) (ready : Ready image) (there : (i : ℕ) → i < des
       let k = destinationOf image i .connection in
       let m : Meets (length payload) (connectionOf image (destinationOf image i .connection) .size) (destinationOf image i) (recordAt (x .state) (destinationOf image i .connection)) =
       subst (Meets (length payload) (connectionOf image (destinationOf image i .connection) .size) (destinationOf image i)) (sym (f .same i (omega arith) h w)) (clear-meets image s pdu payload clear i h w) in
-      row-set image (x .state) (destinationOf image i .connection) _ p (there i h) (omega (arith, f .sixteen, ready .there i h))
-      (λ q. sent-keeps (configOf image (destinationOf image i .connection)) (destinationOf image i) (length payload) _ q m) refl
+      row-set image (x .state) (destinationOf image i .connection) _ p (there i h)
+      (λ q. sent-keeps (configOf image (destinationOf image i .connection)) (destinationOf image i) (length payload) _ q m) same
 
   keep-step : (x : Sending) (i : ℕ) → Good x i → i < destinations image → recordsSound image (x .state .connections) ≡ true → recordsSound image (storeOf image s pdu payload x i .state .connections) ≡ true
   unfolding storeOf
@@ -79,17 +71,13 @@ module _ (image : List ℕ) (ready : Ready image) (there : (i : ℕ) → i < des
       go false w = p
       go true w = own-keeps x i f h w p
 
-  keep-fold : (n i : ℕ) (x : Sending) → i + n ≤ destinations image → Good x i → recordsSound image (x .state .connections) ≡ true
-      → recordsSound image (foldFrom (storeOf image s pdu payload) n i x .state .connections) ≡ true
-  unfolding foldFrom
-  keep-fold zero i x h f p = p
-  keep-fold (suc n) i x h f p =
-      keep-fold n (suc i) (storeOf image s pdu payload x i) (omega arith) (fine-step image ready s pdu payload (clear-roomy image s pdu payload clear ready) x i f (omega arith)) (keep-step x i f (omega arith) p)
-
-  pub store-keeps : (tx : List ℕ) → length (s .connections) ≡ 16 → length tx ≡ 23552 → ((k : ℕ) → recordAt s k .used ≤ 1472) → recordsSound image (s .connections) ≡ true
+  store-keeps : (tx : List ℕ) → length (s .connections) ≡ 16 → length tx ≡ 23552 → ((k : ℕ) → recordAt s k .used ≤ 1472) → recordsSound image (s .connections) ≡ true
       → recordsSound image (storeAll image s pdu payload tx .state .connections) ≡ true
   unfolding storeAll
-  store-keeps tx sixteen long fits p = keep-fold (destinations image) 0 (sending s tx) (omega arith) (begin image ready s pdu payload tx sixteen long fits clear) p
+  store-keeps tx sixteen long fits p =
+      fold-goes (storeOf image s pdu payload) (λ (i : ℕ) (x : Sending). Good x i × (recordsSound image (x .state .connections) ≡ true)) (destinations image) 0 (sending s tx)
+      (λ i x l u r. (fine-step image ready s pdu payload (clear-roomy image s pdu payload clear ready) x i (r .0) (omega arith), keep-step x i (r .0) (omega arith) (r .1)))
+      (begin image ready s pdu payload tx sixteen long fits clear, p) .1
 
 -- the entry point
 pub transmit-keeps : (image : List ℕ) (s : State) (rx : ℕ) (tx : List ℕ) (pdu : ℕ) (payload : List ℕ) → length (s .connections) ≡ 16 → recordsSound image (s .connections) ≡ true
@@ -100,7 +88,7 @@ transmit-keeps image s rx tx pdu payload sixteen h = go (gateOf image s rx (leng
     inner : Accepts image → length tx ≡ 23552 → (b : Bool) → isStored (checkOf image s pdu (length payload)) ≡ b
         → recordsSound image (cond b (storeAll image s pdu payload tx) (sending s tx) .state .connections) ≡ true
     inner a long false e = h
-    inner a long true e = store-keeps image (ready-from image a) (row-there image a) s pdu payload e tx sixteen long (all-fit image a s sixteen h) h
+    inner a long true e = store-keeps image (ready-from image a) (row-there image a) s pdu payload e tx sixteen long (all-fit image a s h) h
 
     go : (q : Gate) → gateOf image s rx (length tx) ≡ q → recordsSound image (through q (notSent s) (transmittedOf image s pdu payload tx) .state .connections) ≡ true
     go (Refused r) e = h

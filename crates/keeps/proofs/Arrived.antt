@@ -1,29 +1,24 @@
--- A datagram and an accept leave a sound state sound. Assumes nothing.
-use Prim.Native.Nat.{ℕ, _+_, _<_, _≤_}
-use mathlib.Core.Path.{_≡_, refl, sym, ap, _∙_}
+-- What passes the gate passes it again after a datagram or an accept. Assumes nothing.
+use Prim.Native.Nat.{ℕ, _+_, _<_}
+use mathlib.Core.Path.{_≡_, refl}
 use mathlib.Core.Bool.{Bool, true, false, cond, not, _&&_, _||_}
 use mathlib.Core.List.{List}
 use native.Mathlib.Omega.{arith}
 use lib.Dec.{eqb, leb, ltb}
-use lib.ListN.{length}
 use borrow.Author.Tests.{ltb-true}
-use Rattle.lists.proofs.Both.{and-left}
+use Rattle.lists.proofs.Both.{and-left, neither}
 use Rattle.layout.specs.Layout.{rowsOf}
 use Rattle.layout.specs.declared.Kind.the-variants.{Group, Connection as Connections}
-use Rattle.rows.specs.Rows.{groupOf, connectionOf}
+use Rattle.rows.specs.Rows.{groupOf}
 use Rattle.connection.specs.declared.Remote.{Remote}
-use Rattle.connection.specs.declared.Connection.{Connection}
 use Rattle.connection.specs.declared.Refusal.the-variants.{Missing, Denied}
 use Rattle.connection.specs.Connection.{equalFields, wildFields, wildcard, metOf}
 use Rattle.connection.proofs.Keeps.{met-keeps}
 use Rattle.state.specs.declared.State.{State}
 use Rattle.state.specs.State.{recordAt}
 use Rattle.state.specs.Fresh.{configOf}
-use Rattle.gate.specs.declared.Gate.{Gate}
-use Rattle.gate.specs.declared.Gate.the-variants.{Pass, Refused}
-use Rattle.gate.specs.Gate.{gateOf, through}
+use Rattle.gate.specs.Gate.{gateOf, Passed}
 use Rattle.gate.specs.Sound.{recordsSound}
-use Rattle.gate.proofs.Records.{row-sound, row-routed, sound-row, record-at, record-set}
 use Rattle.choose.specs.declared.Chosen.{Chosen}
 use Rattle.choose.specs.declared.Chosen.the-variants.{Nobody, At}
 use Rattle.choose.specs.declared.Arrived.{Arrived}
@@ -31,7 +26,9 @@ use Rattle.choose.specs.Best.{IsChosen}
 use Rattle.choose.specs.Choose.{rankOf, matches, counts, member, scoreOf, scoreAt, chosenIn, meet, refusedBy, protocolOf, deniedOf, arriveOf}
 use Rattle.choose.proofs.Pass.{chosen-is-best}
 use Rattle.arrivals.specs.Arrivals.{arrivalOf}
-use Rattle.kept.proofs.Records.{counts-up}
+use Rattle.keeps.proofs.Past.{past-or, from-sound}
+use Rattle.keeps.proofs.Rows.{same, row-set}
+use Rattle.keeps.proofs.Records.{counts-up}
 
 -- a score above 0 shows a member that counts
 scored : (m k r : Bool) (n : ℕ) → 0 < cond (m && k && r) (1 + n) 0 → (m ≡ true) × (k ≡ true)
@@ -39,7 +36,7 @@ scored true true r n h = (refl, refl)
 scored true false r n h = absurd (omega arith)
 scored false k r n h = absurd (omega arith)
 
-module _ (image : List ℕ) (s : State) (accept : Bool) (group : ℕ) (source : Remote) (sixteen : length (s .connections) ≡ 16)
+module _ (image : List ℕ) (s : State) (accept : Bool) (group : ℕ) (source : Remote)
     (sound : recordsSound image (s .connections) ≡ true) (w : wildcard source ≡ false) where
   chosen : (k : ℕ) → 0 < scoreAt image s accept group source k → (k < rowsOf image Connections) × (counts accept (recordAt s k) ≡ true)
   unfolding scoreAt scoreOf
@@ -51,36 +48,26 @@ module _ (image : List ℕ) (s : State) (accept : Bool) (group : ℕ) (source : 
   met-sound Nobody b = sound
   met-sound (At k) b =
       let p = chosen k (b .counts) in
-      let a = record-at image (s .connections) k sound (omega (arith, b .inside)) in
-      record-set image (s .connections) k (metOf source (recordAt s k)) sound
-      (sound-row image k (metOf source (recordAt s k)) (p .0)
-      (met-keeps (configOf image k) (recordAt s k) (row-sound image k (recordAt s k) a (p .0)) source (counts-up accept (recordAt s k) (p .1)) w)
-      (row-routed image k (recordAt s k) a (p .0)))
+      row-set image s k (metOf source (recordAt s k)) sound (p .0)
+      (λ q. met-keeps (configOf image k) (recordAt s k) q source (counts-up accept (recordAt s k) (p .1)) w) same
 
-  pub chosen-keeps : recordsSound image (meet s source (chosenIn image s accept group source) .state .connections) ≡ true
+  chosen-keeps : recordsSound image (meet s source (chosenIn image s accept group source) .state .connections) ≡ true
   chosen-keeps = met-sound (chosenIn image s accept group source) (chosen-is-best image s accept group source)
 
-second-false : (x y : Bool) → (x || y) ≡ false → y ≡ false
-second-false true y e = absurd (let z : _≡_ {A = ℕ} 0 1 = cc in omega arith)
-second-false false y e = e
-
-pub arrive-keeps : (image : List ℕ) (s : State) (accept : Bool) (group : ℕ) (source : Remote) → length (s .connections) ≡ 16 → recordsSound image (s .connections) ≡ true
+arrive-keeps : (image : List ℕ) (s : State) (accept : Bool) (group : ℕ) (source : Remote) → recordsSound image (s .connections) ≡ true
     → recordsSound image (arriveOf image s accept group source .state .connections) ≡ true
 unfolding arriveOf deniedOf
-arrive-keeps image s accept group source sixteen h = go (leb (rowsOf image Group) group) (deniedOf image accept group source) refl
+arrive-keeps image s accept group source h = go (leb (rowsOf image Group) group) (deniedOf image accept group source) refl
   where
     go : (x y : Bool) → (not (eqb (groupOf image group .protocol) (protocolOf accept)) || wildcard source) ≡ y
         → recordsSound image (cond x (refusedBy s Missing) (cond y (refusedBy s Denied) (meet s source (chosenIn image s accept group source))) .state .connections) ≡ true
     go true y e = h
     go false true e = h
-    go false false e = chosen-keeps image s accept group source sixteen h (second-false (not (eqb (groupOf image group .protocol) (protocolOf accept))) (wildcard source) e)
+    go false false e = chosen-keeps image s accept group source h (neither (not (eqb (groupOf image group .protocol) (protocolOf accept))) (wildcard source) e .1)
 
 -- the entry points
-pub arrival-keeps : (image : List ℕ) (s : State) (rx tx : ℕ) (accept : Bool) (group : ℕ) (source : Remote) → length (s .connections) ≡ 16 → recordsSound image (s .connections) ≡ true
-    → recordsSound image (arrivalOf image s rx tx accept group source .state .connections) ≡ true
+pub arrival-passed : (image : List ℕ) (s : State) (rx tx : ℕ) (accept : Bool) (group : ℕ) (source : Remote) → Passed image s rx tx → Passed image (arrivalOf image s rx tx accept group source .state) rx tx
 unfolding arrivalOf
-arrival-keeps image s rx tx accept group source sixteen h = go (gateOf image s rx tx)
-  where
-    go : (q : Gate) → recordsSound image (through q (refusedBy s) (arriveOf image s accept group source) .state .connections) ≡ true
-    go (Refused r) = h
-    go Pass = arrive-keeps image s accept group source sixteen h
+arrival-passed image s rx tx accept group source p =
+    past-or (λ (a : Arrived). Passed image (a .state) rx tx) (gateOf image s rx tx) (refusedBy s) (arriveOf image s accept group source) (λ r. p)
+    (λ _. from-sound image s _ rx tx p (arrive-keeps image s accept group source (p .sound)))

@@ -1,26 +1,25 @@
 -- One record: what an arrival, an append and a take leave sound. Assumes nothing.
-use Prim.Native.Nat.{ℕ, _+_, _<_, _≤_}
-use mathlib.Core.Path.{_≡_, refl, sym, ap, subst, _∙_}
-use mathlib.Core.Bool.{Bool, true, false, cond, not, _&&_, _||_, or-true, or-false}
+use Prim.Native.Nat.{ℕ, _+_}
+use mathlib.Core.Path.{_≡_, refl, sym, _∙_}
+use mathlib.Core.Bool.{Bool, true, false, cond, not, _&&_, _||_, or-true}
 use native.Mathlib.Omega.{arith}
-use lib.Dec.{eqb, leb, ltb, leb·zero}
-use borrow.Author.Tests.{le-leb, lt-ltb, not-true}
+use lib.Dec.{eqb, ltb, leb·zero}
+use borrow.Author.Tests.{le-leb, lt-ltb}
+use Rattle.lists.proofs.Both.{impossible, neither}
 use Rattle.part.specs.Part.{emptyPart}
 use Rattle.connection.specs.declared.Mode.{Mode}
 use Rattle.connection.specs.declared.Mode.the-variants.{Offline, Reconnect, Online}
 use Rattle.connection.specs.declared.Config.{Config}
 use Rattle.connection.specs.declared.Connection.{Connection}
-use Rattle.connection.specs.Connection.{isOffline, isReconnect, isOnline, wildcard, withMode, withRemote, withSend, become}
+use Rattle.connection.specs.Connection.{isOffline, isReconnect, isOnline, withMode, withRemote, withSend, become}
 use Rattle.connection.specs.Sound.{Sound}
-use Rattle.connection.proofs.Keeps.{send-keeps}
+use Rattle.connection.proofs.Keeps.{online-not-offline, send-keeps}
 use Rattle.rows.specs.declared.DestinationRow.{DestinationRow}
 use Rattle.choose.specs.Choose.{counts}
 use Rattle.destination.specs.Destination.{timerOf, sentOf}
 use Rattle.send.proofs.Room.{Meets}
-use Rattle.waiting.specs.Waiting.{afterTake, takeOf}
-
-impossible : {P : Type 0} → false ≡ true → P
-impossible p = absurd (let z : _≡_ {A = ℕ} 0 1 = cc in omega arith)
+use Rattle.waiting.specs.Waiting.{takeOf}
+use Rattle.waiting.proofs.Taken.{after-either, take-either}
 
 -- a member that counts is not offline and not to be closed
 pub counts-up : (accept : Bool) (c : Connection) → counts accept c ≡ true → (not (isOffline (c .mode)) && not (c .«close_wanted»)) ≡ true
@@ -83,13 +82,8 @@ module _ (g : Config) (c : Connection) (s : Sound g c) (some : eqb (c .used) 0 �
         once = refl;
         reached = s .reached;
         opening = rw no-open;
-        closing = rw (t, not-offline (c .mode) online) (or-true (not (g .automatic)));
+        closing = rw (t, online-not-offline (c .mode) online) (or-true (not (g .automatic)));
       }
-    where
-      not-offline : (m : Mode) → isOnline m ≡ true → isOffline m ≡ false
-      not-offline Offline u = impossible u
-      not-offline Reconnect u = refl
-      not-offline Online u = refl
 
   -- 00582
   udp-back : g .tcp ≡ false → g .automatic ≡ true → Sound g (become Reconnect (withRemote (g .remote) (withSend 0 0 false c)))
@@ -117,14 +111,8 @@ module _ (g : Config) (c : Connection) (s : Sound g c) (some : eqb (c .used) 0 �
 
 -- a take
 pub take-keeps : (g : Config) (room : ℕ) (c : Connection) → Sound g c → Sound g (takeOf g room c)
-unfolding takeOf
-take-keeps g room c s = go (eqb (c .used) 0) refl (ltb room (c .used)) (g .automatic) refl (wildcard (g .remote)) (g .tcp) refl
-  where
-    go : (z : Bool) → eqb (c .used) 0 ≡ z → (r a : Bool) → g .automatic ≡ a → (w t : Bool) → g .tcp ≡ t
-        → Sound g (cond (z || r) c (cond (a && w) (cond t (withMode (c .mode) (c .«open_wanted») true (withSend 0 0 false c)) (become Reconnect (withRemote (g .remote) (withSend 0 0 false c)))) (withSend 0 0 false c)))
-    go true e r a ea w t et = s
-    go false e true a ea w t et = s
-    go false e false false ea w t et = drained g c s e
-    go false e false true ea false t et = drained g c s e
-    go false e false true ea true true et = tcp-close g c s e et
-    go false e false true ea true false et = udp-back g c s e et ea
+take-keeps g room c s =
+    take-either g room c (Sound g) (λ _. s)
+    (λ e.
+    let some : eqb (c .used) 0 ≡ false = neither (eqb (c .used) 0) (ltb room (c .used)) e .0 in
+    after-either g (withSend 0 0 false c) (Sound g) (drained g c s some) (λ a t. tcp-close g c s some t) (λ a t. udp-back g c s some t a))
