@@ -2,138 +2,7 @@
 #include "twin.h"
 
 #include "system.h"
-
-#include <stdbool.h>
-
-enum { GROUP, CONNECTION, ROUTE, DESTINATION, KINDS };
-
-#define FRONT 36
-#define HEADER 8
-#define ROW 16 /* bytes of a row, but of a group's */
-#define LONGEST 1464
-
-static const uint16_t most_rows[KINDS] = {8, 16, 64, 64};
-static const uint8_t row_bytes[KINDS] = {2, ROW, ROW, ROW};
-
-struct layout {
-    const uint8_t *body[KINDS];
-    size_t rows[KINDS];
-};
-
-static inline uint16_t be16(const uint8_t *p)
-{
-    return (uint16_t)(p[0] << 8 | p[1]);
-}
-
-static inline uint32_t be32(const uint8_t *p)
-{
-    return (uint32_t)p[0] << 24 | (uint32_t)p[1] << 16 | (uint32_t)p[2] << 8 | p[3];
-}
-
-/* Rows met so far, by a hash of their key: each head is the last row with its hash (its number and 1 more), and each row names
- * the one before it with the same hash. So a row is compared with few others. */
-struct met {
-    uint8_t head[128], before[64];
-};
-
-static bool good_group(const uint8_t *row)
-{
-    return (row[0] == 1 || row[0] == 2) && row[1] == 0;
-}
-
-static bool good_connection(const uint8_t *row, size_t groups)
-{
-    uint16_t send_size = be16(row + 8);
-    return row[0] < groups && row[1] <= 1 && send_size >= 8 && send_size <= 1472 && be16(row + 10) == 0;
-}
-
-static bool good_route(const uint8_t *row, size_t connections)
-{
-    return row[0] < connections && row[1] == 0 && be16(row + 2) <= LONGEST && be16(row + 10) == 0;
-}
-
-/* A send size is at most 1,472, so what fits it with 8 more is at most LONGEST. */
-static bool good_destination(const uint8_t *row, const struct layout *table)
-{
-    size_t connection = row[0];
-    return connection < table->rows[CONNECTION] && row[1] <= 1 &&
-           be16(row + 2) + 8u <= be16(table->body[CONNECTION] + connection * ROW + 8);
-}
-
-/* Adds row i of a body, unless an earlier row has the same connection and the same width bytes at a place of the row. */
-static inline bool add(struct met *met, const uint8_t *body, size_t i, uint32_t key, size_t at, size_t width)
-{
-    const uint8_t *row = body + i * ROW;
-    uint8_t *head = &met->head[key * 0x9E3779B1u >> 25];
-    for (size_t other = *head; other != 0; other = met->before[other - 1]) {
-        const uint8_t *earlier = body + (other - 1) * ROW;
-        if (earlier[0] == row[0] && memcmp(earlier + at, row + at, width) == 0)
-            return false;
-    }
-    met->before[i] = *head;
-    *head = (uint8_t)(i + 1);
-    return true;
-}
-
-static bool add_route(struct met *met, const uint8_t *body, size_t i)
-{
-    const uint8_t *row = body + i * ROW;
-    return add(met, body, i, be32(row + 4) ^ row[0] * 0x01000193u, 4, 4);
-}
-
-static bool add_destination(struct met *met, const uint8_t *body, size_t i)
-{
-    const uint8_t *row = body + i * ROW;
-    return add(met, body, i, (uint32_t)row[0] << 16 | be16(row + 8), 8, 2);
-}
-
-/* The place of the first bad row; 0 when all are good. */
-static size_t bad_row(const uint8_t *image, const struct layout *table)
-{
-    const uint8_t *row = table->body[GROUP];
-    for (size_t i = 0; i < table->rows[GROUP]; i++, row += 2)
-        if (!good_group(row))
-            return (size_t)(row - image);
-    for (size_t i = 0; i < table->rows[CONNECTION]; i++, row += ROW)
-        if (!good_connection(row, table->rows[GROUP]))
-            return (size_t)(row - image);
-    struct met routes, destinations;
-    memset(routes.head, 0, sizeof routes.head);
-    memset(destinations.head, 0, sizeof destinations.head);
-    for (size_t i = 0; i < table->rows[ROUTE]; i++, row += ROW)
-        if (!good_route(row, table->rows[CONNECTION]) || !add_route(&routes, table->body[ROUTE], i))
-            return (size_t)(row - image);
-    for (size_t i = 0; i < table->rows[DESTINATION]; i++, row += ROW)
-        if (!good_destination(row, table) || !add_destination(&destinations, table->body[DESTINATION], i))
-            return (size_t)(row - image);
-    return 0;
-}
-
-/* Fills in the layout and gives true, or gives false and the place of what is wrong. */
-static bool check(const uint8_t *image, size_t image_length, struct layout *table, size_t *place)
-{
-    size_t offset = FRONT;
-    *place = 0;
-    if (image_length < FRONT || be32(image) != 0x00010004)
-        return false;
-    for (size_t kind = 0; kind < KINDS; kind++) {
-        const uint8_t *entry = image + 4 + 8 * kind;
-        uint16_t rows = be16(entry + 2);
-        if (be16(entry) != kind + 1 || rows > most_rows[kind] || be32(entry + 4) != offset) {
-            *place = (size_t)(entry - image);
-            return false;
-        }
-        table->body[kind] = image + offset;
-        table->rows[kind] = rows;
-        offset += (size_t)rows * row_bytes[kind];
-    }
-    if (image_length != offset) {
-        *place = 2;
-        return false;
-    }
-    *place = bad_row(image, table);
-    return *place == 0;
-}
+#include "table.h"
 
 uint32_t twin_table_check(const uint8_t *image, size_t image_length, size_t *place)
 {
@@ -143,14 +12,6 @@ uint32_t twin_table_check(const uint8_t *image, size_t image_length, size_t *pla
         return 0;
     *place = bad;
     return 1;
-}
-
-static inline void put_be32(uint8_t *p, uint32_t value)
-{
-    p[0] = (uint8_t)(value >> 24);
-    p[1] = (uint8_t)(value >> 16);
-    p[2] = (uint8_t)(value >> 8);
-    p[3] = (uint8_t)value;
 }
 
 uint32_t twin_frame(uint32_t id, const uint8_t *payload, size_t payload_length, uint8_t *out, size_t out_length)
@@ -165,23 +26,17 @@ uint32_t twin_frame(uint32_t id, const uint8_t *payload, size_t payload_length, 
     return 0;
 }
 
-/* The row number of the route for a header, or the reason of its drop. */
-static uint32_t look_up(const struct layout *table, size_t connection, uint32_t switches, uint32_t id, uint32_t length, bool *dropped)
+uint32_t twin_frame_loop(uint32_t id, const uint8_t *payload, size_t payload_length, uint8_t *out, size_t out_length)
 {
-    const uint8_t *row = table->body[ROUTE];
-    *dropped = true;
-    for (uint32_t i = 0; i < table->rows[ROUTE]; i++, row += ROW) {
-        if (row[0] != connection || be32(row + 4) != id)
-            continue;
-        uint32_t groups = be32(row + 12);
-        if (groups != 0 && (groups & switches) == 0)
-            return 21;
-        if (length > be16(row + 2))
-            return 22;
-        *dropped = false;
-        return i;
-    }
-    return 20;
+    if (payload_length > LONGEST)
+        return 7;
+    if (out_length < HEADER + payload_length)
+        return 9;
+    put_be32(out, id);
+    put_be32(out + 4, (uint32_t)payload_length);
+    for (size_t i = 0; i < payload_length; i++)
+        out[HEADER + i] = payload[i];
+    return 0;
 }
 
 uint32_t twin_walk(const uint8_t *image, size_t image_length, size_t connection, uint32_t switches, const uint8_t *datagram,

@@ -4,10 +4,10 @@ use mathlib.Core.Path.{_≡_, ap₂, _∙_}
 use mathlib.Core.Bool.{Bool, true, false, not, _&&_, _||_}
 use mathlib.Core.List.{List}
 use lib.Dec.{eqb, ltb}
-use Rattle.layout.specs.Layout.{rowsOf}
+use Rattle.layout.specs.Layout.{rowsOf, bodyOf}
 use Rattle.layout.specs.declared.Kind.the-variants.{Connection as KConnection}
-use Rattle.rows.specs.declared.ConnectionRow.{ConnectionRow}
-use Rattle.rows.specs.Rows.{connectionOf}
+use Rattle.rows.specs.declared.ConnectionBrief.{ConnectionBrief}
+use Rattle.rows.specs.Rows.{briefIn}
 use Rattle.connection.specs.declared.Connection.{Connection}
 use Rattle.connection.specs.declared.Remote.{Remote}
 use Rattle.state.specs.declared.State.{State}
@@ -30,9 +30,9 @@ module _ (accept member : Bool) (source : Remote) (c : Connection) (waits up : B
   score-no t = cc
 
 -- the score of record i, as the loop finds it
-pub score-at : (image : List ℕ) (s : State) (accept : Bool) (group : ℕ) (source : Remote) (rows : ℕ) (row : ConnectionRow) (i found : ℕ)
-    → rows ≡ rowsOf image KConnection → row ≡ connectionOf image i → found ≡ scoreOf accept source (ltb i rows && eqb (row .group) group) (recordAt s i)
+pub score-at : (image : List ℕ) (s : State) (accept : Bool) (group : ℕ) (source : Remote) (rows : ℕ) (row : ConnectionBrief) (i found : ℕ)
+    → rows ≡ rowsOf image KConnection → row ≡ briefIn (bodyOf image KConnection) i → found ≡ scoreOf accept source (ltb i rows && eqb (row .group) group) (recordAt s i)
     → found ≡ scoreAt image s accept group source i
 unfolding scoreAt
 score-at image s accept group source rows row i found p q r =
-    r ∙ ap₂ (λ (n : ℕ) (x : ConnectionRow). scoreOf accept source (ltb i n && eqb (x .group) group) (recordAt s i)) p q
+    r ∙ ap₂ (λ (n : ℕ) (x : ConnectionBrief). scoreOf accept source (ltb i n && eqb (x .group) group) (recordAt s i)) p q

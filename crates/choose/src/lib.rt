@@ -67,11 +67,12 @@ fn choose(image: &[u8], s: State, accept: bool, group: u8, source: Remote) -> Ch
     ensures { λ r. ⌜ r ≡ Is.chosenIn (now (image .entry)) s accept group source ⌝ }
 {
     let rows = layout::rows_of(image, Kind::Connection);
+    let body = layout::body_of(image, Kind::Connection);
     let mut best: u8 = 0;
     let mut at: usize = 0;
     let mut i: usize = 0;
     while i < 16 {
-        let row = rows::connection_row(image, i);
+        let row = rows::brief_in(body, i);
         let member = (i < rows) & (row.group == group);
         let c = s.connections[i];
         let found = score(accept, source, member, c);

@@ -8,15 +8,16 @@ use lib.Dec.{ltb}
 use lib.ListN.{length, set, getD}
 use borrow.Author.Tests.{lt-ltb, le-ltb}
 use Rattle.layout.specs.Layout.{rowsOf, bodyOf}
-use Rattle.layout.specs.declared.Kind.the-variants.{Connection as Connections, Route as Routes}
+use Rattle.layout.specs.declared.Kind.the-variants.{Connection as Connections, Group as Groups, Route as Routes}
 use Rattle.connection.specs.declared.Connection.{Connection}
 use Rattle.connection.specs.Connection.{zeroRecord}
 use Rattle.connection.specs.Sound.{soundOf, zeroOf, Sound}
 use Rattle.connection.proofs.Rules.{sound-from, sound-to, zero-is, zero-zero}
 use Rattle.lists.proofs.Both.{and-left, and-right, and-both}
 use Rattle.lists.proofs.Each.{all-at, all-set}
-use Rattle.state.specs.Fresh.{configOf}
-use Rattle.gate.specs.Sound.{routed, soundAt, recordsSound}
+use Rattle.state.specs.Fresh.{configIn, configOf}
+use Rattle.lists.specs.Each.{all}
+use Rattle.gate.specs.Sound.{routed, rulesIn, soundAt, soundIn, recordsSound}
 
 module _ (image : List ℕ) (n : ℕ) (c : Connection) where
   -- the record of a row
@@ -59,3 +60,16 @@ unfolding recordsSound
 record-set image cs n c p q =
     let z : n ≡ 0 + n = omega arith in
     all-set (soundAt image) 0 n cs c p (ap (λ (k : ℕ). soundAt image k c) (let y : 0 + n ≡ n = omega arith in y) ∙ q)
+
+-- the records by the number of rows and the bodies, and by the image
+all-in : (image : List ℕ) (cs : List Connection) → all (soundIn (rowsOf image Connections) (bodyOf image Connections) (bodyOf image Groups) (bodyOf image Routes)) 0 cs ≡ recordsSound image cs
+unfolding recordsSound soundAt configOf
+all-in image cs = refl
+
+pub records-in : (image : List ℕ) (cs : List Connection) (rows : ℕ) (connections groups routes : List ℕ) → rows ≡ rowsOf image Connections → connections ≡ bodyOf image Connections → groups ≡ bodyOf image Groups → routes ≡ bodyOf image Routes → all (soundIn rows connections groups routes) 0 cs ≡ recordsSound image cs
+records-in image cs rows connections groups routes a b d e = rw (a, b, d, e) (all-in image cs)
+
+-- the rules ask no more than that
+pub rules-enough : (connections groups : List ℕ) (n : ℕ) (c : Connection) → soundOf (rulesIn connections groups n) c ≡ soundOf (configIn connections groups n) c
+unfolding soundOf
+rules-enough connections groups n c = refl

@@ -1,17 +1,26 @@
 // What is asked before any event: 11 for lent memory of another length, 12 for a table or state that is not sound, and 2 for
 // a connection that is not there. Assumes nothing: every function is total.
 ghost use mathlib.Core.Path.{_≡_};
-ghost use Rattle.gate.specs.Sound.{routed, soundAt, recordsSound};
+ghost use Rattle.lists.specs.Each.{all};
+ghost use Rattle.connection.specs.Sound.{onlineRemote};
+ghost use Rattle.gate.specs.Sound.{routed, rulesFrom, rulesIn, soundIn, quiet, recordsSound};
 ghost use Rattle.gate.specs.Gate.{gateOf, gateAt};
+use connection::Config;
 use connection::Connection;
 use connection::Refusal;
+use connection::Remote;
+use connection::has_wildcard;
+use connection::is_online;
 use layout::Kind;
 use layout::body_of;
 use layout::rows_of;
 use part::Part;
+use rows::ConnectionBrief;
+use rows::GroupRow;
+use rows::brief_in;
+use rows::group_in;
 use rows::route_in;
 use state::State;
-use state::config_of;
 use table::TableAnswer;
 use table::check_table;
 
@@ -40,33 +49,106 @@ pub fn is_routed(routes: &[u8], n: usize, part: Part) -> bool
     }
 }
 
-// One record against its row; past the rows, against zero.
-pub fn is_sound(image: &[u8], n: usize, connection: Connection) -> bool
-    ensures { λ r. ⌜ r ≡ soundAt (now (image .entry)) n connection ⌝ }
+// What the rules of a record ask of the table; of remote and start switches they ask nothing.
+fn rules_from(row: ConnectionBrief, group: GroupRow) -> Config
+    ensures { λ r. ⌜ r ≡ rulesFrom row group ⌝ }
 {
-    if n < rows_of(image, Kind::Connection) {
-        let part = connection.part;
-        let config = config_of(image, n);
-        let routes = body_of(image, Kind::Route);
-        let has_route = is_routed(routes, n, part);
-        return connection.sound(config) & has_route;
+    let none = Remote {
+        address: 0,
+        port: 0,
+    };
+    Config {
+        tcp: group.protocol == 2,
+        automatic: row.automatic,
+        remote: none,
+        size: row.size,
+        switches: 0,
     }
-    connection.is_zero()
 }
 
-// Every record of a state.
-pub fn are_sound(image: &[u8], state: State) -> bool
-    ensures { λ r. ⌜ r ≡ recordsSound (now (image .entry)) (state .connections) ⌝ }
+// The same out of the bodies.
+fn rules_in(connections: &[u8], groups: &[u8], n: usize) -> Config
+    ensures { λ r. ⌜ r ≡ rulesIn (now (connections .entry)) (now (groups .entry)) n ⌝ }
+{
+    let row = brief_in(connections, n);
+    let group = group_in(groups, row.group as usize);
+    rules_from(row, group)
+}
+
+// Whether a record holds nothing, wants nothing and waits for nothing: most do, and then one rule is left.
+fn is_quiet(c: Connection) -> bool
+    ensures { λ r. ⌜ r ≡ quiet c ⌝ }
+{
+    let part = c.part;
+    part::is_empty(part)
+        & (c.used == 0)
+        & (c.timer == 0)
+        & !c.due
+        & !c.open_wanted
+        & !c.close_wanted
+}
+
+// The rule that is left: an online remote has no wildcard.
+fn is_reached(c: Connection) -> bool
+    ensures { λ r. ⌜ r ≡ onlineRemote c ⌝ }
+{
+    let mode = c.mode;
+    let remote = c.remote;
+    !is_online(mode) | !has_wildcard(remote)
+}
+
+// One record against its row, by the number of rows and the bodies; past the rows, against zero.
+fn is_sound(
+    rows: usize,
+    connections: &[u8],
+    groups: &[u8],
+    routes: &[u8],
+    n: usize,
+    connection: Connection,
+) -> bool
+    ensures { λ r. ⌜ r ≡ soundIn rows (now (connections .entry)) (now (groups .entry)) (now (routes .entry)) n connection ⌝ }
+{
+    if rows <= n {
+        return connection.is_zero();
+    }
+    if is_quiet(connection) {
+        return is_reached(connection);
+    }
+    let part = connection.part;
+    let rules = rules_in(connections, groups, n);
+    let has_route = is_routed(routes, n, part);
+    connection.sound(rules) & has_route
+}
+
+// Each record of a state.
+fn each_sound(
+    rows: usize,
+    connections: &[u8],
+    groups: &[u8],
+    routes: &[u8],
+    state: State,
+) -> bool
+    ensures { λ r. ⌜ r ≡ all (soundIn rows (now (connections .entry)) (now (groups .entry)) (now (routes .entry))) 0 (state .connections) ⌝ }
 {
     let mut sound = true;
     let mut i: usize = 0;
     while i < 16 {
         let connection = state.connections[i];
-        let one = is_sound(image, i, connection);
+        let one = is_sound(rows, connections, groups, routes, i, connection);
         sound = sound & one;
         i += 1;
     }
     sound
+}
+
+// The same by the image, whose bodies are asked for once.
+pub fn are_sound(image: &[u8], state: State) -> bool
+    ensures { λ r. ⌜ r ≡ recordsSound (now (image .entry)) (state .connections) ⌝ }
+{
+    let connections = body_of(image, Kind::Connection);
+    let groups = body_of(image, Kind::Group);
+    let routes = body_of(image, Kind::Route);
+    each_sound(rows_of(image, Kind::Connection), connections, groups, routes, state)
 }
 
 // 11, then 12: before every event.

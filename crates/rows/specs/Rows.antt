@@ -8,6 +8,7 @@ use Rattle.layout.specs.Layout.{rowIn, rowOf, bodyOf}
 use Rattle.layout.specs.declared.Kind.the-variants.{Group, Connection, Route, Destination}
 use Rattle.rows.specs.declared.GroupRow.{GroupRow}
 use Rattle.rows.specs.declared.ConnectionRow.{ConnectionRow}
+use Rattle.rows.specs.declared.ConnectionBrief.{ConnectionBrief}
 use Rattle.rows.specs.declared.RouteRow.{RouteRow}
 use Rattle.rows.specs.declared.DestinationRow.{DestinationRow}
 
@@ -49,6 +50,22 @@ destinationRow row =
       pdu = be 2 row 8;
       timeout = be 2 row 10;
       groups = be 4 row 12;
+    }
+
+-- row i of a body of groups, and of a body of connections
+abbrev pub groupIn : List ℕ → ℕ → GroupRow
+groupIn body i = groupRow (rowIn 2 body i)
+
+abbrev pub connectionIn : List ℕ → ℕ → ConnectionRow
+connectionIn body i = connectionRow (rowIn 16 body i)
+
+-- of row i of a body of connections: group, automatic, send size
+abbrev pub briefIn : List ℕ → ℕ → ConnectionBrief
+briefIn body i =
+    record {
+      group = connectionIn body i .group;
+      automatic = connectionIn body i .automatic;
+      size = connectionIn body i .size;
     }
 
 -- row i of an image

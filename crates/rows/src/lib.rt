@@ -9,6 +9,9 @@ ghost use Rattle.rows.specs.Rows.{
   connectionRow,
   routeRow,
   destinationRow,
+  groupIn,
+  connectionIn,
+  briefIn,
   groupOf,
   connectionOf,
   routeIn,
@@ -44,6 +47,13 @@ pub struct ConnectionRow {
     pub port: u16,
     pub size: u16,
     pub switches: u32,
+}
+
+// What a loop over all connections asks of each row.
+pub struct ConnectionBrief {
+    pub group: u8,
+    pub automatic: bool,
+    pub size: u16,
 }
 
 pub struct RouteRow {
@@ -134,6 +144,32 @@ pub fn destination_value(row: &[u8]) -> DestinationRow
 }
 
 // ---- rows by their number
+
+// Of a body of groups.
+pub fn group_in(body: &[u8], i: usize) -> GroupRow
+    ensures { λ r. ⌜ r ≡ groupIn (now (body .entry)) i ⌝ }
+{
+    group_value(row_in(body, 2, i))
+}
+
+// Of a body of connections.
+pub fn connection_in(body: &[u8], i: usize) -> ConnectionRow
+    ensures { λ r. ⌜ r ≡ connectionIn (now (body .entry)) i ⌝ }
+{
+    connection_value(row_in(body, 16, i))
+}
+
+// Of the same body, and no more than a loop over all connections asks for.
+pub fn brief_in(body: &[u8], i: usize) -> ConnectionBrief
+    ensures { λ r. ⌜ r ≡ briefIn (now (body .entry)) i ⌝ }
+{
+    let row = row_in(body, 16, i);
+    ConnectionBrief {
+        group: one_byte(row, 0),
+        automatic: be8(row, 1) == 1,
+        size: two_bytes(row, 8),
+    }
+}
 
 pub fn group_row(image: &[u8], i: usize) -> GroupRow
     ensures { λ r. ⌜ r ≡ groupOf (now (image .entry)) i ⌝ }

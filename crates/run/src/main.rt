@@ -3,17 +3,16 @@
 mod answer;
 mod end;
 mod event;
-mod script;
 mod words;
 
 use answering::Verdict;
 use calls::Call;
 use calls::call_of;
 use given::given_state;
+use input::read_image;
+use input::read_part;
 use pieces::front;
 use pieces::put_piece;
-use script::read_image;
-use script::read_part;
 use state::State;
 use state::fresh_state;
 use table::TableAnswer;

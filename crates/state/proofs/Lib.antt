@@ -2,3 +2,4 @@
 pub mod Upto
 pub mod Records
 pub mod Stretch
+pub mod Config

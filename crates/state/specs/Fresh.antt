@@ -6,7 +6,7 @@ use mathlib.Core.List.{List}
 use Rattle.lists.specs.Each.{each}
 use Rattle.rows.specs.declared.ConnectionRow.{ConnectionRow}
 use Rattle.rows.specs.declared.GroupRow.{GroupRow}
-use Rattle.rows.specs.Rows.{connectionOf, groupOf}
+use Rattle.rows.specs.Rows.{groupIn, connectionIn, connectionOf, groupOf}
 use Rattle.connection.specs.declared.Connection.{Connection}
 use Rattle.connection.specs.declared.Config.{Config}
 use Rattle.connection.specs.Connection.{freshOf, zeroRecord}
@@ -22,6 +22,10 @@ configFrom row group =
       size = row .size;
       switches = row .switches;
     }
+
+-- what the bodies of connections and groups say of connection i
+abbrev pub configIn : List ℕ → List ℕ → ℕ → Config
+configIn connections groups i = configFrom (connectionIn connections i) (groupIn groups (connectionIn connections i .group))
 
 -- what the table says of connection i
 unfoldable pub configOf : List ℕ → ℕ → Config

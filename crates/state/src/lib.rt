@@ -2,13 +2,15 @@
 // state. Assumes nothing: every function is total.
 ghost use mathlib.Core.Path.{_≡_};
 ghost use Rattle.state.specs.State.{countOf, counted, droppedOf, withCount};
-ghost use Rattle.state.specs.Fresh.{configFrom, configOf, freshState, emptyState};
+ghost use Rattle.state.specs.Fresh.{configFrom, configIn, configOf, freshState, emptyState};
 use connection::Config;
 use connection::Connection;
 use connection::Remote;
 use rows::ConnectionRow;
 use rows::GroupRow;
+use rows::connection_in;
 use rows::connection_row;
+use rows::group_in;
 use rows::group_row;
 
 pub struct State {
@@ -71,6 +73,15 @@ pub fn config_from(row: ConnectionRow, group: GroupRow) -> Config
         size: row.size,
         switches: row.switches,
     }
+}
+
+// What the bodies of connections and groups say of connection i: for loops, which ask for the bodies once.
+pub fn config_in(connections: &[u8], groups: &[u8], i: usize) -> Config
+    ensures { λ r. ⌜ r ≡ configIn (now (connections .entry)) (now (groups .entry)) i ⌝ }
+{
+    let row = connection_in(connections, i);
+    let group = group_in(groups, row.group as usize);
+    config_from(row, group)
 }
 
 // What the table says of connection i.

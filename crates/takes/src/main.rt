@@ -18,10 +18,11 @@ use connection::Connection;
 use connection::Mode;
 use connection::Refusal;
 use connection::Remote;
+use input::read_part;
 use layout::Kind;
 use layout::rows_of;
-use libc::STDIN_FILENO;
 use libc::STDOUT_FILENO;
+use pieces::front;
 use pieces::put_piece;
 use receive::Answer;
 use receive::segment_payload;
@@ -244,16 +245,7 @@ fn takes_over(
 
 // The next n bytes of the input at the front of a buffer; false where they do not fit or the input ends before.
 fn read_body(buf: &mut [u8], n: usize) -> bool {
-    if n <= buf.len() {
-        let got = io::read_full(STDIN_FILENO, &mut buf[..n]);
-        return got == n;
-    }
-    false
-}
-
-// The first n bytes; none where there are fewer.
-fn front(s: &[u8], n: usize) -> &[u8] {
-    if n <= s.len() { &s[..n] } else { &s[..0] }
+    (n <= buf.len()) & (read_part(buf, 0, n) == n)
 }
 
 // A table record: the image is read, and a new case begins.

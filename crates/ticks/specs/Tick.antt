@@ -1,12 +1,14 @@
 -- A tick, and many. A refusal carries its number, and the state stays. Assumes nothing.
 use Prim.Native.Nat.{ℕ}
+use mathlib.Core.Bool.{Bool, not, _&&_}
 use mathlib.Core.List.{List}
+use lib.Dec.{eqb}
 use Rattle.layout.specs.Layout.{rowsOf}
 use Rattle.layout.specs.declared.Kind.the-variants.{Connection as Connections}
 use Rattle.connection.specs.declared.Connection.{Connection}
 use Rattle.connection.specs.declared.Refusal.{Refusal}
 use Rattle.connection.specs.declared.Answer.the-variants.{Done, Refused}
-use Rattle.connection.specs.Connection.{tickOf}
+use Rattle.connection.specs.Connection.{isOnline, tickOf}
 use Rattle.lists.specs.Each.{eachTo}
 use Rattle.lists.specs.Fold.{foldFrom}
 use Rattle.state.specs.declared.State.{State}
@@ -18,6 +20,10 @@ use Rattle.ticks.specs.declared.Ticked.{Ticked}
 -- what a tick makes of connection i
 abbrev pub tickAt : List ℕ → ℕ → Connection → Connection
 tickAt image i c = tickOf (configOf image i) c
+
+-- an online connection, not to be closed, whose timer does not run: a tick finds nothing to do
+abbrev pub restsOf : Connection → Bool
+restsOf c = not (c .«close_wanted») && isOnline (c .mode) && eqb (c .timer) 0
 
 -- "Tick, per connection in order": of the first `rows` records; the records past them stay
 unfoldable pub tickedTo : List ℕ → ℕ → State → State

@@ -2,14 +2,18 @@
 ghost use mathlib.Core.Path.{_≡_};
 ghost use Prim.Native.Nat.{_≤_};
 ghost use lib.ListN.{length};
-ghost use Rattle.ticks.specs.Tick.{tickedTo, ticksTo, tickEvent, ticksEvent};
+ghost use Rattle.connection.specs.Connection.{tickOf};
+ghost use Rattle.state.specs.Fresh.{configIn};
+ghost use Rattle.ticks.specs.Tick.{restsOf, tickedTo, ticksTo, tickEvent, ticksEvent};
 use connection::Answer;
 use connection::Connection;
+use connection::is_online;
 use gate::Gate;
 use layout::Kind;
+use layout::body_of;
 use layout::rows_of;
 use state::State;
-use state::config_of;
+use state::config_in;
 
 // What a tick answers, and the state after it. A struct of its own: it has room for more.
 pub struct Ticked {
@@ -17,17 +21,36 @@ pub struct Ticked {
     pub state: State,
 }
 
+// Whether a tick finds nothing to do.
+fn rests(c: Connection) -> bool
+    ensures { λ r. ⌜ r ≡ restsOf c ⌝ }
+{
+    let mode = c.mode;
+    !c.close_wanted & is_online(mode) & (c.timer == 0)
+}
+
+// One tick of connection i; its rows are asked for only where there is something to do.
+fn tick_one(connections: &[u8], groups: &[u8], i: usize, c: Connection) -> Connection
+    ensures { λ r. ⌜ r ≡ tickOf (configIn (now (connections .entry)) (now (groups .entry)) i) c ⌝ }
+{
+    if rests(c) {
+        return c;
+    }
+    c.tick(config_in(connections, groups, i))
+}
+
 // One tick of the first `rows` connections, in order.
 fn tick_rows(image: &[u8], rows: usize, state: State) -> State
     requires { ⌜ rows ≤ 16 ⌝ }
     ensures { λ r. ⌜ r ≡ tickedTo (now (image .entry)) rows state ⌝ }
 {
+    let connections = body_of(image, Kind::Connection);
+    let groups = body_of(image, Kind::Group);
     let mut after = state;
     let mut i: usize = 0;
     while i < rows {
         let connection = after.connections[i];
-        let config = config_of(image, i);
-        let next = connection.tick(config);
+        let next = tick_one(connections, groups, i, connection);
         after.connections[i] = next;
         i += 1;
     }

@@ -1,9 +1,11 @@
 -- `choose::choose` meets its contract: the best so far is the one pass of the definition, at record i. Assumes nothing.
-use Prim.Native.Nat.{_-_}
-use mathlib.Core.Path.{_≡_}
+use Prim.Native.Nat.{ℕ, _-_}
+use mathlib.Core.Path.{_≡_, ap, _∙_}
+use mathlib.Core.List.{List}
 use native.Mathlib.Omega.{arith}
 use denote.Ref.{now}
 use borrow.Author.Needs.{needs}
+use Rattle.rows.specs.Rows.{briefIn}
 use Rattle.lists.proofs.Fold.{fold-start}
 use Rattle.choose.specs.Choose.{scoreAt}
 use Rattle.choose.proofs.Scores.{score-at}
@@ -12,19 +14,22 @@ use Rattle.choose.proofs.choose.Statement.{statement}
 use Rattle.choose.proofs.choose.Tie as tie
 
 abbrev Inv-loop : tie.InvT-loop
-Inv-loop image accept group source s rows best₀ at₀ i₀ best at i = Passing image s accept group source i best at
+Inv-loop image accept group source s rows body best₀ at₀ i₀ best at i = Passing image s accept group source i best at
 
 abbrev μ-loop : tie.MeasureT-loop
-μ-loop image accept group source s rows best₀ at₀ i₀ best at i = 16 - i
+μ-loop image accept group source s rows body best₀ at₀ i₀ best at i = 16 - i
 
 rows-of-requires : tie.Need-rows-of-requires Inv-loop μ-loop
 rows-of-requires c κs = search needs
 
+body-of-requires : tie.Need-body-of-requires Inv-loop μ-loop
+body-of-requires c κs = search needs
+
 loop-holds : tie.Need-loop-holds Inv-loop μ-loop
 loop-holds c = fold-start _ _ _
 
-connection-row-requires : tie.Need-connection-row-requires Inv-loop μ-loop
-connection-row-requires c κs = search needs
+brief-in-requires : tie.Need-brief-in-requires Inv-loop μ-loop
+brief-in-requires c κs = search needs
 
 mul-c : tie.Need-mul-c Inv-loop μ-loop
 mul-c c = search needs
@@ -46,10 +51,10 @@ abbrev L : tie.After-score Inv-loop μ-loop → tie.At-loop Inv-loop μ-loop
 L c = c .before .before .before .before .before
 
 abbrev A : tie.After-score Inv-loop μ-loop → tie.Start Inv-loop μ-loop
-A c = L c .before .before .before
+A c = L c .before .before .before .before
 
 scored : (c : tie.After-score Inv-loop μ-loop) → c .score .result ≡ scoreAt (now (A c .args .image)) (A c .args .t2) (A c .args .accept) (A c .args .group) (A c .args .source) (L c .loop .i)
-scored c = score-at _ (A c .args .t2) _ _ _ _ _ (L c .loop .i) _ (L c .before .rows-of .ensures .0) (c .before .before .before .connection-row .ensures) (c .score .ensures)
+scored c = score-at _ (A c .args .t2) _ _ _ _ _ (L c .loop .i) _ (L c .before .before .rows-of .ensures .0) (c .before .before .before .brief-in .ensures ∙ ap (λ (b : List ℕ). briefIn b (L c .loop .i)) (L c .before .body-of .ensures)) (c .score .ensures)
 
 loop-again : tie.Need-loop-again Inv-loop μ-loop
 loop-again c = let l = L (c .before) in pass-no _ _ _ _ _ (l .loop .i) _ _ _ (l .loop .inv) (omega arith) (scored (c .before)) (c .if1 .taken)
@@ -76,8 +81,9 @@ choose-spec =
     Inv-loop
     μ-loop
     rows-of-requires
+    body-of-requires
     loop-holds
-    connection-row-requires
+    brief-in-requires
     mul-c
     element-copy-out-c
     score-requires

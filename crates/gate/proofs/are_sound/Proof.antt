@@ -1,68 +1,38 @@
--- `gate::are_sound` meets its contract. The invariant: the tests of the records below i are joined. Assumes nothing.
-use Prim.Native.Nat.{ℕ, _<_, _≤_, _-_}
-use mathlib.Core.Path.{_≡_, refl, ap, _∙_}
-use mathlib.Core.Bool.{true, _&&_}
-use lib.ListN.{length}
-use denote.Ref.{now}
-use native.Mathlib.Omega.{arith}
+-- `gate::are_sound` meets its contract. Assumes nothing.
+use mathlib.Core.Path.{_∙_}
+use Rattle.gate.proofs.Records.{records-in}
 use borrow.Author.Needs.{needs}
-use Rattle.connection.specs.Connection.{zeroRecord}
-use Rattle.lists.specs.Each.{allTo}
-use Rattle.lists.proofs.Each.{long, all-turn, all-all}
-use Rattle.gate.specs.Sound.{soundAt, recordsSound}
 use Rattle.gate.proofs.are_sound.Statement.{statement}
 use Rattle.gate.proofs.are_sound.Tie as tie
 
-abbrev Inv-loop : tie.InvT-loop
-Inv-loop image state sound₀ i₀ sound i = (i ≤ 16) × (length (state .connections) ≡ 16) × (sound ≡ (true && allTo (soundAt image) 0 i (state .connections)))
+body-of-requires : tie.Need-body-of-requires
+body-of-requires c κs = search needs
 
-abbrev μ-loop : tie.MeasureT-loop
-μ-loop image state sound₀ i₀ sound i = 16 - i
+body-of-requires-2 : tie.Need-body-of-requires-2
+body-of-requires-2 c κs = search needs
 
-loop-holds : tie.Need-loop-holds Inv-loop μ-loop
-loop-holds c = (search needs, long _ (c .before .args .t2 .connections) (c .before .good .1 .0 .1 .1 .0 .1 .0 .1), refl)
+body-of-requires-3 : tie.Need-body-of-requires-3
+body-of-requires-3 c κs = search needs
 
-mul-connection : tie.Need-mul-connection Inv-loop μ-loop
-mul-connection c = search needs
+rows-of-requires : tie.Need-rows-of-requires
+rows-of-requires c κs = search needs
 
-element-copy-out-connection : tie.Need-element-copy-out-connection Inv-loop μ-loop
-element-copy-out-connection c = search needs
+each-sound-requires : tie.Need-each-sound-requires
+each-sound-requires c κs = search needs
 
-is-sound-requires : tie.Need-is-sound-requires Inv-loop μ-loop
-is-sound-requires c κs = search needs
-
-add-i : tie.Need-add-i Inv-loop μ-loop
-add-i c = search needs
-
-loop-less : tie.Need-loop-less Inv-loop μ-loop
-loop-less c = search needs
-
-loop-again : tie.Need-loop-again Inv-loop μ-loop
-loop-again c =
-    let b = c .before .before .before in
-    let a = b .before .before .args in
-    let h : b .loop .i < length (a .t2 .connections) = omega arith in
-    (omega arith, b .loop .inv .1, all-turn (soundAt (now (a .image))) (a .t2 .connections) zeroRecord _ true _ _ h (b .loop .inv .2) (c .is-sound .ensures))
-
-returns : tie.Need-returns Inv-loop μ-loop
-unfolding recordsSound
+returns : tie.Need-returns
 returns c =
-    let l = c .before in
-    let a = l .before .before .args in
-    let e : l .loop .i ≡ length (a .t2 .connections) = omega arith in
-    l .loop .inv .2 ∙ ap (λ (k : ℕ). allTo (soundAt (now (a .image))) 0 k (a .t2 .connections)) e ∙ all-all (soundAt (now (a .image))) 0 (a .t2 .connections)
+    let r = c .before in
+    let b = r .before .before in
+    c .each-sound .ensures ∙ records-in _ _ _ _ _ _ (r .rows-of .ensures .0) (b .before .body-of .ensures) (b .body-of2 .ensures) (r .before .body-of3 .ensures)
 
 pub are-sound-spec : {M : Type 1} → statement M
 are-sound-spec =
     tie.close
     (tie.spec
-    Inv-loop
-    μ-loop
-    loop-holds
-    mul-connection
-    element-copy-out-connection
-    is-sound-requires
-    add-i
-    loop-less
-    loop-again
+    body-of-requires
+    body-of-requires-2
+    body-of-requires-3
+    rows-of-requires
+    each-sound-requires
     returns)

@@ -1,18 +1,32 @@
 -- `gate::is_sound` meets its contract. Assumes nothing.
+use mathlib.Core.Path.{sym, _∙_}
+use denote.Ref.{now}
 use borrow.Author.Tests.{lt-ltb, le-ltb}
-use Rattle.gate.specs.Sound.{soundAt}
 use borrow.Author.Needs.{needs}
+use Rattle.gate.proofs.Records.{rules-enough}
+use Rattle.gate.proofs.Quiet.{quiet-sound}
 use Rattle.gate.proofs.is_sound.Statement.{statement}
 use Rattle.gate.proofs.is_sound.Tie as tie
 
-rows-of-requires : tie.Need-rows-of-requires
-rows-of-requires c κs = search needs
+is-zero-requires : tie.Need-is-zero-requires
+is-zero-requires c κs = search needs
 
-config-of-requires : tie.Need-config-of-requires
-config-of-requires c κs = search needs
+returns : tie.Need-returns
+returns c = rw (le-ltb _ _ (c .before .if1 .taken)) (c .is-zero .ensures)
 
-body-of-requires : tie.Need-body-of-requires
-body-of-requires c κs = search needs
+is-quiet-requires : tie.Need-is-quiet-requires
+is-quiet-requires c κs = search needs
+
+is-reached-requires : tie.Need-is-reached-requires
+is-reached-requires c κs = search needs
+
+returns-2 : tie.Need-returns-2
+returns-2 c =
+    let q = c .before .before in
+    rw (lt-ltb _ _ (q .before .if1 .left)) (c .is-reached .ensures ∙ sym (quiet-sound _ _ _ _ (sym (q .is-quiet .ensures) ∙ c .before .if2 .taken)))
+
+rules-in-requires : tie.Need-rules-in-requires
+rules-in-requires c κs = search needs
 
 is-routed-requires : tie.Need-is-routed-requires
 is-routed-requires c κs = search needs
@@ -20,35 +34,28 @@ is-routed-requires c κs = search needs
 sound-requires : tie.Need-sound-requires
 sound-requires c κs = search needs
 
-returns : tie.Need-returns
-unfolding soundAt
-returns c =
-    let r = c .before .before .before .before in
+returns-3 : tie.Need-returns-3
+returns-3 c =
+    let r = c .before .before .before .before .before in
+    let a = r .before .before .before .before .args in
     rw (
-      ← r .before .rows-of .ensures .0,
-      lt-ltb _ _ (r .if1 .taken),
+      lt-ltb _ _ (r .if1 .left),
       c .sound .ensures,
       c .before .is-routed .ensures,
-      c .before .before .body-of .ensures,
-      c .before .before .before .config-of .ensures,
+      c .before .before .rules-in .ensures,
+      rules-enough (now (a .connections)) (now (a .groups)) (a .n) (a .connection),
     )
-
-is-zero-requires : tie.Need-is-zero-requires
-is-zero-requires c κs = search needs
-
-returns-2 : tie.Need-returns-2
-unfolding soundAt
-returns-2 c = rw (← c .before .before .rows-of .ensures .0, le-ltb _ _ (c .before .if1 .left)) (c .is-zero .ensures)
 
 pub is-sound-spec : {M : Type 1} → statement M
 is-sound-spec =
     tie.close
     (tie.spec
-    rows-of-requires
-    config-of-requires
-    body-of-requires
+    is-zero-requires
+    returns
+    is-quiet-requires
+    is-reached-requires
+    returns-2
+    rules-in-requires
     is-routed-requires
     sound-requires
-    returns
-    is-zero-requires
-    returns-2)
+    returns-3)

@@ -1,5 +1,4 @@
-// Reading a table image and the entries of a script from standard input, never more than one at a time (docs/EVENTS.md).
-// Assumes nothing.
+// Bytes of standard input into lent memory, and a table image from there, never more than is asked for. Assumes nothing.
 ghost use Prim.Native.Nat.{_≤_};
 use layout::end_of;
 

@@ -1,0 +1,67 @@
+/* events.h: the C twins of the entry points: same checks, same order, same answers. The state and both memories are changed in
+ * place. */
+#ifndef EVENTS_H
+#define EVENTS_H
+
+#include <stdbool.h>
+#include <stddef.h>
+#include <stdint.h>
+
+enum mode { OFFLINE, RECONNECT, ONLINE };
+enum part { HEADER_BYTES, PAYLOAD_BYTES, SKIP_BYTES };
+
+struct remote {
+    uint32_t address;
+    uint16_t port;
+};
+
+struct record {
+    enum mode mode;
+    bool open_wanted, close_wanted, due;
+    struct remote remote;
+    uint32_t switches;
+    enum part part;
+    uint8_t route;         /* of an unfinished payload */
+    uint16_t length, held; /* of an unfinished payload; held also counts header bytes */
+    uint64_t value;        /* header bytes held, as a number; bytes still to skip */
+    uint16_t used, timer;
+};
+
+struct state {
+    struct record connections[16];
+    uint32_t drops[2]; /* UDP, TCP */
+};
+
+/* What every call is lent. */
+struct lent {
+    const uint8_t *image;
+    size_t image_length;
+    struct state *state;
+    uint8_t *rx;
+    size_t rx_length;
+    uint8_t *tx;
+    size_t tx_length;
+};
+
+enum kind { MORE, PDU, DROP }; /* the end of a datagram is MORE */
+
+struct outcome {
+    enum kind kind;
+    uint32_t number; /* route or reason */
+    uint32_t id, length;
+    size_t read; /* bytes of a segment; the next place of a datagram */
+    const uint8_t *payload;
+};
+
+void twin_fresh(const uint8_t *image, size_t image_length, struct state *state);
+uint32_t twin_read_count(const struct lent *lent, uint8_t protocol, uint32_t *value);
+uint32_t twin_take(const struct lent *lent, uint8_t connection, const uint8_t *segment, size_t length, struct outcome *outcome);
+uint32_t twin_walk_event(const struct lent *lent, uint8_t connection, const uint8_t *datagram, size_t length, size_t place,
+                         struct outcome *outcome);
+uint32_t twin_transmit(const struct lent *lent, uint16_t pdu, const uint8_t *payload, size_t length, size_t *refused_at);
+uint32_t twin_take_waiting(const struct lent *lent, uint8_t connection, uint8_t *out, size_t room, size_t *count,
+                           struct remote *remote);
+uint32_t twin_tick(const struct lent *lent);
+uint32_t twin_datagram(const struct lent *lent, uint8_t group, struct remote source, uint8_t *met);
+
+#endif

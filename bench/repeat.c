@@ -1,0 +1,123 @@
+/* repeat.c: what crates/repeat does, over the C twins: the same standard input, the same last words. */
+#include "events.h"
+#include "system.h"
+
+static uint8_t head[16], image[2356], bytes[2944], rx[16 * 1464], tx[16 * 1472], out[1472];
+static struct state state;
+static struct lent lent = {.image = image, .state = &state, .rx = rx, .rx_length = sizeof rx, .tx = tx, .tx_length = sizeof tx};
+static size_t length;
+
+static size_t number(size_t at, unsigned width)
+{
+    size_t value = 0;
+    while (width-- > 0)
+        value = value << 8 | head[at++];
+    return value;
+}
+
+static bool take(uint8_t connection, const uint8_t *segment, size_t n)
+{
+    struct outcome outcome;
+    return twin_take(&lent, connection, segment, n, &outcome) == 0 && outcome.kind == PDU;
+}
+
+static bool walk(uint8_t connection)
+{
+    struct outcome outcome;
+    return twin_walk_event(&lent, connection, bytes, length, 0, &outcome) == 0 && outcome.kind == PDU;
+}
+
+static void hold(size_t n, uint16_t used)
+{
+    struct record *c = &state.connections[n];
+    c->used = used;
+    c->timer = 0;
+    c->due = false;
+}
+
+static bool transmit(uint8_t connection, uint16_t pdu)
+{
+    size_t refused_at;
+    bool done = twin_transmit(&lent, pdu, bytes, length, &refused_at) == 0;
+    hold(connection, 0);
+    hold(connection + 1u, 0);
+    return done;
+}
+
+static bool take_waiting(uint8_t connection, uint16_t used)
+{
+    size_t count;
+    struct remote remote;
+    hold(connection, used);
+    return twin_take_waiting(&lent, connection, out, sizeof out, &count, &remote) == 0 && count == used;
+}
+
+static bool arrive(uint8_t connection)
+{
+    const uint8_t *row = image + 36 + image[7] * 2 + connection * 16;
+    uint8_t met;
+    struct remote source = state.connections[connection].remote;
+    return twin_datagram(&lent, row[0], source, &met) == 0 && met == connection;
+}
+
+/* The call that a number names. */
+static bool once(size_t what, uint8_t connection, uint16_t pdu, uint16_t used)
+{
+    uint32_t value;
+    switch (what) {
+    case 0:
+        return true;
+    case 1:
+        return twin_read_count(&lent, 1, &value) == 0;
+    case 2:
+        return take(connection, bytes, length);
+    case 3:
+        return !take(connection, bytes, length / 2) && take(connection, bytes + length / 2, length - length / 2);
+    case 4:
+        return walk(connection);
+    case 5:
+        return transmit(connection, pdu);
+    case 6:
+        return take_waiting(connection, used);
+    case 7:
+        return twin_tick(&lent) == 0;
+    case 8:
+        return arrive(connection);
+    default:
+        return false;
+    }
+}
+
+/* The next n bytes of the input; whether they are there. */
+static bool read_into(uint8_t *to, size_t n)
+{
+    for (size_t at = 0; at < n;) {
+        long got = read(0, to + at, n - at);
+        if (got <= 0)
+            return false;
+        at += (size_t)got;
+    }
+    return true;
+}
+
+int main(void)
+{
+    bool all = true;
+    if (!read_into(head, sizeof head) || number(12, 2) > sizeof image || number(14, 2) > sizeof bytes ||
+        !read_into(image, number(12, 2)) || !read_into(bytes, number(14, 2))) {
+        printf("CUT\n");
+        return 0;
+    }
+    lent.image_length = number(12, 2);
+    length = number(14, 2);
+    twin_fresh(image, lent.image_length, &state);
+    for (size_t i = 0; i < image[15]; i++) /* the number of connections */
+        state.connections[i].mode = ONLINE;
+    size_t what = number(0, 1), times = number(4, 4), place = number(8, 2);
+    for (size_t i = 0; i < times; i++) {
+        image[place] = (uint8_t)i;
+        all &= once(what, (uint8_t)number(1, 1), (uint16_t)number(2, 2), (uint16_t)number(10, 2));
+    }
+    printf(all ? "OK\n" : "REFUSED\n");
+    return 0;
+}

@@ -1,0 +1,129 @@
+/* table.c: the check of the table image and the lookup of a route, in plain C by the rules of document 01. */
+#include "table.h"
+
+#include "system.h"
+
+static const uint16_t most_rows[KINDS] = {8, 16, 64, 64};
+static const uint8_t row_bytes[KINDS] = {2, ROW, ROW, ROW};
+
+/* Rows met so far, by a hash of their key: each head is the last row with its hash (its number and 1 more), and each row names
+ * the one before it with the same hash. So a row is compared with few others. */
+struct met {
+    uint8_t head[128], before[64];
+};
+
+static bool good_group(const uint8_t *row)
+{
+    return (row[0] == 1 || row[0] == 2) && row[1] == 0;
+}
+
+static bool good_connection(const uint8_t *row, size_t groups)
+{
+    uint16_t send_size = be16(row + 8);
+    return row[0] < groups && row[1] <= 1 && send_size >= 8 && send_size <= 1472 && be16(row + 10) == 0;
+}
+
+static bool good_route(const uint8_t *row, size_t connections)
+{
+    return row[0] < connections && row[1] == 0 && be16(row + 2) <= LONGEST && be16(row + 10) == 0;
+}
+
+/* A send size is at most 1,472, so what fits it with 8 more is at most LONGEST. */
+static bool good_destination(const uint8_t *row, const struct layout *table)
+{
+    size_t connection = row[0];
+    return connection < table->rows[CONNECTION] && row[1] <= 1 &&
+           be16(row + 2) + 8u <= be16(table->body[CONNECTION] + connection * ROW + 8);
+}
+
+/* Adds row i of a body, unless an earlier row has the same connection and the same width bytes at a place of the row. */
+static inline bool add(struct met *met, const uint8_t *body, size_t i, uint32_t key, size_t at, size_t width)
+{
+    const uint8_t *row = body + i * ROW;
+    uint8_t *head = &met->head[key * 0x9E3779B1u >> 25];
+    for (size_t other = *head; other != 0; other = met->before[other - 1]) {
+        const uint8_t *earlier = body + (other - 1) * ROW;
+        if (earlier[0] == row[0] && memcmp(earlier + at, row + at, width) == 0)
+            return false;
+    }
+    met->before[i] = *head;
+    *head = (uint8_t)(i + 1);
+    return true;
+}
+
+static bool add_route(struct met *met, const uint8_t *body, size_t i)
+{
+    const uint8_t *row = body + i * ROW;
+    return add(met, body, i, be32(row + 4) ^ row[0] * 0x01000193u, 4, 4);
+}
+
+static bool add_destination(struct met *met, const uint8_t *body, size_t i)
+{
+    const uint8_t *row = body + i * ROW;
+    return add(met, body, i, (uint32_t)row[0] << 16 | be16(row + 8), 8, 2);
+}
+
+/* The place of the first bad row; 0 when all are good. */
+static size_t bad_row(const uint8_t *image, const struct layout *table)
+{
+    const uint8_t *row = table->body[GROUP];
+    for (size_t i = 0; i < table->rows[GROUP]; i++, row += 2)
+        if (!good_group(row))
+            return (size_t)(row - image);
+    for (size_t i = 0; i < table->rows[CONNECTION]; i++, row += ROW)
+        if (!good_connection(row, table->rows[GROUP]))
+            return (size_t)(row - image);
+    struct met routes, destinations;
+    memset(routes.head, 0, sizeof routes.head);
+    memset(destinations.head, 0, sizeof destinations.head);
+    for (size_t i = 0; i < table->rows[ROUTE]; i++, row += ROW)
+        if (!good_route(row, table->rows[CONNECTION]) || !add_route(&routes, table->body[ROUTE], i))
+            return (size_t)(row - image);
+    for (size_t i = 0; i < table->rows[DESTINATION]; i++, row += ROW)
+        if (!good_destination(row, table) || !add_destination(&destinations, table->body[DESTINATION], i))
+            return (size_t)(row - image);
+    return 0;
+}
+
+bool check(const uint8_t *image, size_t image_length, struct layout *table, size_t *place)
+{
+    size_t offset = FRONT;
+    *place = 0;
+    if (image_length < FRONT || be32(image) != 0x00010004)
+        return false;
+    for (size_t kind = 0; kind < KINDS; kind++) {
+        const uint8_t *entry = image + 4 + 8 * kind;
+        uint16_t rows = be16(entry + 2);
+        if (be16(entry) != kind + 1 || rows > most_rows[kind] || be32(entry + 4) != offset) {
+            *place = (size_t)(entry - image);
+            return false;
+        }
+        table->body[kind] = image + offset;
+        table->rows[kind] = rows;
+        offset += (size_t)rows * row_bytes[kind];
+    }
+    if (image_length != offset) {
+        *place = 2;
+        return false;
+    }
+    *place = bad_row(image, table);
+    return *place == 0;
+}
+
+uint32_t look_up(const struct layout *table, size_t connection, uint32_t switches, uint32_t id, uint32_t length, bool *dropped)
+{
+    const uint8_t *row = table->body[ROUTE];
+    *dropped = true;
+    for (uint32_t i = 0; i < table->rows[ROUTE]; i++, row += ROW) {
+        if (row[0] != connection || be32(row + 4) != id)
+            continue;
+        uint32_t groups = be32(row + 12);
+        if (groups != 0 && (groups & switches) == 0)
+            return 21;
+        if (length > be16(row + 2))
+            return 22;
+        *dropped = false;
+        return i;
+    }
+    return 20;
+}

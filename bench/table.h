@@ -1,0 +1,45 @@
+/* table.h: the table image for the C twins: where its bodies stand, its check, and the lookup of a route. */
+#ifndef TABLE_H
+#define TABLE_H
+
+#include <stdbool.h>
+#include <stddef.h>
+#include <stdint.h>
+
+enum { GROUP, CONNECTION, ROUTE, DESTINATION, KINDS };
+
+#define FRONT 36
+#define HEADER 8
+#define ROW 16 /* bytes of a row, but of a group's */
+#define LONGEST 1464
+
+struct layout {
+    const uint8_t *body[KINDS];
+    size_t rows[KINDS];
+};
+
+/* Fills in the layout and gives true, or gives false and the place of what is wrong. */
+bool check(const uint8_t *image, size_t image_length, struct layout *table, size_t *place);
+
+/* The row number of the route for a header, or the reason of its drop. */
+uint32_t look_up(const struct layout *table, size_t connection, uint32_t switches, uint32_t id, uint32_t length, bool *dropped);
+
+static inline uint16_t be16(const uint8_t *p)
+{
+    return (uint16_t)(p[0] << 8 | p[1]);
+}
+
+static inline uint32_t be32(const uint8_t *p)
+{
+    return (uint32_t)p[0] << 24 | (uint32_t)p[1] << 16 | (uint32_t)p[2] << 8 | p[3];
+}
+
+static inline void put_be32(uint8_t *p, uint32_t value)
+{
+    p[0] = (uint8_t)(value >> 24);
+    p[1] = (uint8_t)(value >> 16);
+    p[2] = (uint8_t)(value >> 8);
+    p[3] = (uint8_t)value;
+}
+
+#endif

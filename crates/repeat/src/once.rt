@@ -1,0 +1,241 @@
+// One call of an entry point, by what it is (main.rt lists them), with the state as the next call is to find it. Assumes nothing.
+use calls::bytes_from;
+use choose::Arrival;
+use connection::Answer;
+use connection::Remote;
+use events::CountAnswer;
+use pieces::front;
+use receive::segment_take;
+use receive::walk_datagram;
+use send::Transmission;
+use state::State;
+use stream::Outcome;
+use waiting::Taking;
+
+// Whether the call did what it names, and the state for the next.
+pub struct Turn {
+    pub done: bool,
+    pub state: State,
+}
+
+fn gate_alone(image: &[u8], state: State, rx: &[u8], tx: &[u8]) -> Turn {
+    let counted = events::read_count(image, state, rx, tx, 1);
+    let answer = counted.answer;
+    let after = counted.state;
+    let done = if let CountAnswer::Count(_) = answer {
+        true
+    } else {
+        false
+    };
+    Turn {
+        done: done,
+        state: after,
+    }
+}
+
+fn is_pdu(outcome: Outcome) -> bool {
+    if let Outcome::Pdu {
+        route: _,
+        id: _,
+        in_segment: _,
+        at: _,
+        length: _,
+    } = outcome
+    {
+        true
+    } else {
+        false
+    }
+}
+
+fn take(
+    image: &[u8],
+    state: State,
+    rx: &mut [u8],
+    tx: &[u8],
+    connection: u8,
+    segment: &[u8],
+) -> Turn {
+    let taken = segment_take(image, state, rx, tx, connection, segment);
+    let outcome = taken.outcome;
+    let after = taken.state;
+    Turn {
+        done: is_pdu(outcome),
+        state: after,
+    }
+}
+
+fn take_cut(
+    image: &[u8],
+    state: State,
+    rx: &mut [u8],
+    tx: &[u8],
+    connection: u8,
+    bytes: &[u8],
+) -> Turn {
+    let middle = bytes.len() / 2;
+    let first = take(image, state, rx, tx, connection, front(bytes, middle));
+    let between = first.state;
+    let second = take(image, between, rx, tx, connection, bytes_from(bytes, middle));
+    let after = second.state;
+    Turn {
+        done: !first.done & second.done,
+        state: after,
+    }
+}
+
+fn walk(
+    image: &[u8],
+    state: State,
+    rx: &[u8],
+    tx: &[u8],
+    connection: u8,
+    datagram: &[u8],
+) -> Turn {
+    let walked = walk_datagram(image, state, rx, tx, connection, datagram, 0);
+    let outcome = walked.outcome;
+    let after = walked.state;
+    let done = if let datagram::Outcome::Pdu {
+        route: _,
+        id: _,
+        at: _,
+        length: _,
+    } = outcome
+    {
+        true
+    } else {
+        false
+    };
+    Turn {
+        done: done,
+        state: after,
+    }
+}
+
+// A state in which connection n holds so many bytes to send, and no timer runs.
+fn holding(state: State, n: usize, used: u16) -> State {
+    if n < 16 {
+        let c = state.connections[n];
+        let mut next = state;
+        next.connections[n] = c.with_send(used, 0, false);
+        return next;
+    }
+    state
+}
+
+fn transmit(
+    image: &[u8],
+    state: State,
+    rx: &[u8],
+    tx: &mut [u8],
+    connection: u8,
+    pdu: u16,
+    payload: &[u8],
+) -> Turn {
+    let sent = sending::transmit(image, state, rx, tx, pdu, payload);
+    let answer = sent.answer;
+    let after = sent.state;
+    let done = if let Transmission::Stored = answer {
+        true
+    } else {
+        false
+    };
+    let n = connection as usize;
+    let first = holding(after, n, 0);
+    Turn {
+        done: done,
+        state: holding(first, n + 1, 0),
+    }
+}
+
+fn take_waiting(
+    image: &[u8],
+    state: State,
+    rx: &[u8],
+    tx: &[u8],
+    out: &mut [u8],
+    connection: u8,
+    used: u16,
+) -> Turn {
+    let before = holding(state, connection as usize, used);
+    let taken = sending::take_waiting(image, before, rx, tx, connection, out);
+    let answer = taken.answer;
+    let after = taken.state;
+    let done = if let Taking::Bytes { count, remote: _ } = answer {
+        count == used
+    } else {
+        false
+    };
+    Turn {
+        done: done,
+        state: after,
+    }
+}
+
+fn tick(image: &[u8], state: State, rx: &[u8], tx: &[u8]) -> Turn {
+    let ticked = ticks::tick(image, state, rx, tx);
+    let answer = ticked.answer;
+    let after = ticked.state;
+    let done = if let Answer::Done = answer {
+        true
+    } else {
+        false
+    };
+    Turn {
+        done: done,
+        state: after,
+    }
+}
+
+fn arrive(image: &[u8], state: State, rx: &[u8], tx: &[u8], connection: u8) -> Turn {
+    let row = rows::connection_row(image, connection as usize);
+    let source = Remote {
+        address: row.address,
+        port: row.port,
+    };
+    let arrived = arrivals::datagram(image, state, rx, tx, row.group, source);
+    let answer = arrived.answer;
+    let after = arrived.state;
+    let done = if let Arrival::Met(met) = answer {
+        met == connection
+    } else {
+        false
+    };
+    Turn {
+        done: done,
+        state: after,
+    }
+}
+
+// The call that a number names; an unknown one does nothing, and says so.
+pub fn once(
+    what: u8,
+    image: &[u8],
+    state: State,
+    rx: &mut [u8],
+    tx: &mut [u8],
+    out: &mut [u8],
+    connection: u8,
+    pdu: u16,
+    used: u16,
+    bytes: &[u8],
+) -> Turn {
+    match what {
+        0 => Turn {
+            done: true,
+            state: state,
+        },
+        1 => gate_alone(image, state, rx, tx),
+        2 => take(image, state, rx, tx, connection, bytes),
+        3 => take_cut(image, state, rx, tx, connection, bytes),
+        4 => walk(image, state, rx, tx, connection, bytes),
+        5 => transmit(image, state, rx, tx, connection, pdu, bytes),
+        6 => take_waiting(image, state, rx, tx, out, connection, used),
+        7 => tick(image, state, rx, tx),
+        8 => arrive(image, state, rx, tx, connection),
+        _ => Turn {
+            done: false,
+            state: state,
+        },
+    }
+}
