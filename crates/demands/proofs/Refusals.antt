@@ -63,8 +63,20 @@ module _ (image : List ℕ) (m : Machine) where
   tx = length (m .tx)
 
   -- an answer that refuses comes with the state as it was
-  abbrev Stays : {A : Type 0} → (A → ℕ) → (A → State) → A → Type 0
-  Stays number after a = (number a ≡ 0 → ⊥) → after a ≡ s
+  abbrev StaysTold : Told → Type 0
+  StaysTold a = (answerNumber (a .answer) ≡ 0 → ⊥) → a .state ≡ s
+
+  abbrev StaysTaken : Taken → Type 0
+  StaysTaken a = (takingNumber (a .answer) ≡ 0 → ⊥) → a .state ≡ s
+
+  abbrev StaysArrived : Arrived → Type 0
+  StaysArrived a = (arrivalNumber (a .answer) ≡ 0 → ⊥) → a .state ≡ s
+
+  abbrev StaysTicked : Ticked → Type 0
+  StaysTicked a = (answerNumber (a .answer) ≡ 0 → ⊥) → a .state ≡ s
+
+  abbrev StaysCounted : Counted → Type 0
+  StaysCounted a = (countNumber (a .answer) ≡ 0 → ⊥) → a .state ≡ s
 
   told-stays : (k : ℕ) (a : Answer) (c : Connection) → (answerNumber a ≡ 0 → ⊥) → toldOf s k a c .state ≡ s
   unfolding toldOf
@@ -76,10 +88,10 @@ module _ (image : List ℕ) (m : Machine) where
   told-answer k Done c = refl
   told-answer k (Refused r) c = refl
 
-  change-stays : (k : ℕ) (e : Change) → Stays (λ (t : Told). answerNumber (t .answer)) (λ (t : Told). t .state) (eventOf image s rx tx k e)
+  change-stays : (k : ℕ) (e : Change) → StaysTold (eventOf image s rx tx k e)
   unfolding eventOf changeOf
   change-stays k e =
-      past-or (Stays (λ (t : Told). answerNumber (t .answer)) (λ (t : Told). t .state)) (gateAt image s rx tx k) (refusedBy s) (changeOf image s k e) (λ r no-zero. refl)
+      past-or StaysTold (gateAt image s rx tx k) (refusedBy s) (changeOf image s k e) (λ r no-zero. refl)
       (λ _ no-zero. told-stays k a c (λ z. no-zero (ap answerNumber (told-answer k a c) ∙ z)))
     where
       a : Answer
@@ -89,13 +101,13 @@ module _ (image : List ℕ) (m : Machine) where
       c = stepOf e (configOf image k) (recordAt s k) .connection
 
   -- a take, a walk: nothing is made that is refused
-  not-made : (b : Bool) → (a : Bool) → a ≡ b → (a ≡ true → ⊥) → a ≡ false
-  not-made true a e no-true = absurd (no-true e)
-  not-made false a e no-true = e
-
   refused-take : (k : ℕ) (bs : List ℕ) → (receiveNumber (taken image k m bs .answer) ≡ 0 → ⊥) → isDone (segmentAnswer image s rx tx k) ≡ false
   unfolding segmentOf takeOn
-  refused-take k bs no-zero = not-made (isDone (segmentAnswer image s rx tx k)) (isDone (segmentAnswer image s rx tx k)) refl (λ e. no-zero (rw e))
+  refused-take k bs no-zero = go (isDone (segmentAnswer image s rx tx k)) refl
+    where
+      go : (b : Bool) → isDone (segmentAnswer image s rx tx k) ≡ b → isDone (segmentAnswer image s rx tx k) ≡ false
+      go true e = absurd (no-zero (rw e))
+      go false e = e
 
   segment-stays : (k : ℕ) (bs : List ℕ) → (receiveNumber (taken image k m bs .answer) ≡ 0 → ⊥) → afterSegment image k m bs ≡ m
   segment-stays k bs no-zero = no-segment image m k bs (refused-take k bs no-zero)
@@ -110,68 +122,68 @@ module _ (image : List ℕ) (m : Machine) where
       go false no-zero = refl
 
   -- the waiting bytes: an out buffer that is too short
-  take-stays : (k room : ℕ) → Stays (λ (t : Taken). takingNumber (t .answer)) (λ (t : Taken). t .state) (takePast image s k room)
+  take-stays : (k room : ℕ) → StaysTaken (takePast image s k room)
   unfolding takingOf takeOf
   take-stays k room = go (ltb room (recordAt s k .used)) refl
     where
-      go : (b : Bool) → ltb room (recordAt s k .used) ≡ b → Stays (λ (t : Taken). takingNumber (t .answer)) (λ (t : Taken). t .state) (takePast image s k room)
+      go : (b : Bool) → ltb room (recordAt s k .used) ≡ b → StaysTaken (takePast image s k room)
       go true e no-zero = rw (e, or-true (eqb (recordAt s k .used) 0)) (put-back s k)
       go false e no-zero = absurd (no-zero (rw e))
 
-  taken-stays : (k : ℕ) (out : List ℕ) → Stays (λ (t : Taken). takingNumber (t .answer)) (λ (t : Taken). t .state) (takenOf image s rx (m .tx) k out)
+  taken-stays : (k : ℕ) (out : List ℕ) → StaysTaken (takenOf image s rx (m .tx) k out)
   unfolding takenOf
   taken-stays k out =
-      past-or (Stays (λ (t : Taken). takingNumber (t .answer)) (λ (t : Taken). t .state)) (gateAt image s rx tx k) (notTaken s) (takePast image s k (length out)) (λ r no-zero. refl)
+      past-or StaysTaken (gateAt image s rx tx k) (notTaken s) (takePast image s k (length out)) (λ r no-zero. refl)
       (λ _. take-stays k (length out))
 
   -- a datagram, an accept
-  arrive-stays : (a : Bool) (group : ℕ) (source : Remote) → Stays (λ (t : Arrived). arrivalNumber (t .answer)) (λ (t : Arrived). t .state) (arriveOf image s a group source)
+  arrive-stays : (a : Bool) (group : ℕ) (source : Remote) → StaysArrived (arriveOf image s a group source)
   unfolding arriveOf
   arrive-stays a group source = go (leb (rowsOf image Group) group) (deniedOf image a group source) (chosenIn image s a group source)
     where
-      go : (x y : Bool) (c : Chosen) → Stays (λ (t : Arrived). arrivalNumber (t .answer)) (λ (t : Arrived). t .state) (cond x (notMet s Missing) (cond y (notMet s Denied) (meet s source c)))
+      go : (x y : Bool) (c : Chosen) → StaysArrived (cond x (notMet s Missing) (cond y (notMet s Denied) (meet s source c)))
       go true y c no-zero = refl
       go false true c no-zero = refl
       go false false Nobody no-zero = refl
       go false false (At k) no-zero = absurd (no-zero refl)
 
-  arrival-stays : (a : Bool) (group : ℕ) (source : Remote) → Stays (λ (t : Arrived). arrivalNumber (t .answer)) (λ (t : Arrived). t .state) (arrivalOf image s rx tx a group source)
+  arrival-stays : (a : Bool) (group : ℕ) (source : Remote) → StaysArrived (arrivalOf image s rx tx a group source)
   unfolding arrivalOf
   arrival-stays a group source =
-      past-or (Stays (λ (t : Arrived). arrivalNumber (t .answer)) (λ (t : Arrived). t .state)) (gateOf image s rx tx) (notMet s) (arriveOf image s a group source) (λ r no-zero. refl) (λ _. arrive-stays a group source)
+      past-or StaysArrived (gateOf image s rx tx) (notMet s) (arriveOf image s a group source) (λ r no-zero. refl) (λ _. arrive-stays a group source)
 
-  tick-stays : Stays (λ (t : Ticked). answerNumber (t .answer)) (λ (t : Ticked). t .state) (tickEvent image s rx tx)
+  tick-stays : StaysTicked (tickEvent image s rx tx)
   unfolding tickEvent
   tick-stays =
-      past-or (Stays (λ (t : Ticked). answerNumber (t .answer)) (λ (t : Ticked). t .state)) (gateOf image s rx tx) (unticked s) (record { answer = Done; state = tickedTo image (rowsOf image Connections) s })
+      past-or StaysTicked (gateOf image s rx tx) (unticked s) (record { answer = Done; state = tickedTo image (rowsOf image Connections) s })
       (λ r no-zero. refl) (λ _ no-zero. absurd (no-zero refl))
 
-  switches-stay : (n : ℕ) (b : Bool) → Stays (λ (t : Told). answerNumber (t .answer)) (λ (t : Told). t .state) (switchAllOf image s rx tx n b)
+  switches-stay : (n : ℕ) (b : Bool) → StaysTold (switchAllOf image s rx tx n b)
   unfolding switchAllOf
   switches-stay n b =
-      past-or (Stays (λ (t : Told). answerNumber (t .answer)) (λ (t : Told). t .state)) (gateOf image s rx tx) (refusedBy s)
+      past-or StaysTold (gateOf image s rx tx) (refusedBy s)
       (cond (ltb n 32) (record { answer = Done; state = switchedAll (rowsOf image Connections) n b s }) (refusedBy s Missing)) (λ r no-zero. refl) (λ _. go (ltb n 32))
     where
-      go : (x : Bool) → Stays (λ (t : Told). answerNumber (t .answer)) (λ (t : Told). t .state) (cond x (record { answer = Done; state = switchedAll (rowsOf image Connections) n b s }) (refusedBy s Missing))
+      go : (x : Bool) → StaysTold (cond x (record { answer = Done; state = switchedAll (rowsOf image Connections) n b s }) (refusedBy s Missing))
       go true no-zero = absurd (no-zero refl)
       go false no-zero = refl
 
   -- a count: read it never changes the state; cleared it does, where it is not refused
-  count-stays : (f : Bool → Counted) → ((b : Bool) → countNumber (f b .answer) ≡ 0) → (p : ℕ) → Stays (λ (t : Counted). countNumber (t .answer)) (λ (t : Counted). t .state) (through (gateOf image s rx tx) (uncounted s) (ofProtocol f (uncounted s Denied) p))
+  count-stays : (f : Bool → Counted) → ((b : Bool) → countNumber (f b .answer) ≡ 0) → (p : ℕ) → StaysCounted (through (gateOf image s rx tx) (uncounted s) (ofProtocol f (uncounted s Denied) p))
   unfolding ofProtocol
   count-stays f zero p =
-      past-or (Stays (λ (t : Counted). countNumber (t .answer)) (λ (t : Counted). t .state)) (gateOf image s rx tx) (uncounted s) (ofProtocol f (uncounted s Denied) p) (λ r no-zero. refl) (λ _. go (eqb p 1) (eqb p 2))
+      past-or StaysCounted (gateOf image s rx tx) (uncounted s) (ofProtocol f (uncounted s Denied) p) (λ r no-zero. refl) (λ _. go (eqb p 1) (eqb p 2))
     where
-      go : (x y : Bool) → Stays (λ (t : Counted). countNumber (t .answer)) (λ (t : Counted). t .state) (cond x (f false) (cond y (f true) (uncounted s Denied)))
+      go : (x y : Bool) → StaysCounted (cond x (f false) (cond y (f true) (uncounted s Denied)))
       go true y no-zero = absurd (no-zero (zero false))
       go false true no-zero = absurd (no-zero (zero true))
       go false false no-zero = refl
 
-  read-stays : (p : ℕ) → Stays (λ (t : Counted). countNumber (t .answer)) (λ (t : Counted). t .state) (readOf image s rx tx p)
+  read-stays : (p : ℕ) → StaysCounted (readOf image s rx tx p)
   unfolding readOf readPast
   read-stays p = count-stays (readFrom s) (λ b. refl) p
 
-  clear-stays : (p : ℕ) → Stays (λ (t : Counted). countNumber (t .answer)) (λ (t : Counted). t .state) (clearOf image s rx tx p)
+  clear-stays : (p : ℕ) → StaysCounted (clearOf image s rx tx p)
   unfolding clearOf clearPast
   clear-stays p = count-stays (clearFrom s) (λ b. refl) p
 
