@@ -1,69 +1,55 @@
-"""Words of a text line to numbers and back. An error names the line, the field and the reason."""
+"""The fields of a line, each told once and used both ways: words to bytes and bytes to words. An error names the place (a line, or a
+byte), the field and the reason."""
+import re
 
 
 class Wrong(Exception):
-    """A line that cannot be read: which line, which field, why."""
+    """What cannot be read: where, which field, why."""
 
-    def __init__(self, line, field, reason):
-        super().__init__(f"line {line}: {field}: {reason}")
+    def __init__(self, place, field, reason):
+        super().__init__(f"{place}: {field}: {reason}")
 
 
 class Words:
     """The words of one line, taken from the front."""
 
-    def __init__(self, number, text):
-        self.line = number
-        self.words = text.split()
+    def __init__(self, line, text):
+        self.line, self.words = line, text.split()
 
     def wrong(self, field, reason):
-        return Wrong(self.line, field, reason)
+        return Wrong(f"line {self.line}", field, reason)
 
     def next(self, field):
         if not self.words:
             raise self.wrong(field, "is missing")
         return self.words.pop(0)
 
-    def word(self, expected):
-        got = self.next(expected)
-        if got != expected:
-            raise self.wrong(expected, f"expected the word `{expected}`, found `{got}`")
-
     def choice(self, field, choices):
         got = self.next(field)
         if got not in choices:
             raise self.wrong(field, f"`{got}` is none of {', '.join(choices)}")
-        return choices[got]
+        return got
 
-    def number(self, field, width):
+    def number(self, field, most):
         got = self.next(field)
-        try:
-            value = int(got, 16) if got.startswith("0x") else int(got, 10)
-        except ValueError:
-            raise self.wrong(field, f"`{got}` is no number") from None
-        if not 0 <= value < 256 ** width:
-            raise self.wrong(field, f"{got} does not fit {width} byte{'s' if width > 1 else ''} (0 to {256 ** width - 1})")
+        if not re.fullmatch("[0-9]{1,999}|0x[0-9a-fA-F]{1,999}", got):
+            raise self.wrong(field, f"`{got}` is no number (decimal digits, or 0x and hex digits)")
+        value = int(got, 16 if got.startswith("0x") else 10)
+        if value > most:
+            raise self.wrong(field, f"{got} is more than {most}")
         return value
 
-    def address(self, field):
-        """IPv4 and port, each of which may be `any` (0)."""
-        host = self.next(field + " address")
-        parts = ["0"] * 4 if host == "any" else host.split(".")
-        if len(parts) != 4 or not all(p.isdigit() and int(p) < 256 for p in parts):
-            raise self.wrong(field + " address", f"`{host}` is no IPv4 address (four numbers from 0 to 255) nor `any`")
-        self.word("port")
-        if self.words[:1] == ["any"]:
-            self.words.pop(0)
-            return bytes(int(p) for p in parts), 0
-        return bytes(int(p) for p in parts), self.number(field + " port", 2)
-
-    def hex(self, field):
+    def hex(self, field, most):
         got = self.next(field)
         if got == "-":
             return b""
-        try:
-            return bytes.fromhex(got)
-        except ValueError:
-            raise self.wrong(field, f"`{got}` is no even number of hex digits, nor `-` for none") from None
+        if not re.fullmatch("[0-9a-fA-F]+", got):
+            raise self.wrong(field, f"`{got}` is neither hex digits nor `-` for none")
+        if len(got) % 2:
+            raise self.wrong(field, f"{len(got)} hex digits are no whole bytes")
+        if len(got) > 2 * most:
+            raise self.wrong(field, f"{len(got) // 2} bytes are more than {most}")
+        return bytes.fromhex(got)
 
     def end(self):
         if self.words:
@@ -72,25 +58,168 @@ class Words:
 
 def lines(text):
     """The lines that say something, as Words: `#` starts a comment."""
-    for number, line in enumerate(text.splitlines(), 1):
-        line = line.split("#", 1)[0]
-        if line.strip():
-            yield Words(number, line)
+    for number, line in enumerate(re.split("\r\n|\r|\n", text), 1):
+        if "\0" in line:
+            raise Wrong(f"line {number}", "text", "has a zero byte, which only images and scripts of bytes have")
+        words = Words(number, line.split("#", 1)[0])
+        if words.words:
+            yield words
 
 
-def show_address(host, port):
-    name = "any" if host == b"\0\0\0\0" else ".".join(str(b) for b in host)
-    return f"{name} port {port if port else 'any'}"
+class Bytes:
+    """The bytes of one row or entry (`whose`), from `at` to before `last`, taken from the front. An error names the byte where the field taken
+    last begins."""
+
+    def __init__(self, whose, data, at, last):
+        self.whose, self.data, self.at, self.last, self.field = whose, data, at, last, at
+
+    def wrong(self, field, reason):
+        return Wrong(f"{self.whose}, byte {self.field}", field, reason)
+
+    def left(self):
+        return self.last - self.at
+
+    def next(self, field, width):
+        self.field = self.at
+        if width > self.left():
+            raise self.wrong(field, f"is cut off: {self.left()} of {width} bytes")
+        self.at += width
+        return self.data[self.field:self.at]
+
+    def part(self, field, width):
+        """The next bytes, to be taken apart."""
+        self.next(field, width)
+        return Bytes(self.whose, self.data, self.field, self.at)
+
+    def number(self, field, width, most):
+        value = int.from_bytes(self.next(field, width), "big")
+        if value > most:
+            raise self.wrong(field, f"{value} is more than {most}")
+        return value
+
+    def end(self):
+        self.field = self.at
+        if self.left():
+            raise self.wrong("end", f"{self.left()} bytes are left over")
 
 
-def show_hex(data):
-    return data.hex() or "-"
+class Word:
+    """A word that stands in the line and not in the bytes."""
+
+    def __init__(self, word):
+        self.word = self.form = word
+
+    def read(self, words):
+        got = words.next(self.word)
+        if got != self.word:
+            raise words.wrong(self.word, f"`{got}` stands where the word `{self.word}` belongs")
+        return b""
+
+    def show(self, _):
+        return self.word
 
 
-NO_YES = {"no": 0, "yes": 1}
-OFF_ON = {"off": 0, "on": 1}
+class Always:
+    """Bytes that have one value, and no word."""
+    form = ""
+
+    def __init__(self, field, value):
+        self.field, self.value = field, value
+
+    def read(self, _):
+        return self.value
+
+    def show(self, data):
+        got = data.next(self.field, len(self.value))
+        if got != self.value:
+            raise data.wrong(self.field, f"{got.hex()} is not {self.value.hex()}")
+        return ""
 
 
-def back(choices, value):
-    """The word that stands for a value."""
-    return next(word for word, number in choices.items() if number == value)
+class Number:
+    """A number of a width; shown decimal, or with so many hex digits."""
+
+    def __init__(self, field, width, digits=0, most=None):
+        self.field, self.width, self.digits = field, width, digits
+        self.most = 256 ** width - 1 if most is None else most
+        self.form = f"<{field}>"
+
+    def read(self, words):
+        return words.number(self.field, self.most).to_bytes(self.width, "big")
+
+    def show(self, data):
+        value = data.number(self.field, self.width, self.most)
+        return f"0x{value:0{self.digits}x}" if self.digits else str(value)
+
+
+class Choice:
+    """A byte with a word for each value."""
+
+    def __init__(self, field, **values):
+        self.field, self.values = field, values
+        self.form = "|".join(values)
+
+    def read(self, words):
+        return bytes([self.values[words.choice(self.field, self.values)]])
+
+    def show(self, data):
+        value = data.next(self.field, 1)[0]
+        for word, number in self.values.items():
+            if number == value:
+                return word
+        raise data.wrong(self.field, f"{value} is none of {', '.join(f'{number} ({word})' for word, number in self.values.items())}")
+
+
+class Address:
+    """IPv4 address and port, each of which may be `any` (0)."""
+
+    def __init__(self, field):
+        self.host, self.port = field + " address", field + " port"
+        self.form = f"<{self.host}> port <{self.port}>"
+
+    def read(self, words):
+        host = words.next(self.host)
+        parts = ["0"] * 4 if host == "any" else host.split(".")
+        if len(parts) != 4 or not all(re.fullmatch("[0-9]{1,3}", part) and int(part) < 256 for part in parts):
+            raise words.wrong(self.host, f"`{host}` is no IPv4 address (four numbers from 0 to 255) nor `any`")
+        Word("port").read(words)
+        if words.words[:1] == ["any"]:
+            words.words[0] = "0"
+        return bytes(map(int, parts)) + words.number(self.port, 65535).to_bytes(2, "big")
+
+    def show(self, data):
+        host, port = data.next(self.host, 4), data.number(self.port, 2, 65535)
+        return f"{'.'.join(map(str, host)) if any(host) else 'any'} port {port or 'any'}"
+
+
+class Hex:
+    """A length of four bytes and so many bytes, which end the body."""
+
+    def __init__(self, field, most):
+        self.field, self.most = field, most
+        self.form = f"<{field} in hex, or ->"
+
+    def read(self, words):
+        data = words.hex(self.field, self.most)
+        return len(data).to_bytes(4, "big") + data
+
+    def show(self, data):
+        length = data.number("length", 4, 2 ** 32 - 1)
+        if length != data.left():
+            raise data.wrong("length", f"{length} is said and {data.left()} bytes follow")
+        return data.next(self.field, length).hex() or "-"
+
+
+def read(row, words):
+    """The bytes of a line's fields."""
+    return b"".join([field.read(words) for field in row])
+
+
+def show(row, data):
+    """The words of a row's bytes."""
+    return " ".join(filter(None, [field.show(data) for field in row]))
+
+
+def form(name, row):
+    """How a line is written, for a reader."""
+    return " ".join(filter(None, [name] + [field.form for field in row]))
