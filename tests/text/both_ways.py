@@ -403,7 +403,8 @@ def verbs():
                 same(soad(*words), (2, b"", f"soad: cannot read the file {path}\n"), f"./soad {words} where nothing can be read")
         long = file(folder, "long", script.to_bytes(f"segment 0 {'a5' * 4000}\n" * 100))
         pipe = '"$0" script to-text "$1" | head -c 7'
-        piped = subprocess.run(["bash", "-c", pipe, os.path.join(ROOT, "soad"), long], capture_output=True, check=False)
+        plain = {**os.environ, "PYTHONUNBUFFERED": ""}
+        piped = subprocess.run(["bash", "-c", pipe, os.path.join(ROOT, "soad"), long], env=plain, capture_output=True, check=False)
         same((piped.stdout, piped.stderr), (b"segment", b""), "./soad script to-text to a reader that has seen enough")
 
 
