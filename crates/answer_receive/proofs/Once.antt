@@ -8,9 +8,9 @@ use native.Mathlib.Nat.{add-zero}
 use native.Mathlib.Decide.{decLe}
 use lib.ListN.{length, drop}
 use Rattle.wire.specs.Lay.{lay}
-use Rattle.wire.proofs.Lay.{lay-out}
+use Rattle.wire.proofs.Lay.{lay-nothing}
 use Rattle.pieces.specs.Pieces.{afterOf, placeAfter}
-use Rattle.pieces.proofs.Pieces.{nothing, stays, moves}
+use Rattle.pieces.proofs.Pieces.{stays, moves}
 use Rattle.state.specs.declared.State.{State}
 use Rattle.receive.specs.declared.Answer.{Answer}
 use Rattle.receive.specs.declared.Answer.the-variants.{Done, Refused, NotReceiving}
@@ -20,14 +20,6 @@ use Rattle.receive.specs.Segment.{segmentOf, memoryOf, payloadOf}
 use Rattle.answer_receive.specs.declared.Turn.{Turn}
 use Rattle.answer_receive.specs.Segment.{takeBytes, bytesOf, takeAt, memoryAt, bytesAt}
 use Rattle.answer_receive.specs.Turn.{turnOf}
-
--- no bytes are written by writing nothing
-pub lay-none : (d : List ℕ) (at : ℕ) → d ≡ lay d at []
-lay-none d at = go (decLe at (length d))
-  where
-    go : Dec (at ≤ length d) → d ≡ lay d at []
-    go (yes h) = nothing d at h
-    go (no h) = sym (lay-out d at [] (omega arith))
 
 pub after-none : (long at : ℕ) → at ≡ afterOf long at 0
 after-none long at = go (decLe (at + 0) long)
@@ -77,7 +69,7 @@ module _ (image : List ℕ) (tx connection : ℕ) (segment : List ℕ) (s : Stat
       × ((m ≡ memoryAt image tx connection segment s rx from) × (out ≡ lay out place (bytesAt image tx connection segment s rx from)))
   unfolding bytesAt
   once-refused e =
-      ends {x = []} {next = place} {out′ = out} (refused-none (takeAt image tx connection segment s rx from .answer) _ (told false e)) (after-none (length out) place) (lay-none out place)
+      ends {x = []} {next = place} {out′ = out} (refused-none (takeAt image tx connection segment s rx from .answer) _ (told false e)) (after-none (length out) place) (sym (lay-nothing out place))
 
   pub once-done : {payload : List ℕ} {next : ℕ} {out′ : List ℕ} → isDone (t .answer) ≡ true → payload ≡ payloadOf rest m connection (t .outcome)
       → next ≡ placeAfter out place (takeBytes from (t .read) (t .outcome) payload) → out′ ≡ lay out place (takeBytes from (t .read) (t .outcome) payload)

@@ -13,7 +13,7 @@ use Rattle.feed.proofs.Cut.{take-reads}
 use Rattle.lists.proofs.Both.{and-left, and-right, and-first}
 use Rattle.lengths.specs.Listed.{Bytes}
 use Rattle.wire.specs.Lay.{lay}
-use Rattle.wire.proofs.Lay.{lay-fits, lay-length, lay-lay}
+use Rattle.wire.proofs.Lay.{lay-fits, lay-length, lay-lay, lay-nothing}
 use Rattle.wire.proofs.Spell.{length-spell}
 use Rattle.pieces.proofs.Pieces.{moves}
 use Rattle.state.specs.declared.State.{State}
@@ -34,7 +34,7 @@ use Rattle.answer_receive.specs.declared.Turn.{Turn}
 use Rattle.answer_receive.specs.declared.Takes.{Takes}
 use Rattle.answer_receive.specs.Segment.{bytesOf, Run, begun, takeAt, memoryAt, bytesAt, step, goesOn, runOf, allTakes, eventBytes, leaves, roomFor}
 use Rattle.answer_receive.specs.Turn.{turnOf, takenBytes, takesOf, frontOf, lengthOf}
-use Rattle.answer_receive.proofs.Once.{lay-none, refused-none, done-all}
+use Rattle.answer_receive.proofs.Once.{refused-none, done-all}
 use Rattle.answer_receive.proofs.Size.{most, most-all}
 use Rattle.answer_receive.proofs.Room.{answer-is, bytes-within, bytes-go, bytes-next}
 
@@ -132,7 +132,7 @@ module _ (image : List ℕ) (tx connection : ℕ) (segment : List ℕ) where
         same = ap (λ (n : ℕ). runOf image tx connection segment n (begun s rx)) (omega arith);
         low = omega arith;
         within = omega arith;
-        wrote = lay-none out 4;
+        wrote = sym (lay-nothing out 4);
         placed = refl;
         spare = omega (arith, most-all (recordAt s connection .part));
         unread = λ _. refl;
@@ -274,8 +274,8 @@ told-length NotReceiving count bytes = refl
 
 told-out : (a : Answer) (count : ℕ) (bytes out : List ℕ) → 4 + length bytes ≤ length out → lay (lay out 4 (bytesOf a bytes)) 0 (frontOf a count) ≡ lay out 0 (eventBytes a count bytes)
 told-out Done count bytes out h = lay-front out 4 (doneWith 2 count) bytes (simp (length-append, length-spell)) h
-told-out (Refused r) count bytes out h = ap (λ (o : List ℕ). lay o 0 (frontOf (Refused r) count)) (sym (lay-none out 4))
-told-out NotReceiving count bytes out h = ap (λ (o : List ℕ). lay o 0 (frontOf NotReceiving count)) (sym (lay-none out 4))
+told-out (Refused r) count bytes out h = ap (λ (o : List ℕ). lay o 0 (frontOf (Refused r) count)) (lay-nothing out 4)
+told-out NotReceiving count bytes out h = ap (λ (o : List ℕ). lay o 0 (frontOf NotReceiving count)) (lay-nothing out 4)
 
 abbrev handed : ℕ → State → Dispatched
 handed n s = record { verdict = Written n; state = s }

@@ -33,7 +33,8 @@ use Rattle.waiting.specs.declared.Taking.{Taking}
 use Rattle.waiting.specs.declared.Taking.the-variants as Took
 use Rattle.waiting.specs.Waiting.{waitingOf, outOf}
 use Rattle.sending.specs.Sending.{takenOut}
-use Rattle.answering.specs.Answers.{refused, doneWith, address, waiting}
+use Rattle.answering.specs.Answers.{refused, doneWith}
+use Rattle.answering.proofs.Chain.{length-waiting}
 use Rattle.answer_events.specs.Events.{toldBytes, lossBytes, ticksBytes, countBytes}
 use Rattle.answer_receive.specs.Walk.{orRefused, walkBytes}
 use Rattle.answer_receive.proofs.Written.{length-step, length-pdu}
@@ -84,13 +85,8 @@ walked-size (Received.Refused r) next o = omega (arith, refused-size (refusalNum
 walked-size Received.NotReceiving next o = omega (arith, refused-size 4 0)
 
 -- the waiting bytes are no more than the call's own buffer, which has 1,472 at most
-waiting-size : (r : Remote) (bytes : List ℕ) → length (waiting r bytes) ≡ 25 + length bytes
-waiting-size r bytes =
-    let front : length (spell 2 0 ++ spell 4 (length bytes) ++ address r) ≡ 25 = simp (length-append, length-spell) in
-    omega (arith, length-append (spell 2 0 ++ spell 4 (length bytes) ++ address r) bytes)
-
 pub taking-size : (a : Taking) (buffer : List ℕ) → length (takingBytes a buffer) ≤ 25 + length buffer
-taking-size (Took.Bytes count remote) buffer = omega (arith, waiting-size remote (take count buffer), length-take count buffer)
+taking-size (Took.Bytes count remote) buffer = omega (arith, length-waiting remote (take count buffer), length-take count buffer)
 taking-size (Took.Refused r) buffer = omega (arith, refused-size (refusalNumber r) 0)
 taking-size Took.Short buffer = omega (arith, refused-size 9 0)
 

@@ -11,6 +11,8 @@ use send::Transmission;
 use state::State;
 use stream::Outcome;
 use waiting::Taking;
+use waiting::waiting_of;
+use wire::be8;
 
 // Whether the call did what it names, and the state for the next.
 pub struct Turn {
@@ -166,10 +168,20 @@ fn take_waiting(
     } else {
         false
     };
+    let last = last_of(waiting_of(tx, connection, used));
     Turn {
-        done: done,
+        done: done & (last == last_of(front(out, used as usize))),
         state: after,
     }
+}
+
+// The last of some bytes: it tells whether they were copied.
+fn last_of(bytes: &[u8]) -> usize {
+    let n = bytes.len();
+    if n == 0 {
+        return 0;
+    }
+    be8(bytes, n - 1)
 }
 
 fn tick(image: &[u8], state: State, rx: &[u8], tx: &[u8]) -> Turn {
