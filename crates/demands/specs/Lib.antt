@@ -2,4 +2,5 @@
 pub mod Numbers
 pub mod Waits
 pub mod Ends
+pub mod Refused
 pub mod Three
