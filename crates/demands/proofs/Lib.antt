@@ -2,7 +2,7 @@
 pub mod Runs
 pub mod Refused
 pub mod Refusals
-pub mod Lasting
+pub mod Empties
 pub mod Waiting
 pub mod Trip
 pub mod Unique

@@ -1,21 +1,20 @@
--- DEMAND 2'S ROUND TRIP, of the entry points: the bytes that take waiting gives out of one machine are those that wait on its
--- connection; if they are frames, then, cut into segments in any way, a TCP connection of another machine that is online, ready and at
--- a header's first byte, with routes for those ids, switched on and allowing those lengths, hands out the same PDUs in the same order.
+-- DEMAND 2'S ROUND TRIP, of the entry points: what take waiting gives out of one machine is the frames of the PDUs that its transmits
+-- stored since nothing waited; cut into segments in any way, a TCP connection of another machine that is online, ready and at a header's
+-- first byte, with routes for those ids, switched on and allowing those lengths, hands out the same PDUs in the same order.
 -- Assumes nothing.
 use Prim.Native.Nat.{ℕ, _*_, _≤_, _<_}
 use mathlib.Core.Path.{_≡_, sym, ap, _∙_, subst}
-use mathlib.Core.Bool.{true}
-use mathlib.Core.List.{List, flatten}
+use mathlib.Core.List.{List, [], flatten}
 use native.Mathlib.Omega.{arith}
-use lib.Dec.{ltb}
 use lib.ListN.{length, take, drop}
 use lib.Seq.{take-take, take-at}
+use borrow.Author.Tests.{lt-ltb}
 use Rattle.layout.specs.Layout.{rowsOf, bodyOf}
-use Rattle.layout.specs.declared.Kind.the-variants.{Connection as Connections, Route as Routes}
+use Rattle.layout.specs.declared.Kind.the-variants.{Connection as Connections, Route}
 use Rattle.connection.specs.declared.Connection.{Connection}
+use Rattle.connection.specs.Event.{receiving}
 use Rattle.state.specs.State.{recordAt}
-use Rattle.state.specs.Fresh.{configOf}
-use Rattle.feed.specs.Feed.{ready, Pdu}
+use Rattle.feed.specs.Feed.{Pdu}
 use Rattle.feed.specs.Frame.{Sent, frames, Routed}
 use Rattle.route.specs.Route.{lookupOf}
 use Rattle.table.proofs.Facts.{accepted-facts}
@@ -23,17 +22,20 @@ use Rattle.gate.proofs.Pass.{passed-gate-at}
 use Rattle.keeps.proofs.Transmitted.{all-fit}
 use Rattle.turns.proofs.Entries.{waits-length, taken-bytes}
 use Rattle.waiting.specs.Waiting.{waitingOf}
-use Rattle.sending.specs.Sending.{takenOut}
-use Rattle.world.specs.World.{Held, heldAt, cellAt}
-use Rattle.connection.specs.Event.{receiving}
+use Rattle.waits.specs.Waits.{waits}
+use Rattle.world.specs.World.{Held, heldAt}
+use Rattle.world.specs.Events.{Event}
 use Rattle.world.proofs.View.{view-at, view-record}
 use Rattle.runs.specs.Streams.{RunBytes}
-use Rattle.runs.proofs.Trip.{Reads, given, trip}
+use Rattle.runs.proofs.Trip.{Reads, trip}
 use Rattle.tie.specs.Table.{tableOf}
 use Rattle.tie.specs.Whole.{wholeOf}
 use Rattle.tie.specs.Machine.{Machine, seen}
-use Rattle.tie.specs.Run.{givenIn, Good}
-use Rattle.demands.proofs.Runs.{run-given}
+use Rattle.tie.specs.Run.{afterRun, givenIn, Good}
+use Rattle.demands.specs.Waits.{sentIn}
+use Rattle.demands.specs.Trip.{outgoing, Reader, routesHere, asSegments}
+use Rattle.demands.proofs.Runs.{run-good, run-given}
+use Rattle.demands.proofs.Waiting.{run-frames}
 
 -- WHAT TAKE WAITING GIVES OUT: the bytes that wait, at the front of the out buffer
 module _ (image : List ℕ) (m : Machine) (good : Good image m) (j : ℕ) (there : j < rowsOf image Connections) (out : List ℕ) where
@@ -47,28 +49,47 @@ module _ (image : List ℕ) (m : Machine) (good : Good image m) (j : ℕ) (there
   unfolding waitingOf
   waits-are = sym (ap (λ (h : Held). h .waiting) (view-at (m .state) (m .rx) (m .tx) j) ∙ take-take n 1472 (drop (j * 1472) (m .tx)) fits)
 
-  pub given-out : n ≤ length out → take n (takenOut image (m .state) (length (m .rx)) (m .tx) j out) ≡ heldAt (seen m) j .waiting
-  given-out room =
+  out-waits : n ≤ length out → outgoing image m j out ≡ waits (m .state) (m .tx) j
+  out-waits room =
       let small : j < 16 = omega (arith, accepted-facts image (good .passed .table) .most Connections) in
       ap (take n)
       (taken-bytes image (m .state) (length (m .rx)) (m .tx) j out (good .passed .sound) (passed-gate-at image (m .state) (length (m .rx)) (length (m .tx)) j (good .passed) there) room)
       ∙ take-at (waitingOf (m .tx) j n) (drop n out) n (waits-length (m .tx) j n small (good .passed .send) fits)
-      ∙ waits-are
+
+  pub given-out : n ≤ length out → outgoing image m j out ≡ heldAt (seen m) j .waiting
+  given-out room = out-waits room ∙ waits-are
 
 -- WHAT THE READER HANDS OUT
-module _ (image : List ℕ) (m : Machine) (good : Good image m) (k : ℕ) (there : ltb k (rowsOf image Connections) ≡ true) (tcp : configOf image k .tcp ≡ true)
-    (receives : receiving (recordAt (m .state) k) ≡ true) (at-header : cellAt (heldAt (seen m) k) ≡ ready) where
-  abbrev c : Connection
-  c = recordAt (m .state) k
-
-  seen-c : heldAt (seen m) k .connection ≡ c
+module _ (image : List ℕ) (m : Machine) (good : Good image m) (k : ℕ) (reader : Reader image m k) where
+  seen-c : heldAt (seen m) k .connection ≡ recordAt (m .state) k
   seen-c = view-record (m .state) (m .rx) (m .tx) k
 
   reads : Reads (tableOf image) (seen m) k
-  reads = record { there = there; tcp = tcp; receives = ap receiving seen-c ∙ receives; at-header = at-header }
+  reads = record { there = lt-ltb _ _ (reader .there); tcp = reader .tcp; receives = ap receiving seen-c ∙ reader .receives; at-header = reader .at-header }
 
-  pub read-back : {ss : List Sent} {ps : List Pdu} (pieces : List (List ℕ)) → Routed (lookupOf (bodyOf image Routes) k (c .switches)) ss ps → flatten pieces ≡ frames ss
-      → RunBytes (given k pieces) → givenIn image k m (given k pieces) ≡ ps
+  pub read-back : {ss : List Sent} {ps : List Pdu} (pieces : List (List ℕ)) → Routed (routesHere image m k) ss ps → flatten pieces ≡ frames ss
+      → RunBytes (asSegments k pieces) → givenIn image k m (asSegments k pieces) ≡ ps
   read-back {ss} {ps} pieces h e bytes =
-      run-given image k m (given k pieces) bytes good
-      ∙ trip (tableOf image) (wholeOf image) (seen m) k reads pieces (subst (λ (d : Connection). Routed (lookupOf (bodyOf image Routes) k (d .switches)) ss ps) (sym seen-c) h) e
+      run-given image k m (asSegments k pieces) bytes good
+      ∙ trip (tableOf image) (wholeOf image) (seen m) k reads pieces (subst (λ (d : Connection). Routed (lookupOf (bodyOf image Route) k (d .switches)) ss ps) (sym seen-c) h) e
+
+-- BOTH TOGETHER: any run from a machine where nothing waits on connection j, and then a take of what waits
+module _ (image : List ℕ) (a : Machine) (good : Good image a) (j : ℕ) (there : j < rowsOf image Connections) (nothing : recordAt (a .state) j .used ≡ 0) (es : List Event) (bytes : RunBytes es)
+    (out : List ℕ) where
+  -- the machine after the run
+  abbrev sender : Machine
+  sender = afterRun image a es
+
+  none-waits : waits (a .state) (a .tx) j ≡ frames []
+  unfolding waitingOf frames
+  none-waits = ap (λ (i : ℕ). take i (drop (j * 1472) (a .tx))) nothing
+
+  -- what the take gives out is the frames of the PDUs stored since
+  pub sent-out : recordAt (sender .state) j .used ≤ length out → outgoing image sender j out ≡ frames (sentIn image j a es [])
+  sent-out room = out-waits image sender (run-good image a es bytes good) j there out room ∙ run-frames image j a es [] bytes good none-waits
+
+  -- and what is read out of them is those PDUs
+  pub round-trip : recordAt (sender .state) j .used ≤ length out → (image′ : List ℕ) (b : Machine) → Good image′ b → (k : ℕ) → Reader image′ b k → {ps : List Pdu}
+      → Routed (routesHere image′ b k) (sentIn image j a es []) ps → (pieces : List (List ℕ)) → flatten pieces ≡ outgoing image sender j out → RunBytes (asSegments k pieces)
+      → givenIn image′ k b (asSegments k pieces) ≡ ps
+  round-trip room image′ b good′ k reader routed pieces cut-is bytes′ = read-back image′ b good′ k reader pieces routed (cut-is ∙ sent-out room) bytes′

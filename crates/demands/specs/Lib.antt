@@ -4,3 +4,4 @@ pub mod Waits
 pub mod Ends
 pub mod Refused
 pub mod Three
+pub mod Trip

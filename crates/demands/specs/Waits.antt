@@ -1,32 +1,82 @@
--- WHAT AN EVENT MAKES OF THE BYTES WAITING ON A CONNECTION: a transmit adds the frames of its switched-on destinations there; any other
--- event empties them or leaves them.
+-- WHAT AN EVENT MAKES OF THE BYTES WAITING ON A CONNECTION, by the event: a loss, a closing tick and a non-empty take empty them; a stored
+-- transmit adds the frames of its switched-on destinations there; every other event leaves them. And the PDUs whose frames these bytes are.
 -- Assumes nothing: these are definitions.
-use Prim.Native.Nat.{ℕ}
-use mathlib.Core.Bool.{cond}
-use mathlib.Core.List.{List, [], _∷_}
-use lib.Dec.{eqb}
+use Prim.Native.Nat.{ℕ, zero, suc}
+use mathlib.Core.Bool.{Bool, false, cond, not, _&&_}
+use mathlib.Core.List.{List, [], _∷_, _++_}
+use lib.Dec.{eqb, ltb}
+use lib.ListN.{length}
+use Rattle.layout.specs.Layout.{rowsOf}
+use Rattle.layout.specs.declared.Kind.the-variants.{Connection as Connections}
+use Rattle.rows.specs.Rows.{destinationOf}
+use Rattle.connection.specs.declared.Config.{Config}
+use Rattle.connection.specs.declared.Connection.{Connection}
+use Rattle.feed.specs.Frame.{Sent, frames}
+use Rattle.state.specs.declared.State.{State}
 use Rattle.state.specs.State.{recordAt}
-use Rattle.waits.specs.Waits.{addedTo, Turn, adds, empties, stays}
-use Rattle.world.specs.Events.{datagram, accept, tick, transmit, switchAll, readCount, clearCount, Event, on, all}
+use Rattle.state.specs.Fresh.{configOf}
+use Rattle.send.specs.Verdict.{isStored}
+use Rattle.send.specs.Send.{destinations, checkOf}
+use Rattle.waits.specs.Waits.{goesTo, loses, Turn, adds, empties}
+use Rattle.world.specs.Events.{Own, change, segment, walk, take, datagram, accept, tick, transmit, switchAll, readCount, clearCount, Event, on, all}
 use Rattle.tie.specs.Machine.{Machine}
 use Rattle.tie.specs.Run.{afterEvent}
 
+-- A TRANSMIT of a payload for a PDU, seen from connection k: id and payload for each switched-on destination of the PDU there, of n rows
+-- from i on, in table order
+module _ (image : List ℕ) (s : State) (pdu : ℕ) (payload : List ℕ) (k : ℕ) where
+  unfoldable pub sentFrom : ℕ → ℕ → List Sent
+  sentFrom zero i = []
+  sentFrom (suc n) i = cond (goesTo image s pdu payload k i) (record { id = destinationOf image i .id; body = payload } ∷ []) [] ++ sentFrom n (suc i)
+
+  -- all of them, where the check refuses nothing
+  unfoldable pub sentTo : List Sent
+  sentTo = cond (isStored (checkOf image s pdu (length payload))) (sentFrom (destinations image) 0) []
+
+-- a take empties where something waits, and the out buffer has room for it
+abbrev pub drains : ℕ → Connection → Bool
+drains room c = not (eqb (c .used) 0) && not (ltb room (c .used))
+
+-- which events of a connection empty it, by its record: a loss that is allowed, a non-empty take
+abbrev pub ownEmpties : Own → Config → Connection → Bool
+ownEmpties (change e) g c = loses e g c
+ownEmpties (segment bytes) g c = false
+ownEmpties (walk bytes place) g c = false
+ownEmpties (take room) g c = drains room c
+
+-- ANY EVENT, seen from connection j
 module _ (image : List ℕ) (j : ℕ) where
-  -- nothing waits after it, or what waited before
-  abbrev pub emptied : Machine → Event → Turn
-  emptied m e = cond (eqb (recordAt (afterEvent image e m .state) j .used) 0) empties stays
+  -- whether it empties (a number that is not there is refused): its own loss or non-empty take, and a tick with close wanted
+  abbrev pub emptiesBy : Machine → Event → Bool
+  emptiesBy m (on k e) = eqb k j && (ltb j (rowsOf image Connections) && ownEmpties e (configOf image j) (recordAt (m .state) j))
+  emptiesBy m (all (datagram group source)) = false
+  emptiesBy m (all (accept group source)) = false
+  emptiesBy m (all tick) = ltb j (rowsOf image Connections) && recordAt (m .state) j .«close_wanted»
+  emptiesBy m (all (transmit pdu payload)) = false
+  emptiesBy m (all (switchAll number position)) = false
+  emptiesBy m (all (readCount protocol)) = false
+  emptiesBy m (all (clearCount protocol)) = false
+
+  -- what it adds: a transmit its frames, every other event nothing
+  abbrev pub addsBy : Machine → Event → List Sent
+  addsBy m (on k e) = []
+  addsBy m (all (datagram group source)) = []
+  addsBy m (all (accept group source)) = []
+  addsBy m (all tick) = []
+  addsBy m (all (transmit pdu payload)) = sentTo image (m .state) pdu payload j
+  addsBy m (all (switchAll number position)) = []
+  addsBy m (all (readCount protocol)) = []
+  addsBy m (all (clearCount protocol)) = []
 
   abbrev pub turnOf : Machine → Event → Turn
-  turnOf m (on k e) = emptied m (on k e)
-  turnOf m (all (datagram group source)) = emptied m (all (datagram group source))
-  turnOf m (all (accept group source)) = emptied m (all (accept group source))
-  turnOf m (all tick) = emptied m (all tick)
-  turnOf m (all (transmit pdu payload)) = adds (addedTo image (m .state) pdu payload j)
-  turnOf m (all (switchAll number position)) = emptied m (all (switchAll number position))
-  turnOf m (all (readCount protocol)) = emptied m (all (readCount protocol))
-  turnOf m (all (clearCount protocol)) = emptied m (all (clearCount protocol))
+  turnOf m e = cond (emptiesBy m e) empties (adds (frames (addsBy m e)))
 
   -- in a run
   unfoldable pub turnsOf : Machine → List Event → List Turn
   turnsOf m [] = []
   turnsOf m (e ∷ es) = turnOf m e ∷ turnsOf (afterEvent image e m) es
+
+  -- THE PDUS THAT WAIT after a run, where ss waited before it: those stored since it was last emptied
+  unfoldable pub sentIn : Machine → List Event → List Sent → List Sent
+  sentIn m [] ss = ss
+  sentIn m (e ∷ es) ss = sentIn (afterEvent image e m) es (cond (emptiesBy m e) [] (ss ++ addsBy m e))

@@ -1,0 +1,37 @@
+-- THE ROUND TRIP'S TWO SIDES: the bytes that a take of the waiting bytes gives out; and who reads them: a TCP connection that is there,
+-- online without close wanted, and at a header's first byte, given them in segments.
+-- Assumes nothing: these are definitions.
+use Prim.Native.Nat.{ℕ, _<_}
+use mathlib.Core.Path.{_≡_}
+use mathlib.Core.Bool.{true}
+use mathlib.Core.List.{List, map}
+use lib.ListN.{length, take}
+use Rattle.layout.specs.Layout.{rowsOf, bodyOf}
+use Rattle.layout.specs.declared.Kind.the-variants.{Connection as Connections, Route}
+use Rattle.connection.specs.Event.{receiving}
+use Rattle.feed.specs.Feed.{Routes, ready}
+use Rattle.route.specs.Route.{lookupOf}
+use Rattle.state.specs.State.{recordAt}
+use Rattle.state.specs.Fresh.{configOf}
+use Rattle.sending.specs.Sending.{takenOut}
+use Rattle.world.specs.World.{heldAt, cellAt}
+use Rattle.world.specs.Events.{segment, Event, on}
+use Rattle.tie.specs.Machine.{Machine, seen}
+
+-- what taking the waiting bytes of connection j gives out: so many bytes as are used, at the front of the out buffer
+abbrev pub outgoing : List ℕ → Machine → ℕ → List ℕ → List ℕ
+outgoing image m j out = take (recordAt (m .state) j .used) (takenOut image (m .state) (length (m .rx)) (m .tx) j out)
+
+pub record Reader (image : List ℕ) (m : Machine) (k : ℕ) : Type 0 where
+  pub there : k < rowsOf image Connections
+  pub tcp : configOf image k .tcp ≡ true
+  pub receives : receiving (recordAt (m .state) k) ≡ true
+  pub at-header : cellAt (heldAt (seen m) k) ≡ ready
+
+-- what its routes say as its switches stand
+abbrev pub routesHere : List ℕ → Machine → ℕ → Routes
+routesHere image m k = lookupOf (bodyOf image Route) k (recordAt (m .state) k .switches)
+
+-- one segment event for each piece
+abbrev pub asSegments : ℕ → List (List ℕ) → List Event
+asSegments k pieces = map (λ (p : List ℕ). on k (segment p)) pieces
