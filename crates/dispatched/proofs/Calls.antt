@@ -13,11 +13,10 @@ use Rattle.calls.specs.declared.Call.the-variants.{Unknown, Unfit, Ticks, Open,
 use Rattle.calls.specs.Calls.{callOf}
 use Rattle.dispatch.specs.Dispatch.{room}
 use Rattle.world.specs.Events.{tick, Event, all}
-use Rattle.runs.specs.Same.{Same}
 use Rattle.runs.specs.Streams.{RunBytes}
-use Rattle.tie.specs.Machine.{Machine, seen}
+use Rattle.tie.specs.Machine.{Machine}
 use Rattle.tie.specs.Run.{afterEvent, afterRun, Good}
-use Rattle.demands.proofs.Runs.{run-good, same-state}
+use Rattle.demands.proofs.Runs.{run-good}
 use Rattle.dispatched.specs.Spelt.{eventsOf, Spoken, speltBy, spelt, CallBytes, afterCall, afterCalls}
 use Rattle.dispatched.proofs.Event.{dispatched-events}
 
@@ -81,9 +80,3 @@ spelt-bytes (c ∷ cs) (b, bs) = both-bytes (speltBy c) (spelt cs) (one-bytes c 
 -- DEMAND 1, of the dispatcher: sound stays sound, and the memories keep their lengths
 pub calls-good : (image : List ℕ) (m : Machine) (cs : List Spoken) → CallBytes cs → Good image m → Good image (afterCalls image m cs)
 calls-good image m cs b g = subst (Good image) (sym (calls-run image m cs)) (run-good image m (spelt cs) (spelt-bytes cs b) g)
-
--- DEMAND 3, of the dispatcher: calls that spell same runs end in the same state
-pub calls-same : (image : List ℕ) (m : Machine) → Good image m → (cs ds : List Spoken) → CallBytes cs → Same (spelt cs) (spelt ds)
-    → seen (afterCalls image m cs) ≡ seen (afterCalls image m ds)
-calls-same image m g cs ds b alike =
-    ap seen (calls-run image m cs) ∙ same-state image m g alike (spelt-bytes cs b) ∙ ap seen (sym (calls-run image m ds))

@@ -1,5 +1,7 @@
 -- The laws of the crate. Assumes nothing.
 pub mod Segment
+pub mod Takes
 pub mod Ticks
 pub mod Event
 pub mod Calls
+pub mod Told

@@ -12,7 +12,7 @@ use Rattle.receive.specs.Answer.{isDone}
 use Rattle.answer_receive.specs.Segment.{Run, begun, step, runOf, allTakes}
 use Rattle.tie.specs.Machine.{Machine, machine, taken, afterOne, restOf, goesOn, afterTakes, afterSegment}
 
-either-way : {A : Type 0} (b : Bool) (x : A) → x ≡ cond b x x
+pub either-way : {A : Type 0} (b : Bool) (x : A) → x ≡ cond b x x
 either-way true x = refl
 either-way false x = refl
 
@@ -30,14 +30,14 @@ module _ (image : List ℕ) (k : ℕ) where
   goes-by false (x ∷ l) = refl
 
   -- whether another take follows
-  goes : (done : Bool) (read at : ℕ) (seg : List ℕ) → done && ltb (at + read) (length seg) ≡ goesOn image k done (drop read (drop at seg))
+  pub goes : (done : Bool) (read at : ℕ) (seg : List ℕ) → done && ltb (at + read) (length seg) ≡ goesOn image k done (drop read (drop at seg))
   goes done read at seg =
       ap (λ (b : Bool). done && b) (left-by (at + read) seg ∙ ap (λ (l : List ℕ). ltb 0 (length l)) (sym (drop-drop read at seg)))
       ∙ goes-by done (drop read (drop at seg))
 
 module _ (image : List ℕ) (k : ℕ) (seg tx : List ℕ) where
   -- the machine as far as the takes are
-  abbrev machineAt : Run → Machine
+  abbrev pub machineAt : Run → Machine
   machineAt r = machine (r .state) (r .rx) tx
 
   machine-if : (b : Bool) (x y : Run) → machineAt (cond b x y) ≡ cond b (machineAt x) (machineAt y)

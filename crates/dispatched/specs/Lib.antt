@@ -1,2 +1,4 @@
 -- What the laws of this crate speak of. Assumes nothing.
 pub mod Spelt
+pub mod Told
+pub mod Three

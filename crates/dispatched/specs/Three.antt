@@ -1,0 +1,26 @@
+-- DEMAND 3, OF THE DISPATCHER, as one statement of two lists of calls from one machine. Assumes nothing: this is a definition.
+use Prim.Native.Nat.{ℕ, _<_}
+use mathlib.Core.Path.{_≡_}
+use mathlib.Core.Bool.{true}
+use mathlib.Core.List.{List}
+use Rattle.layout.specs.Layout.{rowsOf, bodyOf}
+use Rattle.layout.specs.declared.Kind.the-variants.{Connection as Connections, Route as Routes}
+use Rattle.route.specs.Route.{lookupOf}
+use Rattle.state.specs.Fresh.{configOf}
+use Rattle.world.specs.World.{heldAt, cellAt}
+use Rattle.runs.specs.Streams.{streamsOf, listedIn}
+use Rattle.tie.specs.Table.{tableOf}
+use Rattle.tie.specs.Whole.{wholeOf}
+use Rattle.tie.specs.Machine.{Machine, seen}
+use Rattle.dispatched.specs.Spelt.{Spoken, spelt, afterCalls}
+use Rattle.dispatched.specs.Told.{toldIn}
+
+pub record CallsAlike (image : List ℕ) (m : Machine) (cs ds : List Spoken) : Type 0 where
+  -- the end state is the same: same numbers and same held bytes
+  pub state : seen (afterCalls image m cs) ≡ seen (afterCalls image m ds)
+  -- the answers tell for each connection the same PDUs in the same order
+  pub pdus : (k : ℕ) → toldIn image k m cs ≡ toldIn image k m ds
+  -- and, of a TCP connection, that list is exactly demand 2's: of each online period's stream, by lengths; the first stream begun with what
+  -- the record holds
+  pub list : (k : ℕ) → k < rowsOf image Connections → configOf image k .tcp ≡ true
+      → toldIn image k m cs ≡ listedIn (lookupOf (bodyOf image Routes) k) (cellAt (heldAt (seen m) k)) (streamsOf (tableOf image) (wholeOf image) k (seen m) (spelt cs))
