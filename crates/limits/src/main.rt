@@ -1,7 +1,8 @@
 // limits: the edges of document 01 that are run and not proved one by one, through the entry points.
 //   "Length 4,294,967,295 skipped over many segments": the header, 65,536 segments of 65,535 bytes, then a segment that holds the
 //   65,535 bytes still to skip and a whole PDU behind them.
-//   "Count at its top plus one more drop": a drop on a TCP and on a UDP connection, with both counts at 4,294,967,295.
+//   "Count at its top plus one more drop": a drop on a TCP and on a UDP connection (its datagram read by a datagram reader), with
+//   both counts at 4,294,967,295.
 // Standard input: a table image with a TCP connection 0 and a UDP connection 1, both automatic with a whole remote, and a route
 // for id 0x101 and 2 bytes on connection 0.
 // Last word: OK when every call did what its line says, DIFFERS when one did not, REFUSED for the table. Assumes nothing.
@@ -10,9 +11,9 @@ use input::read_image;
 use libc::STDOUT_FILENO;
 use pieces::front;
 use pieces::put_piece;
+use reader::walk_from;
 use receive::segment_payload;
 use receive::segment_take;
-use receive::walk_datagram;
 use state::State;
 use state::fresh_state;
 use stream::Outcome;
@@ -161,7 +162,7 @@ fn drop_each(image: &[u8], state: State, rx: &mut [u8], tx: &[u8]) -> Turn {
     full.tcp_drops = 4294967295;
     let taken = segment_take(image, full, rx, tx, 0, b"\x00\x00\x01\x99\x00\x00\x00\x00");
     let between = taken.state;
-    let walked = walk_datagram(image, between, rx, tx, 1, b"\x00\x00\x01\x01\x00\x00\x00", 0);
+    let walked = walk_from(b"\x00\x00\x01\x01\x00\x00\x00", 0, image, between, rx, tx, 1);
     let after = walked.state;
     Turn {
         well: (taken.read == 8) & (walked.next == 7),
