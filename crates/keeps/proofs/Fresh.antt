@@ -1,8 +1,9 @@
--- The fresh state of an accepted table passes the gate. Assumes nothing.
-use Prim.Native.Nat.{ℕ, _≤_}
-use mathlib.Core.Path.{_≡_, refl, sym}
+-- The fresh state of an accepted table passes the gate; without rows it is all zero. Assumes nothing.
+use Prim.Native.Nat.{ℕ, zero, suc, _≤_}
+use mathlib.Core.Path.{_≡_, refl, sym, ap, ap₂}
 use mathlib.Core.Bool.{Bool, true, false}
-use mathlib.Core.List.{List, []}
+use mathlib.Core.List.{List, [], _∷_}
+use native.Mathlib.Omega.{arith}
 use lib.Dec.{ltb}
 use lib.ListN.{replicate}
 use borrow.Author.Tests.{ltb-true, ltb-false}
@@ -17,8 +18,10 @@ use Rattle.table.proofs.Facts.{accepted-facts}
 use Rattle.connection.specs.declared.Connection.{Connection}
 use Rattle.connection.specs.Connection.{freshOf, zeroRecord}
 use Rattle.connection.proofs.Keeps.{fresh-sound}
+use Rattle.lists.specs.Each.{each}
 use Rattle.lists.proofs.Each.{all-changed}
-use Rattle.state.specs.Fresh.{configOf, freshAt, freshState}
+use Rattle.state.specs.Fresh.{configOf, freshAt, freshState, emptyState}
+use Rattle.state.specs.State.{withRecords}
 use Rattle.gate.specs.Sound.{soundAt, recordsSound}
 use Rattle.gate.specs.Gate.{Passed}
 use Rattle.gate.proofs.Records.{sound-row, zero-past}
@@ -42,3 +45,12 @@ module _ (image : List ℕ) (accepted : checkTable image ≡ Accepted) where
   pub fresh-passed : Passed image (freshState image) 23424 23552
   unfolding freshState recordsSound
   fresh-passed = record { receive = refl; send = refl; table = accepted; sound = all-changed (soundAt image) (freshAt image) fresh-at 0 (replicate 16 zeroRecord) }
+
+  -- "that of the empty table": with no rows the fresh state is all zero
+  zeros : rowsOf image Connections ≡ 0 → (n k : ℕ) → each (freshAt image) k (replicate n zeroRecord) ≡ replicate n zeroRecord
+  zeros e zero k = refl
+  zeros e (suc n) k = ap₂ _∷_ (fresh-past k (omega arith)) (zeros e n (suc k))
+
+  pub fresh-empty : rowsOf image Connections ≡ 0 → freshState image ≡ emptyState
+  unfolding freshState
+  fresh-empty e = ap (λ (l : List Connection). withRecords l emptyState) (zeros e 16 0)
