@@ -1,9 +1,10 @@
--- The demands: 1 (Refusals, Refused), 2 (Trip, Waiting), 3 (Three, from Runs); uniqueness (Unique). Assumes nothing.
+-- The demands: 1 (Refusals, Refused), 2 (Waiting from Empties, Trip from Walking), 3 (Three from Runs, Ends); uniqueness (Unique). Assumes nothing.
 pub mod Runs
 pub mod Refused
 pub mod Refusals
 pub mod Empties
 pub mod Waiting
+pub mod Walking
 pub mod Trip
 pub mod Unique
 pub mod Ends

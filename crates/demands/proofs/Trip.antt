@@ -1,10 +1,11 @@
 -- DEMAND 2'S ROUND TRIP, of the entry points: what take waiting gives out of one machine is the frames of the PDUs that its transmits
 -- stored since nothing waited; cut into segments in any way, a TCP connection of another machine that is online, ready and at a header's
--- first byte, with routes for those ids, switched on and allowing those lengths, hands out the same PDUs in the same order.
+-- first byte, with routes for those ids, switched on and allowing those lengths, hands out the same PDUs in the same order; and so does a
+-- UDP connection, walked over them as one datagram.
 -- Assumes nothing.
 use Prim.Native.Nat.{ℕ, _*_, _≤_, _<_}
-use mathlib.Core.Path.{_≡_, sym, ap, _∙_, subst}
-use mathlib.Core.List.{List, [], flatten}
+use mathlib.Core.Path.{_≡_, refl, sym, ap, _∙_, subst}
+use mathlib.Core.List.{List, [], _∷_, map, flatten}
 use native.Mathlib.Omega.{arith}
 use lib.ListN.{length, take, drop}
 use lib.Seq.{take-take, take-at}
@@ -14,8 +15,11 @@ use Rattle.layout.specs.declared.Kind.the-variants.{Connection as Connections, 
 use Rattle.connection.specs.declared.Connection.{Connection}
 use Rattle.connection.specs.Event.{receiving}
 use Rattle.state.specs.State.{recordAt}
-use Rattle.feed.specs.Feed.{Pdu}
+use Rattle.feed.specs.Feed.{Pdu, pdus}
 use Rattle.feed.specs.Frame.{Sent, frames, Routed}
+use Rattle.feed.proofs.Trip.{asOut}
+use Rattle.walk.specs.Walk.{walks}
+use Rattle.walk.proofs.Trip.{round-trip as walk-trip}
 use Rattle.route.specs.Route.{lookupOf}
 use Rattle.table.proofs.Facts.{accepted-facts}
 use Rattle.gate.proofs.Pass.{passed-gate-at}
@@ -33,9 +37,10 @@ use Rattle.tie.specs.Whole.{wholeOf}
 use Rattle.tie.specs.Machine.{Machine, seen}
 use Rattle.tie.specs.Run.{afterRun, givenIn, Good}
 use Rattle.demands.specs.Waits.{sentIn}
-use Rattle.demands.specs.Trip.{outgoing, Reader, routesHere, asSegments}
+use Rattle.demands.specs.Trip.{outgoing, Reader, routesHere, asSegments, Walker, asWalks}
 use Rattle.demands.proofs.Runs.{run-good, run-given}
 use Rattle.demands.proofs.Waiting.{run-frames}
+use Rattle.demands.proofs.Walking.{walks-given}
 
 -- WHAT TAKE WAITING GIVES OUT: the bytes that wait, at the front of the out buffer
 module _ (image : List ℕ) (m : Machine) (good : Good image m) (j : ℕ) (there : j < rowsOf image Connections) (out : List ℕ) where
@@ -73,6 +78,20 @@ module _ (image : List ℕ) (m : Machine) (good : Good image m) (k : ℕ) (reade
       run-given image k m (asSegments k pieces) bytes good
       ∙ trip (tableOf image) (wholeOf image) (seen m) k reads pieces (subst (λ (d : Connection). Routed (lookupOf (bodyOf image Route) k (d .switches)) ss ps) (sym seen-c) h) e
 
+-- WHAT A WALK HANDS OUT, a step for each PDU
+pdus-back : (ps : List Pdu) → pdus (map asOut ps) ≡ ps
+unfolding pdus
+pdus-back [] = refl
+pdus-back (p ∷ ps) = ap (λ (l : List Pdu). p ∷ l) (pdus-back ps)
+
+pub walk-back : (image : List ℕ) (m : Machine) → Good image m → (k : ℕ) → Walker image m k → {ss : List Sent} {ps : List Pdu} (datagram : List ℕ) → Routed (routesHere image m k) ss ps
+    → datagram ≡ frames ss → givenIn image k m (asWalks image k datagram (length ss) m 0) ≡ ps
+walk-back image m good k walker {ss} {ps} datagram routed e =
+    walks-given image k datagram m walker (length ss) m good refl 0 (omega arith)
+    ∙ ap (λ (l : List ℕ). pdus (walks (routesHere image m k) (length ss) l 0)) e
+    ∙ ap pdus (walk-trip (routesHere image m k) routed)
+    ∙ pdus-back ps
+
 -- BOTH TOGETHER: any run from a machine where nothing waits on connection j, and then a take of what waits
 module _ (image : List ℕ) (a : Machine) (good : Good image a) (j : ℕ) (there : j < rowsOf image Connections) (nothing : recordAt (a .state) j .used ≡ 0) (es : List Event) (bytes : RunBytes es)
     (out : List ℕ) where
@@ -88,8 +107,13 @@ module _ (image : List ℕ) (a : Machine) (good : Good image a) (j : ℕ) (there
   pub sent-out : recordAt (sender .state) j .used ≤ length out → outgoing image sender j out ≡ frames (sentIn image j a es [])
   sent-out room = out-waits image sender (run-good image a es bytes good) j there out room ∙ run-frames image j a es [] bytes good none-waits
 
-  -- and what is read out of them is those PDUs
+  -- and what is read out of them is those PDUs: cut into segments in any way
   pub round-trip : recordAt (sender .state) j .used ≤ length out → (image′ : List ℕ) (b : Machine) → Good image′ b → (k : ℕ) → Reader image′ b k → {ps : List Pdu}
       → Routed (routesHere image′ b k) (sentIn image j a es []) ps → (pieces : List (List ℕ)) → flatten pieces ≡ outgoing image sender j out → RunBytes (asSegments k pieces)
       → givenIn image′ k b (asSegments k pieces) ≡ ps
   round-trip room image′ b good′ k reader routed pieces cut-is bytes′ = read-back image′ b good′ k reader pieces routed (cut-is ∙ sent-out room) bytes′
+
+  -- or walked over as one datagram
+  pub datagram-trip : recordAt (sender .state) j .used ≤ length out → (image′ : List ℕ) (b : Machine) → Good image′ b → (k : ℕ) → Walker image′ b k → {ps : List Pdu}
+      → Routed (routesHere image′ b k) (sentIn image j a es []) ps → givenIn image′ k b (asWalks image′ k (outgoing image sender j out) (length (sentIn image j a es [])) b 0) ≡ ps
+  datagram-trip room image′ b good′ k walker routed = walk-back image′ b good′ k walker (outgoing image sender j out) routed (sent-out room)

@@ -1,4 +1,5 @@
--- Answer numbers of events and runs, what events make of waiting bytes, and demand 3's statement. Assumes nothing.
+-- Answer numbers of events and runs, any run by its gate, what events make of waiting bytes, the sides of the round trip, what ends an online
+-- period, and the statement of demand 3. Assumes nothing.
 pub mod Numbers
 pub mod Waits
 pub mod Ends

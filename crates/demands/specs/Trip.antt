@@ -1,10 +1,11 @@
 -- THE ROUND TRIP'S TWO SIDES: the bytes that a take of the waiting bytes gives out; and who reads them: a TCP connection that is there,
--- online without close wanted, and at a header's first byte, given them in segments.
+-- online without close wanted, and at a header's first byte, given them in segments; or a UDP connection that is there and online without
+-- close wanted, given them as one datagram.
 -- Assumes nothing: these are definitions.
-use Prim.Native.Nat.{ℕ, _<_}
+use Prim.Native.Nat.{ℕ, zero, suc, _<_}
 use mathlib.Core.Path.{_≡_}
-use mathlib.Core.Bool.{true}
-use mathlib.Core.List.{List, map}
+use mathlib.Core.Bool.{true, false}
+use mathlib.Core.List.{List, [], _∷_, map}
 use lib.ListN.{length, take}
 use Rattle.layout.specs.Layout.{rowsOf, bodyOf}
 use Rattle.layout.specs.declared.Kind.the-variants.{Connection as Connections, Route}
@@ -13,10 +14,12 @@ use Rattle.feed.specs.Feed.{Routes, ready}
 use Rattle.route.specs.Route.{lookupOf}
 use Rattle.state.specs.State.{recordAt}
 use Rattle.state.specs.Fresh.{configOf}
+use Rattle.receive.specs.Walk.{walkOf}
 use Rattle.sending.specs.Sending.{takenOut}
 use Rattle.world.specs.World.{heldAt, cellAt}
-use Rattle.world.specs.Events.{segment, Event, on}
+use Rattle.world.specs.Events.{segment, walk, Event, on}
 use Rattle.tie.specs.Machine.{Machine, seen}
+use Rattle.tie.specs.Run.{afterEvent}
 
 -- what taking the waiting bytes of connection j gives out: so many bytes as are used, at the front of the out buffer
 abbrev pub outgoing : List ℕ → Machine → ℕ → List ℕ → List ℕ
@@ -35,3 +38,15 @@ routesHere image m k = lookupOf (bodyOf image Route) k (recordAt (m .state) k .s
 -- one segment event for each piece
 abbrev pub asSegments : ℕ → List (List ℕ) → List Event
 asSegments k pieces = map (λ (p : List ℕ). on k (segment p)) pieces
+
+pub record Walker (image : List ℕ) (m : Machine) (k : ℕ) : Type 0 where
+  pub there : k < rowsOf image Connections
+  pub udp : configOf image k .tcp ≡ false
+  pub receives : receiving (recordAt (m .state) k) ≡ true
+
+-- so many steps of a walk over a datagram, each at the place that the answer before it gave
+module _ (image : List ℕ) (k : ℕ) (datagram : List ℕ) where
+  unfoldable pub asWalks : ℕ → Machine → ℕ → List Event
+  asWalks zero m place = []
+  asWalks (suc steps) m place =
+      on k (walk datagram place) ∷ asWalks steps (afterEvent image (on k (walk datagram place)) m) (walkOf image (m .state) (length (m .rx)) (length (m .tx)) k datagram place .next)

@@ -1,0 +1,116 @@
+-- A WALK OVER A DATAGRAM, through events: each step at the place that the answer before it gave, a UDP connection that is online without
+-- close wanted hands out what the definition's walk does. Assumes nothing.
+use Prim.Native.Nat.{ℕ, zero, suc, _≤_}
+use mathlib.Core.Path.{_≡_, refl, sym, ap, ap₂, _∙_, subst}
+use mathlib.Core.Bool.{Bool, true, cond, _&&_}
+use mathlib.Core.List.{List, [], _∷_, _++_}
+use lib.Dec.{leb, ltb}
+use lib.ListN.{length, getD, drop}
+use borrow.Author.Tests.{eq-eqb, le-leb, lt-ltb}
+use Rattle.lengths.specs.Head.{Head, ended, short, beyond, whole, headOf}
+use Rattle.layout.specs.Layout.{bodyOf}
+use Rattle.layout.specs.declared.Kind.the-variants.{Route}
+use Rattle.connection.specs.declared.Connection.{Connection}
+use Rattle.connection.specs.Connection.{zeroRecord}
+use Rattle.connection.specs.Event.{receiving}
+use Rattle.route.specs.Route.{lookupOf}
+use Rattle.state.specs.State.{recordAt}
+use Rattle.state.specs.Fresh.{configOf}
+use Rattle.feed.specs.declared.Decision.{Decision}
+use Rattle.feed.specs.declared.Decision.the-variants.{Accept, Refuse}
+use Rattle.feed.specs.Feed.{Routes, Out, Pdu, pdus}
+use Rattle.walk.specs.Walk.{Found, the-end, a-pdu, a-drop, Walked, wholeAt, stepOf, walkAt, told, walks}
+use Rattle.walk.proofs.Steps.{at-last, next-within}
+use Rattle.datagram.specs.declared.Walked.{Walked as Answered}
+use Rattle.datagram.specs.Datagram.{outcomeOf, stepped, walkedOf}
+use Rattle.receive.specs.declared.DatagramWalked.{DatagramWalked}
+use Rattle.receive.specs.Answer.{isDone}
+use Rattle.receive.specs.Walk.{walkedAt, walkOn, walkAllowed, walkAnswer, walkOf}
+use Rattle.receive.proofs.Keeps.{walk-records}
+use Rattle.world.specs.Events.{walk, on}
+use Rattle.tie.specs.Machine.{Machine}
+use Rattle.tie.specs.Run.{toldWalk, afterOwn, afterEvent, given, givenIn, Good}
+use Rattle.tie.proofs.Answered.{done-is}
+use Rattle.tie.proofs.Good.{event-good}
+use Rattle.demands.specs.Trip.{routesHere, Walker, asWalks}
+
+-- one step's PDU
+told-found : (d : List ℕ) (f : Found) → toldWalk d (outcomeOf f) ≡ pdus (told d f [])
+unfolding pdus
+told-found d the-end = refl
+told-found d (a-pdu r p n i) = refl
+told-found d (a-drop q i n) = refl
+
+-- at the end nothing follows
+end-walks : (R : Routes) (f : ℕ) (d : List ℕ) → walks R f d (length d) ≡ []
+unfolding walks
+end-walks R zero d = refl
+end-walks R (suc f) d = ap (λ (w : Walked). told d (w .found) (walks R f d (w .next))) (at-last R d)
+
+-- a step's PDU, and those of the steps after it
+then-later : (R : Routes) (f : ℕ) (d : List ℕ) (p : ℕ) → pdus (told d (walkAt R d p .found) []) ++ pdus (walks R f d (walkAt R d p .next)) ≡ pdus (walks R (suc f) d p)
+unfolding walks walkAt pdus
+then-later R f d p = go (headOf (drop p d))
+  where
+    decided : (q : Decision) (i n : ℕ) → pdus (told d (wholeAt q p i n .found) []) ++ pdus (walks R f d (wholeAt q p i n .next)) ≡ pdus (told d (wholeAt q p i n .found) (walks R f d (wholeAt q p i n .next)))
+    decided (Accept r) i n = refl
+    decided (Refuse k) i n = refl
+
+    go : (h : Head) → pdus (told d (stepOf R (length d) p h .found) []) ++ pdus (walks R f d (stepOf R (length d) p h .next))
+        ≡ pdus (told d (stepOf R (length d) p h .found) (walks R f d (stepOf R (length d) p h .next)))
+    go ended = ap pdus (end-walks R f d)
+    go short = refl
+    go (beyond i n) = refl
+    go (whole i n) = decided (R i n) i n
+
+module _ (image : List ℕ) (k : ℕ) (d : List ℕ) (start : Machine) (walker : Walker image start k) where
+  abbrev R : Routes
+  R = routesHere image start k
+
+  -- a later machine, with the records of the start
+  module _ (m : Machine) (good : Good image m) (same : m .state .connections ≡ start .state .connections) (p : ℕ) (within : p ≤ length d) where
+    abbrev w : DatagramWalked
+    w = walkOf image (m .state) (length (m .rx)) (length (m .tx)) k d p
+
+    receives : receiving (recordAt (m .state) k) ≡ true
+    receives = ap (λ (cs : List Connection). receiving (getD cs k zeroRecord)) same ∙ walker .receives
+
+    done : isDone (walkAnswer image (m .state) (length (m .rx)) (length (m .tx)) k d p) ≡ true
+    done =
+        done-is image (m .state) (length (m .rx)) (length (m .tx)) k (walkAllowed image k d p) (good .passed)
+        ∙ rw (lt-ltb _ _ (walker .there), walker .udp, le-leb p (length d) within) receives
+
+    walked-is : walkedAt image (m .state) k d p ≡ stepped (walkAt R d p)
+    unfolding walkedOf
+    walked-is = ap (λ (cs : List Connection). stepped (walkAt (lookupOf (bodyOf image Route) k (getD cs k zeroRecord .switches)) d p)) same
+
+    goes-on : w ≡ walkOn image (m .state) k d p
+    unfolding walkOf
+    goes-on = rw done
+
+    outcome-is : w .outcome ≡ outcomeOf (walkAt R d p .found)
+    unfolding walkOn
+    outcome-is = ap (λ (a : DatagramWalked). a .outcome) goes-on ∙ ap (λ (a : Answered). a .outcome) walked-is
+
+    next-is : w .next ≡ walkAt R d p .next
+    unfolding walkOn
+    next-is = ap (λ (a : DatagramWalked). a .next) goes-on ∙ ap (λ (a : Answered). a .next) walked-is
+
+    given-here : given image k (on k (walk d p)) m ≡ pdus (told d (walkAt R d p .found) [])
+    unfolding given
+    given-here = rw (eq-eqb k k refl) (ap (toldWalk d) outcome-is ∙ told-found d (walkAt R d p .found))
+
+    still-same : afterEvent image (on k (walk d p)) m .state .connections ≡ start .state .connections
+    unfolding afterEvent afterOwn
+    still-same = walk-records image (m .state) (length (m .rx)) (length (m .tx)) k d p ∙ same
+
+  -- ANY NUMBER OF STEPS
+  pub walks-given : (f : ℕ) (m : Machine) → Good image m → m .state .connections ≡ start .state .connections → (p : ℕ) → p ≤ length d → givenIn image k m (asWalks image k d f m p) ≡ pdus (walks R f d p)
+  unfolding givenIn asWalks walks pdus
+  walks-given zero m good same p within = refl
+  walks-given (suc f) m good same p within =
+      ap₂ _++_ (given-here m good same p within)
+      (walks-given f (afterEvent image (on k (walk d p)) m) (event-good image m good (on k (walk d p)) tt) (still-same m good same p within) (w m good same p within .next)
+      (subst (λ (q : ℕ). q ≤ length d) (sym (next-is m good same p within)) (next-within R d p within))
+      ∙ ap (λ (q : ℕ). pdus (walks R f d q)) (next-is m good same p within))
+      ∙ then-later R f d p
