@@ -89,10 +89,10 @@ module _ (image : List ℕ) (w : World) (k : ℕ) (tcp : configOf image k .tcp �
   still : (e : Whole) {h : Held} → heldAt (step (tableOf image) (wholeOf image) w (all e)) k ≡ h → Up (h .connection) c → ends (tableOf image) (wholeOf image) k w (all e) ≡ true → ⊥
   still e is up = not-ended (all e) (subst (λ (h : Held). Up (h .connection) c) (sym is) up)
 
-  ends-own : (i : ℕ) (e : Own) (b : Bool) → losing e ≡ b → Dec (i ≡ k) → ends (tableOf image) (wholeOf image) k w (on i e) ≡ true → EndsBy k w (on i e)
+  ends-own : (i : ℕ) (e : Own) (b : Bool) → losing e ≡ b → Dec (i ≡ k) → ends (tableOf image) (wholeOf image) k w (on i e) ≡ true → EndsBy k c (on i e)
   ends-own i e b l (no ne) q = absurd (not-ended (on i e) (own-up i e (λ p. absurd (ne p))) q)
   ends-own i e false l (yes p) q = absurd (not-ended (on i e) (own-up i e (λ _. l)) q)
-  ends-own i (change Lost) true l (yes p) q = subst (λ (j : ℕ). EndsBy k w (on j (change Lost))) (sym p) by-loss
+  ends-own i (change Lost) true l (yes p) q = subst (λ (j : ℕ). EndsBy k c (on j (change Lost))) (sym p) by-loss
   ends-own i (change Open) true l (yes p) q = absurd (false≢true l)
   ends-own i (change Close) true l (yes p) q = absurd (false≢true l)
   ends-own i (change Connected) true l (yes p) q = absurd (false≢true l)
@@ -104,13 +104,13 @@ module _ (image : List ℕ) (w : World) (k : ℕ) (tcp : configOf image k .tcp �
 
   -- an event of a whole group or module, by what it makes of the connection
   ends-whole : (e : Whole) (h : Held) → heldAt (step (tableOf image) (wholeOf image) w (all e)) k ≡ h → Becomes image k (heldAt w k) e h → ends (tableOf image) (wholeOf image) k w (all e) ≡ true
-      → EndsBy k w (all e)
+      → EndsBy k c (all e)
   ends-whole _ _ is (untouched e) q = absurd (still e is (λ on-line. on-line) q)
   ends-whole _ _ is (same e) q = absurd (still e is (λ on-line. on-line) q)
   ends-whole _ _ is (met e source) q = absurd (still e is (λ on-line. refl) q)
   ends-whole _ _ is ticked q = go (c .«close_wanted») refl
     where
-      go : (b : Bool) → c .«close_wanted» ≡ b → EndsBy k w (all tick)
+      go : (b : Bool) → c .«close_wanted» ≡ b → EndsBy k c (all tick)
       go true e = by-closing e
       go false e = absurd (still tick is (tick-up e) q)
   ends-whole _ _ is (switched e n b) q = absurd (still e is (λ on-line. on-line) q)
@@ -121,6 +121,6 @@ module _ (image : List ℕ) (w : World) (k : ℕ) (tcp : configOf image k .tcp �
   step-whole e = refl
 
   -- SO A PERIOD ENDS BY A LOSS OR A CLOSING TICK
-  pub ends-by : (e : Event) → ends (tableOf image) (wholeOf image) k w e ≡ true → EndsBy k w e
+  pub ends-by : (e : Event) → ends (tableOf image) (wholeOf image) k w e ≡ true → EndsBy k c e
   ends-by (on i e) q = ends-own i e (losing e) refl (ℕ-discrete i k) q
   ends-by (all e) q = ends-whole e (heldAt (wholeOf image e w) k) (ap (λ (v : World). heldAt v k) (step-whole e)) (becomes image k w e) q

@@ -8,4 +8,5 @@ pub mod Walking
 pub mod Trip
 pub mod Unique
 pub mod Ends
+pub mod Streams
 pub mod Three

@@ -2,10 +2,11 @@
 use Prim.Native.Nat.{ℕ}
 use mathlib.Core.Path.{_≡_}
 use mathlib.Core.Bool.{true}
+use Rattle.connection.specs.declared.Connection.{Connection}
 use Rattle.connection.specs.declared.Event.the-variants.{Lost}
-use Rattle.world.specs.World.{World, heldAt}
 use Rattle.world.specs.Events.{change, tick, Event, on, all}
 
-pub data EndsBy (k : ℕ) (w : World) : Event → Type 0 where
-  by-loss : EndsBy k w (on k (change Lost))
-  by-closing : heldAt w k .connection .«close_wanted» ≡ true → EndsBy k w (all tick)
+-- of connection k, with this record before it
+pub data EndsBy (k : ℕ) (c : Connection) : Event → Type 0 where
+  by-loss : EndsBy k c (on k (change Lost))
+  by-closing : c .«close_wanted» ≡ true → EndsBy k c (all tick)

@@ -3,6 +3,7 @@
 pub mod Numbers
 pub mod Waits
 pub mod Ends
+pub mod Streams
 pub mod Refused
 pub mod Three
 pub mod Trip
