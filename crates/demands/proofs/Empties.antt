@@ -13,7 +13,6 @@ use borrow.Author.Tests.{eqb-true, eq-eqb, ne-eqb, lt-ltb, le-ltb, ltb-true}
 use Rattle.lists.specs.Each.{eachTo}
 use Rattle.layout.specs.Layout.{rowsOf}
 use Rattle.layout.specs.declared.Kind.the-variants.{Connection as Connections}
-use Rattle.connection.specs.declared.Config.{Config}
 use Rattle.connection.specs.declared.Connection.{Connection}
 use Rattle.connection.specs.Connection.{zeroRecord}
 use Rattle.connection.specs.Event.{receiving}
@@ -22,7 +21,6 @@ use Rattle.state.specs.declared.State.{State}
 use Rattle.state.specs.State.{recordAt}
 use Rattle.state.specs.Fresh.{configOf}
 use Rattle.ticks.specs.Tick.{tickAt, tickedTo}
-use Rattle.waiting.specs.Waiting.{takeOf}
 use Rattle.waiting.proofs.Taken.{take-used}
 use Rattle.walk.specs.Walk.{walkAt, told}
 use Rattle.waits.proofs.Turns.{tick-used, step-used}

@@ -40,7 +40,6 @@ use Rattle.send.specs.declared.Transmission.{Transmission}
 use Rattle.send.specs.declared.Transmission.the-variants as Sent
 use Rattle.send.specs.Verdict.{transmissionNumber, isStored}
 use Rattle.send.specs.Send.{Sending, sending, checkOf, transmitOf, transmittedOf}
-use Rattle.waiting.specs.declared.Taking.the-variants as Took
 use Rattle.waiting.specs.Waiting.{takingNumber, takingOf, takeOf}
 use Rattle.sending.specs.declared.Taken.{Taken}
 use Rattle.sending.specs.Sending.{notSent, sendOf, sentMemory, notTaken, takePast, takenOf}

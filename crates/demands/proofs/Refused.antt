@@ -31,7 +31,7 @@ use Rattle.sending.specs.Sending.{sendOf, sentMemory, takenOf}
 use Rattle.world.specs.Events.{Own, change, segment, walk, take, Whole, datagram, accept, tick, transmit, switchAll, readCount, clearCount, Event, on, all}
 use Rattle.runs.specs.Streams.{RunBytes}
 use Rattle.tie.specs.Machine.{Machine}
-use Rattle.tie.specs.Run.{afterOwn, afterWhole, afterEvent, afterRun, Good}
+use Rattle.tie.specs.Run.{afterOwn, afterWhole, afterEvent, afterRun}
 use Rattle.tie.proofs.Segments.{no-segment}
 use Rattle.demands.specs.Numbers.{numberOf, numbersIn}
 use Rattle.demands.specs.Refused.{gateHere, Shut, other-length, not-sound, Run, keeps-good, leaves-all}

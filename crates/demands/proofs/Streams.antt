@@ -17,9 +17,8 @@ use Rattle.state.specs.Fresh.{configOf}
 use Rattle.lengths.specs.Listed.{Marked, mark}
 use Rattle.world.specs.World.{World, heldAt, cellAt}
 use Rattle.world.specs.Events.{change, segment, walk, take, Event, on, all}
-use Rattle.world.specs.Step.{step}
 use Rattle.world.proofs.View.{view-record}
-use Rattle.runs.specs.Streams.{EventBytes, RunBytes, Streams, longer, online, reads, ends, streamsOf, listedIn}
+use Rattle.runs.specs.Streams.{EventBytes, RunBytes, longer, online, reads, ends, streamsOf, listedIn}
 use Rattle.tie.specs.Table.{tableOf}
 use Rattle.tie.specs.Whole.{wholeOf}
 use Rattle.tie.specs.Machine.{Machine, seen}

@@ -19,7 +19,7 @@ use Rattle.feed.specs.Feed.{Pdu, pdus}
 use Rattle.feed.specs.Frame.{Sent, frames, Routed}
 use Rattle.feed.proofs.Trip.{asOut}
 use Rattle.walk.specs.Walk.{walks}
-use Rattle.walk.proofs.Trip.{round-trip as walk-trip}
+use Rattle.walk.proofs.Trip.{round-trip as walk-trip, then-the-end}
 use Rattle.route.specs.Route.{lookupOf}
 use Rattle.table.proofs.Facts.{accepted-facts}
 use Rattle.gate.proofs.Pass.{passed-gate-at}
@@ -40,7 +40,7 @@ use Rattle.demands.specs.Waits.{sentIn}
 use Rattle.demands.specs.Trip.{outgoing, Reader, routesHere, asSegments, Walker, asWalks}
 use Rattle.demands.proofs.Runs.{run-good, run-given}
 use Rattle.demands.proofs.Waiting.{run-frames}
-use Rattle.demands.proofs.Walking.{walks-given}
+use Rattle.demands.proofs.Walking.{walks-more, walks-given}
 
 -- WHAT TAKE WAITING GIVES OUT: the bytes that wait, at the front of the out buffer
 module _ (image : List ℕ) (m : Machine) (good : Good image m) (j : ℕ) (there : j < rowsOf image Connections) (out : List ℕ) where
@@ -78,18 +78,18 @@ module _ (image : List ℕ) (m : Machine) (good : Good image m) (k : ℕ) (reade
       run-given image k m (asSegments k pieces) bytes good
       ∙ trip (tableOf image) (wholeOf image) (seen m) k reads pieces (subst (λ (d : Connection). Routed (lookupOf (bodyOf image Route) k (d .switches)) ss ps) (sym seen-c) h) e
 
--- WHAT A WALK HANDS OUT, a step for each PDU
+-- WHAT A WALK HANDS OUT, a step for each PDU; more steps meet the end and hand out nothing
 pdus-back : (ps : List Pdu) → pdus (map asOut ps) ≡ ps
 unfolding pdus
 pdus-back [] = refl
 pdus-back (p ∷ ps) = ap (λ (l : List Pdu). p ∷ l) (pdus-back ps)
 
 pub walk-back : (image : List ℕ) (m : Machine) → Good image m → (k : ℕ) → Walker image m k → {ss : List Sent} {ps : List Pdu} (datagram : List ℕ) → Routed (routesHere image m k) ss ps
-    → datagram ≡ frames ss → givenIn image k m (asWalks image k datagram (length ss) m 0) ≡ ps
-walk-back image m good k walker {ss} {ps} datagram routed e =
-    walks-given image k datagram m walker (length ss) m good refl 0 (omega arith)
-    ∙ ap (λ (l : List ℕ). pdus (walks (routesHere image m k) (length ss) l 0)) e
-    ∙ ap pdus (walk-trip (routesHere image m k) routed)
+    → datagram ≡ frames ss → (steps : ℕ) → length ss ≤ steps → givenIn image k m (asWalks image k datagram steps m 0) ≡ ps
+walk-back image m good k walker {ss} {ps} datagram routed e steps enough =
+    walks-given image k datagram m walker steps m good refl 0 (omega arith)
+    ∙ ap (λ (l : List ℕ). pdus (walks (routesHere image m k) steps l 0)) e
+    ∙ ap pdus (walks-more (routesHere image m k) (length ss) steps (frames ss) 0 enough (then-the-end (routesHere image m k) routed) ∙ walk-trip (routesHere image m k) routed)
     ∙ pdus-back ps
 
 -- BOTH TOGETHER: any run from a machine where nothing waits on connection j, and then a take of what waits
@@ -113,7 +113,8 @@ module _ (image : List ℕ) (a : Machine) (good : Good image a) (j : ℕ) (there
       → givenIn image′ k b (asSegments k pieces) ≡ ps
   round-trip room image′ b good′ k reader routed pieces cut-is bytes′ = read-back image′ b good′ k reader pieces routed (cut-is ∙ sent-out room) bytes′
 
-  -- or walked over as one datagram
+  -- or walked over as one datagram, in as many steps or more
   pub datagram-trip : recordAt (sender .state) j .used ≤ length out → (image′ : List ℕ) (b : Machine) → Good image′ b → (k : ℕ) → Walker image′ b k → {ps : List Pdu}
-      → Routed (routesHere image′ b k) (sentIn image j a es []) ps → givenIn image′ k b (asWalks image′ k (outgoing image sender j out) (length (sentIn image j a es [])) b 0) ≡ ps
-  datagram-trip room image′ b good′ k walker routed = walk-back image′ b good′ k walker (outgoing image sender j out) routed (sent-out room)
+      → Routed (routesHere image′ b k) (sentIn image j a es []) ps → (steps : ℕ) → length (sentIn image j a es []) ≤ steps
+      → givenIn image′ k b (asWalks image′ k (outgoing image sender j out) steps b 0) ≡ ps
+  datagram-trip room image′ b good′ k walker routed steps enough = walk-back image′ b good′ k walker (outgoing image sender j out) routed (sent-out room) steps enough

@@ -2,9 +2,9 @@
 -- close wanted hands out what the definition's walk does. Assumes nothing.
 use Prim.Native.Nat.{ℕ, zero, suc, _≤_}
 use mathlib.Core.Path.{_≡_, refl, sym, ap, ap₂, _∙_, subst}
-use mathlib.Core.Bool.{Bool, true, cond, _&&_}
-use mathlib.Core.List.{List, [], _∷_, _++_}
-use lib.Dec.{leb, ltb}
+use mathlib.Core.Bool.{true}
+use mathlib.Core.List.{List, [], _++_}
+use native.Mathlib.Omega.{arith}
 use lib.ListN.{length, getD, drop}
 use borrow.Author.Tests.{eq-eqb, le-leb, lt-ltb}
 use Rattle.lengths.specs.Head.{Head, ended, short, beyond, whole, headOf}
@@ -15,11 +15,10 @@ use Rattle.connection.specs.Connection.{zeroRecord}
 use Rattle.connection.specs.Event.{receiving}
 use Rattle.route.specs.Route.{lookupOf}
 use Rattle.state.specs.State.{recordAt}
-use Rattle.state.specs.Fresh.{configOf}
 use Rattle.feed.specs.declared.Decision.{Decision}
 use Rattle.feed.specs.declared.Decision.the-variants.{Accept, Refuse}
-use Rattle.feed.specs.Feed.{Routes, Out, Pdu, pdus}
-use Rattle.walk.specs.Walk.{Found, the-end, a-pdu, a-drop, Walked, wholeAt, stepOf, walkAt, told, walks}
+use Rattle.feed.specs.Feed.{Routes, pdus}
+use Rattle.walk.specs.Walk.{Found, the-end, a-pdu, a-drop, Walked, walked, wholeAt, stepOf, walkAt, told, walks, placeAfter}
 use Rattle.walk.proofs.Steps.{at-last, next-within}
 use Rattle.datagram.specs.declared.Walked.{Walked as Answered}
 use Rattle.datagram.specs.Datagram.{outcomeOf, stepped, walkedOf}
@@ -41,15 +40,17 @@ told-found d the-end = refl
 told-found d (a-pdu r p n i) = refl
 told-found d (a-drop q i n) = refl
 
--- at the end nothing follows
-end-walks : (R : Routes) (f : ℕ) (d : List ℕ) → walks R f d (length d) ≡ []
-unfolding walks
-end-walks R zero d = refl
-end-walks R (suc f) d = ap (λ (w : Walked). told d (w .found) (walks R f d (w .next))) (at-last R d)
+-- steps past the end give nothing more
+pub walks-more : (R : Routes) (n f : ℕ) (d : List ℕ) (p : ℕ) → n ≤ f → walkAt R d (placeAfter R n d p) ≡ walked the-end (length d) → walks R f d p ≡ walks R n d p
+unfolding walks placeAfter
+walks-more R zero zero d p l e = refl
+walks-more R zero (suc f) d p l e = ap (λ (w : Walked). told d (w .found) (walks R f d (w .next))) e
+walks-more R (suc n) zero d p l e = absurd (omega arith)
+walks-more R (suc n) (suc f) d p l e = ap (told d (walkAt R d p .found)) (walks-more R n f d (walkAt R d p .next) (omega arith) e)
 
 -- a step's PDU, and those of the steps after it
 then-later : (R : Routes) (f : ℕ) (d : List ℕ) (p : ℕ) → pdus (told d (walkAt R d p .found) []) ++ pdus (walks R f d (walkAt R d p .next)) ≡ pdus (walks R (suc f) d p)
-unfolding walks walkAt pdus
+unfolding walks walkAt placeAfter pdus
 then-later R f d p = go (headOf (drop p d))
   where
     decided : (q : Decision) (i n : ℕ) → pdus (told d (wholeAt q p i n .found) []) ++ pdus (walks R f d (wholeAt q p i n .next)) ≡ pdus (told d (wholeAt q p i n .found) (walks R f d (wholeAt q p i n .next)))
@@ -58,7 +59,7 @@ then-later R f d p = go (headOf (drop p d))
 
     go : (h : Head) → pdus (told d (stepOf R (length d) p h .found) []) ++ pdus (walks R f d (stepOf R (length d) p h .next))
         ≡ pdus (told d (stepOf R (length d) p h .found) (walks R f d (stepOf R (length d) p h .next)))
-    go ended = ap pdus (end-walks R f d)
+    go ended = ap pdus (walks-more R 0 f d (length d) (omega arith) (at-last R d))
     go short = refl
     go (beyond i n) = refl
     go (whole i n) = decided (R i n) i n
