@@ -1,4 +1,4 @@
--- The demands: 1 (Refusals, Refused), 2 (Trip, Waiting), 3 (Runs); uniqueness (Unique). Assumes nothing.
+-- The demands: 1 (Refusals, Refused), 2 (Trip, Waiting), 3 (Three, from Runs); uniqueness (Unique). Assumes nothing.
 pub mod Runs
 pub mod Refused
 pub mod Refusals
@@ -7,3 +7,4 @@ pub mod Waiting
 pub mod Trip
 pub mod Unique
 pub mod Ends
+pub mod Three

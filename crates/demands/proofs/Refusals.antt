@@ -1,5 +1,5 @@
--- DEMAND 1: "A refusal carries its number and changes neither state nor lent memory": of every entry point, from any table, state and
--- memory. Assumes nothing.
+-- DEMAND 1: "A refusal carries its number and changes neither state nor lent memory": of every event, and of many ticks under one check,
+-- from any table, state and memory. Assumes nothing.
 use Prim.Native.Nat.{ℕ}
 use mathlib.Core.Path.{_≡_, refl, ap, _∙_}
 use mathlib.Core.Bool.{Bool, true, false, cond, or-true}
@@ -27,7 +27,7 @@ use Rattle.events.specs.Change.{refusedBy, toldOf, changeOf, eventOf}
 use Rattle.events.specs.Module.{switchedAll, switchAllOf}
 use Rattle.events.specs.Count.{countNumber, ofProtocol, readFrom, clearFrom, uncounted, readPast, clearPast, readOf, clearOf}
 use Rattle.ticks.specs.declared.Ticked.{Ticked}
-use Rattle.ticks.specs.Tick.{tickedTo, unticked, tickEvent}
+use Rattle.ticks.specs.Tick.{tickedTo, ticksTo, unticked, tickEvent, ticksEvent}
 use Rattle.choose.specs.declared.Arrived.{Arrived}
 use Rattle.choose.specs.declared.Chosen.{Chosen}
 use Rattle.choose.specs.declared.Chosen.the-variants.{Nobody, At}
@@ -158,6 +158,13 @@ module _ (image : List ℕ) (m : Machine) where
       past-or StaysTicked (gateOf image s rx tx) (unticked s) (record { answer = Done; state = tickedTo image (rowsOf image Connections) s })
       (λ r no-zero. refl) (λ _ no-zero. absurd (no-zero refl))
 
+  -- many under one check, which are no event of a run: they write no lent memory
+  pub ticks-stays : (count : ℕ) → StaysTicked (ticksEvent image s rx tx count)
+  unfolding ticksEvent
+  ticks-stays count =
+      past-or StaysTicked (gateOf image s rx tx) (unticked s) (record { answer = Done; state = ticksTo image (rowsOf image Connections) count s })
+      (λ r no-zero. refl) (λ _ no-zero. absurd (no-zero refl))
+
   switches-stay : (n : ℕ) (b : Bool) → StaysTold (switchAllOf image s rx tx n b)
   unfolding switchAllOf
   switches-stay n b =
@@ -209,7 +216,7 @@ module _ (image : List ℕ) (m : Machine) where
       go Gated.Pass no-zero = ap (λ (x : Sending). machine (x .state) (m .rx) (x .memory)) (nothing-sent pdu payload no-zero)
       go (Gated.Refused r) no-zero = refl
 
-  -- EVERY ENTRY POINT
+  -- EVERY EVENT
   pub refusal-stays : (e : Event) → (numberOf image m e ≡ 0 → ⊥) → afterEvent image e m ≡ m
   unfolding afterEvent afterOwn afterWhole
   refusal-stays (on k (change e)) no-zero = ap (λ (t : State). machine t (m .rx) (m .tx)) (change-stays k e no-zero)

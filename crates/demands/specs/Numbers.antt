@@ -2,7 +2,7 @@
 -- Assumes nothing: these are definitions.
 use Prim.Native.Nat.{ℕ}
 use mathlib.Core.Bool.{true, false}
-use mathlib.Core.List.{List}
+use mathlib.Core.List.{List, [], _∷_}
 use lib.ListN.{length, replicate}
 use Rattle.connection.specs.Event.{answerNumber}
 use Rattle.events.specs.Change.{eventOf}
@@ -18,6 +18,7 @@ use Rattle.waiting.specs.Waiting.{takingNumber}
 use Rattle.sending.specs.Sending.{sendOf, takenOf}
 use Rattle.world.specs.Events.{change, segment, walk, take, datagram, accept, tick, transmit, switchAll, readCount, clearCount, Event, on, all}
 use Rattle.tie.specs.Machine.{Machine, taken}
+use Rattle.tie.specs.Run.{afterEvent}
 
 module _ (image : List ℕ) (m : Machine) where
   abbrev pub numberOf : Event → ℕ
@@ -32,3 +33,8 @@ module _ (image : List ℕ) (m : Machine) where
   numberOf (all (switchAll number position)) = answerNumber (switchAllOf image (m .state) (length (m .rx)) (length (m .tx)) number position .answer)
   numberOf (all (readCount protocol)) = countNumber (readOf image (m .state) (length (m .rx)) (length (m .tx)) protocol .answer)
   numberOf (all (clearCount protocol)) = countNumber (clearOf image (m .state) (length (m .rx)) (length (m .tx)) protocol .answer)
+
+-- in a run
+unfoldable pub numbersIn : List ℕ → Machine → List Event → List ℕ
+numbersIn image m [] = []
+numbersIn image m (e ∷ es) = numberOf image m e ∷ numbersIn image (afterEvent image e m) es

@@ -1,0 +1,32 @@
+-- ANY RUN FROM ANY START, by what the gate says there: 11 and 12, and each event of the run with them; or past it, and so to the end.
+-- Assumes nothing: these are definitions.
+use Prim.Native.Nat.{ℕ}
+use mathlib.Core.Path.{_≡_}
+use mathlib.Core.Bool.{false}
+use mathlib.Core.List.{List, map}
+use lib.ListN.{length}
+use Rattle.connection.specs.declared.Refusal.{Refusal}
+use Rattle.connection.specs.Event.{refusalNumber}
+use Rattle.gate.specs.declared.Gate.{Gate}
+use Rattle.gate.specs.declared.Gate.the-variants.{Pass, Refused}
+use Rattle.gate.specs.Gate.{gateOf}
+use Rattle.gate.specs.Sound.{soundState}
+use Rattle.world.specs.Events.{Event}
+use Rattle.tie.specs.Machine.{Machine}
+use Rattle.tie.specs.Run.{afterRun, Good}
+use Rattle.demands.specs.Numbers.{numbersIn}
+
+-- what the gate says of a machine
+abbrev pub gateHere : List ℕ → Machine → Gate
+gateHere image m = gateOf image (m .state) (length (m .rx)) (length (m .tx))
+
+-- which number it refuses with, and why: "lent receive or send memory has another length" 11; "state or table not sound" 12
+pub data Shut (image : List ℕ) (m : Machine) : ℕ → Type 0 where
+  other-length : ((length (m .rx) ≡ 23424) × (length (m .tx) ≡ 23552) → ⊥) → Shut image m 11
+  not-sound : length (m .rx) ≡ 23424 → length (m .tx) ≡ 23552 → soundState image (m .state) ≡ false → Shut image m 12
+
+-- past the gate the machine is good at the end; where it is shut by a refusal, every event is answered that refusal's number and nothing
+-- changes
+pub data Run (image : List ℕ) (m : Machine) (es : List Event) : Type 0 where
+  keeps-good : gateHere image m ≡ Pass → Good image (afterRun image m es) → Run image m es
+  leaves-all : (r : Refusal) → gateHere image m ≡ Refused r → numbersIn image m es ≡ map (λ (e : Event). refusalNumber r) es → afterRun image m es ≡ m → Run image m es

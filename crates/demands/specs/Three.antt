@@ -1,0 +1,26 @@
+-- DEMAND 3, as one statement of two runs from one machine. Assumes nothing: this is a definition.
+use Prim.Native.Nat.{ℕ, _<_}
+use mathlib.Core.Path.{_≡_}
+use mathlib.Core.Bool.{true}
+use mathlib.Core.List.{List}
+use Rattle.layout.specs.Layout.{rowsOf, bodyOf}
+use Rattle.layout.specs.declared.Kind.the-variants.{Connection as Connections, Route as Routes}
+use Rattle.route.specs.Route.{lookupOf}
+use Rattle.state.specs.Fresh.{configOf}
+use Rattle.world.specs.World.{heldAt, cellAt}
+use Rattle.world.specs.Events.{Event}
+use Rattle.runs.specs.Streams.{streamsOf, listedIn}
+use Rattle.tie.specs.Table.{tableOf}
+use Rattle.tie.specs.Whole.{wholeOf}
+use Rattle.tie.specs.Machine.{Machine, seen}
+use Rattle.tie.specs.Run.{afterRun, givenIn}
+
+pub record Demand3 (image : List ℕ) (m : Machine) (es fs : List Event) : Type 0 where
+  -- the end state is the same: same numbers and same held bytes
+  pub state : seen (afterRun image m es) ≡ seen (afterRun image m fs)
+  -- each connection has handed out the same PDUs in the same order
+  pub pdus : (k : ℕ) → givenIn image k m es ≡ givenIn image k m fs
+  -- and, of a TCP connection, that list is exactly demand 2's: of each online period's stream, by lengths; the first stream begun with what
+  -- the record holds
+  pub list : (k : ℕ) → k < rowsOf image Connections → configOf image k .tcp ≡ true
+      → givenIn image k m es ≡ listedIn (lookupOf (bodyOf image Routes) k) (cellAt (heldAt (seen m) k)) (streamsOf (tableOf image) (wholeOf image) k (seen m) es)

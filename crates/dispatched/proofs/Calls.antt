@@ -1,0 +1,89 @@
+-- A RUN OF CALLS IS A RUN OF THE MACHINE over the events that they spell: so what demands say of runs holds of the dispatcher.
+-- Assumes nothing.
+use Prim.Native.Nat.{ℕ, zero, suc}
+use mathlib.Core.Path.{_≡_, refl, sym, ap, _∙_, subst}
+use mathlib.Core.Bool.{Bool, true, false, cond}
+use mathlib.Core.List.{List, [], _∷_, _++_}
+use lib.Dec.{ltb}
+use lib.ListN.{length, replicate}
+use Rattle.lengths.specs.Listed.{Bytes}
+use Rattle.lengths.proofs.Bytes.{bytes-drop}
+use Rattle.calls.specs.declared.Call.{Call}
+use Rattle.calls.specs.declared.Call.the-variants.{Unknown, Unfit, Ticks, Open, Close, Connected, Lost, SetRemote, Switch, Segment, Walk, TakeWaiting, Datagram, Accept, Transmit, SwitchAll, ReadCount, ClearCount}
+use Rattle.calls.specs.Calls.{callOf}
+use Rattle.dispatch.specs.Dispatch.{room}
+use Rattle.world.specs.Events.{tick, Event, all}
+use Rattle.runs.specs.Same.{Same}
+use Rattle.runs.specs.Streams.{RunBytes}
+use Rattle.tie.specs.Machine.{Machine, seen}
+use Rattle.tie.specs.Run.{afterEvent, afterRun, Good}
+use Rattle.demands.proofs.Runs.{run-good, same-state}
+use Rattle.dispatched.specs.Spelt.{eventsOf, Spoken, speltBy, spelt, CallBytes, afterCall, afterCalls}
+use Rattle.dispatched.proofs.Event.{dispatched-events}
+
+module _ (image : List ℕ) where
+  run-append : (m : Machine) (es fs : List Event) → afterRun image m (es ++ fs) ≡ afterRun image (afterRun image m es) fs
+  unfolding afterRun
+  run-append m [] fs = refl
+  run-append m (e ∷ es) fs = run-append (afterEvent image e m) es fs
+
+  pub calls-run : (m : Machine) (cs : List Spoken) → afterCalls image m cs ≡ afterRun image m (spelt cs)
+  unfolding afterCalls spelt afterRun
+  calls-run m [] = refl
+  calls-run m (c ∷ cs) =
+      calls-run (afterCall image c m) cs
+      ∙ ap (λ (n : Machine). afterRun image n (spelt cs)) (dispatched-events image m c)
+      ∙ sym (run-append m (speltBy c) (spelt cs))
+
+-- calls whose bodies are bytes spell a run whose segments are bytes
+ticks-bytes : (n : ℕ) → RunBytes (replicate n (all tick))
+ticks-bytes zero = tt
+ticks-bytes (suc n) = (tt, ticks-bytes n)
+
+events-bytes : (body : List ℕ) → Bytes body → (call : Call) → RunBytes (eventsOf body call)
+unfolding eventsOf
+events-bytes body b Unknown = tt
+events-bytes body b Unfit = tt
+events-bytes body b (Ticks n) = ticks-bytes n
+events-bytes body b (Open c) = (tt, tt)
+events-bytes body b (Close c) = (tt, tt)
+events-bytes body b (Connected c) = (tt, tt)
+events-bytes body b (Lost c) = (tt, tt)
+events-bytes body b (SetRemote c remote) = (tt, tt)
+events-bytes body b (Switch c number position) = (tt, tt)
+events-bytes body b (Segment c at) = (bytes-drop at body b, tt)
+events-bytes body b (Walk c place at) = (tt, tt)
+events-bytes body b (TakeWaiting c n) = (tt, tt)
+events-bytes body b (Datagram group source) = (tt, tt)
+events-bytes body b (Accept group source) = (tt, tt)
+events-bytes body b (Transmit pdu at) = (tt, tt)
+events-bytes body b (SwitchAll number position) = (tt, tt)
+events-bytes body b (ReadCount protocol) = (tt, tt)
+events-bytes body b (ClearCount protocol) = (tt, tt)
+
+both-bytes : (es fs : List Event) → RunBytes es → RunBytes fs → RunBytes (es ++ fs)
+both-bytes [] fs p q = q
+both-bytes (e ∷ es) fs (b, p) q = (b, both-bytes es fs p q)
+
+one-bytes : (c : Spoken) → Bytes (c .body) → RunBytes (speltBy c)
+unfolding speltBy
+one-bytes c b = go (ltb (length (c .out)) room)
+  where
+    go : (t : Bool) → RunBytes (cond t [] (eventsOf (c .body) (callOf (c .number) (c .body))))
+    go true = tt
+    go false = events-bytes (c .body) b (callOf (c .number) (c .body))
+
+pub spelt-bytes : (cs : List Spoken) → CallBytes cs → RunBytes (spelt cs)
+unfolding spelt
+spelt-bytes [] b = tt
+spelt-bytes (c ∷ cs) (b, bs) = both-bytes (speltBy c) (spelt cs) (one-bytes c b) (spelt-bytes cs bs)
+
+-- DEMAND 1, of the dispatcher: sound stays sound, and the memories keep their lengths
+pub calls-good : (image : List ℕ) (m : Machine) (cs : List Spoken) → CallBytes cs → Good image m → Good image (afterCalls image m cs)
+calls-good image m cs b g = subst (Good image) (sym (calls-run image m cs)) (run-good image m (spelt cs) (spelt-bytes cs b) g)
+
+-- DEMAND 3, of the dispatcher: calls that spell same runs end in the same state
+pub calls-same : (image : List ℕ) (m : Machine) → Good image m → (cs ds : List Spoken) → CallBytes cs → Same (spelt cs) (spelt ds)
+    → seen (afterCalls image m cs) ≡ seen (afterCalls image m ds)
+calls-same image m g cs ds b alike =
+    ap seen (calls-run image m cs) ∙ same-state image m g alike (spelt-bytes cs b) ∙ ap seen (sym (calls-run image m ds))

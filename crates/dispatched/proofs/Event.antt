@@ -1,0 +1,72 @@
+-- A CALL OF THE DISPATCHER LEAVES WHAT ITS EVENTS MAKE OF THE MACHINE: of any image, state, memories, number, body and out buffer, refusals
+-- included. Assumes nothing.
+use Prim.Native.Nat.{ℕ}
+use mathlib.Core.Path.{_≡_, refl, ap}
+use mathlib.Core.Bool.{Bool, true, false, cond}
+use mathlib.Core.List.{List, []}
+use native.Mathlib.Omega.{arith}
+use lib.Dec.{ltb}
+use lib.ListN.{length, take as front, replicate, length-take, length-replicate}
+use Rattle.state.specs.declared.State.{State}
+use Rattle.gate.specs.Gate.{gateAt, through}
+use Rattle.events.specs.Change.{lossOf}
+use Rattle.sending.specs.declared.Taken.{Taken}
+use Rattle.sending.specs.Sending.{notTaken, takePast, takenOf}
+use Rattle.calls.specs.declared.Call.{Call}
+use Rattle.calls.specs.declared.Call.the-variants.{Unknown, Unfit, Ticks, Open, Close, Connected, Lost, SetRemote, Switch, Segment, Walk, TakeWaiting, Datagram, Accept, Transmit, SwitchAll, ReadCount, ClearCount}
+use Rattle.calls.specs.Calls.{callOf, bytesFrom}
+use Rattle.answering.specs.declared.Verdict.the-variants.{Small}
+use Rattle.answer_events.specs.Events.{ownEffect, lostEffect, ticksEffect, switchAllEffect, readEffect, clearEffect}
+use Rattle.answer_receive.specs.Walk.{walkEffect}
+use Rattle.answer_receive.specs.Segment.{segmentEffect}
+use Rattle.answer_send.specs.Send.{roomOf, datagramEffect, acceptEffect, transmitEffect, takeEffect}
+use Rattle.dispatch.specs.Dispatch.{room, untouched, effectOf, dispatchOf}
+use Rattle.tie.specs.Machine.{Machine, machine}
+use Rattle.tie.specs.Run.{afterOwn, afterWhole, afterEvent, afterRun}
+use Rattle.dispatched.specs.Spelt.{eventsOf, Spoken, speltBy, machineOf, afterCall}
+use Rattle.dispatched.proofs.Segment.{segment-machine}
+use Rattle.dispatched.proofs.Ticks.{ticks-run}
+
+-- the call's own buffer has the room that is asked for, 1,472 at most
+buffer-room : (n : ℕ) → length {A = ℕ} (front (roomOf n) (replicate 1472 0)) ≡ length {A = ℕ} (replicate (roomOf n) 0)
+buffer-room n =
+    omega (arith, length-take {A = ℕ} (roomOf n) (replicate 1472 0), length-replicate {A = ℕ} 1472 0, length-replicate {A = ℕ} (roomOf n) 0)
+
+-- of an out buffer only its room matters to the state
+take-room : (image : List ℕ) (s : State) (rx : ℕ) (tx : List ℕ) (c : ℕ) (a b : List ℕ) → length a ≡ length b → takenOf image s rx tx c a ≡ takenOf image s rx tx c b
+unfolding takenOf
+take-room image s rx tx c a b e = ap (λ (n : ℕ). through (gateAt image s rx (length tx) c) (notTaken s) (takePast image s c n)) e
+
+module _ (image : List ℕ) (s : State) (rx tx out body : List ℕ) where
+  pub call-events : (call : Call) → machineOf (effectOf image s rx tx out body call) ≡ afterRun image (machine s rx tx) (eventsOf body call)
+  unfolding effectOf eventsOf afterRun afterEvent afterOwn afterWhole ownEffect lostEffect lossOf ticksEffect switchAllEffect readEffect clearEffect walkEffect segmentEffect datagramEffect acceptEffect transmitEffect takeEffect
+  call-events Unknown = refl
+  call-events Unfit = refl
+  call-events (Ticks n) = ticks-run image rx tx s n
+  call-events (Open c) = refl
+  call-events (Close c) = refl
+  call-events (Connected c) = refl
+  call-events (Lost c) = refl
+  call-events (SetRemote c remote) = refl
+  call-events (Switch c number position) = refl
+  call-events (Segment c at) = segment-machine image c (bytesFrom body at) s rx tx
+  call-events (Walk c place at) = refl
+  call-events (TakeWaiting c n) =
+      ap (λ (t : Taken). machine (t .state) rx tx) (take-room image s (length rx) tx c (front (roomOf n) (replicate 1472 0)) (replicate (roomOf n) 0) (buffer-room n))
+  call-events (Datagram group source) = refl
+  call-events (Accept group source) = refl
+  call-events (Transmit pdu at) = refl
+  call-events (SwitchAll number position) = refl
+  call-events (ReadCount protocol) = refl
+  call-events (ClearCount protocol) = refl
+
+-- ONE CALL
+pub dispatched-events : (image : List ℕ) (m : Machine) (c : Spoken) → afterCall image c m ≡ afterRun image m (speltBy c)
+unfolding dispatchOf speltBy afterRun
+dispatched-events image m c = go (ltb (length (c .out)) room)
+  where
+    go : (b : Bool)
+        → machineOf (cond b (untouched image (m .state) (m .rx) (m .tx) (c .out) Small) (effectOf image (m .state) (m .rx) (m .tx) (c .out) (c .body) (callOf (c .number) (c .body))))
+        ≡ afterRun image m (cond b [] (eventsOf (c .body) (callOf (c .number) (c .body))))
+    go true = refl
+    go false = call-events image (m .state) (m .rx) (m .tx) (c .out) (c .body) (callOf (c .number) (c .body))

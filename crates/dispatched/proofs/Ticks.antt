@@ -1,0 +1,53 @@
+-- MANY TICKS UNDER ONE CHECK ARE A RUN of that many tick events: of any image, state and memory. Assumes nothing.
+use Prim.Native.Nat.{ℕ, zero, suc}
+use mathlib.Core.Path.{_≡_, refl, sym, ap, _∙_}
+use mathlib.Core.List.{List}
+use lib.ListN.{length, replicate}
+use Rattle.connection.specs.declared.Refusal.{Refusal}
+use Rattle.state.specs.declared.State.{State}
+use Rattle.gate.specs.declared.Gate.{Gate}
+use Rattle.gate.specs.declared.Gate.the-variants.{Pass, Refused}
+use Rattle.gate.specs.Gate.{gateOf}
+use Rattle.gate.proofs.Pass.{gate-passed}
+use Rattle.ticks.specs.declared.Ticked.{Ticked}
+use Rattle.ticks.specs.Tick.{tickEvent, ticksEvent}
+use Rattle.keeps.specs.Calls.{calls}
+use Rattle.keeps.proofs.Single.{ticks-single}
+use Rattle.world.specs.Events.{tick, Event, all}
+use Rattle.tie.specs.Machine.{machine}
+use Rattle.tie.specs.Run.{afterWhole, afterEvent, afterRun}
+
+abbrev ticksOf : ℕ → List Event
+ticksOf n = replicate n (all tick)
+
+module _ (image rx tx : List ℕ) where
+  -- calls of `tick`, one after the other, are such a run
+  ticked-run : (n : ℕ) (s : State) → machine (calls image (length rx) (length tx) n s) rx tx ≡ afterRun image (machine s rx tx) (ticksOf n)
+  unfolding calls afterRun afterEvent afterWhole
+  ticked-run zero s = refl
+  ticked-run (suc n) s = ticked-run n (tickEvent image s (length rx) (length tx) .state)
+
+  -- where the gate refuses, no tick changes anything
+  module _ (s : State) (r : Refusal) (shut : gateOf image s (length rx) (length tx) ≡ Refused r) where
+    no-tick : tickEvent image s (length rx) (length tx) .state ≡ s
+    unfolding tickEvent
+    no-tick = rw shut
+
+    no-ticks : (n : ℕ) → ticksEvent image s (length rx) (length tx) n .state ≡ s
+    unfolding ticksEvent
+    no-ticks n = rw shut
+
+    still : (n : ℕ) → afterRun image (machine s rx tx) (ticksOf n) ≡ machine s rx tx
+    unfolding afterRun afterEvent afterWhole
+    still zero = refl
+    still (suc n) = ap (λ (t : State). afterRun image (machine t rx tx) (ticksOf n)) no-tick ∙ still n
+
+  pub ticks-run : (s : State) (n : ℕ) → machine (ticksEvent image s (length rx) (length tx) n .state) rx tx ≡ afterRun image (machine s rx tx) (ticksOf n)
+  ticks-run s n = go (gateOf image s (length rx) (length tx)) refl
+    where
+      go : (g : Gate) → gateOf image s (length rx) (length tx) ≡ g
+          → machine (ticksEvent image s (length rx) (length tx) n .state) rx tx ≡ afterRun image (machine s rx tx) (ticksOf n)
+      go Pass e =
+          ap (λ (t : Ticked). machine (t .state) rx tx) (ticks-single image s (length rx) (length tx) n (gate-passed image s (length rx) (length tx) e))
+          ∙ ticked-run n s
+      go (Refused r) e = ap (λ (t : State). machine t rx tx) (no-ticks s r e n) ∙ sym (still s r e n)

@@ -1,0 +1,74 @@
+-- THE EVENTS THAT A CALL OF THE DISPATCHER SPELLS (docs/EVENTS.md, "Event numbers and bodies"), and calls one after the other, each lent
+-- the memory that the last one left.
+-- Assumes nothing: these are definitions.
+use Prim.Native.Nat.{ℕ}
+use mathlib.Core.Bool.{cond}
+use mathlib.Core.List.{List, [], _∷_, _++_}
+use lib.Dec.{ltb}
+use lib.ListN.{length, replicate}
+use Rattle.connection.specs.declared.Event.the-variants.{Open as Opens, Close as Closes, Connected as Connects, Lost as Loses, SetRemote as SetsRemote, Switch as Switches}
+use Rattle.lengths.specs.Listed.{Bytes}
+use Rattle.calls.specs.declared.Call.{Call}
+use Rattle.calls.specs.declared.Call.the-variants.{Unknown, Unfit, Ticks, Open, Close, Connected, Lost, SetRemote, Switch, Segment, Walk, TakeWaiting, Datagram, Accept, Transmit, SwitchAll, ReadCount, ClearCount}
+use Rattle.calls.specs.Calls.{callOf, bytesFrom}
+use Rattle.answering.specs.Answers.{Effect}
+use Rattle.answer_send.specs.Send.{roomOf}
+use Rattle.dispatch.specs.Dispatch.{room, dispatchOf}
+use Rattle.world.specs.Events.{change, segment, walk, take, datagram, accept, tick, transmit, switchAll, readCount, clearCount, Event, on, all}
+use Rattle.tie.specs.Machine.{Machine, machine}
+
+-- the events of a call whose bytes stand in the body: "n ticks" are n events; "a room above 1,472 answers as 1,472"; "refused and changes
+-- nothing" is no event
+unfoldable pub eventsOf : List ℕ → Call → List Event
+eventsOf body Unknown = []
+eventsOf body Unfit = []
+eventsOf body (Ticks n) = replicate n (all tick)
+eventsOf body (Open c) = on c (change Opens) ∷ []
+eventsOf body (Close c) = on c (change Closes) ∷ []
+eventsOf body (Connected c) = on c (change Connects) ∷ []
+eventsOf body (Lost c) = on c (change Loses) ∷ []
+eventsOf body (SetRemote c remote) = on c (change (SetsRemote remote)) ∷ []
+eventsOf body (Switch c number position) = on c (change (Switches number position)) ∷ []
+eventsOf body (Segment c at) = on c (segment (bytesFrom body at)) ∷ []
+eventsOf body (Walk c place at) = on c (walk (bytesFrom body at) place) ∷ []
+eventsOf body (TakeWaiting c n) = on c (take (roomOf n)) ∷ []
+eventsOf body (Datagram group source) = all (datagram group source) ∷ []
+eventsOf body (Accept group source) = all (accept group source) ∷ []
+eventsOf body (Transmit pdu at) = all (transmit pdu (bytesFrom body at)) ∷ []
+eventsOf body (SwitchAll number position) = all (switchAll number position) ∷ []
+eventsOf body (ReadCount protocol) = all (readCount protocol) ∷ []
+eventsOf body (ClearCount protocol) = all (clearCount protocol) ∷ []
+
+-- ONE CALL OF THE DISPATCHER: an event number, a body, and an out buffer
+pub record Spoken : Type 0 where
+  pub number : ℕ
+  pub body : List ℕ
+  pub out : List ℕ
+
+-- the events that it spells; an out buffer that is too short is refused
+unfoldable pub speltBy : Spoken → List Event
+speltBy c = cond (ltb (length (c .out)) room) [] (eventsOf (c .body) (callOf (c .number) (c .body)))
+
+-- .. and those of calls one after the other
+unfoldable pub spelt : List Spoken → List Event
+spelt [] = []
+spelt (c ∷ cs) = speltBy c ++ spelt cs
+
+-- calls whose bodies are bytes
+abbrev pub CallBytes : List Spoken → Type 0
+CallBytes [] = Unit
+CallBytes (c ∷ cs) = Bytes (c .body) × CallBytes cs
+
+-- the machine that an effect leaves: its state and both lent memories
+abbrev pub machineOf : Effect → Machine
+machineOf e = machine (e .state) (e .rx) (e .tx)
+
+module _ (image : List ℕ) where
+  -- what a call leaves, by the dispatcher's contract
+  abbrev pub afterCall : Spoken → Machine → Machine
+  afterCall c m = machineOf (dispatchOf image (m .state) (m .rx) (m .tx) (c .out) (c .number) (c .body))
+
+  -- calls, each lent the memory that the last one left
+  unfoldable pub afterCalls : Machine → List Spoken → Machine
+  afterCalls m [] = m
+  afterCalls m (c ∷ cs) = afterCalls (afterCall c m) cs
