@@ -49,7 +49,8 @@ static bool take_waiting(uint8_t connection, uint16_t used)
     size_t count;
     struct remote remote;
     hold(connection, used);
-    return twin_take_waiting(&lent, connection, out, sizeof out, &count, &remote) == 0 && count == used;
+    return twin_take_waiting(&lent, connection, out, sizeof out, &count, &remote) == 0 && count == used &&
+           (used == 0 || out[used - 1u] == tx[connection * 1472u + used - 1]);
 }
 
 static bool arrive(uint8_t connection)

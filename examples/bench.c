@@ -20,15 +20,35 @@ struct bytes {
     size_t length;
 };
 
-static void read_file(const char *name, struct bytes *bytes)
+static void misused(const char *field, const char *word, const char *why)
+{
+    fprintf(stderr, "bench: %s %s: %s\n", field, word, why);
+    exit(2);
+}
+
+/* All of a file. */
+static void read_file(const char *field, const char *name, struct bytes *bytes)
 {
     FILE *file = fopen(name, "rb");
-    if (file == NULL) {
-        perror(name);
-        exit(2);
-    }
+    if (file == NULL)
+        misused(field, name, "cannot be opened");
     bytes->length = fread(bytes->at, 1, sizeof bytes->at, file);
+    int more = fgetc(file);
+    if (ferror(file))
+        misused(field, name, "cannot be read");
+    if (more != EOF)
+        misused(field, name, "longer than 65536 bytes");
     fclose(file);
+}
+
+/* A number, decimal or 0x and hex digits, and nothing else. */
+static uint32_t read_number(const char *field, const char *word, unsigned long most)
+{
+    char *end;
+    unsigned long number = strtoul(word, &end, 0);
+    if (word[0] < '0' || word[0] > '9' || *end != '\0' || number > most)
+        misused(field, word, most == 65535 ? "no number up to 65535" : "no number up to 4294967295");
+    return (uint32_t)number;
 }
 
 static const char *unit_of(uint32_t id)
@@ -50,9 +70,25 @@ static const char *reason_of(uint32_t drop)
     }
 }
 
+static const char *meaning_of(uint32_t answer)
+{
+    switch (answer) {
+    case SOAD_TABLE_REFUSED:
+        return "table refused";
+    case SOAD_NOT_THERE:
+        return "no such connection";
+    case SOAD_NOT_ALLOWED:
+        return "a TCP connection";
+    case SOAD_TOO_LONG:
+        return "payload longer than 1464 bytes";
+    default:
+        return "out buffer too short";
+    }
+}
+
 static int refused(const char *call, uint32_t answer)
 {
-    printf("%s: refused, answer number %" PRIu32 " (include/soad.h says why)\nREFUSED\n", call, answer);
+    printf("%s: refused, answer number %" PRIu32 " (%s)\nREFUSED\n", call, answer, meaning_of(answer));
     return 1;
 }
 
@@ -82,7 +118,7 @@ static int walk(const struct bytes *table, size_t connection, uint32_t switches,
             printf("PDU, receive route %" PRIu32 ", header id 0x%08" PRIx32 ": ", number, id);
             print_payload(id, datagram->at + at, length);
         } else if (kind == SOAD_WALK_DROP) {
-            printf("dropped, reason %" PRIu32 " (%s)", number, reason_of(number));
+            printf("dropped, reason %" PRIu32 " (%s), header id 0x%08" PRIx32 ", length %" PRIu32 " bytes", number, reason_of(number), id, length);
         } else {
             printf("the end");
         }
@@ -91,7 +127,7 @@ static int walk(const struct bytes *table, size_t connection, uint32_t switches,
     return 0;
 }
 
-static int frame(uint32_t id, unsigned value)
+static int frame(uint32_t id, uint32_t value)
 {
     uint8_t payload[2] = {(uint8_t)(value >> 8), (uint8_t)value}, out[10];
     uint32_t answer = soad_frame(id, payload, sizeof payload, out, sizeof out);
@@ -114,19 +150,17 @@ int main(int count, char **words)
         fprintf(stderr, "usage: bench TABLE CONNECTION SWITCHES DATAGRAM ID VALUE\n");
         return 2;
     }
-    read_file(words[1], &table);
-    read_file(words[4], &datagram);
-    uint32_t id = (uint32_t)strtoul(words[5], NULL, 0);
-    unsigned long value = strtoul(words[6], NULL, 0);
-    if (unit_of(id) == NULL || value > 65535) {
-        fprintf(stderr, "bench: a setpoint needs the id of a unit (0x101 bar, 0x102 kPa) and a value up to 65535 of it\n");
-        return 2;
-    }
+    read_file("TABLE", words[1], &table);
+    uint32_t connection = read_number("CONNECTION", words[2], UINT32_MAX), switches = read_number("SWITCHES", words[3], UINT32_MAX);
+    read_file("DATAGRAM", words[4], &datagram);
+    uint32_t id = read_number("ID", words[5], UINT32_MAX), value = read_number("VALUE", words[6], 65535);
+    if (unit_of(id) == NULL)
+        misused("ID", words[5], "no unit: 0x101 is bar, 0x102 kPa");
     if (soad_table_check(table.at, table.length, &place) != SOAD_DONE) {
-        printf("table: refused, answer number 1, at byte %zu\nREFUSED\n", place);
+        printf("table: refused, answer number 1, at byte %zu (./soad check says why)\nREFUSED\n", place);
         return 1;
     }
     printf("table: accepted, %zu bytes\n", table.length);
-    int status = walk(&table, strtoul(words[2], NULL, 0), (uint32_t)strtoul(words[3], NULL, 0), &datagram);
-    return status != 0 ? status : frame(id, (unsigned)value);
+    int status = walk(&table, connection, switches, &datagram);
+    return status != 0 ? status : frame(id, value);
 }

@@ -2,7 +2,8 @@
  *
  * The functions stand in libsoad.a, for x86-64. Each is total: any numbers and any buffers get an answer from the table
  * below. The caller owes what C always owes: a buffer can be read (an out buffer written) over the length that is given with
- * it, and out pointers point to objects of their own. Nothing is kept between two calls.
+ * it (with length 0 any pointer will do, NULL too), an out buffer overlaps no other buffer of the call, and out pointers point to
+ * objects of their own. Nothing is kept between two calls.
  *
  * Numbers in an image and in a header are big-endian. Places and lengths count bytes, places from 0.
  */
@@ -91,7 +92,7 @@ enum soad_walk_kind {
 
 /* Walks one step through a datagram from a place (first 0, then the last call's next). Counts nothing and keeps nothing.
  *   0  next, kind, number, id, length and at are set.
- *   1  the image is refused.
+ *   1  the image is refused (soad_table_check gives the place).
  *   2  the table has no such connection.
  *   3  a TCP connection, or a place beyond the end. */
 uint32_t soad_walk(const uint8_t *image, size_t image_length, size_t connection, uint32_t switches, const uint8_t *datagram,

@@ -2,6 +2,8 @@
 # machine.sh, to be sourced: compiles C programs for x86-64 and runs them, on a machine of either kind.
 #
 #   need COMMAND PACKAGE     installs a package where its command is missing
+#   proved_program NAME      proves and builds target/bin/NAME where it is missing or older than a source
+#   proved_library           the same for target/staticlib/libsoad.a
 #   compile OUT WORD ..      compiles and links C files (and archives, and flags) into the program OUT
 #   hosted                   sets headers to the flags that give a C file the C library's headers, where it wants them
 #   ${start[@]} OUT WORD ..  runs such a program
@@ -20,6 +22,27 @@ install_package() {
 }
 
 need() { command -v "$1" >/dev/null || install_package "$2"; }
+
+tree=$(cd "$(dirname "${BASH_SOURCE[0]}")/.." && pwd -P)
+
+# fresh FILE: it is there, and no source is newer.
+fresh() { [ -f "$1" ] && [ -z "$(find "$tree/crates" "$tree/crates.txt" -newer "$1" -type f -print -quit)" ]; }
+
+# made FILE WORD ..: FILE is fresh, or these words of rt make it.
+made() {
+    local file=$1 log
+    shift
+    fresh "$file" && return
+    log=$(mktemp)
+    (cd "$tree" && rt "$@") >"$log" 2>&1 && touch "$file" && rm -f "$log" || {
+        tail -5 "$log"
+        rm -f "$log"
+        return 1
+    }
+}
+
+proved_program() { made "$tree/target/bin/$1" check "$1"; }
+proved_library() { made "$tree/target/staticlib/libsoad.a" staticlib soad; }
 
 kit_tools() { echo "$(cd "$(dirname "$(rt doc)")/.." && pwd -P)/on/$(uname -m)/toolchain"; }
 

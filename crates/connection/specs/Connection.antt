@@ -39,7 +39,7 @@ wildFields r = record { address = eqb (r .address) 0; port = eqb (r .port) 0 }
 abbrev pub wildcard : Remote → Bool
 wildcard r = wildFields r .address || wildFields r .port
 
--- The record with some fields replaced: all that follows is said through these five.
+-- The record with some fields replaced: what events make of it is said through these five.
 
 -- another mode, other wishes (open, close)
 abbrev pub withMode : Mode → Bool → Bool → Connection → Connection

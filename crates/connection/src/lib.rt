@@ -12,7 +12,7 @@ pub enum Mode {
     Online,
 }
 
-// A remote. Only `equal_fields` and `wild_fields` look inside.
+// A remote. Only `equal_fields` and `wild_fields` compare its fields.
 pub struct Remote {
     pub address: u32,
     pub port: u16,

@@ -18,6 +18,7 @@ outcomeOf (a-drop reason id n) = Drop reason id n
 abbrev pub stepped : reading.Walked → Walked
 stepped w = record { outcome = outcomeOf (w .found); next = w .next }
 
--- a step of the walk on a connection with these routes and switches; a place beyond the end is the end
+-- a step of the walk on a connection with these routes and switches; a place beyond the end is the end (the entry points refuse
+-- it with 3 before)
 unfoldable pub walkedOf : List ℕ → ℕ → List ℕ → ℕ → ℕ → Walked
 walkedOf datagram place routes connection switches = stepped (walkAt (lookupOf routes connection switches) datagram place)

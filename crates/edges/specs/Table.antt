@@ -37,6 +37,6 @@ waitingFor = withRecord 0 (become Reconnect (recordAt fresh 0)) (withRecord 1 (b
 abbrev pub used : ℕ → State
 used n = withRecord 2 (withSend n 0 true (become Online (recordAt fresh 2))) fresh
 
--- the remote of connection 1, and another
+-- the remote of connection 1
 abbrev pub exact : Remote
 exact = record { address = 3232235525; port = 1000 }

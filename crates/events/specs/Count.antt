@@ -13,14 +13,10 @@ use Rattle.events.specs.declared.CountAnswer.{CountAnswer}
 use Rattle.events.specs.declared.CountAnswer.the-variants.{Count, Refused}
 use Rattle.events.specs.declared.Counted.{Counted}
 
--- the paper's number, and the value that goes with it (0 where refused)
+-- the paper's number
 abbrev pub countNumber : CountAnswer → ℕ
 countNumber (Count n) = 0
 countNumber (Refused r) = refusalNumber r
-
-abbrev pub countValue : CountAnswer → ℕ
-countValue (Count n) = n
-countValue (Refused r) = 0
 
 abbrev pub uncounted : State → Refusal → Counted
 uncounted s r = record { answer = Refused r; state = s }

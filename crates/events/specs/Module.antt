@@ -1,4 +1,4 @@
--- A switch on all connections, and the drop counts. A refusal carries its number, and the state stays. Assumes nothing.
+-- A switch on all connections. A refusal carries its number, and the state stays. Assumes nothing.
 use Prim.Native.Nat.{ℕ}
 use mathlib.Core.Bool.{Bool, true, false, cond, not}
 use mathlib.Core.List.{List}

@@ -30,12 +30,13 @@ pub struct Loss {
     pub state: State,
 }
 
-// What reading a count answers, and the state after it.
+// What reading a count answers.
 pub enum CountAnswer {
     Count(u32),
     Refused(Refusal),
 }
 
+// The answer, with the state after it.
 pub struct Counted {
     pub answer: CountAnswer,
     pub state: State,

@@ -1,6 +1,6 @@
 -- READING A STREAM, a byte at a time (document 01, "Headers and streams").
--- A cell is what a TCP connection holds of its stream: how many bytes the present stretch still wants (one at least), and
--- what the stretch is. A byte ends its stretch or shortens it, and has one outcome at most.
+-- A cell is what a TCP connection holds of its stream: how many bytes the present piece still wants (one at least), and
+-- what the piece is. A byte ends its piece or shortens it, and has one outcome at most.
 -- Assumes nothing: these are definitions.
 use Prim.Native.Nat.{ℕ, zero, suc, _+_, _-_, _*_, _/_, _%_, _^_}
 use mathlib.Core.Bool.{Bool, true, false, cond}
@@ -21,7 +21,7 @@ pub data Kind : Type 0 where
   payload : ℕ → List ℕ → Kind
   skip : Kind
 
--- the bytes that the stretch still wants, and what it is
+-- the bytes that the piece still wants, and what it is
 pub data Cell : Type 0 where
   cell : ℕ → Kind → Cell
 
@@ -43,23 +43,23 @@ fed c o = record { to = c; out = o }
 abbrev pub ready : Cell
 ready = cell 8 (header 0)
 
--- a stretch of n bytes begins with this outcome; one of none is over at once, with the other
+-- a piece of n bytes begins, with the outcome `begun`; one of none is over at once, with `empty`
 abbrev pub begin : ℕ → Kind → Out → Out → Fed
-begin zero k now later = fed ready now
-begin (suc n) k now later = fed (cell (suc n) k) later
+begin zero k empty begun = fed ready empty
+begin (suc n) k empty begun = fed (cell (suc n) k) begun
 
 -- the eighth header byte is taken: "Length 0 is a PDU with empty payload"; "its payload is skipped"
 abbrev pub decided : Decision → ℕ → ℕ → Fed
 decided (Accept r) i n = begin n (payload r []) (pdu r []) nothing
 decided (Refuse k) i n = begin n skip (dropped k i n) (dropped k i n)
 
--- the stretch with one byte more
+-- the piece with one byte more
 abbrev pub add : Kind → ℕ → Kind
 add (header v) b = header (v * 256 + b)
 add (payload r h) b = payload r (h ++ b ∷ [])
 add skip b = skip
 
--- the stretch is whole. "Id 4 bytes, length 4 bytes, payload."
+-- the piece is whole. "Id 4 bytes, length 4 bytes, payload."
 unfoldable pub done : Routes → Kind → Fed
 done R (header v) = decided (R (v / 2 ^ 32) (v % 2 ^ 32)) (v / 2 ^ 32) (v % 2 ^ 32)
 done R (payload r h) = fed ready (pdu r h)
@@ -70,7 +70,7 @@ abbrev pub spelt : ℕ → List ℕ → ℕ
 spelt v [] = v
 spelt v (b ∷ bs) = spelt (v * 256 + b) bs
 
--- ONE BYTE
+-- ONE BYTE (a cell that wants no byte is no sound part: it becomes ready)
 unfoldable pub feed : Routes → Cell → ℕ → Fed
 feed R (cell zero k) b = fed ready nothing
 feed R (cell (suc zero) k) b = done R (add k b)
@@ -117,7 +117,7 @@ unfoldable pub takeB : Routes → Cell → List ℕ → Took
 takeB R c [] = took c nothing []
 takeB R c (b ∷ bs) = goes (feed R c b) bs (takeB R (feed R c b .to) bs)
 
--- the rest of a take, after a byte that ended a stretch
+-- the rest of a take, after a byte that ended a piece
 abbrev pub resume : Routes → Fed → List ℕ → Took
 resume R f bs = goes f bs (takeB R (f .to) bs)
 

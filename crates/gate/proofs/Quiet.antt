@@ -17,7 +17,8 @@ use Rattle.connection.specs.Connection.{isOnline, wildcard}
 use Rattle.connection.specs.Sound.{onlineRemote, soundOf}
 use Rattle.connection.proofs.Rules.{empty-is}
 use Rattle.lists.proofs.Both.{and-left, and-right}
-use Rattle.gate.specs.Sound.{routed, quiet}
+use Rattle.gate.specs.Sound.{routed}
+use Rattle.gate.specs.Inner.{quiet}
 
 module _ (g : Config) (routes : List ℕ) (n : ℕ) (mode : Mode) (remote : Remote) (switches : ℕ) where
   abbrev holding : Part → ℕ → ℕ → Bool → Bool → Bool → Connection

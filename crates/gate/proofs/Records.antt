@@ -17,7 +17,8 @@ use Rattle.lists.proofs.Both.{and-left, and-right, and-both}
 use Rattle.lists.proofs.Each.{all-at, all-set}
 use Rattle.state.specs.Fresh.{configIn, configOf}
 use Rattle.lists.specs.Each.{all}
-use Rattle.gate.specs.Sound.{routed, rulesIn, soundAt, soundIn, recordsSound}
+use Rattle.gate.specs.Sound.{routed, soundAt, recordsSound}
+use Rattle.gate.specs.Inner.{rulesIn, soundIn}
 
 module _ (image : List ℕ) (n : ℕ) (c : Connection) where
   -- the record of a row

@@ -1,4 +1,4 @@
--- What is asked before an event, in the paper's order 11, 12, 2; the paper's numbers; what is known past it. Assumes nothing.
+-- What is asked before an event, in the paper's order 11, 12, 2; what is known past it. Assumes nothing.
 use Prim.Native.Nat.{ℕ, _<_}
 use mathlib.Core.Path.{_≡_}
 use mathlib.Core.Bool.{Bool, true, cond, not, _&&_, _||_}
@@ -10,16 +10,10 @@ use Rattle.table.specs.declared.TableAnswer.the-variants.{Accepted}
 use Rattle.table.specs.Table.{checkTable}
 use Rattle.connection.specs.declared.Refusal.{Refusal}
 use Rattle.connection.specs.declared.Refusal.the-variants.{Memory, Unsound, Missing}
-use Rattle.connection.specs.Event.{refusalNumber}
 use Rattle.state.specs.declared.State.{State}
 use Rattle.gate.specs.declared.Gate.{Gate}
 use Rattle.gate.specs.declared.Gate.the-variants.{Pass, Refused}
 use Rattle.gate.specs.Sound.{recordsSound, soundState}
-
--- the paper's number: 0 where nothing is refused
-abbrev pub gateNumber : Gate → ℕ
-gateNumber Pass = 0
-gateNumber (Refused r) = refusalNumber r
 
 -- "lent receive or send memory has another length": 11; "state or table not sound": 12
 unfoldable pub gateOf : List ℕ → State → ℕ → ℕ → Gate

@@ -1,28 +1,23 @@
 -- When table and state are sound together: document 01, "Sound". The rules of a record by itself are crate connection's.
 -- Assumes nothing.
 use Prim.Native.Nat.{ℕ, _/_}
-use mathlib.Core.Path.{_≡_}
-use mathlib.Core.Bool.{Bool, true, false, cond, not, _&&_}
+use mathlib.Core.Bool.{Bool, true, false, cond, _&&_}
 use mathlib.Core.List.{List}
 use lib.Dec.{eqb, leb, ltb}
 use lib.ListN.{length}
 use Rattle.layout.specs.Layout.{rowsOf, bodyOf}
 use Rattle.layout.specs.declared.Kind.the-variants.{Connection as Connections, Route as Routes}
-use Rattle.rows.specs.declared.ConnectionBrief.{ConnectionBrief}
-use Rattle.rows.specs.declared.GroupRow.{GroupRow}
-use Rattle.rows.specs.Rows.{groupIn, briefIn, routeIn}
+use Rattle.rows.specs.Rows.{routeIn}
 use Rattle.table.specs.declared.TableAnswer.{TableAnswer}
 use Rattle.table.specs.declared.TableAnswer.the-variants.{Accepted, Refused}
 use Rattle.table.specs.Table.{checkTable}
-use Rattle.part.specs.Part.{emptyPart}
 use Rattle.part.specs.declared.Part.{Part}
 use Rattle.part.specs.declared.Part.the-variants.{Header, Payload, Skip}
-use Rattle.connection.specs.declared.Config.{Config}
 use Rattle.connection.specs.declared.Connection.{Connection}
 use Rattle.connection.specs.Sound.{soundOf, zeroOf}
 use Rattle.lists.specs.Each.{all}
 use Rattle.state.specs.declared.State.{State}
-use Rattle.state.specs.Fresh.{configIn, configOf}
+use Rattle.state.specs.Fresh.{configOf}
 
 -- "an unfinished payload .. its route belongs to the connection and allows the length" (over the body of the routes)
 abbrev pub routed : List ℕ → ℕ → Part → Bool
@@ -37,31 +32,6 @@ soundAt image n c =
     cond (ltb n (rowsOf image Connections))
     (soundOf (configOf image n) c && routed (bodyOf image Routes) n (c .part))
     (zeroOf c)
-
--- what the rules of a record ask of the table; of remote and start switches they ask nothing, and these are 0
-abbrev pub rulesFrom : ConnectionBrief → GroupRow → Config
-rulesFrom row group =
-    record {
-      tcp = eqb (group .protocol) 2;
-      automatic = row .automatic;
-      remote = record { address = 0; port = 0 };
-      size = row .size;
-      switches = 0;
-    }
-
--- the same out of the bodies
-abbrev pub rulesIn : List ℕ → List ℕ → ℕ → Config
-rulesIn connections groups n = rulesFrom (briefIn connections n) (groupIn groups (briefIn connections n .group))
-
--- a record as soundAt has it, by the number of rows and the bodies
-abbrev pub soundIn : ℕ → List ℕ → List ℕ → List ℕ → ℕ → Connection → Bool
-soundIn rows connections groups routes n c =
-    cond (ltb n rows) (soundOf (configIn connections groups n) c && routed routes n (c .part)) (zeroOf c)
-
--- a record that holds nothing, wants nothing and waits for nothing: of the rules only "an online remote has no wildcard" is left
-abbrev pub quiet : Connection → Bool
-quiet c =
-    emptyPart (c .part) && eqb (c .used) 0 && eqb (c .timer) 0 && not (c .due) && not (c .«open_wanted») && not (c .«close_wanted»)
 
 -- every record, by its number
 unfoldable pub recordsSound : List ℕ → List Connection → Bool

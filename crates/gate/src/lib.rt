@@ -3,7 +3,8 @@
 ghost use mathlib.Core.Path.{_≡_};
 ghost use Rattle.lists.specs.Each.{all};
 ghost use Rattle.connection.specs.Sound.{onlineRemote};
-ghost use Rattle.gate.specs.Sound.{routed, rulesFrom, rulesIn, soundIn, quiet, recordsSound};
+ghost use Rattle.gate.specs.Sound.{routed, recordsSound};
+ghost use Rattle.gate.specs.Inner.{rulesFrom, rulesIn, soundIn, quiet};
 ghost use Rattle.gate.specs.Gate.{gateOf, gateAt};
 use connection::Config;
 use connection::Connection;

@@ -31,7 +31,7 @@ entryAt Connection = 12
 entryAt Route = 20
 entryAt Destination = 28
 
--- the bytes of a row, by the image (its edition)
+-- the bytes of a row: the same for every image of edition 1; the image is named so that another edition may have other rows
 abbrev pub rowBytes : List ℕ → Kind → ℕ
 rowBytes s Group = 2
 rowBytes s Connection = 16

@@ -125,6 +125,19 @@ fn holding(state: State, n: usize, used: u16) -> State {
     state
 }
 
+// A state in which connection n and the next one hold nothing to send.
+fn emptied(state: State, n: usize) -> State {
+    if n < 15 {
+        let first = state.connections[n];
+        let second = state.connections[n + 1];
+        let mut next = state;
+        next.connections[n] = first.with_send(0, 0, false);
+        next.connections[n + 1] = second.with_send(0, 0, false);
+        return next;
+    }
+    state
+}
+
 fn transmit(
     image: &[u8],
     state: State,
@@ -142,11 +155,9 @@ fn transmit(
     } else {
         false
     };
-    let n = connection as usize;
-    let first = holding(after, n, 0);
     Turn {
         done: done,
-        state: holding(first, n + 1, 0),
+        state: emptied(after, connection as usize),
     }
 }
 

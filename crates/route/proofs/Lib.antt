@@ -1,2 +1,3 @@
 -- The laws of the lookup. Assumes nothing.
 pub mod Laws
+pub mod On

@@ -173,6 +173,7 @@ fn happen(
                 state: after,
             }
         }
+        // cannot come: the out buffer has the room that the dispatcher asks for
         Verdict::Small => Ran {
             last: Last::Refused,
             state: after,

@@ -51,7 +51,7 @@ unfoldable pub then : TableAnswer → TableAnswer → TableAnswer
 then Accepted b = b
 then (Refused p) b = Refused p
 
--- "0 when .. bytes 0..3 are wrong; then the first bad contents entry's offset"
+-- "the first bad contents entry's offset"
 unfoldable pub entriesPlace : List ℕ → TableAnswer
 entriesPlace s =
     then (demand (entryGood s Group) 4)
@@ -59,6 +59,7 @@ entriesPlace s =
     (then (demand (entryGood s Route) 20)
     (demand (entryGood s Destination) 28)))
 
+-- "0 when .. bytes 0..3 are wrong; then" the contents entries
 unfoldable pub headPlace : List ℕ → TableAnswer
 headPlace s = then (demand (headGood s) 0) (entriesPlace s)
 

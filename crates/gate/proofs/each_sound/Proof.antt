@@ -9,7 +9,7 @@ use borrow.Author.Needs.{needs}
 use Rattle.connection.specs.Connection.{zeroRecord}
 use Rattle.lists.specs.Each.{allTo}
 use Rattle.lists.proofs.Each.{long, all-turn, all-all}
-use Rattle.gate.specs.Sound.{soundIn}
+use Rattle.gate.specs.Inner.{soundIn}
 use Rattle.gate.proofs.each_sound.Statement.{statement}
 use Rattle.gate.proofs.each_sound.Tie as tie
 

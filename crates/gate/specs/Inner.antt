@@ -1,0 +1,40 @@
+-- What the contracts of the inner functions cite: the same rules by the bodies, asked for once, and a quick way for records that hold
+-- nothing. No sentence of document 01 stands here. Assumes nothing: these are definitions.
+use Prim.Native.Nat.{ℕ}
+use mathlib.Core.Bool.{Bool, cond, not, _&&_}
+use mathlib.Core.List.{List}
+use lib.Dec.{eqb, ltb}
+use Rattle.rows.specs.declared.ConnectionBrief.{ConnectionBrief}
+use Rattle.rows.specs.declared.GroupRow.{GroupRow}
+use Rattle.rows.specs.Rows.{groupIn, briefIn}
+use Rattle.part.specs.Part.{emptyPart}
+use Rattle.connection.specs.declared.Config.{Config}
+use Rattle.connection.specs.declared.Connection.{Connection}
+use Rattle.connection.specs.Sound.{soundOf, zeroOf}
+use Rattle.state.specs.Fresh.{configIn}
+use Rattle.gate.specs.Sound.{routed}
+
+-- what the rules of a record ask of the table; of remote and start switches they ask nothing, and these are 0
+abbrev pub rulesFrom : ConnectionBrief → GroupRow → Config
+rulesFrom row group =
+    record {
+      tcp = eqb (group .protocol) 2;
+      automatic = row .automatic;
+      remote = record { address = 0; port = 0 };
+      size = row .size;
+      switches = 0;
+    }
+
+-- the same out of the bodies
+abbrev pub rulesIn : List ℕ → List ℕ → ℕ → Config
+rulesIn connections groups n = rulesFrom (briefIn connections n) (groupIn groups (briefIn connections n .group))
+
+-- a record as soundAt has it, by the number of rows and the bodies
+abbrev pub soundIn : ℕ → List ℕ → List ℕ → List ℕ → ℕ → Connection → Bool
+soundIn rows connections groups routes n c =
+    cond (ltb n rows) (soundOf (configIn connections groups n) c && routed routes n (c .part)) (zeroOf c)
+
+-- a record that holds nothing, wants nothing and waits for nothing: of the rules only "an online remote has no wildcard" is left
+abbrev pub quiet : Connection → Bool
+quiet c =
+    emptyPart (c .part) && eqb (c .used) 0 && eqb (c .timer) 0 && not (c .due) && not (c .«open_wanted») && not (c .«close_wanted»)
