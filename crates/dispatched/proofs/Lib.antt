@@ -5,3 +5,4 @@ pub mod Ticks
 pub mod Event
 pub mod Calls
 pub mod Told
+pub mod Answer

@@ -2,3 +2,4 @@
 pub mod Spelt
 pub mod Told
 pub mod Three
+pub mod Answer

@@ -1,0 +1,146 @@
+-- THE ANSWER THAT STANDS IN THE OUT BUFFER IS NAMED: where the dispatcher says that n bytes are written, they are all n bytes of the call's
+-- answer, and every byte behind them is as it was. Assumes nothing.
+use Prim.Native.Nat.{ℕ, zero, suc, _+_, _≤_}
+use mathlib.Core.Path.{_≡_, refl, sym, ap, ap₂, _∙_, subst}
+use mathlib.Core.Bool.{Bool, true, false, cond, _&&_, false≢true}
+use mathlib.Core.List.{List, [], _++_}
+use native.Mathlib.Nat.{zero-add}
+use native.Mathlib.Omega.{arith}
+use borrow.Author.Tests.{ltb-false}
+use lib.Dec.{ltb}
+use lib.ListN.{length, drop}
+use Rattle.wire.specs.Lay.{lay}
+use Rattle.wire.proofs.Lay.{lay-fits}
+use Rattle.state.specs.declared.State.{State}
+use Rattle.receive.specs.declared.Answer.{Answer}
+use Rattle.receive.specs.declared.Answer.the-variants as Received
+use Rattle.receive.specs.Answer.{isDone}
+use Rattle.calls.specs.declared.Call.{Call}
+use Rattle.calls.specs.declared.Call.the-variants.{Unknown, Unfit, Ticks, Open, Close, Connected, Lost, SetRemote, Switch, Segment, Walk, TakeWaiting, Datagram, Accept, Transmit, SwitchAll, ReadCount, ClearCount}
+use Rattle.calls.specs.Calls.{callOf, bytesFrom}
+use Rattle.answering.specs.declared.Verdict.{Verdict}
+use Rattle.answering.specs.declared.Verdict.the-variants.{Done, Unknown as NoEvent, Unfit as DoesNotFit, Small}
+use Rattle.answer_events.specs.Events.{ownEffect, lostEffect, ticksEffect, switchAllEffect, readEffect, clearEffect}
+use Rattle.answer_receive.specs.Walk.{walkEffect}
+use Rattle.answer_receive.specs.Segment.{Run, begun, step, runOf, allTakes, eventBytes, segmentEffect}
+use Rattle.answer_send.specs.Send.{datagramEffect, acceptEffect, transmitEffect, takeEffect}
+use Rattle.dispatch.specs.Dispatch.{room, untouched, effectOf, dispatchOf}
+use Rattle.dispatch.specs.Whole.{Whole, answer, unknown, unfit, small}
+use Rattle.dispatch.proofs.Whole.{whole}
+use Rattle.tie.specs.Machine.{Machine}
+use Rattle.dispatched.specs.Spelt.{Spoken}
+use Rattle.dispatched.specs.Told.{Take, bytesIn, nextTake, tookThen, takesFrom}
+use Rattle.dispatched.specs.Answer.{takesOver, segmentAnswer, answerOf, answerBy}
+use Rattle.dispatched.proofs.Takes.{segment-bytes}
+
+-- THE NUMBER OF TAKES in an answer that is no refusal is that of the takes that it tells
+last-counts : (done : Bool) (t : Take) (ts : List Take) → done ≡ true → 1 ≡ length (tookThen done false t ts)
+last-counts true t ts e = refl
+last-counts false t ts e = absurd (false≢true e)
+
+more-counts : (done left : Bool) (x y : Run) (c : ℕ) (t : Take) (ts : List Take) → isDone (y .answer) ≡ done → isDone (cond (done && left) x y .answer) ≡ true
+    → y .count ≡ c + 1 → (isDone (x .answer) ≡ true → x .count ≡ y .count + length ts)
+    → cond (done && left) x y .count ≡ c + length (tookThen done left t ts)
+more-counts true true x y c t ts same d e h = omega (arith, h d, e)
+more-counts true false x y c t ts same d e h = e
+more-counts false left x y c t ts same d e h = absurd (false≢true (sym same ∙ d))
+
+module _ (image : List ℕ) (tx k : ℕ) (seg : List ℕ) where
+  abbrev next : Run → Run
+  next r = step image tx k seg r
+
+  takes-count : (n : ℕ) (r : Run) → isDone (runOf image tx k seg n r .answer) ≡ true → runOf image tx k seg n r .count ≡ r .count + length (takesFrom image tx k seg n r)
+  unfolding runOf step takesFrom
+  takes-count zero r d = ap (λ (n : ℕ). r .count + n) (last-counts (isDone (next r .answer)) (nextTake image tx k seg r) [] d)
+  takes-count (suc n) r d =
+      more-counts (isDone (next r .answer)) (ltb (next r .at) (length seg)) (runOf image tx k seg n (next r)) (next r) (r .count) (nextTake image tx k seg r)
+      (takesFrom image tx k seg n (next r)) refl d refl (takes-count n (next r))
+
+  -- the answer of a segment event
+  event-named : (a : Answer) (count : ℕ) (bytes : List ℕ) (ts : List Take) → (isDone a ≡ true → count ≡ length ts) → bytes ≡ bytesIn ts
+      → eventBytes a count bytes ≡ eventBytes a (length ts) (bytesIn ts)
+  event-named Received.Done count bytes ts c e = ap₂ (eventBytes Received.Done) (c refl) e
+  event-named (Received.Refused r) count bytes ts c e = refl
+  event-named Received.NotReceiving count bytes ts c e = refl
+
+-- how many bytes a verdict says are written, and whether it says so
+abbrev written : Verdict → ℕ
+written (Done n) = n
+written NoEvent = 0
+written DoesNotFit = 0
+written Small = 0
+
+abbrev answered : Verdict → Bool
+answered (Done n) = true
+answered NoEvent = false
+answered DoesNotFit = false
+answered Small = false
+
+fits : (out : List ℕ) {v : Verdict} {after : List ℕ} → Whole out v after → (n : ℕ) → v ≡ Done n → n ≤ room
+fits out (answer bytes h) n e = omega (arith, h, ap written e)
+fits out unknown n e = omega (arith, ap written e)
+fits out unfit n e = omega (arith, ap written e)
+fits out small n e = omega (arith, ap written e)
+
+-- n bytes of an answer at the front of a buffer, and the buffer behind them
+abbrev Named : List ℕ → List ℕ → ℕ → List ℕ → Type 0
+Named out bytes n after = (n ≡ length bytes) × (after ≡ bytes ++ drop n out)
+
+module _ (image : List ℕ) (s : State) (rx tx out : List ℕ) (n : ℕ) (long : n ≤ length out) where
+  laid : (bytes : List ℕ) → Done (length bytes) ≡ Done n → Named out bytes n (lay out 0 bytes)
+  laid bytes e =
+      let is : length bytes ≡ n = ap written e in
+      let z : 0 + length bytes ≡ n = omega (arith, is) in
+      (sym is, lay-fits out 0 bytes (omega (arith, is, long)) ∙ ap (λ (k : ℕ). bytes ++ drop k out) z)
+
+  none : (v : Verdict) → written v ≡ 0 → v ≡ Done n → Named out [] n out
+  none v z e =
+      let is : n ≡ 0 = sym (ap written e) ∙ z in
+      (is, ap (λ (k : ℕ). drop k out) (sym is))
+
+  segment-named : (c : ℕ) (seg : List ℕ)
+      → eventBytes (allTakes image (length tx) c seg s rx .answer) (allTakes image (length tx) c seg s rx .count) (allTakes image (length tx) c seg s rx .bytes)
+      ≡ segmentAnswer image s rx tx c seg
+  segment-named c seg =
+      event-named image (length tx) c seg (allTakes image (length tx) c seg s rx .answer) (allTakes image (length tx) c seg s rx .count) (allTakes image (length tx) c seg s rx .bytes)
+      (takesOver image s rx tx c seg) (λ d. takes-count image (length tx) c seg (length seg) (begun s rx) d ∙ zero-add _) (segment-bytes image (length tx) c seg s rx)
+
+  call-named : (body : List ℕ) (call : Call) → effectOf image s rx tx out body call .verdict ≡ Done n
+      → Named out (answerOf image s rx tx body call) n (effectOf image s rx tx out body call .out)
+  unfolding effectOf answerOf ownEffect lostEffect ticksEffect switchAllEffect readEffect clearEffect walkEffect segmentEffect datagramEffect acceptEffect transmitEffect takeEffect
+  call-named body Unknown e = none NoEvent refl e
+  call-named body Unfit e = none DoesNotFit refl e
+  call-named body (Ticks k) e = laid _ e
+  call-named body (Open c) e = laid _ e
+  call-named body (Close c) e = laid _ e
+  call-named body (Connected c) e = laid _ e
+  call-named body (Lost c) e = laid _ e
+  call-named body (SetRemote c remote) e = laid _ e
+  call-named body (Switch c number position) e = laid _ e
+  call-named body (Segment c at) e =
+      subst (λ (l : List ℕ). Named out l n (effectOf image s rx tx out body (Segment c at) .out)) (segment-named c (bytesFrom body at)) (laid _ e)
+  call-named body (Walk c place at) e = laid _ e
+  call-named body (TakeWaiting c k) e = laid _ e
+  call-named body (Datagram group source) e = laid _ e
+  call-named body (Accept group source) e = laid _ e
+  call-named body (Transmit pdu at) e = laid _ e
+  call-named body (SwitchAll number position) e = laid _ e
+  call-named body (ReadCount protocol) e = laid _ e
+  call-named body (ClearCount protocol) e = laid _ e
+
+-- EVERY ANSWER, of any image, machine and call
+pub answer-named : (image : List ℕ) (m : Machine) (c : Spoken) (n : ℕ) → dispatchOf image (m .state) (m .rx) (m .tx) (c .out) (c .number) (c .body) .verdict ≡ Done n
+    → (n ≡ length (answerBy image m c)) × (dispatchOf image (m .state) (m .rx) (m .tx) (c .out) (c .number) (c .body) .out ≡ answerBy image m c ++ drop n (c .out))
+unfolding dispatchOf
+answer-named image m c n said = go (ltb (length (c .out)) room) refl said
+  where
+    low : n ≤ room
+    low = fits (c .out) (whole image (m .state) (m .rx) (m .tx) (c .out) (c .number) (c .body)) n said
+
+    go : (b : Bool) → ltb (length (c .out)) room ≡ b
+        → cond b (untouched image (m .state) (m .rx) (m .tx) (c .out) Small) (effectOf image (m .state) (m .rx) (m .tx) (c .out) (c .body) (callOf (c .number) (c .body))) .verdict ≡ Done n
+        → Named (c .out) (answerBy image m c) n
+        (cond b (untouched image (m .state) (m .rx) (m .tx) (c .out) Small) (effectOf image (m .state) (m .rx) (m .tx) (c .out) (c .body) (callOf (c .number) (c .body))) .out)
+    go true e d = absurd (false≢true (ap answered d))
+    go false e d =
+        call-named image (m .state) (m .rx) (m .tx) (c .out) n (omega (arith, low, ltb-false (length (c .out)) room e)) (c .body) (callOf (c .number) (c .body)) d
