@@ -15,14 +15,15 @@ use Rattle.runs.specs.Streams.{RunBytes}
 use Rattle.tie.specs.Machine.{Machine, machine}
 use Rattle.tie.specs.Run.{Good}
 use Rattle.demands.specs.Three.{Demand3}
-use Rattle.demands.proofs.Runs.{same-state, same-pdus, exact-list}
+use Rattle.demands.proofs.Runs.{same-state, same-pdus}
+use Rattle.demands.proofs.Streams.{own-list}
 
 pub demand-3 : (image : List ℕ) (m : Machine) → Good image m → {es fs : List Event} → Same es fs → RunBytes es → Demand3 image m es fs
 demand-3 image m good {es} {fs} alike bytes =
     record {
       state = same-state image m good alike bytes;
       pdus = same-pdus image m good alike bytes;
-      list = λ k there tcp. exact-list image m good es bytes k there tcp;
+      list = λ k there tcp. own-list image k there tcp m good es bytes;
     }
 
 -- SUCH A START: the fresh state of an accepted table

@@ -9,11 +9,10 @@ use Rattle.route.specs.Route.{lookupOf}
 use Rattle.state.specs.Fresh.{configOf}
 use Rattle.world.specs.World.{heldAt, cellAt}
 use Rattle.world.specs.Events.{Event}
-use Rattle.runs.specs.Streams.{streamsOf, listedIn}
-use Rattle.tie.specs.Table.{tableOf}
-use Rattle.tie.specs.Whole.{wholeOf}
+use Rattle.runs.specs.Streams.{listedIn}
 use Rattle.tie.specs.Machine.{Machine, seen}
 use Rattle.tie.specs.Run.{afterRun, givenIn}
+use Rattle.demands.specs.Streams.{streamsIn}
 
 pub record Demand3 (image : List ℕ) (m : Machine) (es fs : List Event) : Type 0 where
   -- the end state is the same: same numbers and same held bytes
@@ -23,4 +22,4 @@ pub record Demand3 (image : List ℕ) (m : Machine) (es fs : List Event) : Type 
   -- and, of a TCP connection, that list is exactly demand 2's: of each online period's stream, by lengths; the first stream begun with what
   -- the record holds
   pub list : (k : ℕ) → k < rowsOf image Connections → configOf image k .tcp ≡ true
-      → givenIn image k m es ≡ listedIn (lookupOf (bodyOf image Routes) k) (cellAt (heldAt (seen m) k)) (streamsOf (tableOf image) (wholeOf image) k (seen m) es)
+      → givenIn image k m es ≡ listedIn (lookupOf (bodyOf image Routes) k) (cellAt (heldAt (seen m) k)) (streamsIn image k m es)

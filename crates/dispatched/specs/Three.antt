@@ -8,10 +8,9 @@ use Rattle.layout.specs.declared.Kind.the-variants.{Connection as Connections, 
 use Rattle.route.specs.Route.{lookupOf}
 use Rattle.state.specs.Fresh.{configOf}
 use Rattle.world.specs.World.{heldAt, cellAt}
-use Rattle.runs.specs.Streams.{streamsOf, listedIn}
-use Rattle.tie.specs.Table.{tableOf}
-use Rattle.tie.specs.Whole.{wholeOf}
+use Rattle.runs.specs.Streams.{listedIn}
 use Rattle.tie.specs.Machine.{Machine, seen}
+use Rattle.demands.specs.Streams.{streamsIn}
 use Rattle.dispatched.specs.Spelt.{Spoken, spelt, afterCalls}
 use Rattle.dispatched.specs.Told.{toldIn}
 
@@ -23,4 +22,4 @@ pub record CallsAlike (image : List ℕ) (m : Machine) (cs ds : List Spoken) : T
   -- and, of a TCP connection, that list is exactly demand 2's: of each online period's stream, by lengths; the first stream begun with what
   -- the record holds
   pub list : (k : ℕ) → k < rowsOf image Connections → configOf image k .tcp ≡ true
-      → toldIn image k m cs ≡ listedIn (lookupOf (bodyOf image Routes) k) (cellAt (heldAt (seen m) k)) (streamsOf (tableOf image) (wholeOf image) k (seen m) (spelt cs))
+      → toldIn image k m cs ≡ listedIn (lookupOf (bodyOf image Routes) k) (cellAt (heldAt (seen m) k)) (streamsIn image k m (spelt cs))
