@@ -6,7 +6,7 @@ use mathlib.Core.Bool.{Bool, true, false, cond, _&&_, false≢true}
 use mathlib.Core.List.{List, [], _++_}
 use native.Mathlib.Nat.{zero-add}
 use native.Mathlib.Omega.{arith}
-use borrow.Author.Tests.{ltb-false}
+use borrow.Author.Tests.{ltb-false, le-ltb}
 use lib.Dec.{ltb}
 use lib.ListN.{length, drop}
 use Rattle.wire.specs.Lay.{lay}
@@ -63,6 +63,14 @@ module _ (image : List ℕ) (tx k : ℕ) (seg : List ℕ) where
   event-named (Received.Refused r) count bytes ts c e = refl
   event-named Received.NotReceiving count bytes ts c e = refl
 
+module _ (image : List ℕ) (s : State) (rx tx : List ℕ) where
+  segment-named : (c : ℕ) (seg : List ℕ)
+      → eventBytes (allTakes image (length tx) c seg s rx .answer) (allTakes image (length tx) c seg s rx .count) (allTakes image (length tx) c seg s rx .bytes)
+      ≡ segmentAnswer image s rx tx c seg
+  segment-named c seg =
+      event-named image (length tx) c seg (allTakes image (length tx) c seg s rx .answer) (allTakes image (length tx) c seg s rx .count) (allTakes image (length tx) c seg s rx .bytes)
+      (takesOver image s rx tx c seg) (λ d. takes-count image (length tx) c seg (length seg) (begun s rx) d ∙ zero-add _) (segment-bytes image (length tx) c seg s rx)
+
 -- how many bytes a verdict says are written, and whether it says so
 abbrev written : Verdict → ℕ
 written (Done n) = n
@@ -98,13 +106,6 @@ module _ (image : List ℕ) (s : State) (rx tx out : List ℕ) (n : ℕ) (long :
       let is : n ≡ 0 = sym (ap written e) ∙ z in
       (is, ap (λ (k : ℕ). drop k out) (sym is))
 
-  segment-named : (c : ℕ) (seg : List ℕ)
-      → eventBytes (allTakes image (length tx) c seg s rx .answer) (allTakes image (length tx) c seg s rx .count) (allTakes image (length tx) c seg s rx .bytes)
-      ≡ segmentAnswer image s rx tx c seg
-  segment-named c seg =
-      event-named image (length tx) c seg (allTakes image (length tx) c seg s rx .answer) (allTakes image (length tx) c seg s rx .count) (allTakes image (length tx) c seg s rx .bytes)
-      (takesOver image s rx tx c seg) (λ d. takes-count image (length tx) c seg (length seg) (begun s rx) d ∙ zero-add _) (segment-bytes image (length tx) c seg s rx)
-
   call-named : (body : List ℕ) (call : Call) → effectOf image s rx tx out body call .verdict ≡ Done n
       → Named out (answerOf image s rx tx body call) n (effectOf image s rx tx out body call .out)
   unfolding effectOf answerOf ownEffect lostEffect ticksEffect switchAllEffect readEffect clearEffect walkEffect segmentEffect datagramEffect acceptEffect transmitEffect takeEffect
@@ -118,7 +119,7 @@ module _ (image : List ℕ) (s : State) (rx tx out : List ℕ) (n : ℕ) (long :
   call-named body (SetRemote c remote) e = laid _ e
   call-named body (Switch c number position) e = laid _ e
   call-named body (Segment c at) e =
-      subst (λ (l : List ℕ). Named out l n (effectOf image s rx tx out body (Segment c at) .out)) (segment-named c (bytesFrom body at)) (laid _ e)
+      subst (λ (l : List ℕ). Named out l n (effectOf image s rx tx out body (Segment c at) .out)) (segment-named image s rx tx c (bytesFrom body at)) (laid _ e)
   call-named body (Walk c place at) e = laid _ e
   call-named body (TakeWaiting c k) e = laid _ e
   call-named body (Datagram group source) e = laid _ e
@@ -127,6 +128,39 @@ module _ (image : List ℕ) (s : State) (rx tx out : List ℕ) (n : ℕ) (long :
   call-named body (SwitchAll number position) e = laid _ e
   call-named body (ReadCount protocol) e = laid _ e
   call-named body (ClearCount protocol) e = laid _ e
+
+-- EVERY EVENT IS ANSWERED: what a number and a body spell, into an out buffer that is long enough
+module _ (image : List ℕ) (s : State) (rx tx out : List ℕ) where
+  call-answered : (body : List ℕ) (call : Call) → (call ≡ Unknown → ⊥) → (call ≡ Unfit → ⊥)
+      → effectOf image s rx tx out body call .verdict ≡ Done (length (answerOf image s rx tx body call))
+  unfolding effectOf answerOf ownEffect lostEffect ticksEffect switchAllEffect readEffect clearEffect walkEffect segmentEffect datagramEffect acceptEffect transmitEffect takeEffect
+  call-answered body Unknown known fit = absurd (known refl)
+  call-answered body Unfit known fit = absurd (fit refl)
+  call-answered body (Ticks k) known fit = refl
+  call-answered body (Open c) known fit = refl
+  call-answered body (Close c) known fit = refl
+  call-answered body (Connected c) known fit = refl
+  call-answered body (Lost c) known fit = refl
+  call-answered body (SetRemote c remote) known fit = refl
+  call-answered body (Switch c number position) known fit = refl
+  call-answered body (Segment c at) known fit = ap (λ (l : List ℕ). Done (length l)) (segment-named image s rx tx c (bytesFrom body at))
+  call-answered body (Walk c place at) known fit = refl
+  call-answered body (TakeWaiting c k) known fit = refl
+  call-answered body (Datagram group source) known fit = refl
+  call-answered body (Accept group source) known fit = refl
+  call-answered body (Transmit pdu at) known fit = refl
+  call-answered body (SwitchAll number position) known fit = refl
+  call-answered body (ReadCount protocol) known fit = refl
+  call-answered body (ClearCount protocol) known fit = refl
+
+pub event-answered : (image : List ℕ) (m : Machine) (c : Spoken) → room ≤ length (c .out)
+    → (callOf (c .number) (c .body) ≡ Unknown → ⊥) → (callOf (c .number) (c .body) ≡ Unfit → ⊥)
+    → dispatchOf image (m .state) (m .rx) (m .tx) (c .out) (c .number) (c .body) .verdict ≡ Done (length (answerBy image m c))
+unfolding dispatchOf
+event-answered image m c long known fit =
+    ap (λ (b : Bool). cond b (untouched image (m .state) (m .rx) (m .tx) (c .out) Small) (effectOf image (m .state) (m .rx) (m .tx) (c .out) (c .body) (callOf (c .number) (c .body))) .verdict)
+    (le-ltb (length (c .out)) room long)
+    ∙ call-answered image (m .state) (m .rx) (m .tx) (c .out) (c .body) (callOf (c .number) (c .body)) known fit
 
 -- EVERY ANSWER, of any image, machine and call
 pub answer-named : (image : List ℕ) (m : Machine) (c : Spoken) (n : ℕ) → dispatchOf image (m .state) (m .rx) (m .tx) (c .out) (c .number) (c .body) .verdict ≡ Done n

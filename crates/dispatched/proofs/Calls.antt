@@ -8,6 +8,9 @@ use lib.Dec.{ltb}
 use lib.ListN.{length, replicate}
 use Rattle.lengths.specs.Listed.{Bytes}
 use Rattle.lengths.proofs.Bytes.{bytes-drop}
+use Rattle.connection.specs.declared.Refusal.{Refusal}
+use Rattle.gate.specs.declared.Gate.the-variants.{Refused}
+use Rattle.gate.specs.Gate.{gateOf}
 use Rattle.calls.specs.declared.Call.{Call}
 use Rattle.calls.specs.declared.Call.the-variants.{Unknown, Unfit, Ticks, Open, Close, Connected, Lost, SetRemote, Switch, Segment, Walk, TakeWaiting, Datagram, Accept, Transmit, SwitchAll, ReadCount, ClearCount}
 use Rattle.calls.specs.Calls.{callOf}
@@ -17,6 +20,7 @@ use Rattle.runs.specs.Streams.{RunBytes}
 use Rattle.tie.specs.Machine.{Machine}
 use Rattle.tie.specs.Run.{afterEvent, afterRun, Good}
 use Rattle.demands.proofs.Runs.{run-good}
+use Rattle.demands.proofs.Refused.{run-stays}
 use Rattle.dispatched.specs.Spelt.{eventsOf, Spoken, speltBy, spelt, CallBytes, afterCall, afterCalls}
 use Rattle.dispatched.proofs.Event.{dispatched-events}
 
@@ -80,3 +84,8 @@ spelt-bytes (c ∷ cs) (b, bs) = both-bytes (speltBy c) (spelt cs) (one-bytes c 
 -- DEMAND 1, of the dispatcher: sound stays sound, and the memories keep their lengths
 pub calls-good : (image : List ℕ) (m : Machine) (cs : List Spoken) → CallBytes cs → Good image m → Good image (afterCalls image m cs)
 calls-good image m cs b g = subst (Good image) (sym (calls-run image m cs)) (run-good image m (spelt cs) (spelt-bytes cs b) g)
+
+-- .. and where the gate refuses (11, 12), calls leave state and lent memory as they were
+pub calls-stay : (image : List ℕ) (m : Machine) (r : Refusal) → gateOf image (m .state) (length (m .rx)) (length (m .tx)) ≡ Refused r → (cs : List Spoken)
+    → afterCalls image m cs ≡ m
+calls-stay image m r shut cs = calls-run image m cs ∙ run-stays image m r shut (spelt cs)
