@@ -122,13 +122,7 @@ fn is_sound(
 }
 
 // Each record of a state.
-fn each_sound(
-    rows: usize,
-    connections: &[u8],
-    groups: &[u8],
-    routes: &[u8],
-    state: State,
-) -> bool
+fn each_sound(rows: usize, connections: &[u8], groups: &[u8], routes: &[u8], state: State) -> bool
     ensures { λ r. ⌜ r ≡ all (soundIn rows (now (connections .entry)) (now (groups .entry)) (now (routes .entry))) 0 (state .connections) ⌝ }
 {
     let mut sound = true;
@@ -149,7 +143,13 @@ pub fn are_sound(image: &[u8], state: State) -> bool
     let connections = body_of(image, Kind::Connection);
     let groups = body_of(image, Kind::Group);
     let routes = body_of(image, Kind::Route);
-    each_sound(rows_of(image, Kind::Connection), connections, groups, routes, state)
+    each_sound(
+        rows_of(image, Kind::Connection),
+        connections,
+        groups,
+        routes,
+        state,
+    )
 }
 
 // 11, then 12: before every event.

@@ -48,8 +48,7 @@ fn begin_skip(image: &[u8], state: State, rx: &mut [u8], tx: &[u8]) -> State {
         reason,
         id: _,
         length,
-    } = outcome
-    {
+    } = outcome {
         tell(b"header: dropped, reason ", reason as u64, b"\n");
         tell(b"to skip: ", length as u64, b" bytes\n");
     }
@@ -136,7 +135,10 @@ fn skip_most(image: &[u8], state: State, rx: &mut [u8], tx: &[u8]) -> Turn {
 fn tell_skipped(well: bool) {
     tell(b"segments of 65535 bytes: ", 65536, b"");
     if well {
-        io::write_all(STDOUT_FILENO, b", each read whole, more wanted after each\n");
+        io::write_all(
+            STDOUT_FILENO,
+            b", each read whole, more wanted after each\n",
+        );
         return;
     }
     io::write_all(STDOUT_FILENO, b", not each read whole\n");
@@ -145,7 +147,11 @@ fn tell_skipped(well: bool) {
 // The skip, from its header to the PDU behind it; one drop is counted.
 fn longest_skip(image: &[u8], state: State, rx: &mut [u8], tx: &[u8]) -> bool {
     let mut last = [0u8; 65545];
-    wire::copy_in(&mut last, 65535, b"\x00\x00\x01\x01\x00\x00\x00\x02\x00\xb4");
+    wire::copy_in(
+        &mut last,
+        65535,
+        b"\x00\x00\x01\x01\x00\x00\x00\x02\x00\xb4",
+    );
     let skipped = skip_most(image, state, rx, tx);
     let between = skipped.state;
     tell_skipped(skipped.well);
@@ -162,7 +168,15 @@ fn drop_each(image: &[u8], state: State, rx: &mut [u8], tx: &[u8]) -> Turn {
     full.tcp_drops = 4294967295;
     let taken = segment_take(image, full, rx, tx, 0, b"\x00\x00\x01\x99\x00\x00\x00\x00");
     let between = taken.state;
-    let walked = walk_from(b"\x00\x00\x01\x01\x00\x00\x00", 0, image, between, rx, tx, 1);
+    let walked = walk_from(
+        b"\x00\x00\x01\x01\x00\x00\x00",
+        0,
+        image,
+        between,
+        rx,
+        tx,
+        1,
+    );
     let after = walked.state;
     Turn {
         well: (taken.read == 8) & (walked.next == 7),

@@ -48,7 +48,18 @@ fn repeat(
     let mut i: u32 = 0;
     while i < times {
         put8(image, place, (i % 256) as u8);
-        let turn = once(what, image, state, rx, tx, out, connection, pdu, used, bytes);
+        let turn = once(
+            what,
+            image,
+            state,
+            rx,
+            tx,
+            out,
+            connection,
+            pdu,
+            used,
+            bytes,
+        );
         state = turn.state;
         all = all & turn.done;
         i += 1;

@@ -42,8 +42,7 @@ fn is_pdu(outcome: Outcome) -> bool {
         in_segment: _,
         at: _,
         length: _,
-    } = outcome
-    {
+    } = outcome {
         true
     } else {
         false
@@ -78,7 +77,14 @@ fn take_cut(
     let middle = bytes.len() / 2;
     let first = take(image, state, rx, tx, connection, front(bytes, middle));
     let between = first.state;
-    let second = take(image, between, rx, tx, connection, bytes_from(bytes, middle));
+    let second = take(
+        image,
+        between,
+        rx,
+        tx,
+        connection,
+        bytes_from(bytes, middle),
+    );
     let after = second.state;
     Turn {
         done: !first.done & second.done,
@@ -86,14 +92,7 @@ fn take_cut(
     }
 }
 
-fn walk(
-    image: &[u8],
-    state: State,
-    rx: &[u8],
-    tx: &[u8],
-    connection: u8,
-    datagram: &[u8],
-) -> Turn {
+fn walk(image: &[u8], state: State, rx: &[u8], tx: &[u8], connection: u8, datagram: &[u8]) -> Turn {
     let walked = walk_datagram(image, state, rx, tx, connection, datagram, 0);
     let outcome = walked.outcome;
     let after = walked.state;
@@ -102,8 +101,7 @@ fn walk(
         id: _,
         at: _,
         length: _,
-    } = outcome
-    {
+    } = outcome {
         true
     } else {
         false
