@@ -2,6 +2,7 @@
 use crate::words::address;
 use crate::words::bytes;
 use crate::words::hex32;
+use crate::words::said;
 use calls::bytes_from;
 use calls::remote_in;
 use layout::part_of;
@@ -30,28 +31,23 @@ fn meaning(text: &mut [u8], at: usize, number: usize) -> usize {
     }
 }
 
-// `, id 0x00000101, length 2 bytes`
-fn header(text: &mut [u8], at: usize, row: &[u8]) -> usize {
-    let id = put_piece(text, at, b", id 0x");
-    let said = hex32(text, id, be32(row, 6) as u32);
-    let long = put_piece(text, said, b", length ");
-    let size = decimal(text, long, be32(row, 10) as u64);
-    put_piece(text, size, b" bytes")
-}
-
-// What was found: its name, the route or the reason, id and length.
+// What was found: its name, the route or the reason, id and length: `drop 20, id 0x00000101, length 2 bytes`
 fn found(text: &mut [u8], at: usize, name: &[u8], row: &[u8]) -> usize {
-    let named = put_piece(text, at, name);
-    let which = decimal(text, named, be8(row, 5) as u64);
-    header(text, which, row)
+    let which = said(text, at, name, be8(row, 5) as u64, b", id 0x");
+    let id = hex32(text, which, be32(row, 6) as u32);
+    said(text, id, b", length ", be32(row, 10) as u64, b" bytes")
 }
 
 // A PDU's payload in the segment.
 fn from_segment(text: &mut [u8], at: usize, row: &[u8], segment: &[u8]) -> usize {
     let place = be32(row, 15);
-    let from = put_piece(text, at, b", from the segment at byte ");
-    let said = decimal(text, from, place as u64);
-    let colon = put_piece(text, said, b": ");
+    let colon = said(
+        text,
+        at,
+        b", from the segment at byte ",
+        place as u64,
+        b": ",
+    );
     bytes(text, colon, part_of(segment, place, be32(row, 10)))
 }
 
@@ -59,15 +55,6 @@ fn from_segment(text: &mut [u8], at: usize, row: &[u8], segment: &[u8]) -> usize
 fn from_memory(text: &mut [u8], at: usize, row: &[u8]) -> usize {
     let from = put_piece(text, at, b", from receive memory: ");
     bytes(text, from, part_of(row, 15, be32(row, 10)))
-}
-
-// `; take 1 read 10 bytes: `
-fn take_front(text: &mut [u8], at: usize, number: u64, read: usize) -> usize {
-    let first = put_piece(text, at, b"; take ");
-    let named = decimal(text, first, number);
-    let reads = put_piece(text, named, b" read ");
-    let said = decimal(text, reads, read as u64);
-    put_piece(text, said, b" bytes: ")
 }
 
 fn take_pdu(text: &mut [u8], at: usize, row: &[u8], segment: &[u8]) -> usize {
@@ -78,9 +65,10 @@ fn take_pdu(text: &mut [u8], at: usize, row: &[u8], segment: &[u8]) -> usize {
     from_memory(text, pdu, row)
 }
 
-// One take, whose bytes of the answer begin with `row`.
+// One take, whose bytes of the answer begin with `row`: `; take 1 read 10 bytes: ` and what it found.
 fn take(text: &mut [u8], at: usize, number: u64, row: &[u8], segment: &[u8]) -> usize {
-    let colon = take_front(text, at, number, be32(row, 0));
+    let reads = said(text, at, b"; take ", number, b" read ");
+    let colon = said(text, reads, b"", be32(row, 0) as u64, b" bytes: ");
     let kind = be8(row, 4);
     match kind {
         0 => put_piece(text, colon, b"more wanted"),
@@ -117,9 +105,7 @@ fn takes(text: &mut [u8], at: usize, answer: &[u8], segment: &[u8]) -> usize {
 fn walk_pdu(text: &mut [u8], at: usize, row: &[u8], datagram: &[u8]) -> usize {
     let place = be32(row, 14);
     let pdu = found(text, at, b"; PDU of route ", row);
-    let from = put_piece(text, pdu, b", at byte ");
-    let said = decimal(text, from, place as u64);
-    let colon = put_piece(text, said, b": ");
+    let colon = said(text, pdu, b", at byte ", place as u64, b": ");
     bytes(text, colon, part_of(datagram, place, be32(row, 10)))
 }
 
@@ -135,20 +121,13 @@ fn walk_found(text: &mut [u8], at: usize, row: &[u8], datagram: &[u8]) -> usize 
 fn walk(text: &mut [u8], at: usize, answer: &[u8], datagram: &[u8]) -> usize {
     let row = bytes_from(answer, 2);
     let told = walk_found(text, at, row, datagram);
-    let next = put_piece(text, told, b", next byte ");
-    decimal(text, next, be32(row, 0) as u64)
-}
-
-fn waiting_for(text: &mut [u8], at: usize, answer: &[u8]) -> usize {
-    let first = put_piece(text, at, b"; ");
-    let count = decimal(text, first, be32(answer, 2) as u64);
-    let to = put_piece(text, count, b" bytes for ");
-    address(text, to, remote_in(bytes_from(answer, 6)))
+    said(text, told, b", next byte ", be32(row, 0) as u64, b"")
 }
 
 fn waiting(text: &mut [u8], at: usize, answer: &[u8]) -> usize {
-    let said = waiting_for(text, at, answer);
-    let colon = put_piece(text, said, b": ");
+    let to = said(text, at, b"; ", be32(answer, 2) as u64, b" bytes for ");
+    let remote = address(text, to, remote_in(bytes_from(answer, 6)));
+    let colon = put_piece(text, remote, b": ");
     bytes(text, colon, bytes_from(answer, 25))
 }
 
@@ -158,15 +137,8 @@ fn values(text: &mut [u8], at: usize, event: u16, answer: &[u8], body: &[u8]) ->
         7 => takes(text, at, answer, bytes_from(body, 6)),
         8 => walk(text, at, answer, bytes_from(body, 10)),
         9 => waiting(text, at, answer),
-        10 | 11 => {
-            let named = put_piece(text, at, b"; connection ");
-            decimal(text, named, be8(answer, 2) as u64)
-        }
-        14 | 15 => {
-            let named = put_piece(text, at, b"; ");
-            let value = decimal(text, named, be32(answer, 2) as u64);
-            put_piece(text, value, b" drops")
-        }
+        10 | 11 => said(text, at, b"; connection ", be8(answer, 2) as u64, b""),
+        14 | 15 => said(text, at, b"; ", be32(answer, 2) as u64, b" drops"),
         _ => at,
     }
 }
@@ -177,8 +149,7 @@ fn destination(text: &mut [u8], at: usize, event: u16, number: usize, answer: &[
     if !named {
         return at;
     }
-    let said = put_piece(text, at, b", destination ");
-    decimal(text, said, be32(answer, 2) as u64)
+    said(text, at, b", destination ", be32(answer, 2) as u64, b"")
 }
 
 pub fn answer(text: &mut [u8], at: usize, event: u16, answer: &[u8], body: &[u8]) -> usize {

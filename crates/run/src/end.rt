@@ -3,6 +3,7 @@
 use crate::words::address;
 use crate::words::bytes;
 use crate::words::hex32;
+use crate::words::said;
 use calls::bytes_from;
 use connection::Connection;
 use connection::Mode;
@@ -13,7 +14,6 @@ use part::Part;
 use pieces::front;
 use pieces::put_piece;
 use state::State;
-use text::decimal;
 use text::hex;
 use wire::put32;
 
@@ -38,9 +38,7 @@ fn header(text: &mut [u8], at: usize, held: u8, value: u64) -> usize {
     if held == 0 {
         return put_piece(text, at, b"ready");
     }
-    let named = put_piece(text, at, b"header ");
-    let count = decimal(text, named, held as u64);
-    let colon = put_piece(text, count, b" bytes: ");
+    let colon = said(text, at, b"header ", held as u64, b" bytes: ");
     let mut spelt = [0u8; 8];
     put32(&mut spelt, 0, (value / 4294967296) as u32);
     put32(&mut spelt, 4, (value % 4294967296) as u32);
@@ -50,26 +48,12 @@ fn header(text: &mut [u8], at: usize, held: u8, value: u64) -> usize {
     hex(text, colon, &spelt)
 }
 
-// `1 of 2 bytes: `
-fn held_of(text: &mut [u8], at: usize, held: u16, length: u16) -> usize {
-    let has = decimal(text, at, held as u64);
-    let whole = put_piece(text, has, b" of ");
-    let size = decimal(text, whole, length as u64);
-    put_piece(text, size, b" bytes: ")
-}
-
+// `payload of route 0, 1 of 2 bytes: 00`
 fn payload(text: &mut [u8], at: usize, route: u8, length: u16, held: u16, stretch: &[u8]) -> usize {
-    let named = put_piece(text, at, b"payload of route ");
-    let of = decimal(text, named, route as u64);
-    let comma = put_piece(text, of, b", ");
-    let colon = held_of(text, comma, held, length);
+    let comma = said(text, at, b"payload of route ", route as u64, b", ");
+    let of = said(text, comma, b"", held as u64, b" of ");
+    let colon = said(text, of, b"", length as u64, b" bytes: ");
     bytes(text, colon, front(stretch, held as usize))
-}
-
-fn skip(text: &mut [u8], at: usize, n: u32) -> usize {
-    let named = put_piece(text, at, b"skip ");
-    let count = decimal(text, named, n as u64);
-    put_piece(text, count, b" bytes")
 }
 
 fn part(text: &mut [u8], at: usize, part: Part, stretch: &[u8]) -> usize {
@@ -80,14 +64,12 @@ fn part(text: &mut [u8], at: usize, part: Part, stretch: &[u8]) -> usize {
             length,
             held,
         } => payload(text, at, route, length, held, stretch),
-        Part::Skip(n) => skip(text, at, n),
+        Part::Skip(n) => said(text, at, b"skip ", n as u64, b" bytes"),
     }
 }
 
 fn send(text: &mut [u8], at: usize, used: u16, stretch: &[u8]) -> usize {
-    let named = put_piece(text, at, b", send ");
-    let count = decimal(text, named, used as u64);
-    let colon = put_piece(text, count, b" bytes: ");
+    let colon = said(text, at, b", send ", used as u64, b" bytes: ");
     bytes(text, colon, front(stretch, used as usize))
 }
 
@@ -95,16 +77,13 @@ fn timer(text: &mut [u8], at: usize, ticks: u16) -> usize {
     if ticks == 0 {
         return put_piece(text, at, b", timer stopped");
     }
-    let named = put_piece(text, at, b", timer ");
-    let count = decimal(text, named, ticks as u64);
-    put_piece(text, count, b" ticks")
+    said(text, at, b", timer ", ticks as u64, b" ticks")
 }
 
 // `connection 0: online`
 fn who(text: &mut [u8], number: u64, is: Mode) -> usize {
-    let named = put_piece(text, 0, b"connection ");
-    let numbered = decimal(text, named, number);
-    mode(text, numbered, is)
+    let named = said(text, 0, b"connection ", number, b"");
+    mode(text, named, is)
 }
 
 fn wishes(text: &mut [u8], at: usize, open: bool, close: bool) -> usize {
@@ -128,8 +107,8 @@ fn receives(text: &mut [u8], at: usize, held: Part, stretch: &[u8]) -> usize {
 
 fn marked(text: &mut [u8], at: usize, due: bool) -> usize {
     let named = put_piece(text, at, b", due ");
-    let said = yes(text, named, due);
-    put_piece(text, said, b"\n")
+    let word = yes(text, named, due);
+    put_piece(text, word, b"\n")
 }
 
 // What a record holds: receive part, send bytes, timer and due mark.
@@ -152,11 +131,8 @@ fn record(text: &mut [u8], number: u64, c: Connection, rx: &[u8], tx: &[u8]) -> 
 }
 
 fn counts(text: &mut [u8], udp: u32, tcp: u32) -> usize {
-    let named = put_piece(text, 0, b"drops: UDP ");
-    let first = decimal(text, named, udp as u64);
-    let comma = put_piece(text, first, b", TCP ");
-    let second = decimal(text, comma, tcp as u64);
-    put_piece(text, second, b"\n")
+    let first = said(text, 0, b"drops: UDP ", udp as u64, b", TCP ");
+    said(text, first, b"", tcp as u64, b"\n")
 }
 
 // One line for the record k, where the table has a row for it.

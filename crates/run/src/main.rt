@@ -5,6 +5,7 @@ mod end;
 mod event;
 mod words;
 
+use crate::words::said;
 use answering::Verdict;
 use calls::Call;
 use calls::call_of;
@@ -17,7 +18,6 @@ use state::State;
 use state::fresh_state;
 use table::TableAnswer;
 use table::check_table;
-use text::decimal;
 use wire::be16;
 use wire::be32;
 use wire::copy_in;
@@ -33,6 +33,13 @@ enum Last {
 struct Ran {
     last: Last,
     state: State,
+}
+
+fn ran_to(last: Last, state: State) -> Ran {
+    Ran {
+        last: last,
+        state: state,
+    }
 }
 
 // Why an entry is refused.
@@ -69,18 +76,19 @@ fn head_fault(number: u16, zero: usize, long: usize, body: &[u8]) -> Fault {
 
 // `entry N: `
 fn entry_text(text: &mut [u8], n: u64) -> usize {
-    let named = put_piece(text, 0, b"entry ");
-    let numbered = decimal(text, named, n);
-    put_piece(text, numbered, b": ")
+    said(text, 0, b"entry ", n, b": ")
 }
 
 fn fault_text(text: &mut [u8], at: usize, number: u16, fault: Fault) -> usize {
     match fault {
         Fault::None => at,
-        Fault::Unknown => {
-            let named = put_piece(text, at, b"refused: unknown event number ");
-            decimal(text, named, number as u64)
-        }
+        Fault::Unknown => said(
+            text,
+            at,
+            b"refused: unknown event number ",
+            number as u64,
+            b"",
+        ),
         Fault::Zero => put_piece(text, at, b"refused: zero field is not 0"),
         Fault::Unfit => put_piece(text, at, b"refused: body does not fit"),
     }
@@ -88,8 +96,8 @@ fn fault_text(text: &mut [u8], at: usize, number: u16, fault: Fault) -> usize {
 
 fn tell_fault(text: &mut [u8], n: u64, number: u16, fault: Fault) {
     let at = entry_text(text, n);
-    let said = fault_text(text, at, number, fault);
-    let end = put_piece(text, said, b"\n");
+    let told = fault_text(text, at, number, fault);
+    let end = put_piece(text, told, b"\n");
     io::write_all(1, front(text, end));
 }
 
@@ -109,28 +117,22 @@ fn start(
     let fits = given.fits & (n == 1);
     if !fits {
         tell_fault(text, n, 65535, Fault::Unfit);
-        return Ran {
-            last: Last::Refused,
-            state: state,
-        };
+        return ran_to(Last::Refused, state);
     }
     copy_in(rx, 0, layout::part_of(body, 696, 23424));
     copy_in(tx, 0, layout::part_of(body, 24120, 23552));
     let at = entry_text(text, n);
     let end = put_piece(text, at, b"start state: taken\n");
     io::write_all(1, front(text, end));
-    Ran {
-        last: Last::GoesOn,
-        state: state_given,
-    }
+    ran_to(Last::GoesOn, state_given)
 }
 
 fn tell_answer(text: &mut [u8], n: u64, number: u16, body: &[u8], bytes: &[u8]) {
     let at = entry_text(text, n);
     let named = event::event(text, at, call_of(number, body), body);
     let colon = put_piece(text, named, b": ");
-    let said = answer::answer(text, colon, number, bytes, body);
-    let end = put_piece(text, said, b"\n");
+    let told = answer::answer(text, colon, number, bytes, body);
+    let end = put_piece(text, told, b"\n");
     io::write_all(1, front(text, end));
 }
 
@@ -154,30 +156,18 @@ fn happen(
     match verdict {
         Verdict::Done(written) => {
             tell_answer(text, n, number, body, front(out, written));
-            Ran {
-                last: Last::GoesOn,
-                state: after,
-            }
+            ran_to(Last::GoesOn, after)
         }
         Verdict::Unknown => {
             tell_fault(text, n, number, Fault::Unknown);
-            Ran {
-                last: Last::Refused,
-                state: after,
-            }
+            ran_to(Last::Refused, after)
         }
         Verdict::Unfit => {
             tell_fault(text, n, number, Fault::Unfit);
-            Ran {
-                last: Last::Refused,
-                state: after,
-            }
+            ran_to(Last::Refused, after)
         }
         // cannot come: the out buffer has the room that the dispatcher asks for
-        Verdict::Small => Ran {
-            last: Last::Refused,
-            state: after,
-        },
+        Verdict::Small => ran_to(Last::Refused, after),
     }
 }
 
@@ -199,32 +189,20 @@ fn entry(
     let mut head = [0u8; 8];
     let got = io::read_full(0, &mut head);
     if got == 0 {
-        return Ran {
-            last: Last::Ended,
-            state: state,
-        };
+        return ran_to(Last::Ended, state);
     }
     if got < 8 {
-        return Ran {
-            last: Last::Cut,
-            state: state,
-        };
+        return ran_to(Last::Cut, state);
     }
     let number = be16(&head, 0) as u16;
     let long = be32(&head, 4);
     let fault = head_fault(number, be16(&head, 2), long, body);
     if is_fault(fault) {
         tell_fault(text, n, number, fault);
-        return Ran {
-            last: Last::Refused,
-            state: state,
-        };
+        return ran_to(Last::Refused, state);
     }
     if read_part(body, 0, long) < long {
-        return Ran {
-            last: Last::Cut,
-            state: state,
-        };
+        return ran_to(Last::Cut, state);
     }
     if number == 65535 {
         return start(state, rx, tx, body, long, text, n);
@@ -248,9 +226,9 @@ fn entries(
     let mut state = fresh_state(table);
     let mut n: u64 = 1;
     while n < 18446744073709551615 {
-        let ran = entry(table, state, rx, tx, body, text, out, n);
-        let last = ran.last;
-        let after = ran.state;
+        let left = entry(table, state, rx, tx, body, text, out, n);
+        let last = left.last;
+        let after = left.state;
         if !goes_on(last) {
             return Ran {
                 last: last,
@@ -287,18 +265,22 @@ fn run_script(table: &[u8]) {
     let mut body = [0u8; 47672];
     let mut text = [0u8; 131072];
     let mut out = [0u8; 16384];
-    let ran = entries(table, &mut rx, &mut tx, &mut body, &mut text, &mut out);
-    let last = ran.last;
-    let state = ran.state;
+    let left = entries(table, &mut rx, &mut tx, &mut body, &mut text, &mut out);
+    let last = left.last;
+    let state = left.state;
     end::records(table, state, &rx, &tx, &mut text);
     last_word(last);
 }
 
 fn refuse(place: usize) {
     let mut text = [0u8; 64];
-    let named = put_piece(&mut text, 0, b"refused 1 at byte ");
-    let said = decimal(&mut text, named, place as u64);
-    let end = put_piece(&mut text, said, b"\nREFUSED\n");
+    let end = said(
+        &mut text,
+        0,
+        b"refused 1 at byte ",
+        place as u64,
+        b"\nREFUSED\n",
+    );
     io::write_all(1, front(&text, end));
 }
 

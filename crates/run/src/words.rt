@@ -6,8 +6,11 @@ use text::hex;
 use wire::put16;
 use wire::put32;
 
-pub fn number(out: &mut [u8], at: usize, v: u64) -> usize {
-    decimal(out, at, v)
+// Text, a number, and text after it: `skip 5 bytes`.
+pub fn said(out: &mut [u8], at: usize, before: &[u8], v: u64, after: &[u8]) -> usize {
+    let named = put_piece(out, at, before);
+    let number = decimal(out, named, v);
+    put_piece(out, number, after)
 }
 
 // Bytes in hex, and `-` where there are none.
@@ -32,18 +35,16 @@ pub fn hex32(out: &mut [u8], at: usize, v: u32) -> usize {
     hex(out, at, &spelt)
 }
 
-// Two bytes of an address: 192.168
-fn half(out: &mut [u8], at: usize, bytes: u32) -> usize {
-    let first = decimal(out, at, (bytes / 256 % 256) as u64);
-    let dot = put_piece(out, first, b".");
-    decimal(out, dot, (bytes % 256) as u64)
+// A byte of an address and what follows it.
+fn part(out: &mut [u8], at: usize, byte: u32, after: &[u8]) -> usize {
+    said(out, at, b"", (byte % 256) as u64, after)
 }
 
 // 192.168.10.11 port 30501
 pub fn address(out: &mut [u8], at: usize, remote: Remote) -> usize {
-    let first = half(out, at, remote.address / 65536);
-    let dot = put_piece(out, first, b".");
-    let second = half(out, dot, remote.address % 65536);
-    let port = put_piece(out, second, b" port ");
-    decimal(out, port, remote.port as u64)
+    let first = part(out, at, remote.address / 16777216, b".");
+    let second = part(out, first, remote.address / 65536, b".");
+    let third = part(out, second, remote.address / 256, b".");
+    let fourth = part(out, third, remote.address, b" port ");
+    decimal(out, fourth, remote.port as u64)
 }
