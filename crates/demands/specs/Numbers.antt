@@ -1,9 +1,12 @@
--- THE ANSWER NUMBER OF AN EVENT, as its entry point gives it (document 01, "Answer numbers"); of a segment event that of its first take.
+-- THE ANSWER NUMBER OF AN EVENT, as its entry point gives it (document 01, "Answer numbers"); of a segment event that of its first take;
+-- and the numbers that an event can be answered with at all.
 -- Assumes nothing: these are definitions.
 use Prim.Native.Nat.{ℕ}
-use mathlib.Core.Bool.{true, false}
+use mathlib.Core.Bool.{Bool, true, false, _||_}
 use mathlib.Core.List.{List, [], _∷_}
+use lib.Dec.{eqb}
 use lib.ListN.{length, replicate}
+use Rattle.connection.specs.declared.Event.the-variants.{Open, Close, Connected, Lost, SetRemote, Switch}
 use Rattle.connection.specs.Event.{answerNumber}
 use Rattle.events.specs.Change.{eventOf}
 use Rattle.events.specs.Module.{switchAllOf}
@@ -38,3 +41,28 @@ module _ (image : List ℕ) (m : Machine) where
 unfoldable pub numbersIn : List ℕ → Machine → List Event → List ℕ
 numbersIn image m [] = []
 numbersIn image m (e ∷ es) = numberOf image m e ∷ numbersIn image (afterEvent image e m) es
+
+-- THE NUMBERS THAT AN EVENT CAN BE ANSWERED WITH, in the order of their checks: "Checks run 11, 12, 2, 3, then the event's own order"; 0
+-- where none of them refuses
+unfoldable pub numbersFor : Event → List ℕ
+numbersFor (on k (change Open)) = 11 ∷ 12 ∷ 2 ∷ 3 ∷ 0 ∷ []
+numbersFor (on k (change Close)) = 11 ∷ 12 ∷ 2 ∷ 3 ∷ 0 ∷ []
+numbersFor (on k (change Connected)) = 11 ∷ 12 ∷ 2 ∷ 3 ∷ 0 ∷ []
+numbersFor (on k (change Lost)) = 11 ∷ 12 ∷ 2 ∷ 3 ∷ 0 ∷ []
+numbersFor (on k (change (SetRemote remote))) = 11 ∷ 12 ∷ 2 ∷ 3 ∷ 0 ∷ []
+numbersFor (on k (change (Switch number position))) = 11 ∷ 12 ∷ 2 ∷ 0 ∷ []
+numbersFor (on k (segment bytes)) = 11 ∷ 12 ∷ 2 ∷ 3 ∷ 4 ∷ 0 ∷ []
+numbersFor (on k (walk d place)) = 11 ∷ 12 ∷ 2 ∷ 3 ∷ 4 ∷ 0 ∷ []
+numbersFor (on k (take room)) = 11 ∷ 12 ∷ 2 ∷ 9 ∷ 0 ∷ []
+numbersFor (all (datagram group source)) = 11 ∷ 12 ∷ 2 ∷ 3 ∷ 10 ∷ 0 ∷ []
+numbersFor (all (accept group source)) = 11 ∷ 12 ∷ 2 ∷ 3 ∷ 10 ∷ 0 ∷ []
+numbersFor (all tick) = 11 ∷ 12 ∷ 0 ∷ []
+numbersFor (all (transmit pdu payload)) = 11 ∷ 12 ∷ 5 ∷ 6 ∷ 4 ∷ 7 ∷ 8 ∷ 0 ∷ []
+numbersFor (all (switchAll number position)) = 11 ∷ 12 ∷ 2 ∷ 0 ∷ []
+numbersFor (all (readCount protocol)) = 11 ∷ 12 ∷ 3 ∷ 0 ∷ []
+numbersFor (all (clearCount protocol)) = 11 ∷ 12 ∷ 3 ∷ 0 ∷ []
+
+-- n is one of these
+unfoldable pub among : ℕ → List ℕ → Bool
+among n [] = false
+among n (x ∷ xs) = eqb n x || among n xs
