@@ -86,7 +86,7 @@ takes-tx image k (suc f) m bs = go (goesOn image k (isDone (taken image k m bs .
     go true e = e
     go false e = refl
 
-own-tx : (image : List ℕ) (k : ℕ) (e : Own) (m : Machine) → afterOwn image k e m .tx ≡ m .tx
+pub own-tx : (image : List ℕ) (k : ℕ) (e : Own) (m : Machine) → afterOwn image k e m .tx ≡ m .tx
 unfolding afterOwn
 own-tx image k (change e) m = refl
 own-tx image k (segment bs) m = takes-tx image k (suc (length bs)) m bs

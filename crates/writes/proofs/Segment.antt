@@ -1,0 +1,136 @@
+-- A SEGMENT EVENT on the machine: its takes write the bytes that they add, each byte elsewhere stays. Assumes nothing.
+use Prim.Native.Nat.{ℕ, zero, suc, _+_, _*_}
+use mathlib.Core.Path.{_≡_, refl, sym, ap, ap₂, _∙_, subst}
+use mathlib.Core.Bool.{Bool, true, false, cond}
+use mathlib.Core.List.{List}
+use native.Mathlib.Omega.{arith}
+use lib.ListN.{length, getD}
+use lib.Seq.{getD-set-same}
+use Rattle.wire.specs.Be.{byteAt}
+use Rattle.wire.specs.Lay.{lay}
+use Rattle.wire.proofs.Lay.{lay-length}
+use Rattle.layout.specs.Layout.{bodyOf}
+use Rattle.layout.specs.declared.Kind.the-variants.{Route as Routes}
+use Rattle.connection.specs.declared.Connection.{Connection}
+use Rattle.connection.specs.Connection.{zeroRecord, withPart}
+use Rattle.state.specs.declared.State.{State}
+use Rattle.state.specs.State.{recordAt, withRecord}
+use Rattle.state.specs.Memory.{stretch}
+use Rattle.state.specs.Fresh.{configOf}
+use Rattle.stream.specs.declared.Outcome.{Outcome}
+use Rattle.receive.specs.declared.SegmentTaken.{SegmentTaken}
+use Rattle.receive.specs.Answer.{isDone}
+use Rattle.receive.specs.Segment.{takenAt, stretchAt, takeOn, memoryOn, Takes, segmentAnswer, segmentOf, memoryOf}
+use Rattle.receive.proofs.Answers.{Clear, done-clear}
+use Rattle.receive.proofs.Past.{passed-takes}
+use Rattle.receive.proofs.Keeps.{in-range, count-records}
+use Rattle.world.specs.World.{heldBy}
+use Rattle.tie.specs.Machine.{Machine, taken, afterOne, restOf, goesOn, afterTakes}
+use Rattle.writes.specs.Writes.{Within, addedBy, holds, TakeWrites, SegmentWrites, now, later}
+use Rattle.writes.proofs.Laid.{part-other}
+use Rattle.writes.proofs.Take.{Lays, take-lays}
+
+module _ (image : List ℕ) (k : ℕ) where
+  -- ONE TAKE
+  module _ (m : Machine) (bytes : List ℕ) where
+    abbrev s : State
+    s = m .state
+
+    abbrev pub answered : Bool
+    answered = isDone (segmentAnswer image s (length (m .rx)) (length (m .tx)) k)
+
+    -- that is made
+    module _ (done : answered ≡ true) where
+      clear : Clear image s (length (m .rx)) (length (m .tx)) k (configOf image k .tcp)
+      clear = done-clear image s (length (m .rx)) (length (m .tx)) k (configOf image k .tcp) done
+
+      pub takes : Takes image s (m .rx) k
+      takes = passed-takes image s (m .rx) (length (m .tx)) k (clear .passed) (clear .there)
+
+      abbrev pub after : Connection
+      after = withPart (takenAt image s (m .rx) k bytes .part) (recordAt s k)
+
+      taken-is : taken image k m bytes ≡ takeOn image s (m .rx) k bytes
+      unfolding segmentOf
+      taken-is = rw done
+
+      memory-is : afterOne image k m bytes .rx ≡ memoryOn image s (m .rx) k bytes
+      unfolding memoryOf
+      memory-is = rw done
+
+      pub outcome-is : taken image k m bytes .outcome ≡ takenAt image s (m .rx) k bytes .outcome
+      unfolding takeOn
+      outcome-is = ap (λ (t : SegmentTaken). t .outcome) taken-is
+
+      pub record-is : recordAt (afterOne image k m bytes .state) k ≡ after
+      unfolding takeOn
+      record-is =
+          ap (λ (t : SegmentTaken). recordAt (t .state) k) taken-is
+          ∙ ap (λ (cs : List Connection). getD cs k zeroRecord) (count-records (takenAt image s (m .rx) k bytes .outcome) (withRecord k after s))
+          ∙ getD-set-same (s .connections) k after zeroRecord (in-range s k (clear .receives))
+
+      laid : Lays (stretch 1464 k (m .rx)) (stretchAt image s (m .rx) k bytes) (holds k m)
+          (addedBy (takenAt image s (m .rx) k bytes .outcome) (holds k m) (heldBy (takenAt image s (m .rx) k bytes .part)))
+      laid = take-lays (bodyOf image Routes) k (recordAt s k .switches) (recordAt s k .part) (stretch 1464 k (m .rx)) bytes (takes .fit)
+
+      added-is : length (laid .0) ≡ addedBy (taken image k m bytes .outcome) (holds k m) (holds k (afterOne image k m bytes))
+      added-is =
+          laid .1 .0
+          ∙ ap₂ (λ (o : Outcome) (c : Connection). addedBy o (holds k m) (heldBy (c .part))) (sym outcome-is) (sym record-is)
+
+      made-stays : (i : ℕ) → (TakeWrites image k m bytes i → ⊥) → byteAt (afterOne image k m bytes .rx) i ≡ byteAt (m .rx) i
+      unfolding memoryOn
+      made-stays i not =
+          ap (λ (l : List ℕ). byteAt l i) memory-is
+          ∙ ap (λ (l : List ℕ). byteAt (lay (m .rx) (k * 1464) l) i) (laid .1 .1)
+          ∙ part-other (m .rx) (k * 1464) 1464 (holds k m) (laid .0) i (omega (arith, takes .small, takes .room))
+          (λ w. not (subst (λ (n : ℕ). Within (k * 1464 + holds k m) n i) added-is w))
+
+    -- or refused
+    refused-same : answered ≡ false → afterOne image k m bytes .rx ≡ m .rx
+    unfolding memoryOf
+    refused-same e = rw e
+
+    pub take-stays : (i : ℕ) → (TakeWrites image k m bytes i → ⊥) → byteAt (afterOne image k m bytes .rx) i ≡ byteAt (m .rx) i
+    take-stays i not = go answered refl
+      where
+        go : (b : Bool) → answered ≡ b → byteAt (afterOne image k m bytes .rx) i ≡ byteAt (m .rx) i
+        go true e = made-stays e i not
+        go false e = ap (λ (l : List ℕ). byteAt l i) (refused-same e)
+
+    take-long : length (afterOne image k m bytes .rx) ≡ length (m .rx)
+    unfolding memoryOf memoryOn
+    take-long = go answered
+      where
+        go : (b : Bool) → length (cond b (memoryOn image s (m .rx) k bytes) (m .rx)) ≡ length (m .rx)
+        go true = lay-length (m .rx) (k * 1464) (stretchAt image s (m .rx) k bytes)
+        go false = refl
+
+  -- ALL TAKES
+  pub takes-stay : (f : ℕ) (m : Machine) (bytes : List ℕ) (i : ℕ) → (SegmentWrites image k i m bytes → ⊥) → byteAt (afterTakes image k f m bytes .rx) i ≡ byteAt (m .rx) i
+  unfolding afterTakes
+  takes-stay zero m bytes i not = refl
+  takes-stay (suc f) m bytes i not =
+      go (goesOn image k (isDone (taken image k m bytes .answer)) (restOf image k m bytes)) refl
+      (takes-stay f (afterOne image k m bytes) (restOf image k m bytes) i)
+    where
+      one : byteAt (afterOne image k m bytes .rx) i ≡ byteAt (m .rx) i
+      one = take-stays m bytes i (λ w. not (now m bytes w))
+
+      go : (b : Bool) → goesOn image k (isDone (taken image k m bytes .answer)) (restOf image k m bytes) ≡ b
+          → ((SegmentWrites image k i (afterOne image k m bytes) (restOf image k m bytes) → ⊥)
+          → byteAt (afterTakes image k f (afterOne image k m bytes) (restOf image k m bytes) .rx) i ≡ byteAt (afterOne image k m bytes .rx) i)
+          → byteAt (cond b (afterTakes image k f (afterOne image k m bytes) (restOf image k m bytes)) (afterOne image k m bytes) .rx) i ≡ byteAt (m .rx) i
+      go true e rest = rest (λ w. not (later m bytes e w)) ∙ one
+      go false e rest = one
+
+  pub takes-long : (f : ℕ) (m : Machine) (bytes : List ℕ) → length (afterTakes image k f m bytes .rx) ≡ length (m .rx)
+  unfolding afterTakes
+  takes-long zero m bytes = refl
+  takes-long (suc f) m bytes =
+      go (goesOn image k (isDone (taken image k m bytes .answer)) (restOf image k m bytes)) (takes-long f (afterOne image k m bytes) (restOf image k m bytes))
+    where
+      go : (b : Bool) → length (afterTakes image k f (afterOne image k m bytes) (restOf image k m bytes) .rx) ≡ length (afterOne image k m bytes .rx)
+          → length (cond b (afterTakes image k f (afterOne image k m bytes) (restOf image k m bytes)) (afterOne image k m bytes) .rx) ≡ length (m .rx)
+      go true e = e ∙ take-long m bytes
+      go false e = take-long m bytes
