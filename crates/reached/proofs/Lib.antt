@@ -1,0 +1,2 @@
+-- Each listed number is reached. Assumes nothing.
+pub mod Reached

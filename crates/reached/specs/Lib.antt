@@ -1,0 +1,2 @@
+-- The kinds of events, and an example of each number that each of them can be answered with. Assumes nothing.
+pub mod Reached
