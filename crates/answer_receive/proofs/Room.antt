@@ -1,6 +1,6 @@
--- THE WHOLE ANSWER OF A SEGMENT EVENT FITS: whatever the takes find, it has no more bytes than `roomFor` says. And a take after another
--- is never refused. Assumes nothing.
-use Prim.Native.Nat.{ℕ, zero, suc, _+_, _-_, _*_, _≤_, _<_}
+-- THE WHOLE ANSWER OF A SEGMENT EVENT FITS: whatever the takes find, it has no more bytes than `roomFor` says, and an out buffer of so
+-- many is not refused. And a take after another is never refused. Assumes nothing.
+use Prim.Native.Nat.{ℕ, zero, suc, _+_, _-_, _*_, _/_, _≤_, _<_}
 use mathlib.Core.Path.{_≡_, refl, sym, ap, _∙_, subst}
 use mathlib.Core.Bool.{Bool, true, false, cond}
 use mathlib.Core.List.{List}
@@ -8,7 +8,7 @@ use native.Mathlib.Omega.{arith}
 use lib.Dec.{ltb}
 use lib.ListN.{length, getD, drop, length-drop, length-append}
 use lib.Seq.{getD-set-same}
-use borrow.Author.Tests.{ltb-true}
+use borrow.Author.Tests.{ltb-true, ltb-false, lt-ltb, le-ltb}
 use Rattle.lists.proofs.Both.{and-left, and-right}
 use Rattle.wire.specs.Lay.{spell}
 use Rattle.wire.proofs.Spell.{length-spell}
@@ -34,9 +34,10 @@ use Rattle.receive.specs.Answer.{isDone, judgedOf, answerOf}
 use Rattle.receive.specs.Segment.{takenAt, takeOn, memoryOn, noneTaken, segmentAnswer, segmentOf, memoryOf, payloadOf}
 use Rattle.receive.proofs.Answers.{Clear, done-clear}
 use Rattle.receive.proofs.Keeps.{in-range, count-records, take-clear}
-use Rattle.answering.specs.Answers.{doneWith}
+use Rattle.answering.specs.declared.Verdict.the-variants.{Small}
+use Rattle.answering.specs.Answers.{untouched, doneWith}
 use Rattle.answering.proofs.Chain.{length-found}
-use Rattle.answer_receive.specs.Segment.{takeBytes, bytesOf, Run, begun, takeAt, memoryAt, bytesAt, step, goesOn, runOf, allTakes, eventBytes, roomFor}
+use Rattle.answer_receive.specs.Segment.{takeBytes, bytesOf, Run, begun, takeAt, memoryAt, bytesAt, step, goesOn, runOf, allTakes, eventBytes, leaves, roomFor, segmentEffect}
 use Rattle.answer_receive.proofs.Size.{most, most-all, most-least, take-most, take-stops, spent-within, spent-stops}
 
 -- what nothing refuses is done
@@ -188,3 +189,27 @@ module _ (image : List ℕ) (tx k : ℕ) (segment : List ℕ) where
       → length (eventBytes (allTakes image tx k segment s rx .answer) (allTakes image tx k segment s rx .count) (allTakes image tx k segment s rx .bytes)) ≤ roomFor segment
   event-fits s rx =
       event-size (allTakes image tx k segment s rx .answer) (allTakes image tx k segment s rx .count) (allTakes image tx k segment s rx .bytes) (all-fit s rx)
+
+-- AN OUT BUFFER WITH THAT ROOM IS NOT REFUSED
+pub segment-roomy : (image : List ℕ) (s : State) (rx tx out : List ℕ) (k : ℕ) (segment : List ℕ) → roomFor segment ≤ length out
+    → segmentEffect image s rx tx out k segment ≡ leaves (allTakes image (length tx) k segment s rx) tx out
+unfolding segmentEffect
+segment-roomy image s rx tx out k segment h =
+    ap (λ (b : Bool). cond b (untouched Small s rx tx out) (leaves (allTakes image (length tx) k segment s rx) tx out)) (le-ltb (length out) (roomFor segment) h)
+
+-- with room or without, send memory stays
+pub segment-sent : (image : List ℕ) (s : State) (rx tx out : List ℕ) (k : ℕ) (segment : List ℕ) → tx ≡ segmentEffect image s rx tx out k segment .tx
+unfolding segmentEffect
+segment-sent image s rx tx out k segment = go (ltb (length out) (roomFor segment))
+  where
+    go : (b : Bool) → tx ≡ cond b (untouched Small s rx tx out) (leaves (allTakes image (length tx) k segment s rx) tx out) .tx
+    go true = refl
+    go false = refl
+
+-- the test for that room, by a division: three times a length may be too large a number
+pub room-test : (out segment : List ℕ) → 1502 ≤ length out → ltb ((length out - 1502) / 3) (length segment) ≡ ltb (length out) (roomFor segment)
+room-test out segment h = go (ltb (length out) (roomFor segment)) refl
+  where
+    go : (b : Bool) → ltb (length out) (roomFor segment) ≡ b → ltb ((length out - 1502) / 3) (length segment) ≡ b
+    go true e = lt-ltb ((length out - 1502) / 3) (length segment) (omega (arith, h, ltb-true (length out) (roomFor segment) e))
+    go false e = le-ltb ((length out - 1502) / 3) (length segment) (omega (arith, h, ltb-false (length out) (roomFor segment) e))

@@ -14,7 +14,8 @@ use Rattle.receive.specs.declared.Answer.the-variants.{Done, Refused, NotReceiv
 use Rattle.receive.specs.declared.SegmentTaken.{SegmentTaken}
 use Rattle.receive.specs.Answer.{isDone}
 use Rattle.receive.specs.Segment.{segmentOf, memoryOf, payloadOf}
-use Rattle.answering.specs.Answers.{Effect, answers, refused, refusal, doneWith, found}
+use Rattle.answering.specs.declared.Verdict.the-variants.{Small}
+use Rattle.answering.specs.Answers.{Effect, answers, untouched, refused, refusal, doneWith, found}
 
 -- a PDU: "where its payload stood: 0 (1) and the place in the segment (4)", for a take that began at the place from of the segment ..
 abbrev pub hereBytes : ℕ → ℕ → ℕ → ℕ → ℕ → ℕ → List ℕ
@@ -100,11 +101,12 @@ eventBytes NotReceiving count bytes = refused 4 0
 abbrev pub leaves : Run → List ℕ → List ℕ → Effect
 leaves r tx out = answers (eventBytes (r .answer) (r .count) (r .bytes)) (r .state) (r .rx) tx out
 
--- what a segment event leaves: its answer is written whole, for it always fits (crate dispatch, proofs/Whole `whole`)
-unfoldable pub segmentEffect : List ℕ → State → List ℕ → List ℕ → List ℕ → ℕ → List ℕ → Effect
-segmentEffect image s rx tx out connection segment = leaves (allTakes image (length tx) connection segment s rx) tx out
-
 -- THE ROOM that the event's answer never exceeds, whatever the takes find (proofs/Room `event-fits`): a payload out of receive memory
 -- and what comes with it once, and three bytes for each of the segment
 abbrev pub roomFor : List ℕ → ℕ
 roomFor segment = 1502 + 3 * length segment
+
+-- WHAT A SEGMENT EVENT LEAVES: an out buffer that is shorter is "refused and changes nothing"; in any other the answer stands whole
+unfoldable pub segmentEffect : List ℕ → State → List ℕ → List ℕ → List ℕ → ℕ → List ℕ → Effect
+segmentEffect image s rx tx out connection segment =
+    cond (ltb (length out) (roomFor segment)) (untouched Small s rx tx out) (leaves (allTakes image (length tx) connection segment s rx) tx out)

@@ -1,7 +1,8 @@
 // A walk and a segment event, each with its answer written to an out buffer. A segment event is the takes over one segment until all
-// is read, one at least. Assumes nothing: every function is total.
+// is read, one at least. Assumes nothing: every public function is total.
 ghost use mathlib.Core.Path.{_≡_};
 ghost use Prim.Native.Nat.{_+_, _≤_};
+ghost use lib.Dec.{ltb};
 ghost use lib.ListN.{length};
 ghost use Rattle.wire.specs.Lay.{spell, lay};
 ghost use Rattle.pieces.specs.Pieces.{placeAfter};
@@ -337,7 +338,18 @@ fn put_takes(out: &mut [u8], answer: Answer, count: usize, place: usize) -> usiz
     }
 }
 
-// A segment event, into an out buffer that has room for the answer, whatever the takes find.
+// Whether the out buffer is too short for an answer over this segment, whatever the takes find. Divided: three times a length may be
+// too large a number.
+fn too_short(segment: &[u8], out: &[u8]) -> bool
+    ensures { λ r. ⌜ r ≡ ltb (length (now (out .entry))) (Seg.roomFor (now (segment .entry))) ⌝ }
+{
+    if out.len() < 1502 {
+        return true;
+    }
+    (out.len() - 1502) / 3 < segment.len()
+}
+
+// A segment event; an out buffer that is too short is refused.
 pub fn segment(
     image: &[u8],
     state: State,
@@ -347,11 +359,17 @@ pub fn segment(
     segment: &[u8],
     out: &mut [u8],
 ) -> Dispatched
-    requires { ⌜ Seg.roomFor (now segment) ≤ length (now out) ⌝ }
     ensures { λ r. ⌜ r ≡ dispatched (Seg.segmentEffect (now (image .entry)) state (now (rx .entry)) (now (tx .entry)) (now (out .entry)) connection (now (segment .entry))) ⌝ }
     ensures { λ _. ⌜ now (rx .exit) ≡ Seg.segmentEffect (now (image .entry)) state (now (rx .entry)) (now (tx .entry)) (now (out .entry)) connection (now (segment .entry)) .rx ⌝ }
     ensures { λ _. ⌜ now (out .exit) ≡ Seg.segmentEffect (now (image .entry)) state (now (rx .entry)) (now (tx .entry)) (now (out .entry)) connection (now (segment .entry)) .out ⌝ }
 {
+    let short = too_short(segment, out);
+    if short {
+        return Dispatched {
+            verdict: Verdict::Small,
+            state: state,
+        };
+    }
     let taken = take_all(image, state, rx, tx, connection, segment, out);
     let answer = taken.answer;
     let state = taken.state;

@@ -31,6 +31,10 @@ pub record Effect : Type 0 where
 abbrev pub answers : List ℕ → State → List ℕ → List ℕ → List ℕ → Effect
 answers bytes s rx tx out = record { verdict = Done (length bytes); state = s; rx = rx; tx = tx; out = lay out 0 bytes }
 
+-- "refused and changes nothing"
+abbrev pub untouched : Verdict → State → List ℕ → List ℕ → List ℕ → Effect
+untouched v s rx tx out = record { verdict = v; state = s; rx = rx; tx = tx; out = out }
+
 -- what is handed back by value
 abbrev pub dispatched : Effect → Dispatched
 dispatched e = record { verdict = e .verdict; state = e .state }

@@ -1,7 +1,7 @@
 -- A SEGMENT CALL CARRIES 4,090 BYTES AT MOST, for its body has 4,096 at most: so an out buffer of 16,384 bytes has room for its answer.
 -- Assumes nothing.
 use Prim.Native.Nat.{ℕ, _+_, _≤_}
-use mathlib.Core.Path.{_≡_, refl, subst}
+use mathlib.Core.Path.{_≡_, refl}
 use mathlib.Core.Bool.{Bool, true, false, cond, _&&_}
 use mathlib.Core.List.{List}
 use native.Mathlib.Omega.{arith}
@@ -12,8 +12,9 @@ use Rattle.wire.specs.Be.{be}
 use Rattle.lists.proofs.Both.{and-right}
 use Rattle.calls.specs.declared.Call.{Call}
 use Rattle.calls.specs.declared.Call.the-variants.{Unknown, Unfit, Ticks, Open, Close, Connected, Lost, SetRemote, Switch, Segment, Walk, TakeWaiting, Datagram, Accept, Transmit, SwitchAll, ReadCount, ClearCount}
-use Rattle.calls.specs.Calls.{fitted, plain, counted, addressed, remoteIn, positioned, callOf}
-use Rattle.dispatch.specs.Room.{Enough}
+use Rattle.calls.specs.Calls.{fitted, plain, counted, addressed, remoteIn, positioned, callOf, bytesFrom}
+use Rattle.answer_receive.specs.Segment.{roomFor}
+use Rattle.dispatch.specs.Dispatch.{room}
 
 -- the bytes that a segment call carries
 unfoldable pub carried : List ℕ → Call → ℕ
@@ -74,8 +75,7 @@ call-short n b =
     (either b (eqb n 15) _ _ (fits-short b (plain b 2) (ClearCount (be 1 b 1)) (λ _. omega arith))
     (omega arith))))))))))))))))
 
-pub call-enough : (n : ℕ) (body out : List ℕ) → 16384 ≤ length out → Enough out body (callOf n body)
+-- so an out buffer of 16,384 bytes has room for its answer
+pub call-room : (b : List ℕ) (c at : ℕ) → Short b (Segment c at) → roomFor (bytesFrom b at) ≤ room
 unfolding carried
-call-enough n body out h c at e =
-    let s : carried body (Segment c at) ≤ 4090 = subst (λ (call : Call). carried body call ≤ 4090) e (call-short n body) in
-    omega (arith, s)
+call-room b c at h = omega (arith, h)

@@ -24,15 +24,15 @@ use Rattle.receive.specs.Walk.{walkOf}
 use Rattle.arrivals.specs.Arrivals.{datagramOf, acceptOf}
 use Rattle.sending.specs.Sending.{sendOf, takenOf, takenOut}
 use Rattle.answering.specs.declared.Verdict.the-variants.{Done, Small}
-use Rattle.answering.specs.Answers.{Effect}
+use Rattle.answering.specs.Answers.{Effect, untouched}
 use Rattle.answer_events.specs.Events.{ownEffect, lostEffect, ticksEffect, switchAllEffect, readEffect, clearEffect}
 use Rattle.answer_receive.specs.Walk.{walkEffect}
-use Rattle.answer_receive.specs.Segment.{segmentEffect}
-use Rattle.answer_receive.proofs.Room.{event-fits}
+use Rattle.answer_receive.specs.Segment.{roomFor, segmentEffect}
+use Rattle.answer_receive.proofs.Room.{event-fits, segment-roomy}
 use Rattle.answer_send.specs.Send.{roomOf, datagramEffect, acceptEffect, transmitEffect, takeEffect}
-use Rattle.dispatch.specs.Dispatch.{room, untouched, effectOf, dispatchOf}
+use Rattle.dispatch.specs.Dispatch.{room, effectOf, dispatchOf}
 use Rattle.dispatch.specs.Whole.{Whole, answer, unknown, unfit, small}
-use Rattle.dispatch.proofs.Calls.{carried, Short, call-short}
+use Rattle.dispatch.proofs.Calls.{Short, call-short, call-room}
 use Rattle.dispatch.proofs.Sizes.{told-size, loss-size, ticks-size, count-size, arrival-size, transmission-size, walked-size, taking-size, taken-size, buffer-size}
 
 module _ (image : List ℕ) (s : State) (rx tx out : List ℕ) (long : room ≤ length out) where
@@ -69,9 +69,9 @@ module _ (image : List ℕ) (s : State) (rx tx out : List ℕ) (long : room ≤ 
   unfolding clearEffect
   clear-whole p = laid _ (omega (arith, count-size (clearOf image s (length rx) (length tx) p .answer)))
 
-  segment-whole : (c : ℕ) (bytes : List ℕ) → length bytes ≤ 4090 → Told (segmentEffect image s rx tx out c bytes)
-  unfolding segmentEffect
-  segment-whole c bytes h = laid _ (omega (arith, event-fits image (length tx) c bytes s rx))
+  segment-whole : (c : ℕ) (bytes : List ℕ) → roomFor bytes ≤ room → Told (segmentEffect image s rx tx out c bytes)
+  segment-whole c bytes h =
+      subst Told (sym (segment-roomy image s rx tx out c bytes (omega (arith, h, long)))) (laid _ (omega (arith, h, event-fits image (length tx) c bytes s rx)))
 
   walk-whole : (c place : ℕ) (bytes : List ℕ) → Told (walkEffect image s rx tx out c place bytes)
   unfolding walkEffect
@@ -98,7 +98,7 @@ module _ (image : List ℕ) (s : State) (rx tx out : List ℕ) (long : room ≤ 
 
   -- the step of a call whose segment, where it has one, is short enough
   call-whole : (body : List ℕ) (call : Call) → Short body call → Told (effectOf image s rx tx out body call)
-  unfolding effectOf carried
+  unfolding effectOf
   call-whole body Unknown h = unknown
   call-whole body Unfit h = unfit
   call-whole body (Ticks n) h = ticks-whole n
@@ -108,7 +108,7 @@ module _ (image : List ℕ) (s : State) (rx tx out : List ℕ) (long : room ≤ 
   call-whole body (Lost c) h = lost-whole c
   call-whole body (SetRemote c remote) h = own-whole c (SetsRemote remote)
   call-whole body (Switch c number on) h = own-whole c (Switches number on)
-  call-whole body (Segment c at) h = segment-whole c (bytesFrom body at) h
+  call-whole body (Segment c at) h = segment-whole c (bytesFrom body at) (call-room body c at h)
   call-whole body (Walk c place at) h = walk-whole c place (bytesFrom body at)
   call-whole body (TakeWaiting c n) h = take-whole c n
   call-whole body (Datagram group source) h = datagram-whole group source
@@ -125,7 +125,7 @@ unfolding dispatchOf
 whole image s rx tx out number body = go (ltb (length out) room) refl
   where
     go : (b : Bool) → ltb (length out) room ≡ b
-        → Whole out (cond b (untouched image s rx tx out Small) (effectOf image s rx tx out body (callOf number body)) .verdict)
-        (cond b (untouched image s rx tx out Small) (effectOf image s rx tx out body (callOf number body)) .out)
+        → Whole out (cond b (untouched Small s rx tx out) (effectOf image s rx tx out body (callOf number body)) .verdict)
+        (cond b (untouched Small s rx tx out) (effectOf image s rx tx out body (callOf number body)) .out)
     go true e = small
     go false e = call-whole image s rx tx out (ltb-false (length out) room e) body (callOf number body) (call-short number body)

@@ -10,9 +10,8 @@ use Rattle.state.specs.declared.State.{State}
 use Rattle.calls.specs.declared.Call.{Call}
 use Rattle.calls.specs.declared.Call.the-variants.{Unknown, Unfit, Ticks, Open, Close, Connected, Lost, SetRemote, Switch, Segment, Walk, TakeWaiting, Datagram, Accept, Transmit, SwitchAll, ReadCount, ClearCount}
 use Rattle.calls.specs.Calls.{callOf, bytesFrom}
-use Rattle.answering.specs.declared.Verdict.{Verdict}
 use Rattle.answering.specs.declared.Verdict.the-variants.{Unknown as NoEvent, Unfit as DoesNotFit, Small}
-use Rattle.answering.specs.Answers.{Effect}
+use Rattle.answering.specs.Answers.{Effect, untouched}
 use Rattle.answer_events.specs.Events.{ownEffect, lostEffect, ticksEffect, switchAllEffect, readEffect, clearEffect}
 use Rattle.answer_receive.specs.Walk.{walkEffect}
 use Rattle.answer_receive.specs.Segment.{segmentEffect}
@@ -23,14 +22,10 @@ abbrev pub room : ℕ
 room = 16384
 
 module _ (image : List ℕ) (s : State) (rx tx out : List ℕ) where
-  -- "refused and changes nothing"
-  abbrev pub untouched : Verdict → Effect
-  untouched v = record { verdict = v; state = s; rx = rx; tx = tx; out = out }
-
   -- the step of a call, whose bytes stand in the body
   unfoldable pub effectOf : List ℕ → Call → Effect
-  effectOf body Unknown = untouched NoEvent
-  effectOf body Unfit = untouched DoesNotFit
+  effectOf body Unknown = untouched NoEvent s rx tx out
+  effectOf body Unfit = untouched DoesNotFit s rx tx out
   effectOf body (Ticks n) = ticksEffect image s rx tx out n
   effectOf body (Open c) = ownEffect image s rx tx out c Opens
   effectOf body (Close c) = ownEffect image s rx tx out c Closes
@@ -50,4 +45,4 @@ module _ (image : List ℕ) (s : State) (rx tx out : List ℕ) where
 
   -- an out buffer that is too short is refused; else the step of the event that number and body spell
   unfoldable pub dispatchOf : ℕ → List ℕ → Effect
-  dispatchOf number body = cond (ltb (length out) room) (untouched Small) (effectOf body (callOf number body))
+  dispatchOf number body = cond (ltb (length out) room) (untouched Small s rx tx out) (effectOf body (callOf number body))

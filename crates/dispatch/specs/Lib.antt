@@ -1,4 +1,3 @@
 -- What the contracts of this crate cite. Assumes nothing.
 pub mod Dispatch
-pub mod Room
 pub mod Whole

@@ -2,7 +2,6 @@
 ghost use mathlib.Core.Path.{_≡_};
 ghost use Rattle.answering.specs.Answers.{dispatched};
 ghost use Rattle.dispatch.specs.Dispatch.{effectOf, dispatchOf};
-ghost use Rattle.dispatch.specs.Room.{Enough};
 use answering::Dispatched;
 use answering::Verdict;
 use calls::Call;
@@ -11,7 +10,7 @@ use calls::call_of;
 use connection::Event;
 use state::State;
 
-// The step of a call, whose bytes stand in the body, into an out buffer with room for its answer.
+// The step of a call, whose bytes stand in the body.
 fn answer_call(
     image: &[u8],
     state: State,
@@ -21,7 +20,6 @@ fn answer_call(
     call: Call,
     out: &mut [u8],
 ) -> Dispatched
-    requires { ⌜ Enough (now out) (now body) call ⌝ }
     ensures { λ r. ⌜ r ≡ dispatched (effectOf (now (image .entry)) state (now (rx .entry)) (now (tx .entry)) (now (out .entry)) (now (body .entry)) call) ⌝ }
     ensures { λ _. ⌜ now (rx .exit) ≡ effectOf (now (image .entry)) state (now (rx .entry)) (now (tx .entry)) (now (out .entry)) (now (body .entry)) call .rx ⌝ }
     ensures { λ _. ⌜ now (tx .exit) ≡ effectOf (now (image .entry)) state (now (rx .entry)) (now (tx .entry)) (now (out .entry)) (now (body .entry)) call .tx ⌝ }

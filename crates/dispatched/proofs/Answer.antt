@@ -20,12 +20,15 @@ use Rattle.calls.specs.declared.Call.the-variants.{Unknown, Unfit, Ticks, Open,
 use Rattle.calls.specs.Calls.{callOf, bytesFrom}
 use Rattle.answering.specs.declared.Verdict.{Verdict}
 use Rattle.answering.specs.declared.Verdict.the-variants.{Done, Unknown as NoEvent, Unfit as DoesNotFit, Small}
+use Rattle.answering.specs.Answers.{Effect, answers, untouched}
 use Rattle.answer_events.specs.Events.{ownEffect, lostEffect, ticksEffect, switchAllEffect, readEffect, clearEffect}
 use Rattle.answer_receive.specs.Walk.{walkEffect}
-use Rattle.answer_receive.specs.Segment.{Run, begun, step, runOf, allTakes, eventBytes, segmentEffect}
+use Rattle.answer_receive.specs.Segment.{Run, begun, step, runOf, allTakes, eventBytes, roomFor, segmentEffect}
+use Rattle.answer_receive.proofs.Room.{segment-roomy}
 use Rattle.answer_send.specs.Send.{datagramEffect, acceptEffect, transmitEffect, takeEffect}
-use Rattle.dispatch.specs.Dispatch.{room, untouched, effectOf, dispatchOf}
+use Rattle.dispatch.specs.Dispatch.{room, effectOf, dispatchOf}
 use Rattle.dispatch.specs.Whole.{Whole, answer, unknown, unfit, small}
+use Rattle.dispatch.proofs.Calls.{Short, call-short, call-room}
 use Rattle.dispatch.proofs.Whole.{whole}
 use Rattle.tie.specs.Machine.{Machine}
 use Rattle.dispatched.specs.Spelt.{Spoken}
@@ -71,6 +74,14 @@ module _ (image : List ℕ) (s : State) (rx tx : List ℕ) where
       event-named image (length tx) c seg (allTakes image (length tx) c seg s rx .answer) (allTakes image (length tx) c seg s rx .count) (allTakes image (length tx) c seg s rx .bytes)
       (takesOver image s rx tx c seg) (λ d. takes-count image (length tx) c seg (length seg) (begun s rx) d ∙ zero-add _) (segment-bytes image (length tx) c seg s rx)
 
+  -- what it leaves, where there is room for it
+  segment-says : (out : List ℕ) (c : ℕ) (seg : List ℕ) → roomFor seg ≤ length out
+      → segmentEffect image s rx tx out c seg
+      ≡ answers (segmentAnswer image s rx tx c seg) (allTakes image (length tx) c seg s rx .state) (allTakes image (length tx) c seg s rx .rx) tx out
+  segment-says out c seg h =
+      segment-roomy image s rx tx out c seg h
+      ∙ ap (λ (l : List ℕ). answers l (allTakes image (length tx) c seg s rx .state) (allTakes image (length tx) c seg s rx .rx) tx out) (segment-named c seg)
+
 -- how many bytes a verdict says are written, and whether it says so
 abbrev written : Verdict → ℕ
 written (Done n) = n
@@ -94,73 +105,76 @@ fits out small n e = omega (arith, ap written e)
 abbrev Named : List ℕ → List ℕ → ℕ → List ℕ → Type 0
 Named out bytes n after = (n ≡ length bytes) × (after ≡ bytes ++ drop n out)
 
-module _ (image : List ℕ) (s : State) (rx tx out : List ℕ) (n : ℕ) (long : n ≤ length out) where
+module _ (image : List ℕ) (s : State) (rx tx out : List ℕ) (n : ℕ) (low : n ≤ room) (long : room ≤ length out) where
   laid : (bytes : List ℕ) → Done (length bytes) ≡ Done n → Named out bytes n (lay out 0 bytes)
   laid bytes e =
       let is : length bytes ≡ n = ap written e in
       let z : 0 + length bytes ≡ n = omega (arith, is) in
-      (sym is, lay-fits out 0 bytes (omega (arith, is, long)) ∙ ap (λ (k : ℕ). bytes ++ drop k out) z)
+      (sym is, lay-fits out 0 bytes (omega (arith, is, low, long)) ∙ ap (λ (k : ℕ). bytes ++ drop k out) z)
 
   none : (v : Verdict) → written v ≡ 0 → v ≡ Done n → Named out [] n out
   none v z e =
       let is : n ≡ 0 = sym (ap written e) ∙ z in
       (is, ap (λ (k : ℕ). drop k out) (sym is))
 
-  call-named : (body : List ℕ) (call : Call) → effectOf image s rx tx out body call .verdict ≡ Done n
+  -- the step of a call whose segment, where it has one, is short enough
+  call-named : (body : List ℕ) (call : Call) → Short body call → effectOf image s rx tx out body call .verdict ≡ Done n
       → Named out (answerOf image s rx tx body call) n (effectOf image s rx tx out body call .out)
-  unfolding effectOf answerOf ownEffect lostEffect ticksEffect switchAllEffect readEffect clearEffect walkEffect segmentEffect datagramEffect acceptEffect transmitEffect takeEffect
-  call-named body Unknown e = none NoEvent refl e
-  call-named body Unfit e = none DoesNotFit refl e
-  call-named body (Ticks k) e = laid _ e
-  call-named body (Open c) e = laid _ e
-  call-named body (Close c) e = laid _ e
-  call-named body (Connected c) e = laid _ e
-  call-named body (Lost c) e = laid _ e
-  call-named body (SetRemote c remote) e = laid _ e
-  call-named body (Switch c number position) e = laid _ e
-  call-named body (Segment c at) e =
-      subst (λ (l : List ℕ). Named out l n (effectOf image s rx tx out body (Segment c at) .out)) (segment-named image s rx tx c (bytesFrom body at)) (laid _ e)
-  call-named body (Walk c place at) e = laid _ e
-  call-named body (TakeWaiting c k) e = laid _ e
-  call-named body (Datagram group source) e = laid _ e
-  call-named body (Accept group source) e = laid _ e
-  call-named body (Transmit pdu at) e = laid _ e
-  call-named body (SwitchAll number position) e = laid _ e
-  call-named body (ReadCount protocol) e = laid _ e
-  call-named body (ClearCount protocol) e = laid _ e
+  unfolding effectOf answerOf ownEffect lostEffect ticksEffect switchAllEffect readEffect clearEffect walkEffect datagramEffect acceptEffect transmitEffect takeEffect
+  call-named body Unknown h e = none NoEvent refl e
+  call-named body Unfit h e = none DoesNotFit refl e
+  call-named body (Ticks k) h e = laid _ e
+  call-named body (Open c) h e = laid _ e
+  call-named body (Close c) h e = laid _ e
+  call-named body (Connected c) h e = laid _ e
+  call-named body (Lost c) h e = laid _ e
+  call-named body (SetRemote c remote) h e = laid _ e
+  call-named body (Switch c number position) h e = laid _ e
+  call-named body (Segment c at) h e =
+      subst (λ (x : Effect). x .verdict ≡ Done n → Named out (segmentAnswer image s rx tx c (bytesFrom body at)) n (x .out))
+      (sym (segment-says image s rx tx out c (bytesFrom body at) (omega (arith, long, call-room body c at h)))) (laid _) e
+  call-named body (Walk c place at) h e = laid _ e
+  call-named body (TakeWaiting c k) h e = laid _ e
+  call-named body (Datagram group source) h e = laid _ e
+  call-named body (Accept group source) h e = laid _ e
+  call-named body (Transmit pdu at) h e = laid _ e
+  call-named body (SwitchAll number position) h e = laid _ e
+  call-named body (ReadCount protocol) h e = laid _ e
+  call-named body (ClearCount protocol) h e = laid _ e
 
 -- EVERY EVENT IS ANSWERED: what a number and a body spell, into an out buffer that is long enough
-module _ (image : List ℕ) (s : State) (rx tx out : List ℕ) where
-  call-answered : (body : List ℕ) (call : Call) → (call ≡ Unknown → ⊥) → (call ≡ Unfit → ⊥)
+module _ (image : List ℕ) (s : State) (rx tx out : List ℕ) (long : room ≤ length out) where
+  call-answered : (body : List ℕ) (call : Call) → Short body call → (call ≡ Unknown → ⊥) → (call ≡ Unfit → ⊥)
       → effectOf image s rx tx out body call .verdict ≡ Done (length (answerOf image s rx tx body call))
-  unfolding effectOf answerOf ownEffect lostEffect ticksEffect switchAllEffect readEffect clearEffect walkEffect segmentEffect datagramEffect acceptEffect transmitEffect takeEffect
-  call-answered body Unknown known fit = absurd (known refl)
-  call-answered body Unfit known fit = absurd (fit refl)
-  call-answered body (Ticks k) known fit = refl
-  call-answered body (Open c) known fit = refl
-  call-answered body (Close c) known fit = refl
-  call-answered body (Connected c) known fit = refl
-  call-answered body (Lost c) known fit = refl
-  call-answered body (SetRemote c remote) known fit = refl
-  call-answered body (Switch c number position) known fit = refl
-  call-answered body (Segment c at) known fit = ap (λ (l : List ℕ). Done (length l)) (segment-named image s rx tx c (bytesFrom body at))
-  call-answered body (Walk c place at) known fit = refl
-  call-answered body (TakeWaiting c k) known fit = refl
-  call-answered body (Datagram group source) known fit = refl
-  call-answered body (Accept group source) known fit = refl
-  call-answered body (Transmit pdu at) known fit = refl
-  call-answered body (SwitchAll number position) known fit = refl
-  call-answered body (ReadCount protocol) known fit = refl
-  call-answered body (ClearCount protocol) known fit = refl
+  unfolding effectOf answerOf ownEffect lostEffect ticksEffect switchAllEffect readEffect clearEffect walkEffect datagramEffect acceptEffect transmitEffect takeEffect
+  call-answered body Unknown h known fit = absurd (known refl)
+  call-answered body Unfit h known fit = absurd (fit refl)
+  call-answered body (Ticks k) h known fit = refl
+  call-answered body (Open c) h known fit = refl
+  call-answered body (Close c) h known fit = refl
+  call-answered body (Connected c) h known fit = refl
+  call-answered body (Lost c) h known fit = refl
+  call-answered body (SetRemote c remote) h known fit = refl
+  call-answered body (Switch c number position) h known fit = refl
+  call-answered body (Segment c at) h known fit =
+      ap (λ (x : Effect). x .verdict) (segment-says image s rx tx out c (bytesFrom body at) (omega (arith, long, call-room body c at h)))
+  call-answered body (Walk c place at) h known fit = refl
+  call-answered body (TakeWaiting c k) h known fit = refl
+  call-answered body (Datagram group source) h known fit = refl
+  call-answered body (Accept group source) h known fit = refl
+  call-answered body (Transmit pdu at) h known fit = refl
+  call-answered body (SwitchAll number position) h known fit = refl
+  call-answered body (ReadCount protocol) h known fit = refl
+  call-answered body (ClearCount protocol) h known fit = refl
 
 pub event-answered : (image : List ℕ) (m : Machine) (c : Spoken) → room ≤ length (c .out)
     → (callOf (c .number) (c .body) ≡ Unknown → ⊥) → (callOf (c .number) (c .body) ≡ Unfit → ⊥)
     → dispatchOf image (m .state) (m .rx) (m .tx) (c .out) (c .number) (c .body) .verdict ≡ Done (length (answerBy image m c))
 unfolding dispatchOf
 event-answered image m c long known fit =
-    ap (λ (b : Bool). cond b (untouched image (m .state) (m .rx) (m .tx) (c .out) Small) (effectOf image (m .state) (m .rx) (m .tx) (c .out) (c .body) (callOf (c .number) (c .body))) .verdict)
+    ap (λ (b : Bool). cond b (untouched Small (m .state) (m .rx) (m .tx) (c .out)) (effectOf image (m .state) (m .rx) (m .tx) (c .out) (c .body) (callOf (c .number) (c .body))) .verdict)
     (le-ltb (length (c .out)) room long)
-    ∙ call-answered image (m .state) (m .rx) (m .tx) (c .out) (c .body) (callOf (c .number) (c .body)) known fit
+    ∙ call-answered image (m .state) (m .rx) (m .tx) (c .out) long (c .body) (callOf (c .number) (c .body)) (call-short (c .number) (c .body)) known fit
 
 -- EVERY ANSWER, of any image, machine and call
 pub answer-named : (image : List ℕ) (m : Machine) (c : Spoken) (n : ℕ) → dispatchOf image (m .state) (m .rx) (m .tx) (c .out) (c .number) (c .body) .verdict ≡ Done n
@@ -172,9 +186,9 @@ answer-named image m c n said = go (ltb (length (c .out)) room) refl said
     low = fits (c .out) (whole image (m .state) (m .rx) (m .tx) (c .out) (c .number) (c .body)) n said
 
     go : (b : Bool) → ltb (length (c .out)) room ≡ b
-        → cond b (untouched image (m .state) (m .rx) (m .tx) (c .out) Small) (effectOf image (m .state) (m .rx) (m .tx) (c .out) (c .body) (callOf (c .number) (c .body))) .verdict ≡ Done n
+        → cond b (untouched Small (m .state) (m .rx) (m .tx) (c .out)) (effectOf image (m .state) (m .rx) (m .tx) (c .out) (c .body) (callOf (c .number) (c .body))) .verdict ≡ Done n
         → Named (c .out) (answerBy image m c) n
-        (cond b (untouched image (m .state) (m .rx) (m .tx) (c .out) Small) (effectOf image (m .state) (m .rx) (m .tx) (c .out) (c .body) (callOf (c .number) (c .body))) .out)
+        (cond b (untouched Small (m .state) (m .rx) (m .tx) (c .out)) (effectOf image (m .state) (m .rx) (m .tx) (c .out) (c .body) (callOf (c .number) (c .body))) .out)
     go true e d = absurd (false≢true (ap answered d))
     go false e d =
-        call-named image (m .state) (m .rx) (m .tx) (c .out) n (omega (arith, low, ltb-false (length (c .out)) room e)) (c .body) (callOf (c .number) (c .body)) d
+        call-named image (m .state) (m .rx) (m .tx) (c .out) n low (ltb-false (length (c .out)) room e) (c .body) (callOf (c .number) (c .body)) (call-short (c .number) (c .body)) d

@@ -1,10 +1,11 @@
 -- A CALL OF THE DISPATCHER LEAVES WHAT ITS EVENTS MAKE OF THE MACHINE: of any image, state, memories, number, body and out buffer, refusals
 -- included. Assumes nothing.
-use Prim.Native.Nat.{ℕ}
-use mathlib.Core.Path.{_≡_, refl, ap}
+use Prim.Native.Nat.{ℕ, _≤_}
+use mathlib.Core.Path.{_≡_, refl, ap, _∙_}
 use mathlib.Core.Bool.{Bool, true, false, cond}
 use mathlib.Core.List.{List, []}
 use native.Mathlib.Omega.{arith}
+use borrow.Author.Tests.{ltb-false}
 use lib.Dec.{ltb}
 use lib.ListN.{length, take as front, replicate, length-take, length-replicate}
 use Rattle.state.specs.declared.State.{State}
@@ -16,11 +17,13 @@ use Rattle.calls.specs.declared.Call.{Call}
 use Rattle.calls.specs.declared.Call.the-variants.{Unknown, Unfit, Ticks, Open, Close, Connected, Lost, SetRemote, Switch, Segment, Walk, TakeWaiting, Datagram, Accept, Transmit, SwitchAll, ReadCount, ClearCount}
 use Rattle.calls.specs.Calls.{callOf, bytesFrom}
 use Rattle.answering.specs.declared.Verdict.the-variants.{Small}
+use Rattle.answering.specs.Answers.{untouched}
 use Rattle.answer_events.specs.Events.{ownEffect, lostEffect, ticksEffect, switchAllEffect, readEffect, clearEffect}
 use Rattle.answer_receive.specs.Walk.{walkEffect}
-use Rattle.answer_receive.specs.Segment.{segmentEffect}
+use Rattle.answer_receive.proofs.Room.{segment-roomy}
 use Rattle.answer_send.specs.Send.{roomOf, datagramEffect, acceptEffect, transmitEffect, takeEffect}
-use Rattle.dispatch.specs.Dispatch.{room, untouched, effectOf, dispatchOf}
+use Rattle.dispatch.specs.Dispatch.{room, effectOf, dispatchOf}
+use Rattle.dispatch.proofs.Calls.{Short, call-short, call-room}
 use Rattle.tie.specs.Machine.{Machine, machine}
 use Rattle.tie.specs.Run.{afterOwn, afterWhole, afterEvent, afterRun}
 use Rattle.dispatched.specs.Spelt.{eventsOf, Spoken, speltBy, machineOf, afterCall}
@@ -37,36 +40,40 @@ take-room : (image : List ℕ) (s : State) (rx : ℕ) (tx : List ℕ) (c : ℕ) 
 unfolding takenOf
 take-room image s rx tx c a b e = ap (λ (n : ℕ). through (gateAt image s rx (length tx) c) (notTaken s) (takePast image s c n)) e
 
-module _ (image : List ℕ) (s : State) (rx tx out body : List ℕ) where
-  pub call-events : (call : Call) → machineOf (effectOf image s rx tx out body call) ≡ afterRun image (machine s rx tx) (eventsOf body call)
-  unfolding effectOf eventsOf afterRun afterEvent afterOwn afterWhole ownEffect lostEffect lossOf ticksEffect switchAllEffect readEffect clearEffect walkEffect segmentEffect datagramEffect acceptEffect transmitEffect takeEffect
-  call-events Unknown = refl
-  call-events Unfit = refl
-  call-events (Ticks n) = ticks-run image rx tx s n
-  call-events (Open c) = refl
-  call-events (Close c) = refl
-  call-events (Connected c) = refl
-  call-events (Lost c) = refl
-  call-events (SetRemote c remote) = refl
-  call-events (Switch c number position) = refl
-  call-events (Segment c at) = segment-machine image c (bytesFrom body at) s rx tx
-  call-events (Walk c place at) = refl
-  call-events (TakeWaiting c n) =
+module _ (image : List ℕ) (s : State) (rx tx out body : List ℕ) (long : room ≤ length out) where
+  -- the step of a call whose segment, where it has one, is short enough
+  call-events : (call : Call) → Short body call → machineOf (effectOf image s rx tx out body call) ≡ afterRun image (machine s rx tx) (eventsOf body call)
+  unfolding effectOf eventsOf afterRun afterEvent afterOwn afterWhole ownEffect lostEffect lossOf ticksEffect switchAllEffect readEffect clearEffect walkEffect datagramEffect acceptEffect transmitEffect takeEffect
+  call-events Unknown h = refl
+  call-events Unfit h = refl
+  call-events (Ticks n) h = ticks-run image rx tx s n
+  call-events (Open c) h = refl
+  call-events (Close c) h = refl
+  call-events (Connected c) h = refl
+  call-events (Lost c) h = refl
+  call-events (SetRemote c remote) h = refl
+  call-events (Switch c number position) h = refl
+  call-events (Segment c at) h =
+      ap machineOf (segment-roomy image s rx tx out c (bytesFrom body at) (omega (arith, long, call-room body c at h)))
+      ∙ segment-machine image c (bytesFrom body at) s rx tx
+  call-events (Walk c place at) h = refl
+  call-events (TakeWaiting c n) h =
       ap (λ (t : Taken). machine (t .state) rx tx) (take-room image s (length rx) tx c (front (roomOf n) (replicate 1472 0)) (replicate (roomOf n) 0) (buffer-room n))
-  call-events (Datagram group source) = refl
-  call-events (Accept group source) = refl
-  call-events (Transmit pdu at) = refl
-  call-events (SwitchAll number position) = refl
-  call-events (ReadCount protocol) = refl
-  call-events (ClearCount protocol) = refl
+  call-events (Datagram group source) h = refl
+  call-events (Accept group source) h = refl
+  call-events (Transmit pdu at) h = refl
+  call-events (SwitchAll number position) h = refl
+  call-events (ReadCount protocol) h = refl
+  call-events (ClearCount protocol) h = refl
 
 -- ONE CALL
 pub dispatched-events : (image : List ℕ) (m : Machine) (c : Spoken) → afterCall image c m ≡ afterRun image m (speltBy c)
 unfolding dispatchOf speltBy afterRun
-dispatched-events image m c = go (ltb (length (c .out)) room)
+dispatched-events image m c = go (ltb (length (c .out)) room) refl
   where
-    go : (b : Bool)
-        → machineOf (cond b (untouched image (m .state) (m .rx) (m .tx) (c .out) Small) (effectOf image (m .state) (m .rx) (m .tx) (c .out) (c .body) (callOf (c .number) (c .body))))
+    go : (b : Bool) → ltb (length (c .out)) room ≡ b
+        → machineOf (cond b (untouched Small (m .state) (m .rx) (m .tx) (c .out)) (effectOf image (m .state) (m .rx) (m .tx) (c .out) (c .body) (callOf (c .number) (c .body))))
         ≡ afterRun image m (cond b [] (eventsOf (c .body) (callOf (c .number) (c .body))))
-    go true = refl
-    go false = call-events image (m .state) (m .rx) (m .tx) (c .out) (c .body) (callOf (c .number) (c .body))
+    go true e = refl
+    go false e =
+        call-events image (m .state) (m .rx) (m .tx) (c .out) (c .body) (ltb-false (length (c .out)) room e) (callOf (c .number) (c .body)) (call-short (c .number) (c .body))

@@ -3,7 +3,7 @@ use mathlib.Core.Path.{refl}
 use Rattle.dispatch.specs.Dispatch.{effectOf}
 use Rattle.answer_events.specs.Events.{ownEffect, lostEffect, ticksEffect, switchAllEffect, readEffect, clearEffect}
 use Rattle.answer_receive.specs.Walk.{walkEffect}
-use Rattle.answer_receive.specs.Segment.{segmentEffect}
+use Rattle.answer_receive.proofs.Room.{segment-sent}
 use Rattle.answer_send.specs.Send.{datagramEffect, acceptEffect, transmitEffect, takeEffect}
 use borrow.Author.Needs.{needs}
 use Rattle.dispatch.proofs.answer_call.Statement.{statement}
@@ -64,9 +64,7 @@ bytes-from-requires : tie.Need-bytes-from-requires
 bytes-from-requires c κs = search needs
 
 segment-requires : tie.Need-segment-requires
-segment-requires c κs =
-    let k = c .before .before .before .before .before in
-    rw (c .before .bytes-from .ensures) (k .before .before .before .before .before .before .before .pre _ _ (k .call8 .given .1))
+segment-requires c κs = search needs
 
 enum-known-call-9 : tie.Need-enum-known-call-9
 enum-known-call-9 c = search needs
@@ -234,8 +232,8 @@ same-length-24 : tie.Need-same-length-24
 same-length-24 c = search needs
 
 returns-10 : tie.Need-returns-10
-unfolding effectOf segmentEffect
-returns-10 c = let p = c .before .before .before .before .segment .ensures in rw (c .before .before .before .before .before .before .before .before .before .before .call8 .given .1, ← c .before .before .before .before .before .before .bytes-from .ensures) (p .0, (p .1 .0, (refl, p .1 .1)))
+unfolding effectOf
+returns-10 c = let a = c .before .before .before .before .before .before .before .before .before .before .before .before .before .before .before .before .before .args in let p = c .before .before .before .before .segment .ensures in rw (c .before .before .before .before .before .before .before .before .before .before .call8 .given .1, ← c .before .before .before .before .before .before .bytes-from .ensures) (p .0, (p .1 .0, (segment-sent _ _ _ (a .tx .now) _ _ _, p .1 .1)))
 
 same-length-25 : tie.Need-same-length-25
 same-length-25 c = search needs

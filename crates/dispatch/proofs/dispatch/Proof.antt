@@ -2,7 +2,6 @@
 use mathlib.Core.Path.{refl}
 use borrow.Author.Tests.{lt-ltb, le-ltb}
 use Rattle.dispatch.specs.Dispatch.{dispatchOf}
-use Rattle.dispatch.proofs.Calls.{call-enough}
 use borrow.Author.Needs.{needs}
 use Rattle.dispatch.proofs.dispatch.Statement.{statement}
 use Rattle.dispatch.proofs.dispatch.Tie as tie
@@ -15,10 +14,7 @@ call-of-requires : tie.Need-call-of-requires
 call-of-requires c κs = search needs
 
 answer-call-requires : tie.Need-answer-call-requires
-answer-call-requires c κs =
-    let k = c .before .before .before in
-    let a = k .before .before .before .before .before .before .before .args in
-    rw (k .call-of .ensures) (call-enough (a .number) (a .body .now) (a .out .now) (k .before .if1 .left))
+answer-call-requires c κs = search needs
 
 same-length : tie.Need-same-length
 same-length c = search needs
