@@ -9,8 +9,8 @@ use lib.Dec.{leb}
 use lib.ListN.{length, take, drop, length-take, length-drop}
 use Rattle.feed.specs.declared.Decision.{Decision}
 use Rattle.feed.specs.declared.Decision.the-variants.{Accept, Refuse}
-use Rattle.feed.specs.Feed.{Routes, header, payload, skip, Cell, cell, Out, nothing, pdu, dropped, Fed, decided, done, feed, stops, Took, took, takeB}
-use Rattle.feed.proofs.Cut.{Ends, at-end, at-byte, take-ends}
+use Rattle.feed.specs.Feed.{Routes, header, payload, skip, Cell, cell, Out, nothing, pdu, dropped, Fed, decided, done, feed, stops, Took, took, takeB, Ends, at-end, at-byte}
+use Rattle.feed.proofs.Cut.{take-ends}
 use Rattle.layout.specs.Layout.{partOf}
 use Rattle.part.specs.declared.Part.{Part}
 use Rattle.part.specs.declared.Part.the-variants.{Header, Payload, Skip}

@@ -47,7 +47,7 @@ pub fn put_refused(out: &mut [u8], number: u16, place: usize) -> usize
     6
 }
 
-// The paper's number of a refusal.
+// Document 01's number of a refusal.
 fn refusal_number(reason: Refusal) -> u16
     ensures { λ r. ⌜ r ≡ refusalNumber reason ⌝ }
 {

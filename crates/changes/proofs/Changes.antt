@@ -25,7 +25,8 @@ use Rattle.connection.specs.Event.{stepOf}
 use Rattle.connection.specs.Sound.{soundOf, zeroOf}
 use Rattle.state.specs.State.{counted}
 use Rattle.state.specs.Fresh.{configOf, freshState}
-use Rattle.route.specs.Route.{isOn, rowsIn, counts, rowFor, reasonIn, reasonOf, decisionOf, lookupOf}
+use Rattle.feed.specs.On.{isOn}
+use Rattle.route.specs.Route.{rowsIn, counts, rowFor, reasonIn, reasonOf, decisionOf, lookupOf}
 use Rattle.stream.specs.Stream.{tookOf, takenOf as takeFrom}
 use Rattle.datagram.specs.Datagram.{walkedOf}
 use Rattle.gate.specs.Sound.{soundAt, recordsSound, soundState}
@@ -45,8 +46,8 @@ use Rattle.send.specs.Verdict.{verdictOf}
 use Rattle.send.specs.Send.{appendOf, lookAt, checkOf, wantedAt, storeOf, storeAll, transmitOf}
 use Rattle.waiting.specs.Waiting.{takeOf}
 use Rattle.sending.specs.Sending.{sendOf, takenOf}
-use Rattle.edges.specs.Table.{image, fresh}
-use Rattle.changes.specs.Changes.{Change, change, changes, tcpDrops, isWas, isBecomes, holds, Hold, Changes}
+use Rattle.edges.specs.Table.{image}
+use Rattle.changes.specs.Changes.{Change, changes, idle, isWas, isBecomes, holds, Hold, Changes}
 
 pub changes-hold : Hold changes
 unfolding image be badFrom every foldFrom rowsOf bodyBytes startOf endOf rowAt partOf bodyOf rowIn groupRow connectionRow routeRow destinationRow groupGood connectionGood routeGood destinationGood sizeIn routesShare destinationsShare share clearIn goodIn headGood entryGood rule then entriesPlace headPlace allRowsPlace checkTable done feed takeB headOf walkAt worth switchOf startsOf reachOf runOf tickOf stepOf soundOf zeroOf counted configOf freshState isOn rowsIn counts rowFor reasonIn reasonOf decisionOf lookupOf tookOf takeFrom walkedOf soundAt recordsSound soundState gateOf gateAt toldOf changeOf eventOf lossOf switchedAll switchAllOf ofProtocol clearPast clearOf tickedTo ticksTo tickEvent ticksEvent better chosenOf rankOf scoreOf scoreAt chosenIn deniedOf arriveOf arrivalOf judgedOf answerOf takeOn segmentOf walkOn walkOf refusalOf lookOf timerOf verdictOf appendOf lookAt checkOf wantedAt storeOf storeAll transmitOf takeOf sendOf takenOf
@@ -64,10 +65,6 @@ of-row c h =
       sound = and-left (soundState image (c .before)) _ two;
       moves = λ still. apart (sym before ∙ sym (ap (c .field) still) ∙ after);
     }
-
--- past the last row: an event that leaves every state as it was
-abbrev pub idle : Change
-idle = change fresh (λ s. s) tcpDrops 0 0
 
 pub each-row : (cs : List Change) → Hold cs → (i : ℕ) → i < length cs → Changes (getD cs i idle)
 each-row [] h i l = absurd (omega arith)

@@ -186,6 +186,10 @@ changes =
     ∷ change (withCount true 7 fresh) (clear 2) tcpDrops 7 0
     ∷ []
 
+-- past the last row: an event that leaves every state as it was
+abbrev pub idle : Change
+idle = change fresh (λ s. s) tcpDrops 0 0
+
 -- the state is sound, over an accepted table; its field is one number before the event, another one after it
 abbrev pub isWas : Change → Bool
 isWas c = eqb (c .field (c .before)) (c .was)

@@ -82,7 +82,7 @@ arriveOf image s accept group source =
     (cond (deniedOf image accept group source) (refusedBy s Denied)
     (meet s source (chosenIn image s accept group source)))
 
--- the paper's number of an answer
+-- document 01's number of an answer
 abbrev pub arrivalNumber : Arrival → ℕ
 arrivalNumber (Met k) = 0
 arrivalNumber (Refused r) = refusalNumber r

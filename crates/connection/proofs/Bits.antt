@@ -8,6 +8,7 @@ use native.Mathlib.Nat.{mod-eq-of-lt, mul-mod-left, div-eq-of-lt, max-zero}
 use lib.Dec.{leb}
 use lib.Pow.{pow-lt, pow-add, shl-shr}
 use lib.Bits.{bitOr, bitXor, differ, or-shr, xor-shr, or-step, xor-step}
+use Rattle.wire.specs.Bits.{bitAt}
 use Rattle.connection.specs.Connection.{worth, switchOf}
 
 -- one, moved n places up, is the switch's worth
@@ -22,10 +23,6 @@ worth-is n h =
 pub worth-none : (n : ℕ) → 32 ≤ n → 0 ≡ worth n
 unfolding worth
 worth-none n h = rw (le-ltb n 32 h)
-
--- bit k of a word
-abbrev pub bitAt : ℕ → ℕ → ℕ
-bitAt k w = w / 2 ^ k % 2
 
 -- the last digit of a number that ends in b
 ends : (a b : ℕ) → b < 2 → (a * 2 + b) % 2 ≡ b

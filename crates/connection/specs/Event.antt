@@ -1,4 +1,4 @@
--- The connection events that concern the record alone: when each is allowed, what it leaves, and the paper's numbers. Assumes nothing.
+-- The connection events that concern the record alone: when each is allowed, what it leaves, and document 01's numbers. Assumes nothing.
 use Prim.Native.Nat.{ℕ}
 use lib.Dec.{ltb}
 use mathlib.Core.Bool.{Bool, true, false, cond, not, _&&_, _||_}
@@ -14,7 +14,7 @@ use Rattle.connection.specs.declared.Event.{Event}
 use Rattle.connection.specs.declared.Event.the-variants.{Open, Close, Connected, Lost, SetRemote, Switch}
 use Rattle.connection.specs.Connection.{isOffline, isReconnect, isOnline, wildcard, openOf, closeOf, connectedOf, lostOf, remoteOf, switchedOf}
 
--- the paper's numbers
+-- document 01's numbers
 abbrev pub refusalNumber : Refusal → ℕ
 refusalNumber Memory = 11
 refusalNumber Unsound = 12

@@ -121,6 +121,6 @@ module _ (image : List ℕ) (w : World) (k : ℕ) (tcp : configOf image k .tcp �
   step-whole e = refl
 
   -- SO A PERIOD ENDS BY A LOSS OR A CLOSING TICK
-  pub ends-by : (e : Event) → ends (tableOf image) (wholeOf image) k w e ≡ true → EndsBy k c e
+  pub ends-by : (e : Event) → ends (tableOf image) (wholeOf image) k w e ≡ true → EndsBy k (heldAt w k .connection) e
   ends-by (on i e) q = ends-own i e (losing e) refl (ℕ-discrete i k) q
   ends-by (all e) q = ends-whole e (heldAt (wholeOf image e w) k) (ap (λ (v : World). heldAt v k) (step-whole e)) (becomes image k w e) q

@@ -158,7 +158,8 @@ module _ (image : List ℕ) (m : Machine) where
       (λ r no-zero. refl) (λ _ no-zero. absurd (no-zero refl))
 
   -- many under one check, which are no event of a run: they write no lent memory
-  pub ticks-stays : (count : ℕ) → StaysTicked (ticksEvent image s rx tx count)
+  pub ticks-stays : (count : ℕ) → (answerNumber (ticksEvent image (m .state) (length (m .rx)) (length (m .tx)) count .answer) ≡ 0 → ⊥)
+      → ticksEvent image (m .state) (length (m .rx)) (length (m .tx)) count .state ≡ m .state
   unfolding ticksEvent
   ticks-stays count =
       past-or StaysTicked (gateOf image s rx tx) (unticked s) (record { answer = Done; state = ticksTo image (rowsOf image Connections) count s })

@@ -5,7 +5,7 @@
 -- Assumes nothing.
 use Prim.Native.Nat.{ℕ, _*_, _≤_, _<_}
 use mathlib.Core.Path.{_≡_, refl, sym, ap, _∙_, subst}
-use mathlib.Core.List.{List, [], _∷_, map, flatten}
+use mathlib.Core.List.{List, [], flatten}
 use native.Mathlib.Omega.{arith}
 use lib.ListN.{length, take, drop}
 use lib.Seq.{take-take, take-at}
@@ -17,10 +17,11 @@ use Rattle.connection.specs.Event.{receiving}
 use Rattle.state.specs.State.{recordAt}
 use Rattle.feed.specs.Feed.{Pdu, pdus}
 use Rattle.feed.specs.Frame.{Sent, frames, Routed}
-use Rattle.feed.proofs.Trip.{asOut}
+use Rattle.feed.proofs.Trip.{pdus-back}
 use Rattle.walk.specs.Walk.{walks}
 use Rattle.walk.proofs.Trip.{round-trip as walk-trip, then-the-end}
 use Rattle.route.specs.Route.{lookupOf}
+use Rattle.receive.specs.Routes.{routesIn}
 use Rattle.table.proofs.Facts.{accepted-facts}
 use Rattle.gate.proofs.Pass.{passed-gate-at}
 use Rattle.keeps.proofs.Transmitted.{all-fit}
@@ -31,13 +32,14 @@ use Rattle.world.specs.World.{Held, heldAt}
 use Rattle.world.specs.Events.{Event}
 use Rattle.world.proofs.View.{view-at, view-record}
 use Rattle.runs.specs.Streams.{RunBytes}
-use Rattle.runs.proofs.Trip.{Reads, trip}
+use Rattle.runs.specs.Trip.{Reads, asSegments}
+use Rattle.runs.proofs.Trip.{trip}
 use Rattle.tie.specs.Table.{tableOf}
 use Rattle.tie.specs.Whole.{wholeOf}
 use Rattle.tie.specs.Machine.{Machine, seen}
 use Rattle.tie.specs.Run.{afterRun, givenIn, Good}
 use Rattle.demands.specs.Waits.{sentIn}
-use Rattle.demands.specs.Trip.{outgoing, Reader, routesHere, asSegments, Walker, asWalks}
+use Rattle.demands.specs.Trip.{outgoing, Reader, Walker, asWalks}
 use Rattle.demands.proofs.Runs.{run-good, run-given}
 use Rattle.demands.proofs.Waiting.{run-frames}
 use Rattle.demands.proofs.Walking.{walks-more, walks-given}
@@ -61,7 +63,7 @@ module _ (image : List ℕ) (m : Machine) (good : Good image m) (j : ℕ) (there
       (taken-bytes image (m .state) (length (m .rx)) (m .tx) j out (good .passed .sound) (passed-gate-at image (m .state) (length (m .rx)) (length (m .tx)) j (good .passed) there) room)
       ∙ take-at (waitingOf (m .tx) j n) (drop n out) n (waits-length (m .tx) j n small (good .passed .send) fits)
 
-  pub given-out : n ≤ length out → outgoing image m j out ≡ heldAt (seen m) j .waiting
+  pub given-out : recordAt (m .state) j .used ≤ length out → outgoing image m j out ≡ heldAt (seen m) j .waiting
   given-out room = out-waits room ∙ waits-are
 
 -- WHAT THE READER HANDS OUT
@@ -72,49 +74,40 @@ module _ (image : List ℕ) (m : Machine) (good : Good image m) (k : ℕ) (reade
   reads : Reads (tableOf image) (seen m) k
   reads = record { there = lt-ltb _ _ (reader .there); tcp = reader .tcp; receives = ap receiving seen-c ∙ reader .receives; at-header = reader .at-header }
 
-  pub read-back : {ss : List Sent} {ps : List Pdu} (pieces : List (List ℕ)) → Routed (routesHere image m k) ss ps → flatten pieces ≡ frames ss
+  pub read-back : {ss : List Sent} {ps : List Pdu} (pieces : List (List ℕ)) → Routed (routesIn image (m .state) k) ss ps → flatten pieces ≡ frames ss
       → RunBytes (asSegments k pieces) → givenIn image k m (asSegments k pieces) ≡ ps
   read-back {ss} {ps} pieces h e bytes =
       run-given image k m (asSegments k pieces) bytes good
       ∙ trip (tableOf image) (wholeOf image) (seen m) k reads pieces (subst (λ (d : Connection). Routed (lookupOf (bodyOf image Route) k (d .switches)) ss ps) (sym seen-c) h) e
 
 -- WHAT A WALK HANDS OUT, a step for each PDU; more steps meet the end and hand out nothing
-pdus-back : (ps : List Pdu) → pdus (map asOut ps) ≡ ps
-unfolding pdus
-pdus-back [] = refl
-pdus-back (p ∷ ps) = ap (λ (l : List Pdu). p ∷ l) (pdus-back ps)
-
-pub walk-back : (image : List ℕ) (m : Machine) → Good image m → (k : ℕ) → Walker image m k → {ss : List Sent} {ps : List Pdu} (datagram : List ℕ) → Routed (routesHere image m k) ss ps
+pub walk-back : (image : List ℕ) (m : Machine) → Good image m → (k : ℕ) → Walker image m k → {ss : List Sent} {ps : List Pdu} (datagram : List ℕ) → Routed (routesIn image (m .state) k) ss ps
     → datagram ≡ frames ss → (steps : ℕ) → length ss ≤ steps → givenIn image k m (asWalks image k datagram steps m 0) ≡ ps
 walk-back image m good k walker {ss} {ps} datagram routed e steps enough =
     walks-given image k datagram m walker steps m good refl 0 (omega arith)
-    ∙ ap (λ (l : List ℕ). pdus (walks (routesHere image m k) steps l 0)) e
-    ∙ ap pdus (walks-more (routesHere image m k) (length ss) steps (frames ss) 0 enough (then-the-end (routesHere image m k) routed) ∙ walk-trip (routesHere image m k) routed)
+    ∙ ap (λ (l : List ℕ). pdus (walks (routesIn image (m .state) k) steps l 0)) e
+    ∙ ap pdus (walks-more (routesIn image (m .state) k) (length ss) steps (frames ss) 0 enough (then-the-end (routesIn image (m .state) k) routed) ∙ walk-trip (routesIn image (m .state) k) routed)
     ∙ pdus-back ps
 
 -- BOTH TOGETHER: any run from a machine where nothing waits on connection j, and then a take of what waits
 module _ (image : List ℕ) (a : Machine) (good : Good image a) (j : ℕ) (there : j < rowsOf image Connections) (nothing : recordAt (a .state) j .used ≡ 0) (es : List Event) (bytes : RunBytes es)
     (out : List ℕ) where
-  -- the machine after the run
-  abbrev sender : Machine
-  sender = afterRun image a es
-
   none-waits : waits (a .state) (a .tx) j ≡ frames []
   unfolding waitingOf frames
   none-waits = ap (λ (i : ℕ). take i (drop (j * 1472) (a .tx))) nothing
 
   -- what the take gives out is the frames of the PDUs stored since
-  pub sent-out : recordAt (sender .state) j .used ≤ length out → outgoing image sender j out ≡ frames (sentIn image j a es [])
-  sent-out room = out-waits image sender (run-good image a es bytes good) j there out room ∙ run-frames image j a es [] bytes good none-waits
+  pub sent-out : recordAt (afterRun image a es .state) j .used ≤ length out → outgoing image (afterRun image a es) j out ≡ frames (sentIn image j a es [])
+  sent-out room = out-waits image (afterRun image a es) (run-good image a es bytes good) j there out room ∙ run-frames image j a es [] bytes good none-waits
 
   -- and what is read out of them is those PDUs: cut into segments in any way
-  pub round-trip : recordAt (sender .state) j .used ≤ length out → (image′ : List ℕ) (b : Machine) → Good image′ b → (k : ℕ) → Reader image′ b k → {ps : List Pdu}
-      → Routed (routesHere image′ b k) (sentIn image j a es []) ps → (pieces : List (List ℕ)) → flatten pieces ≡ outgoing image sender j out → RunBytes (asSegments k pieces)
+  pub round-trip : recordAt (afterRun image a es .state) j .used ≤ length out → (image′ : List ℕ) (b : Machine) → Good image′ b → (k : ℕ) → Reader image′ b k → {ps : List Pdu}
+      → Routed (routesIn image′ (b .state) k) (sentIn image j a es []) ps → (pieces : List (List ℕ)) → flatten pieces ≡ outgoing image (afterRun image a es) j out → RunBytes (asSegments k pieces)
       → givenIn image′ k b (asSegments k pieces) ≡ ps
   round-trip room image′ b good′ k reader routed pieces cut-is bytes′ = read-back image′ b good′ k reader pieces routed (cut-is ∙ sent-out room) bytes′
 
   -- or walked over as one datagram, in as many steps or more
-  pub datagram-trip : recordAt (sender .state) j .used ≤ length out → (image′ : List ℕ) (b : Machine) → Good image′ b → (k : ℕ) → Walker image′ b k → {ps : List Pdu}
-      → Routed (routesHere image′ b k) (sentIn image j a es []) ps → (steps : ℕ) → length (sentIn image j a es []) ≤ steps
-      → givenIn image′ k b (asWalks image′ k (outgoing image sender j out) steps b 0) ≡ ps
-  datagram-trip room image′ b good′ k walker routed steps enough = walk-back image′ b good′ k walker (outgoing image sender j out) routed (sent-out room) steps enough
+  pub datagram-trip : recordAt (afterRun image a es .state) j .used ≤ length out → (image′ : List ℕ) (b : Machine) → Good image′ b → (k : ℕ) → Walker image′ b k → {ps : List Pdu}
+      → Routed (routesIn image′ (b .state) k) (sentIn image j a es []) ps → (steps : ℕ) → length (sentIn image j a es []) ≤ steps
+      → givenIn image′ k b (asWalks image′ k (outgoing image (afterRun image a es) j out) steps b 0) ≡ ps
+  datagram-trip room image′ b good′ k walker routed steps enough = walk-back image′ b good′ k walker (outgoing image (afterRun image a es) j out) routed (sent-out room) steps enough

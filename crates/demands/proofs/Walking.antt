@@ -25,13 +25,14 @@ use Rattle.datagram.specs.Datagram.{outcomeOf, stepped, walkedOf}
 use Rattle.receive.specs.declared.DatagramWalked.{DatagramWalked}
 use Rattle.receive.specs.Answer.{isDone}
 use Rattle.receive.specs.Walk.{walkedAt, walkOn, walkAllowed, walkAnswer, walkOf}
+use Rattle.receive.specs.Routes.{routesIn}
 use Rattle.receive.proofs.Keeps.{walk-records}
 use Rattle.world.specs.Events.{walk, on}
 use Rattle.tie.specs.Machine.{Machine}
 use Rattle.tie.specs.Run.{toldWalk, afterOwn, afterEvent, given, givenIn, Good}
 use Rattle.tie.proofs.Answered.{done-is}
 use Rattle.tie.proofs.Good.{event-good}
-use Rattle.demands.specs.Trip.{routesHere, Walker, asWalks}
+use Rattle.demands.specs.Trip.{Walker, asWalks}
 
 -- one step's PDU
 told-found : (d : List ℕ) (f : Found) → toldWalk d (outcomeOf f) ≡ pdus (told d f [])
@@ -66,7 +67,7 @@ then-later R f d p = go (headOf (drop p d))
 
 module _ (image : List ℕ) (k : ℕ) (d : List ℕ) (start : Machine) (walker : Walker image start k) where
   abbrev R : Routes
-  R = routesHere image start k
+  R = routesIn image (start .state) k
 
   -- a later machine, with the records of the start
   module _ (m : Machine) (good : Good image m) (same : m .state .connections ≡ start .state .connections) (p : ℕ) (within : p ≤ length d) where
@@ -106,7 +107,7 @@ module _ (image : List ℕ) (k : ℕ) (d : List ℕ) (start : Machine) (walker :
     still-same = walk-records image (m .state) (length (m .rx)) (length (m .tx)) k d p ∙ same
 
   -- ANY NUMBER OF STEPS
-  pub walks-given : (f : ℕ) (m : Machine) → Good image m → m .state .connections ≡ start .state .connections → (p : ℕ) → p ≤ length d → givenIn image k m (asWalks image k d f m p) ≡ pdus (walks R f d p)
+  pub walks-given : (f : ℕ) (m : Machine) → Good image m → m .state .connections ≡ start .state .connections → (p : ℕ) → p ≤ length d → givenIn image k m (asWalks image k d f m p) ≡ pdus (walks (routesIn image (start .state) k) f d p)
   unfolding givenIn asWalks walks pdus
   walks-given zero m good same p within = refl
   walks-given (suc f) m good same p within =

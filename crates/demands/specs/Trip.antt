@@ -5,19 +5,18 @@
 use Prim.Native.Nat.{ℕ, zero, suc, _<_}
 use mathlib.Core.Path.{_≡_}
 use mathlib.Core.Bool.{true, false}
-use mathlib.Core.List.{List, [], _∷_, map}
+use mathlib.Core.List.{List, [], _∷_}
 use lib.ListN.{length, take}
-use Rattle.layout.specs.Layout.{rowsOf, bodyOf}
-use Rattle.layout.specs.declared.Kind.the-variants.{Connection as Connections, Route}
+use Rattle.layout.specs.Layout.{rowsOf}
+use Rattle.layout.specs.declared.Kind.the-variants.{Connection as Connections}
 use Rattle.connection.specs.Event.{receiving}
-use Rattle.feed.specs.Feed.{Routes, ready}
-use Rattle.route.specs.Route.{lookupOf}
+use Rattle.feed.specs.Feed.{ready}
 use Rattle.state.specs.State.{recordAt}
 use Rattle.state.specs.Fresh.{configOf}
 use Rattle.receive.specs.Walk.{walkOf}
 use Rattle.sending.specs.Sending.{takenOut}
 use Rattle.world.specs.World.{heldAt, cellAt}
-use Rattle.world.specs.Events.{segment, walk, Event, on}
+use Rattle.world.specs.Events.{walk, Event, on}
 use Rattle.tie.specs.Machine.{Machine, seen}
 use Rattle.tie.specs.Run.{afterEvent}
 
@@ -30,14 +29,6 @@ pub record Reader (image : List ℕ) (m : Machine) (k : ℕ) : Type 0 where
   pub tcp : configOf image k .tcp ≡ true
   pub receives : receiving (recordAt (m .state) k) ≡ true
   pub at-header : cellAt (heldAt (seen m) k) ≡ ready
-
--- what its routes say as its switches stand
-abbrev pub routesHere : List ℕ → Machine → ℕ → Routes
-routesHere image m k = lookupOf (bodyOf image Route) k (recordAt (m .state) k .switches)
-
--- one segment event for each piece
-abbrev pub asSegments : ℕ → List (List ℕ) → List Event
-asSegments k pieces = map (λ (p : List ℕ). on k (segment p)) pieces
 
 pub record Walker (image : List ℕ) (m : Machine) (k : ℕ) : Type 0 where
   pub there : k < rowsOf image Connections

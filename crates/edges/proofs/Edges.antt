@@ -19,7 +19,8 @@ use Rattle.state.specs.Fresh.{configOf, freshState}
 use Rattle.feed.specs.Feed.{done, feed, takeB, takes, segment, segments}
 use Rattle.lengths.specs.Head.{headOf}
 use Rattle.walk.specs.Walk.{walkAt}
-use Rattle.route.specs.Route.{isOn, rowsIn, counts, rowFor, reasonIn, reasonOf, decisionOf, lookupOf}
+use Rattle.feed.specs.On.{isOn}
+use Rattle.route.specs.Route.{rowsIn, counts, rowFor, reasonIn, reasonOf, decisionOf, lookupOf}
 use Rattle.choose.specs.Best.{better, chosenOf}
 use Rattle.choose.specs.Choose.{rankOf, scoreOf, scoreAt, chosenIn, deniedOf, arriveOf}
 use Rattle.destination.specs.Destination.{refusalOf, lookOf, timerOf}

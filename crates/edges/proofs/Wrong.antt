@@ -21,7 +21,7 @@ use Rattle.state.specs.declared.State.{State}
 use Rattle.state.specs.State.{recordAt}
 use Rattle.state.specs.Fresh.{configOf, freshState}
 use Rattle.feed.specs.Frame.{frame}
-use Rattle.route.specs.Route.{isOn}
+use Rattle.feed.specs.On.{isOn}
 use Rattle.gate.specs.Sound.{soundAt, recordsSound, soundState}
 use Rattle.gate.specs.Gate.{gateOf, gateAt}
 use Rattle.events.specs.declared.Told.{Told}

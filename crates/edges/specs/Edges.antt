@@ -1,5 +1,5 @@
 -- THE STARRED EDGES of document 01, "Both sides of each edge", as one table: what the definitions give, and what the document says, both
--- as the paper's numbers. One statement says all of it: `Hold` of the table.
+-- as the document's numbers. One statement says all of it: `Hold` of the table.
 -- Assumes nothing: these are definitions.
 use Prim.Native.Nat.{ℕ}
 use mathlib.Core.Bool.{Bool, true, false, _&&_}

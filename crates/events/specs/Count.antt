@@ -13,7 +13,7 @@ use Rattle.events.specs.declared.CountAnswer.{CountAnswer}
 use Rattle.events.specs.declared.CountAnswer.the-variants.{Count, Refused}
 use Rattle.events.specs.declared.Counted.{Counted}
 
--- the paper's number
+-- document 01's number
 abbrev pub countNumber : CountAnswer → ℕ
 countNumber (Count n) = 0
 countNumber (Refused r) = refusalNumber r

@@ -8,7 +8,7 @@ use mathlib.Core.List.{List, [], _∷_, _++_, append-nil, cons-ne-nil, flatten}
 use native.Mathlib.Omega.{arith}
 use lib.ListN.{length, drop, length-append}
 use lib.Seq.{drop-append-seam, append-snoc}
-use Rattle.feed.specs.Feed.{Routes, Cell, Out, nothing, pdu, dropped, Fed, fed, feed, after, emit, outs, stops, Took, took, readOf, goes, takeB, Ran, ran, joined, takes, segment, segments, Pdu, handed, pdus, drops}
+use Rattle.feed.specs.Feed.{Routes, Cell, Out, nothing, pdu, dropped, Fed, fed, feed, after, emit, outs, stops, Took, took, bytesRead, goes, takeB, Ends, at-end, at-byte, Ran, ran, joined, takes, segment, segments, Pdu, handed, pdus, drops}
 
 -- the stream's bytes one by one, in two pieces
 pub emit-append : (o : Out) (xs ys : List Out) → emit o xs ++ ys ≡ emit o (xs ++ ys)
@@ -131,13 +131,7 @@ drops-append (nothing ∷ a) b = drops-append a b
 drops-append (pdu r p ∷ a) b = drops-append a b
 drops-append (dropped k i n ∷ a) b = omega (arith, drops-append a b)
 
--- WHERE A TAKE ENDS: either all is read and nothing came out; or nothing came out of the bytes a, the byte b after them has an
--- outcome, and the take ends right behind b
-pub data Ends (R : Routes) (c : Cell) : List ℕ → Took → Type 0 where
-  at-end : (bs : List ℕ) → outs R c bs ≡ [] → Ends R c bs (took (after R c bs) nothing [])
-  at-byte : (a : List ℕ) (b : ℕ) (rest : List ℕ) (f : Fed) → outs R c a ≡ [] → feed R (after R c a) b ≡ f → stops (f .out) ≡ true
-      → Ends R c (a ++ b ∷ rest) (took (f .to) (f .out) rest)
-
+-- WHERE A TAKE ENDS
 quiet : (o : Out) (os : List Out) → stops o ≡ false → emit o os ≡ os
 quiet nothing os e = refl
 quiet (pdu r p) os e = absurd (true≢false e)
@@ -190,9 +184,9 @@ behind a r =
     let n : length (a ++ r) - length r ≡ length a = omega (arith, length-append a r) in
     ap (λ (m : ℕ). drop m (a ++ r)) n ∙ drop-append-seam a r
 
-pub rest-is : (R : Routes) (c : Cell) (bs : List ℕ) (t : Took) → Ends R c bs t → drop (readOf bs t) bs ≡ t .rest
+pub rest-is : (R : Routes) (c : Cell) (bs : List ℕ) (t : Took) → Ends R c bs t → drop (bytesRead bs t) bs ≡ t .rest
 rest-is R c bs t (at-end _ e) = rw (sym (append-nil bs)) (behind bs [])
 rest-is R c bs t (at-byte a b rest f e is s) = rw (sym (append-snoc a b rest)) (behind (a ++ b ∷ []) rest)
 
-pub take-rest : (R : Routes) (c : Cell) (bs : List ℕ) → drop (readOf bs (takeB R c bs)) bs ≡ takeB R c bs .rest
+pub take-rest : (R : Routes) (c : Cell) (bs : List ℕ) → drop (bytesRead bs (takeB R c bs)) bs ≡ takeB R c bs .rest
 take-rest R c bs = rest-is R c bs (takeB R c bs) (take-ends R c bs)

@@ -12,7 +12,7 @@ use Rattle.wire.specs.Lay.{spell}
 use Rattle.wire.proofs.Spell.{length-spell}
 use Rattle.feed.specs.declared.Decision.{Decision}
 use Rattle.feed.specs.declared.Decision.the-variants.{Accept}
-use Rattle.feed.specs.Feed.{Routes, header, Out, pdu, Fed, ready, decided, done, spelt, after, emit, outs, Took, took, takeB, resume, ran, segments, Pdu}
+use Rattle.feed.specs.Feed.{Routes, header, Out, pdu, Fed, ready, decided, done, spelt, after, emit, outs, Took, took, takeB, resume, ran, segments, Pdu, asOut, pdus}
 use Rattle.feed.specs.Frame.{frame, Sent, frames, Routed, none, one}
 use Rattle.feed.proofs.Laws.{header-whole, done-header, body-whole, spelt-append}
 use Rattle.feed.proofs.Cut.{take-after, take-outs, segments-feed}
@@ -60,9 +60,6 @@ take-frame R i r p more hi hp ac =
     ∙ body-whole R i r (length p) l (omega (arith, length-append p more))
     ∙ ap₂ (λ (x y : List ℕ). took ready (pdu r x) y) (take-append-seam p more) (drop-append-seam p more)
 
-abbrev pub asOut : Pdu → Out
-asOut p = pdu (p .route) (p .body)
-
 trip-outs : (R : Routes) {ss : List Sent} {ps : List Pdu} → Routed R ss ps → outs R ready (frames ss) ≡ map asOut ps
 unfolding frames outs
 trip-outs R none = refl
@@ -86,3 +83,9 @@ round-trip R pieces h e =
     segments-feed R ready pieces
     ∙ ap (λ (bs : List ℕ). ran (after R ready bs) (outs R ready bs)) e
     ∙ ap₂ ran (trip-after R h) (trip-outs R h)
+
+-- the PDUs of outcomes that are PDUs
+pub pdus-back : (ps : List Pdu) → pdus (map asOut ps) ≡ ps
+unfolding pdus
+pdus-back [] = refl
+pdus-back (p ∷ ps) = ap (λ (l : List Pdu). p ∷ l) (pdus-back ps)

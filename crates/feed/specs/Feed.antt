@@ -3,6 +3,7 @@
 -- what the piece is. A byte ends its piece or shortens it, and has one outcome at most.
 -- Assumes nothing: these are definitions.
 use Prim.Native.Nat.{ℕ, zero, suc, _+_, _-_, _*_, _/_, _%_, _^_}
+use mathlib.Core.Path.{_≡_}
 use mathlib.Core.Bool.{Bool, true, false, cond}
 use mathlib.Core.List.{List, [], _∷_, _++_}
 use lib.ListN.{length}
@@ -106,8 +107,8 @@ abbrev pub took : Cell → Out → List ℕ → Took
 took c o bs = record { to = c; out = o; rest = bs }
 
 -- "tells the bytes read": how many of the segment bs
-abbrev pub readOf : List ℕ → Took → ℕ
-readOf bs t = length bs - length (t .rest)
+abbrev pub bytesRead : List ℕ → Took → ℕ
+bytesRead bs t = length bs - length (t .rest)
 
 -- a byte was fed and bs stands behind it: the take ends here, or goes on
 abbrev pub goes : Fed → List ℕ → Took → Took
@@ -116,6 +117,13 @@ goes f bs later = cond (stops (f .out)) (took (f .to) (f .out) bs) later
 unfoldable pub takeB : Routes → Cell → List ℕ → Took
 takeB R c [] = took c nothing []
 takeB R c (b ∷ bs) = goes (feed R c b) bs (takeB R (feed R c b .to) bs)
+
+-- "A take reads a segment up to the end of its first complete PDU or dropped header": either all is read and nothing came out; or
+-- nothing came out of the bytes a, the byte b after them has an outcome, and the take ends right behind b
+pub data Ends (R : Routes) (c : Cell) : List ℕ → Took → Type 0 where
+  at-end : (bs : List ℕ) → outs R c bs ≡ [] → Ends R c bs (took (after R c bs) nothing [])
+  at-byte : (a : List ℕ) (b : ℕ) (rest : List ℕ) (f : Fed) → outs R c a ≡ [] → feed R (after R c a) b ≡ f → stops (f .out) ≡ true
+      → Ends R c (a ++ b ∷ rest) (took (f .to) (f .out) rest)
 
 -- the rest of a take, after a byte that ended a piece
 abbrev pub resume : Routes → Fed → List ℕ → Took
@@ -156,6 +164,10 @@ pub record Pdu : Type 0 where
 
 abbrev pub handed : ℕ → List ℕ → Pdu
 handed r p = record { route = r; body = p }
+
+-- a PDU that was handed out, as the outcome that it was
+abbrev pub asOut : Pdu → Out
+asOut p = pdu (p .route) (p .body)
 
 unfoldable pub pdus : List Out → List Pdu
 pdus [] = []

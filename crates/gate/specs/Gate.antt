@@ -1,4 +1,4 @@
--- What is asked before an event, in the paper's order 11, 12, 2; what is known past it. Assumes nothing.
+-- What is asked before an event, in document 01's order 11, 12, 2; what is known past it. Assumes nothing.
 use Prim.Native.Nat.{ℕ, _<_}
 use mathlib.Core.Path.{_≡_}
 use mathlib.Core.Bool.{Bool, true, cond, not, _&&_, _||_}

@@ -9,7 +9,7 @@ use lib.ListN.{length, take, drop, getD}
 use Rattle.feed.specs.Feed.{Routes, Kind, Cell, cell, Fed, add, done, feed, after, emit, outs, Ran, ran, segment}
 use Rattle.feed.proofs.Laws.{addAll}
 use Rattle.feed.proofs.Cut.{emit-append, segment-feeds}
-use Rattle.lengths.specs.Listed.{Marked, mark, bytesOf, wordsOf, readTo, readOut, Bytes, Given, given, stream, AllBytes}
+use Rattle.lengths.specs.Listed.{Marked, mark, bytesOf, wordsOf, readTo, readOut, Bytes, Given, segmentsGiven, stream, AllBytes}
 use Rattle.lengths.proofs.Bytes.{bytes-append, bytes-mark}
 
 -- a stretch: fewer bytes than it wants, and all that it wants
@@ -63,12 +63,12 @@ segment-out Q w c (b ∷ bs) = ap (emit (feed (Q w) c b .out)) (segment-out Q w 
 pub segment-reads : (Q : ℕ → Routes) (w : ℕ) (c : Cell) (bs : List ℕ) → segment (Q w) c bs ≡ ran (readTo Q c (map (mark w) bs)) (readOut Q c (map (mark w) bs))
 segment-reads Q w c bs = segment-feeds (Q w) c bs ∙ ap₂ ran (segment-to Q w c bs) (segment-out Q w c bs)
 
-pub given-reads : (Q : ℕ → Routes) (c : Cell) (gs : List Given) → given Q c gs ≡ ran (readTo Q c (stream gs)) (readOut Q c (stream gs))
-unfolding given stream readTo readOut
+pub given-reads : (Q : ℕ → Routes) (c : Cell) (gs : List Given) → segmentsGiven Q c gs ≡ ran (readTo Q c (stream gs)) (readOut Q c (stream gs))
+unfolding segmentsGiven stream readTo readOut
 given-reads Q c [] = refl
 given-reads Q c (g ∷ gs) =
     let ms : List Marked = map (mark (g .switches)) (g .bytes) in
-    ap (λ (q : Ran). ran (given Q (q .to) gs .to) (q .list ++ given Q (q .to) gs .list)) (segment-reads Q (g .switches) c (g .bytes))
+    ap (λ (q : Ran). ran (segmentsGiven Q (q .to) gs .to) (q .list ++ segmentsGiven Q (q .to) gs .list)) (segment-reads Q (g .switches) c (g .bytes))
     ∙ ap (λ (q : Ran). ran (q .to) (readOut Q c ms ++ q .list)) (given-reads Q (readTo Q c ms) gs)
     ∙ sym (ap₂ ran (to-append Q c ms (stream gs)) (out-append Q c ms (stream gs)))
 

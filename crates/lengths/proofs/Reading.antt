@@ -16,13 +16,13 @@ use Rattle.feed.specs.declared.Decision.the-variants.{Accept, Refuse}
 use Rattle.feed.specs.Feed.{Routes, header, payload, skip, Cell, cell, Out, ready, decided, done, feed, Ran, Pdu, handed, pdus}
 use Rattle.feed.proofs.Laws.{addAll, addAll-payload, addAll-skip, addAll-header, grow}
 use Rattle.feed.proofs.Trip.{spelt-spell}
-use Rattle.lengths.specs.Listed.{Marked, mark, bytesOf, readTo, readOut, listed, listedFrom, Held, Bytes, Given, given, stream, AllBytes}
+use Rattle.lengths.specs.Listed.{Marked, mark, bytesOf, readTo, readOut, listed, listedFrom, Shaped, Bytes, Given, segmentsGiven, stream, AllBytes}
 use Rattle.lengths.proofs.Bytes.{map-drop, bytes-drop, bytes-append, bytes-spell, bytes-mark}
 use Rattle.lengths.proofs.Marks.{out-short, to-short, out-whole, out-append, given-reads, stream-bytes}
 use Rattle.lengths.proofs.Ready.{ready-list}
 
 -- header bytes that are held are the first of the stream
-held-first : (Q : ℕ → Routes) (n v : ℕ) (ms : List Marked) → Held (cell n (header v)) → readOut Q (cell n (header v)) ms ≡ readOut Q ready (map (mark 0) (spell (8 - n) v) ++ ms)
+held-first : (Q : ℕ → Routes) (n v : ℕ) (ms : List Marked) → Shaped (cell n (header v)) → readOut Q (cell n (header v)) ms ≡ readOut Q ready (map (mark 0) (spell (8 - n) v) ++ ms)
 held-first Q n v ms (p, le, s) =
     let hs : List Marked = map (mark 0) (spell (8 - n) v) in
     let long : length hs ≡ 8 - n = length-map (spell (8 - n) v) (mark 0) ∙ length-spell (8 - n) v in
@@ -34,7 +34,7 @@ held-first Q n v ms (p, le, s) =
     sym (out-append Q ready hs ms ∙ ap₂ (λ (os : List Out) (c : Cell). os ++ readOut Q c ms) (out-short Q 8 (header 0) hs (omega (arith, long))) to)
 
 -- THE THEOREM: for any routes as the switches have them, any part that a record holds and any bytes
-pub reading : (Q : ℕ → Routes) (c : Cell) (ms : List Marked) → Held c → Bytes (bytesOf ms) → pdus (readOut Q c ms) ≡ listedFrom Q c ms
+pub reading : (Q : ℕ → Routes) (c : Cell) (ms : List Marked) → Shaped c → Bytes (bytesOf ms) → pdus (readOut Q c ms) ≡ listedFrom Q c ms
 unfolding listedFrom done pdus
 reading Q (cell n (header v)) ms h b =
     let hs : List Marked = map (mark 0) (spell (8 - n) v) in
@@ -62,33 +62,33 @@ reading Q (cell (suc n) skip) ms p b =
         ∙ sym (ap (λ (x : List Marked). pdus (readOut Q ready x)) (drop-of-length-le ms {i = suc n} (omega (arith, leb-false (suc n) (length ms) e))) ∙ ap pdus (out-short Q 8 (header 0) [] (omega arith)))
 
 -- THE LIST OF SEGMENT EVENTS
-pub segments-list : (Q : ℕ → Routes) (c : Cell) (gs : List Given) → Held c → AllBytes gs → pdus (given Q c gs .list) ≡ listedFrom Q c (stream gs)
+pub segments-list : (Q : ℕ → Routes) (c : Cell) (gs : List Given) → Shaped c → AllBytes gs → pdus (segmentsGiven Q c gs .list) ≡ listedFrom Q c (stream gs)
 segments-list Q c gs h b = ap (λ (q : Ran). pdus (q .list)) (given-reads Q c gs) ∙ reading Q c (stream gs) h (stream-bytes gs b)
 
 -- what a record holds stays so
-held-ready : Held ready
-held-ready = (omega arith, omega arith, omega arith)
+shaped-ready : Shaped ready
+shaped-ready = (omega arith, omega arith, omega arith)
 
-held-begin : (d : Decision) (i n : ℕ) → Held (decided d i n .to)
-held-begin (Accept r) i zero = held-ready
-held-begin (Accept r) i (suc n) = omega arith
-held-begin (Refuse k) i zero = held-ready
-held-begin (Refuse k) i (suc n) = omega arith
+shaped-begin : (d : Decision) (i n : ℕ) → Shaped (decided d i n .to)
+shaped-begin (Accept r) i zero = shaped-ready
+shaped-begin (Accept r) i (suc n) = omega arith
+shaped-begin (Refuse k) i zero = shaped-ready
+shaped-begin (Refuse k) i (suc n) = omega arith
 
-pub feed-held : (R : Routes) (c : Cell) (b : ℕ) → Held c → b < 256 → Held (feed R c b .to)
+pub feed-shaped : (R : Routes) (c : Cell) (b : ℕ) → Shaped c → b < 256 → Shaped (feed R c b .to)
 unfolding feed done
-feed-held R (cell zero k) b h lt = held-ready
-feed-held R (cell (suc zero) (header v)) b h lt = held-begin (R ((v * 256 + b) / 2 ^ 32) ((v * 256 + b) % 2 ^ 32)) ((v * 256 + b) / 2 ^ 32) ((v * 256 + b) % 2 ^ 32)
-feed-held R (cell (suc zero) (payload r p)) b h lt = held-ready
-feed-held R (cell (suc zero) skip) b h lt = held-ready
-feed-held R (cell (suc (suc n)) (header v)) b (p, le, s) lt =
+feed-shaped R (cell zero k) b h lt = shaped-ready
+feed-shaped R (cell (suc zero) (header v)) b h lt = shaped-begin (R ((v * 256 + b) / 2 ^ 32) ((v * 256 + b) % 2 ^ 32)) ((v * 256 + b) / 2 ^ 32) ((v * 256 + b) % 2 ^ 32)
+feed-shaped R (cell (suc zero) (payload r p)) b h lt = shaped-ready
+feed-shaped R (cell (suc zero) skip) b h lt = shaped-ready
+feed-shaped R (cell (suc (suc n)) (header v)) b (p, le, s) lt =
     let k : 8 - suc n ≡ (8 - suc (suc n)) + 1 = omega arith in
     (omega arith, omega arith, rw k (grow (8 - suc (suc n)) v b s lt))
-feed-held R (cell (suc (suc n)) (payload r p)) b h lt = omega arith
-feed-held R (cell (suc (suc n)) skip) b h lt = omega arith
+feed-shaped R (cell (suc (suc n)) (payload r p)) b h lt = omega arith
+feed-shaped R (cell (suc (suc n)) skip) b h lt = omega arith
 
-pub held-stays : (Q : ℕ → Routes) (c : Cell) (ms : List Marked) → Held c → Bytes (bytesOf ms) → Held (readTo Q c ms)
+pub shaped-stays : (Q : ℕ → Routes) (c : Cell) (ms : List Marked) → Shaped c → Bytes (bytesOf ms) → Shaped (readTo Q c ms)
 unfolding readTo
-held-stays Q c [] h b = h
-held-stays Q c (m ∷ ms) h b =
-    held-stays Q (feed (Q (m .switches)) c (m .byte) .to) ms (feed-held (Q (m .switches)) c (m .byte) h (b 0)) (λ i. b (suc i))
+shaped-stays Q c [] h b = h
+shaped-stays Q c (m ∷ ms) h b =
+    shaped-stays Q (feed (Q (m .switches)) c (m .byte) .to) ms (feed-shaped (Q (m .switches)) c (m .byte) h (b 0)) (λ i. b (suc i))

@@ -62,10 +62,10 @@ listedFrom Q (cell n skip) ms = listed Q (drop n ms)
 
 -- a part as a record can hold it: 1..8 header bytes still wanted, those held standing for a number that fits them; else one
 -- byte wanted at least
-abbrev pub Held : Cell → Type 0
-Held (cell n (header v)) = (0 < n) × (n ≤ 8) × (v < 256 ^ (8 - n))
-Held (cell n (payload r h)) = 0 < n
-Held (cell n skip) = 0 < n
+abbrev pub Shaped : Cell → Type 0
+Shaped (cell n (header v)) = (0 < n) × (n ≤ 8) × (v < 256 ^ (8 - n))
+Shaped (cell n (payload r h)) = 0 < n
+Shaped (cell n skip) = 0 < n
 
 -- bytes that are bytes
 abbrev pub Bytes : List ℕ → Type 0
@@ -76,11 +76,11 @@ pub record Given : Type 0 where
   pub switches : ℕ
   pub bytes : List ℕ
 
-unfoldable pub given : (ℕ → Routes) → Cell → List Given → Ran
-given Q c [] = ran c []
-given Q c (g ∷ gs) =
-    ran (given Q (segment (Q (g .switches)) c (g .bytes) .to) gs .to)
-    (segment (Q (g .switches)) c (g .bytes) .list ++ given Q (segment (Q (g .switches)) c (g .bytes) .to) gs .list)
+unfoldable pub segmentsGiven : (ℕ → Routes) → Cell → List Given → Ran
+segmentsGiven Q c [] = ran c []
+segmentsGiven Q c (g ∷ gs) =
+    ran (segmentsGiven Q (segment (Q (g .switches)) c (g .bytes) .to) gs .to)
+    (segment (Q (g .switches)) c (g .bytes) .list ++ segmentsGiven Q (segment (Q (g .switches)) c (g .bytes) .to) gs .list)
 
 -- the stream that they make
 unfoldable pub stream : List Given → List Marked

@@ -21,7 +21,7 @@ use Rattle.connection.specs.declared.Event.the-variants.{Open, Close, Connected
 use Rattle.connection.specs.Event.{stepOf}
 use Rattle.connection.specs.Sound.{soundOf, zeroOf}
 use Rattle.state.specs.Fresh.{configOf, freshState}
-use Rattle.route.specs.Route.{isOn}
+use Rattle.feed.specs.On.{isOn}
 use Rattle.gate.specs.Sound.{soundAt, recordsSound, soundState}
 use Rattle.gate.specs.Gate.{gateOf, gateAt}
 use Rattle.events.specs.Change.{toldOf, changeOf, eventOf}

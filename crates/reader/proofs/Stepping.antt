@@ -9,15 +9,13 @@ use lib.ListN.{length, getD, drop}
 use borrow.Author.Tests.{le-leb, leb-true}
 use denote.Ref.{RefT, now}
 use Rattle.lists.proofs.Both.{and-left, and-right, and-both}
-use Rattle.feed.specs.Feed.{Routes, Pdu}
+use Rattle.feed.specs.Feed.{Routes, Pdu, asOut}
 use Rattle.feed.specs.Frame.{Sent, Routed, frames}
-use Rattle.feed.proofs.Trip.{asOut}
 use Rattle.layout.specs.Layout.{bodyOf}
 use Rattle.layout.specs.declared.Kind.the-variants.{Route as RouteRows}
 use Rattle.connection.specs.declared.Connection.{Connection}
 use Rattle.connection.specs.Connection.{zeroRecord}
 use Rattle.state.specs.declared.State.{State}
-use Rattle.state.specs.State.{recordAt}
 use Rattle.state.specs.Fresh.{configOf}
 use Rattle.route.specs.Route.{lookupOf}
 use Rattle.walk.specs.Walk.{walkAt, walks, listOf}
@@ -30,6 +28,7 @@ use Rattle.gate.specs.Sound.{soundState}
 use Rattle.receive.specs.declared.DatagramWalked.{DatagramWalked}
 use Rattle.receive.specs.Answer.{isDone, answerOf}
 use Rattle.receive.specs.Walk.{walkedAt, walkOn, noneWalked, walkAllowed, walkAnswer, walkOf}
+use Rattle.receive.specs.Routes.{routesIn}
 use Rattle.receive.proofs.Answers.{done-clear}
 use Rattle.receive.proofs.Keeps.{walk-records}
 use Rattle.reader.specs.declared.DatagramReader.{DatagramReader}
@@ -69,10 +68,6 @@ module _ (image : List ℕ) (rx tx k : ℕ) (d : List ℕ) where
     goes-on : walkOf image s rx tx k d p ≡ walkOn image s k d p
     unfolding walkOf
     goes-on = rw done
-
--- the routes of a connection in a state
-abbrev routesIn : List ℕ → State → ℕ → Routes
-routesIn image s k = lookupOf (bodyOf image RouteRows) k (recordAt s k .switches)
 
 module _ (image : List ℕ) (rx tx k : ℕ) (x : RefT (List ℕ)) (s₀ : State) where
   abbrev d : List ℕ

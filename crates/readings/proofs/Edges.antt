@@ -3,13 +3,14 @@
 use mathlib.Core.Path.{refl}
 use Rattle.wire.specs.Be.{be}
 use Rattle.feed.specs.Feed.{done, feed, takeB, takes, segment, segments}
+use Rattle.feed.specs.On.{isOn}
 use Rattle.lengths.specs.Head.{headOf}
 use Rattle.lengths.specs.Split.{splits, split}
 use Rattle.walk.specs.Walk.{walkAt, listOf}
 use Rattle.readings.specs.Edges.{rows, ReadingEdges}
 
 pub edges : ReadingEdges
-unfolding be done feed takeB takes segment segments headOf splits split walkAt listOf rows
+unfolding be done feed takeB takes segment segments headOf splits split isOn walkAt listOf rows
 edges =
     record {
       the-pdu = refl;

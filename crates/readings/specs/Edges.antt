@@ -3,14 +3,14 @@
 -- Assumes nothing: these are definitions.
 use Prim.Native.Nat.{ℕ, suc}
 use mathlib.Core.Path.{_≡_}
-use mathlib.Core.Bool.{Bool, cond, not, _||_}
+use mathlib.Core.Bool.{cond}
 use mathlib.Core.List.{List, [], _∷_, _++_}
-use lib.Bits.{bitAnd}
 use lib.Dec.{eqb, leb}
 use lib.ListN.{take, drop}
 use Rattle.wire.specs.Be.{be}
 use Rattle.feed.specs.declared.Decision.the-variants.{Accept, Refuse}
 use Rattle.feed.specs.Feed.{Routes, payload, skip, cell, pdu, dropped, nothing, ready, took, takeB, ran, segment, segments}
+use Rattle.feed.specs.On.{isOn}
 use Rattle.walk.specs.Walk.{the-end, a-pdu, a-drop, walked, walkAt, listOf}
 
 -- a receive route of one connection
@@ -22,15 +22,11 @@ pub record Row : Type 0 where
 abbrev pub row : ℕ → ℕ → ℕ → Row
 row i l g = record { id = i; longest = l; groups = g }
 
--- "It is on when its groups are 0 or share a set bit with the connection's switches"
-abbrev pub on : ℕ → ℕ → Bool
-on g w = eqb g 0 || not (eqb (bitAnd g w) 0)
-
 -- "First that applies: drop 20 no route, 21 switched off, 22 longer than allowed": rows numbered from k, switch word w
 unfoldable pub rows : ℕ → List Row → ℕ → Routes
 rows k [] w i n = Refuse 20
 rows k (r ∷ rs) w i n =
-    cond (eqb (r .id) i) (cond (on (r .groups) w) (cond (leb n (r .longest)) (Accept k) (Refuse 22)) (Refuse 21)) (rows (suc k) rs w i n)
+    cond (eqb (r .id) i) (cond (isOn (r .groups) w) (cond (leb n (r .longest)) (Accept k) (Refuse 22)) (Refuse 21)) (rows (suc k) rs w i n)
 
 -- two routes: 0x101 to 2 bytes under switch 0, and 0x102 to 3 bytes that no switch turns off
 abbrev pub table : ℕ → Routes

@@ -5,7 +5,7 @@ use Prim.Native.Nat.{ℕ, _≤_}
 use mathlib.Core.Path.{_≡_}
 use mathlib.Core.List.{List, [], _∷_, _++_, map}
 use lib.ListN.{length}
-use Rattle.feed.specs.Feed.{Routes, Cell, Out, nothing, pdu, dropped, ready, Took, takeB, readOf, Ran, segment, Pdu, pdus}
+use Rattle.feed.specs.Feed.{Routes, Cell, Out, nothing, pdu, dropped, ready, Took, takeB, bytesRead, Ran, segment, Pdu, pdus}
 use Rattle.lengths.specs.Listed.{Marked, mark, readOut}
 
 abbrev pub Take : Type 0
@@ -41,7 +41,7 @@ FreshHeader t = (R : Routes) (c : Cell) (bs : List ℕ) → t R c bs ≡ t R rea
 
 -- "a made-up read count": here, that of a take which says that it read all
 abbrev pub ReadsAll : Take → Type 0
-ReadsAll t = (R : Routes) (c : Cell) (bs : List ℕ) → readOf bs (t R c bs) ≡ length bs
+ReadsAll t = (R : Routes) (c : Cell) (bs : List ℕ) → bytesRead bs (t R c bs) ≡ length bs
 
 -- "a stream that reads the first PDU and skips later ones"
 abbrev pub FirstOnly : Segment → Type 0

@@ -22,17 +22,11 @@ use Rattle.datagram.specs.declared.Outcome.the-variants as Met
 use Rattle.state.specs.Memory.{stretch}
 use Rattle.state.proofs.Stretch.{stretch-apart}
 use Rattle.receive.specs.Answer.{isDone}
-use Rattle.receive.specs.Segment.{countTake, takenAt, stretchAt, takeOn, memoryOn, Takes, noneTaken, segmentAnswer, segmentOf, memoryOf}
+use Rattle.receive.specs.Segment.{countTake, takenAt, stretchAt, takeOn, memoryOn, Takes, noneTaken, segmentAnswer, segmentOf, memoryOf, Apart}
 use Rattle.receive.specs.Walk.{countWalk, walkedAt, walkOn, noneWalked, walkAnswer, walkOf}
 use Rattle.receive.proofs.Past.{passed-takes}
 use Rattle.receive.proofs.Answers.{Clear, done-clear}
 use Rattle.receive.proofs.Keeps.{count-records}
-
--- what stays when connection k takes
-pub record Apart (k : ℕ) (s t : State) (rx rx′ : List ℕ) : Type 0 where
-  pub records : (j : ℕ) → (j ≡ k → ⊥) → recordAt t j ≡ recordAt s j
-  pub stretches : (j : ℕ) → (j ≡ k → ⊥) → stretch 1464 j rx′ ≡ stretch 1464 j rx
-  pub udp : t .«udp_drops» ≡ s .«udp_drops»
 
 count-udp : (o : Outcome) (s : State) → countTake o s .«udp_drops» ≡ s .«udp_drops»
 count-udp More s = refl

@@ -11,7 +11,7 @@ use Rattle.gate.specs.Gate.{gateAt, through}
 use Rattle.receive.specs.declared.Answer.{Answer}
 use Rattle.receive.specs.declared.Answer.the-variants.{Done, Refused, NotReceiving}
 
--- the paper's number
+-- document 01's number
 abbrev pub answerNumber : Answer → ℕ
 answerNumber Done = 0
 answerNumber (Refused r) = refusalNumber r

@@ -1,4 +1,5 @@
--- What the contracts of this crate cite. Assumes nothing.
+-- What the contracts and laws of this crate cite. Assumes nothing.
 pub mod Answer
 pub mod Segment
 pub mod Walk
+pub mod Routes

@@ -77,6 +77,13 @@ unfoldable pub memoryOf : List ℕ → State → List ℕ → ℕ → ℕ → Li
 memoryOf image s rx tx connection segment =
     cond (isDone (segmentAnswer image s (length rx) tx connection)) (memoryOn image s rx connection segment) rx
 
+-- "all other lent bytes stay": when connection k takes, so does every other stretch of receive memory; and every other record, and
+-- UDP's count
+pub record Apart (k : ℕ) (s t : State) (rx rx′ : List ℕ) : Type 0 where
+  pub records : (j : ℕ) → (j ≡ k → ⊥) → recordAt t j ≡ recordAt s j
+  pub stretches : (j : ℕ) → (j ≡ k → ⊥) → stretch 1464 j rx′ ≡ stretch 1464 j rx
+  pub udp : t .«udp_drops» ≡ s .«udp_drops»
+
 -- "The payload is handed out from the segment itself when all of it stands there, otherwise from receive memory"; where no PDU
 -- is handed out there is none
 unfoldable pub payloadOf : List ℕ → List ℕ → ℕ → Outcome → List ℕ

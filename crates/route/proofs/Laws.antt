@@ -16,7 +16,8 @@ use Rattle.rows.specs.declared.RouteRow.{RouteRow}
 use Rattle.layout.proofs.Parts.{row-range}
 use Rattle.rows.specs.Rows.{routeRow, routeIn}
 use Rattle.wire.specs.Be.{be}
-use Rattle.route.specs.Route.{isOn, rowsIn, counts, passed, rowFor, reasonIn, reasonOf, decisionOf, lookupOf}
+use Rattle.feed.specs.On.{isOn}
+use Rattle.route.specs.Route.{rowsIn, counts, passed, rowFor, reasonIn, reasonOf, decisionOf, lookupOf}
 
 -- the row that is read as a part of the body is the body's row
 pub row-at : (routes : List ℕ) (i : ℕ) → i < length routes / 16 → routeRow (take (i * 16 + 16 - i * 16) (drop (i * 16) routes)) ≡ routeIn routes i

@@ -10,8 +10,8 @@ use lib.Bits.{bitAnd, and-step, and-zero-l, and-shr}
 use lib.Dec.{eqb}
 use lib.Pow.{shr-le, shr-shr}
 use borrow.Author.Tests.{eqb-true, eqb-false, eq-eqb, ne-eqb}
-use Rattle.route.specs.Route.{isOn}
-use Rattle.route.specs.On.{bitAt, Shared}
+use Rattle.wire.specs.Bits.{bitAt}
+use Rattle.feed.specs.On.{isOn, Shared}
 
 -- a shared bit of the halves is one of the words
 double : (a b : ℕ) → Shared (a / 2) (b / 2) → Shared a b

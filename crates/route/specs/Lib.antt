@@ -1,3 +1,2 @@
 -- What the contracts of this crate cite. Assumes nothing.
 pub mod Route
-pub mod On

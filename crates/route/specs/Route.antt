@@ -2,21 +2,17 @@
 -- Assumes nothing: these are definitions.
 use Prim.Native.Nat.{ℕ, zero, suc, _/_, _≤_}
 use mathlib.Core.Path.{_≡_}
-use mathlib.Core.Bool.{Bool, cond, not, _&&_, _||_}
+use mathlib.Core.Bool.{Bool, cond, not, _&&_}
 use mathlib.Core.List.{List}
-use lib.Bits.{bitAnd}
 use lib.Dec.{eqb, leb, ltb}
 use lib.ListN.{length}
 use Rattle.feed.specs.declared.Decision.{Decision}
 use Rattle.feed.specs.declared.Decision.the-variants.{Accept, Refuse}
 use Rattle.feed.specs.Feed.{Routes}
+use Rattle.feed.specs.On.{isOn}
 use Rattle.lists.specs.Search.{firstBad}
 use Rattle.rows.specs.declared.RouteRow.{RouteRow}
 use Rattle.rows.specs.Rows.{routeIn}
-
--- "It is on when its groups are 0 or share a set bit with the connection's switches"
-unfoldable pub isOn : ℕ → ℕ → Bool
-isOn groups switches = eqb groups 0 || not (eqb (bitAnd groups switches) 0)
 
 -- how many rows a body of routes has: 64 at most
 unfoldable pub rowsIn : List ℕ → ℕ

@@ -3,7 +3,8 @@
 ghost use mathlib.Core.Path.{_≡_};
 ghost use Prim.Native.Nat.{_≤_};
 ghost use Rattle.rows.specs.Rows.{routeRow};
-ghost use Rattle.route.specs.Route.{isOn, Counted, counts, rowFor, reasonIn, reasonOf, lookupOf};
+ghost use Rattle.feed.specs.On.{isOn};
+ghost use Rattle.route.specs.Route.{Counted, counts, rowFor, reasonIn, reasonOf, lookupOf};
 use feed::Decision;
 use rows::RouteRow;
 use rows::route_in;

@@ -4,43 +4,26 @@
 -- Assumes nothing.
 use Prim.Native.Nat.{ℕ}
 use mathlib.Core.Path.{_≡_, refl, sym, ap, _∙_}
-use mathlib.Core.Bool.{true}
-use mathlib.Core.List.{List, [], _∷_, _++_, append-nil, map, flatten}
-use lib.Dec.{ltb}
+use mathlib.Core.List.{List, [], _∷_, _++_, append-nil, flatten}
 use borrow.Author.Tests.{eq-eqb}
 use Rattle.feed.specs.Feed.{Routes, Cell, ready, Ran, segment as segmentOf, segments, Pdu, pdus}
 use Rattle.feed.specs.Frame.{Sent, frames, Routed}
-use Rattle.feed.proofs.Trip.{asOut, round-trip}
-use Rattle.world.specs.World.{World, heldAt, cellAt}
+use Rattle.feed.proofs.Trip.{round-trip, pdus-back}
+use Rattle.world.specs.World.{World, heldAt}
 use Rattle.world.specs.Events.{segment, Whole, Event, on}
-use Rattle.connection.specs.Event.{receiving}
 use Rattle.world.specs.Step.{Table, Acted, routesAt, acts, at, hands, heard}
 use Rattle.runs.specs.Same.{Same, join, same, later, both}
+use Rattle.runs.specs.Trip.{Reads, asSegments}
 use Rattle.runs.proofs.Same.{does-read, same-heard}
 
--- a connection that reads segments, at a header's first byte
-pub record Reads (T : Table) (w : World) (k : ℕ) : Type 0 where
-  pub there : ltb k (T .rows) ≡ true
-  pub tcp : T .config k .tcp ≡ true
-  pub receives : receiving (heldAt w k .connection) ≡ true
-  pub at-header : cellAt (heldAt w k) ≡ ready
-
-abbrev pub given : ℕ → List (List ℕ) → List Event
-given k pieces = map (λ (p : List ℕ). on k (segment p)) pieces
-
 -- pieces are one segment
-pieces-same : (k : ℕ) (p : List ℕ) (pieces : List (List ℕ)) → Same (given k (p ∷ pieces)) (on k (segment (flatten (p ∷ pieces))) ∷ [])
+pieces-same : (k : ℕ) (p : List ℕ) (pieces : List (List ℕ)) → Same (asSegments k (p ∷ pieces)) (on k (segment (flatten (p ∷ pieces))) ∷ [])
 unfolding flatten
 pieces-same k p [] = alike (on k (segment p)) (on k (segment (p ++ []))) (ap (λ (q : List ℕ). on k (segment q)) (sym (append-nil p)))
   where
     alike : (e f : Event) → e ≡ f → Same (e ∷ []) (f ∷ [])
     alike e f q = rw q (same (f ∷ []))
 pieces-same k p (q ∷ pieces) = both (later (on k (segment p)) (pieces-same k q pieces)) (join k p (flatten (q ∷ pieces)) [])
-
-pdus-back : (ps : List Pdu) → pdus (map asOut ps) ≡ ps
-unfolding pdus
-pdus-back [] = refl
-pdus-back (p ∷ ps) = ap (λ (l : List Pdu). p ∷ l) (pdus-back ps)
 
 module _ (T : Table) (whole : Whole → World → World) (w : World) (k : ℕ) (r : Reads T w k) where
   abbrev R : Routes
@@ -65,7 +48,7 @@ module _ (T : Table) (whole : Whole → World → World) (w : World) (k : ℕ) (
   none-read = refl
 
   -- ANY PIECES
-  pub trip : {ss : List Sent} {ps : List Pdu} (pieces : List (List ℕ)) → Routed R ss ps → flatten pieces ≡ frames ss → heard T whole k w (given k pieces) ≡ ps
+  pub trip : {ss : List Sent} {ps : List Pdu} (pieces : List (List ℕ)) → Routed (routesAt T k (heldAt w k)) ss ps → flatten pieces ≡ frames ss → heard T whole k w (asSegments k pieces) ≡ ps
   unfolding heard
   trip {ss} {ps} [] h e =
       sym none-read ∙ ap (λ (q : Ran). pdus (q .list)) (round-trip R [] h e) ∙ pdus-back ps

@@ -8,7 +8,7 @@ use mathlib.Core.List.{List, [], _∷_, _++_, map}
 use lib.Dec.{eqb, ltb}
 use Rattle.connection.specs.Connection.{isOnline}
 use Rattle.feed.specs.Feed.{Routes, Cell, ready, Pdu}
-use Rattle.lengths.specs.Listed.{Marked, mark, listed, listedFrom, Bytes, Held as Shaped}
+use Rattle.lengths.specs.Listed.{Marked, mark, listed, listedFrom, Bytes, Shaped}
 use Rattle.world.specs.World.{Held, World, heldAt, cellAt}
 use Rattle.world.specs.Events.{change, segment, walk, take, Whole, Event, on, all}
 use Rattle.connection.specs.Event.{receiving}

@@ -10,7 +10,7 @@ use Rattle.feed.specs.Frame.{frame}
 use Rattle.layout.specs.Layout.{bodyOf}
 use Rattle.layout.specs.declared.Kind.the-variants.{Destination}
 use Rattle.lists.specs.Fold.{foldFrom}
-use Rattle.route.specs.Route.{isOn}
+use Rattle.feed.specs.On.{isOn}
 use Rattle.rows.specs.declared.DestinationRow.{DestinationRow}
 use Rattle.rows.specs.Rows.{connectionOf, destinationOf}
 use Rattle.state.specs.declared.State.{State}

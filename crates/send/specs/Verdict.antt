@@ -29,7 +29,7 @@ verdictOf look n =
     (cond (every (λ i. isOut (look i)) n) SwitchedOff
     (decidedAt look n (firstBad (λ i. passes (look i)) n)))
 
--- the paper's number of an answer
+-- document 01's number of an answer
 abbrev pub transmissionNumber : Transmission → ℕ
 transmissionNumber Stored = 0
 transmissionNumber (Refused r) = refusalNumber r

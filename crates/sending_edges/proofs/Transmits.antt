@@ -10,7 +10,7 @@ use Rattle.destination.specs.Destination.{refusalOf, lookOf, timerOf}
 use Rattle.layout.specs.Layout.{rowsOf, bodyBytes, startOf, partOf, bodyOf, rowIn}
 use Rattle.lists.specs.Search.{badFrom, every}
 use Rattle.lists.specs.Fold.{foldFrom}
-use Rattle.route.specs.Route.{isOn}
+use Rattle.feed.specs.On.{isOn}
 use Rattle.rows.specs.Rows.{connectionRow, destinationRow}
 use Rattle.wire.specs.Be.{be}
 use Rattle.state.specs.declared.State.{State}

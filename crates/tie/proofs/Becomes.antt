@@ -38,7 +38,7 @@ use Rattle.waiting.specs.Waiting.{takeOf}
 use Rattle.world.specs.World.{Held, World, blank, heldAt, cellAt, follow, followAll, stateOf, leaves}
 use Rattle.world.specs.Events.{Own, change, segment, walk, take, Whole, datagram, accept, tick, transmit, switchAll, readCount, clearCount}
 use Rattle.world.specs.Step.{Table, acted, streamed, routesAt, does, acts}
-use Rattle.tie.specs.Send.{sentTo, appendTo, storeIn, transmitIn}
+use Rattle.tie.specs.Send.{withFrame, appendTo, storeIn, transmitIn}
 use Rattle.tie.specs.Whole.{wholeOf}
 use Rattle.tie.proofs.Arrivals.{arrive-is, meeting-length, meeting-at}
 
@@ -79,8 +79,8 @@ pub record Alike (h h′ : Held) : Type 0 where
 
 alike-append : (d : DestinationRow) (payload : List ℕ) (w : World) (k : ℕ) → Alike (heldAt w k) (heldAt (appendTo d payload w) k)
 alike-append d payload w k =
-    one-at blank (w .held) (d .connection) k (sentTo d payload (heldAt w (d .connection))) (Alike (heldAt w k))
-    (λ e. subst (λ (i : ℕ). Alike (heldAt w k) (sentTo d payload (heldAt w i))) (sym e) (record { cell = refl; online = refl }))
+    one-at blank (w .held) (d .connection) k (withFrame d payload (heldAt w (d .connection))) (Alike (heldAt w k))
+    (λ e. subst (λ (i : ℕ). Alike (heldAt w k) (withFrame d payload (heldAt w i))) (sym e) (record { cell = refl; online = refl }))
     (record { cell = refl; online = refl })
 
 alike-store : (image : List ℕ) (s : State) (pdu : ℕ) (payload : List ℕ) (w v : World) (k i : ℕ) → Alike (heldAt w k) (heldAt v k)

@@ -14,7 +14,7 @@ use Rattle.connection.specs.declared.Config.{Config}
 use Rattle.connection.specs.Connection.{isOnline}
 use Rattle.connection.specs.Sound.{Sound}
 use Rattle.feed.specs.Feed.{cell, header, ready}
-use Rattle.lengths.specs.Listed.{Held as Shaped}
+use Rattle.lengths.specs.Listed.{Shaped}
 use Rattle.stream.specs.Stream.{cellOf}
 use Rattle.world.specs.World.{Held}
 use Rattle.runs.specs.Streams.{Rests}

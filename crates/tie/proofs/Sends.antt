@@ -27,7 +27,7 @@ use Rattle.waits.proofs.Held.{Fine, room, fine-step, begin}
 use Rattle.keeps.proofs.Transmitted.{all-fit}
 use Rattle.world.specs.World.{Held, World, heldBy, heldOf, viewOf}
 use Rattle.world.proofs.View.{state-view, view-at, view-one}
-use Rattle.tie.specs.Send.{sentTo, appendTo, storeIn, transmitIn}
+use Rattle.tie.specs.Send.{withFrame, appendTo, storeIn, transmitIn}
 
 -- the machine on the way
 abbrev seen : List ℕ → Sending → World
@@ -56,7 +56,7 @@ module _ (rx payload : List ℕ) (d : DestinationRow) (x : Sending) (r : Room d 
       ∙ held-own d payload x r
       ∙ ap (λ (l : List ℕ). l ++ frame (d .id) payload) (sym (take-take (c .used) 1472 (drop (j * 1472) tx) (omega (arith, r .fits))))
 
-  held-sent : heldOf rx tx′ j c′ ≡ sentTo d payload (heldOf rx tx j c)
+  held-sent : heldOf rx tx′ j c′ ≡ withFrame d payload (heldOf rx tx j c)
   held-sent = ap (λ (l : List ℕ). record { connection = c′; received = take (heldBy (c .part)) (stretch 1464 j rx); waiting = l }) waits
 
   append-view : seen rx (appendOf d payload x) ≡ appendTo d payload (seen rx x)
@@ -64,7 +64,7 @@ module _ (rx payload : List ℕ) (d : DestinationRow) (x : Sending) (r : Room d 
   append-view =
       ap (λ (l : List Held). record { held = l; udp = x .state .«udp_drops»; tcp = x .state .«tcp_drops» })
       (view-one rx tx rx tx′ j (λ i ne. refl) (stretch-other d payload x r) (x .state .connections) c′
-      ∙ ap (λ (h : Held). set (seen rx x .held) j h) (held-sent ∙ ap (sentTo d payload) (sym (view-at (x .state) rx tx j))))
+      ∙ ap (λ (h : Held). set (seen rx x .held) j h) (held-sent ∙ ap (withFrame d payload) (sym (view-at (x .state) rx tx j))))
 
 -- ALL OF THEM, where the check refuses nothing
 module _ (image rx tx payload : List ℕ) (s : State) (pdu : ℕ) (long : length tx ≡ 23552) (sixteen : length (s .connections) ≡ 16) (a : Accepts image) (sound : recordsSound image (s .connections) ≡ true) where

@@ -57,7 +57,7 @@ module _ (image : List ℕ) (m : Machine) (good : Good image m) where
       ∙ transmit-view image rx tx payload s pdu (good .passed .send) (good .sixteen) (accepted-facts image (good .passed .table)) (good .passed .sound)
 
   -- ONE EVENT OF A CONNECTION
-  pub own-view : (k : ℕ) (e : Own) → EventBytes (on k e) → seen (afterOwn image k e m) ≡ step (tableOf image) W (seen m) (on k e)
+  pub own-view : (k : ℕ) (e : Own) → EventBytes (on k e) → seen (afterOwn image k e m) ≡ step (tableOf image) (wholeOf image) (seen m) (on k e)
   unfolding afterOwn
   own-view k (change e) b = change-view image s rx tx W (good .passed) k e
   own-view k (segment bytes) b = segment-view image k m bytes (good .passed) b W
@@ -77,7 +77,7 @@ module _ (image : List ℕ) (m : Machine) (good : Good image m) where
   whole-view (clearCount p) = clear-view image s rx tx p (good .passed)
 
   -- ANY EVENT
-  pub event-view : (e : Event) → EventBytes e → seen (afterEvent image e m) ≡ step (tableOf image) W (seen m) e
+  pub event-view : (e : Event) → EventBytes e → seen (afterEvent image e m) ≡ step (tableOf image) (wholeOf image) (seen m) e
   unfolding afterEvent
   event-view (on k e) b = own-view k e b
   event-view (all e) b = whole-view e
@@ -92,7 +92,7 @@ module _ (image : List ℕ) (m : Machine) (good : Good image m) where
       go true false = refl
       go false y = refl
 
-  pub event-given : (k : ℕ) (e : Event) → EventBytes e → given image k e m ≡ hands (tableOf image) W k (seen m) e
+  pub event-given : (k : ℕ) (e : Event) → EventBytes e → given image k e m ≡ hands (tableOf image) (wholeOf image) k (seen m) e
   unfolding given hands does
   event-given k (on i (change e)) b = no-list k i (change e) (λ h. refl)
   event-given k (on i (segment bytes)) b = ap (λ (ps : List Pdu). cond (eqb i k) ps []) (segment-told image i m bytes (good .passed) b W)

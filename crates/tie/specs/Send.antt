@@ -15,8 +15,8 @@ use Rattle.send.specs.Send.{destinations, checkOf, wantedAt}
 use Rattle.world.specs.World.{Held, World, heldAt, stateOf}
 
 -- a connection with one frame more waiting
-abbrev pub sentTo : DestinationRow → List ℕ → Held → Held
-sentTo d payload h =
+abbrev pub withFrame : DestinationRow → List ℕ → Held → Held
+withFrame d payload h =
     record {
       connection = sentOf d (h .connection .used + 8 + length payload) (h .connection);
       received = h .received;
@@ -25,7 +25,7 @@ sentTo d payload h =
 
 abbrev pub appendTo : DestinationRow → List ℕ → World → World
 appendTo d payload w =
-    record { held = set (w .held) (d .connection) (sentTo d payload (heldAt w (d .connection))); udp = w .udp; tcp = w .tcp }
+    record { held = set (w .held) (d .connection) (withFrame d payload (heldAt w (d .connection))); udp = w .udp; tcp = w .tcp }
 
 -- destination row i, where it is of this PDU and switched on at the call (s is the state then)
 unfoldable pub storeIn : List ℕ → State → ℕ → List ℕ → World → ℕ → World

@@ -38,7 +38,7 @@ afterTake g c =
 unfoldable pub takeOf : Config → ℕ → Connection → Connection
 takeOf g room c = cond (eqb (c .used) 0 || ltb room (c .used)) c (afterTake g (withSend 0 0 false c))
 
--- the paper's number of an answer
+-- document 01's number of an answer
 abbrev pub takingNumber : Taking → ℕ
 takingNumber (Bytes count remote) = 0
 takingNumber (Refused r) = refusalNumber r

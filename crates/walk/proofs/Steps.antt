@@ -18,7 +18,7 @@ use Rattle.lengths.specs.Split.{sent, Split, splitBy, splits}
 use Rattle.lengths.proofs.Heads.{View, at-end, at-short, at-beyond, at-whole, view, head-end, whole-fits}
 use Rattle.lengths.proofs.Splits.{split-enough}
 use Rattle.wire.proofs.Part.{rest-is}
-use Rattle.walk.specs.Walk.{the-end, Walked, walked, wholeAt, stepOf, walkAt, told, walks, placeAfter, judge, leftOver, listOf}
+use Rattle.walk.specs.Walk.{the-end, Walked, walked, wholeAt, stepOf, walkAt, Forward, told, walks, placeAfter, judge, leftOver, listOf}
 
 -- a whole PDU stands within the datagram
 pub whole-place : (d : List ℕ) (p i n : ℕ) → p ≤ length d → headOf (take (length d - p) (drop p d)) ≡ whole i n → p + 8 + n ≤ length d
@@ -29,10 +29,6 @@ whole-next (Accept r) p i n = refl
 whole-next (Refuse k) p i n = refl
 
 -- EVERY STEP MOVES FORWARD, and not past the end
-pub record Forward (m p q : ℕ) : Type 0 where
-  pub more : p < q
-  pub within : q ≤ m
-
 pub forward : (R : Routes) (d : List ℕ) (p : ℕ) → p < length d → Forward (length d) p (walkAt R d p .next)
 unfolding walkAt
 forward R d p lt = go (headOf (drop p d)) (view (drop p d))

@@ -9,9 +9,8 @@ use lib.ListN.{length, take, drop, length-append}
 use lib.Seq.{drop-drop, drop-append-seam, take-append-seam}
 use Rattle.feed.specs.declared.Decision.{Decision}
 use Rattle.feed.specs.declared.Decision.the-variants.{Accept}
-use Rattle.feed.specs.Feed.{Routes, Out, pdu, Pdu}
+use Rattle.feed.specs.Feed.{Routes, Out, pdu, Pdu, asOut}
 use Rattle.feed.specs.Frame.{frame, Sent, frames, Fits, Routed, none, one}
-use Rattle.feed.proofs.Trip.{asOut}
 use Rattle.lengths.specs.Head.{headOf}
 use Rattle.lengths.proofs.Splits.{head-frame, frame-body, frame-long}
 use Rattle.walk.specs.Walk.{the-end, a-pdu, Walked, walked, wholeAt, stepOf, walkAt, told, walks, placeAfter}

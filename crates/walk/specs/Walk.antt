@@ -1,6 +1,6 @@
 -- THE WALK OVER A DATAGRAM (document 01, "Datagrams"): what stands at a place, the next place, and the list of a whole datagram.
 -- Assumes nothing: these are definitions.
-use Prim.Native.Nat.{ℕ, zero, suc, _+_}
+use Prim.Native.Nat.{ℕ, zero, suc, _+_, _≤_, _<_}
 use mathlib.Core.List.{List, [], _∷_, _++_, map}
 use lib.ListN.{length, take, drop}
 use Rattle.feed.specs.declared.Decision.{Decision}
@@ -41,6 +41,11 @@ stepOf R m p (whole i n) = wholeAt (R i n) p i n
 -- A STEP OF THE WALK: datagram d, place p (0 .. its length)
 unfoldable pub walkAt : Routes → List ℕ → ℕ → Walked
 walkAt R d p = stepOf R (length d) p (headOf (drop p d))
+
+-- "with the next place": from place p forward to q, and not past the end m
+pub record Forward (m p q : ℕ) : Type 0 where
+  pub more : p < q
+  pub within : q ≤ m
 
 -- THE WALK: steps from place p until the end, at most f, each with the payload that it names
 abbrev pub told : List ℕ → Found → List Out → List Out

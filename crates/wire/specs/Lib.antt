@@ -1,3 +1,4 @@
--- What the contracts of this crate cite. Assumes nothing.
+-- What the contracts of this crate cite, and the bits of a word. Assumes nothing.
 pub mod Be
 pub mod Lay
+pub mod Bits

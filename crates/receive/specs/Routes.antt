@@ -1,0 +1,14 @@
+-- The routes of a connection, as its switches stand. Assumes nothing: this is a definition.
+use Prim.Native.Nat.{ℕ}
+use mathlib.Core.List.{List}
+use Rattle.feed.specs.Feed.{Routes}
+use Rattle.layout.specs.Layout.{bodyOf}
+use Rattle.layout.specs.declared.Kind.the-variants.{Route}
+use Rattle.route.specs.Route.{lookupOf}
+use Rattle.state.specs.declared.State.{State}
+use Rattle.state.specs.State.{recordAt}
+
+-- "A receive route counts for the header's id on its connection. It is on when its groups are 0 or share a set bit with the
+-- connection's switches": what the table's routes say on connection k of a state
+abbrev pub routesIn : List ℕ → State → ℕ → Routes
+routesIn image s k = lookupOf (bodyOf image Route) k (recordAt s k .switches)

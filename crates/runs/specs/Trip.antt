@@ -1,0 +1,23 @@
+-- WHO READS SEGMENTS in a run, and the segments of a stream that was cut. Assumes nothing: these are definitions.
+use Prim.Native.Nat.{ℕ}
+use mathlib.Core.Path.{_≡_}
+use mathlib.Core.Bool.{true}
+use mathlib.Core.List.{List, map}
+use lib.Dec.{ltb}
+use Rattle.feed.specs.Feed.{ready}
+use Rattle.connection.specs.Event.{receiving}
+use Rattle.world.specs.World.{World, heldAt, cellAt}
+use Rattle.world.specs.Events.{segment, Event, on}
+use Rattle.world.specs.Step.{Table}
+
+-- "a reader that is ready and at a header's first byte": a TCP connection that is there, online without close wanted, and holds
+-- nothing
+pub record Reads (T : Table) (w : World) (k : ℕ) : Type 0 where
+  pub there : ltb k (T .rows) ≡ true
+  pub tcp : T .config k .tcp ≡ true
+  pub receives : receiving (heldAt w k .connection) ≡ true
+  pub at-header : cellAt (heldAt w k) ≡ ready
+
+-- one segment event on connection k for each piece
+abbrev pub asSegments : ℕ → List (List ℕ) → List Event
+asSegments k pieces = map (λ (p : List ℕ). on k (segment p)) pieces
