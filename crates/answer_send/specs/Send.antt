@@ -13,7 +13,6 @@ use Rattle.send.specs.declared.Transmission.{Transmission}
 use Rattle.send.specs.declared.Transmission.the-variants.{Stored, Refused as NotSent, NoDestination, SwitchedOff, RefusedAt}
 use Rattle.waiting.specs.declared.Taking.{Taking}
 use Rattle.waiting.specs.declared.Taking.the-variants.{Bytes, Refused as NotTaken, Short}
-use Rattle.sending.specs.declared.Taken.{Taken}
 use Rattle.sending.specs.Sending.{sendOf, sentMemory, takenOf, takenOut}
 use Rattle.answering.specs.Answers.{Effect, answers, refused, refusal, done, doneWith, waiting}
 

@@ -44,7 +44,7 @@ fn rank(equal: Fields) -> u8
     one(equal.address) + one(equal.port)
 }
 
-// A member's rank and 1 more; 0 for one that does not count.
+// A member's rank and 1 more; 0 for one that does not count or does not match, and for a connection that is no member.
 fn score(accept: bool, source: Remote, member: bool, c: Connection) -> u8
     ensures { λ r. ⌜ r ≡ Is.scoreOf accept source member c ⌝ }
 {

@@ -137,7 +137,7 @@ zeroRecord =
 abbrev pub become : Mode → Connection → Connection
 become m c = withMode m (c .«open_wanted») (c .«close_wanted») c
 
--- nothing held
+-- nothing held: no receive part and no send bytes, so the timer is stopped and nothing is due
 abbrev pub emptied : Connection → Connection
 emptied c = withPart ready (withSend 0 0 false c)
 

@@ -1,8 +1,7 @@
 -- The connection events that concern the record alone: when each is allowed, what it leaves, and document 01's numbers. Assumes nothing.
 use Prim.Native.Nat.{ℕ}
 use lib.Dec.{ltb}
-use mathlib.Core.Bool.{Bool, true, false, cond, not, _&&_, _||_}
-use Rattle.connection.specs.declared.Remote.{Remote}
+use mathlib.Core.Bool.{Bool, true, cond, not, _&&_, _||_}
 use Rattle.connection.specs.declared.Connection.{Connection}
 use Rattle.connection.specs.declared.Config.{Config}
 use Rattle.connection.specs.declared.Refusal.{Refusal}

@@ -27,7 +27,7 @@ use Rattle.ticks.specs.declared.Ticked.{Ticked}
 use Rattle.ticks.specs.Tick.{tickedTo, unticked, tickEvent}
 use Rattle.receive.specs.Answer.{isDone}
 use Rattle.waiting.specs.Waiting.{waitingOf}
-use Rattle.waits.specs.Waits.{waits, goesTo, framesFrom, addedTo, adds, empties, turned, afterAll, emptied as anyEmpties, since}
+use Rattle.waits.specs.Waits.{waits, goesTo, framesFrom, addedTo, adds, empties, turned, afterAll, anyEmpties, since}
 use Rattle.waits.proofs.Since.{waits-since}
 use Rattle.turns.proofs.Entries.{transmit-turn}
 use Rattle.world.specs.World.{World, heldAt}

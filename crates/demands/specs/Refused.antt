@@ -1,4 +1,5 @@
--- ANY RUN FROM ANY START, by what the gate says there: 11 and 12, and each event of the run with them; or past it, and so to the end.
+-- ANY RUN FROM ANY START, by what the gate says there: it refuses, and every event of the run is answered its number, 11 or 12; or it
+-- passes, and passes again at the end.
 -- Assumes nothing: these are definitions.
 use Prim.Native.Nat.{ℕ}
 use mathlib.Core.Path.{_≡_}

@@ -20,7 +20,7 @@ use Rattle.world.specs.Events.{walk, Event, on}
 use Rattle.tie.specs.Machine.{Machine, seen}
 use Rattle.tie.specs.Run.{afterEvent}
 
--- what taking the waiting bytes of connection j gives out: so many bytes as are used, at the front of the out buffer
+-- what taking the waiting bytes of connection j gives out: as many bytes as are used, at the front of the out buffer
 abbrev pub outgoing : List ℕ → Machine → ℕ → List ℕ → List ℕ
 outgoing image m j out = take (recordAt (m .state) j .used) (takenOut image (m .state) (length (m .rx)) (m .tx) j out)
 

@@ -12,7 +12,6 @@ use Rattle.connection.specs.Event.{stepOf}
 use Rattle.state.specs.declared.State.{State}
 use Rattle.state.specs.State.{recordAt, withRecord}
 use Rattle.state.specs.Fresh.{configOf}
-use Rattle.events.specs.declared.Told.{Told}
 use Rattle.events.specs.Change.{refusedBy, toldOf, changeOf}
 
 module _ (image : List ℕ) (s : State) (n : ℕ) (e : Event) (g : Config) (t : Stepped) (config : g ≡ configOf image n) (stepped : t ≡ stepOf e g (recordAt s n)) where

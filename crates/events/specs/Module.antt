@@ -1,15 +1,14 @@
 -- A switch on all connections. A refusal carries its number, and the state stays. Assumes nothing.
 use Prim.Native.Nat.{ℕ}
-use mathlib.Core.Bool.{Bool, true, false, cond, not}
+use mathlib.Core.Bool.{Bool, cond}
 use mathlib.Core.List.{List}
 use lib.Dec.{ltb}
 use Rattle.layout.specs.Layout.{rowsOf}
 use Rattle.layout.specs.declared.Kind.the-variants.{Connection as Connections}
 use Rattle.connection.specs.declared.Connection.{Connection}
-use Rattle.connection.specs.declared.Refusal.the-variants.{Missing, Denied}
+use Rattle.connection.specs.declared.Refusal.the-variants.{Missing}
 use Rattle.connection.specs.declared.Answer.the-variants.{Done}
 use Rattle.connection.specs.Connection.{switchedOf}
-use Rattle.connection.specs.Event.{refusalNumber}
 use Rattle.lists.specs.Each.{eachTo}
 use Rattle.state.specs.declared.State.{State}
 use Rattle.state.specs.State.{withRecords}

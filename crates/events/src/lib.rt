@@ -24,7 +24,8 @@ pub struct Told {
     pub state: State,
 }
 
-// What a loss answers, and the state after it. A struct of its own: it has room for more.
+// What a loss answers, and the state after it. Apart from the other events' answer: a loss may come to answer more (docs/EVENTS.md has
+// its byte).
 pub struct Loss {
     pub answer: Answer,
     pub state: State,

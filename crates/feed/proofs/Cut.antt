@@ -8,7 +8,7 @@ use mathlib.Core.List.{List, [], _∷_, _++_, append-nil, cons-ne-nil, flatten}
 use native.Mathlib.Omega.{arith}
 use lib.ListN.{length, drop, length-append}
 use lib.Seq.{drop-append-seam, append-snoc}
-use Rattle.feed.specs.Feed.{Routes, Cell, Out, nothing, pdu, dropped, Fed, fed, feed, after, emit, outs, stops, Took, took, bytesRead, goes, takeB, Ends, at-end, at-byte, Ran, ran, joined, takes, segment, segments, Pdu, handed, pdus, drops}
+use Rattle.feed.specs.Feed.{Routes, Cell, Out, nothing, pdu, dropped, fed, feed, after, emit, outs, stops, Took, took, bytesRead, goes, takeB, Ends, at-end, at-byte, Ran, ran, joined, takes, segment, segments, Pdu, handed, pdus, drops}
 
 -- the stream's bytes one by one, in two pieces
 pub emit-append : (o : Out) (xs ys : List Out) → emit o xs ++ ys ≡ emit o (xs ++ ys)

@@ -4,7 +4,6 @@ use mathlib.Core.List.{List}
 use Rattle.table.specs.declared.TableAnswer.{TableAnswer}
 use Rattle.table.specs.declared.TableAnswer.the-variants.{Accepted, Refused}
 use Rattle.table.specs.Table.{checkTable}
-use Rattle.state.specs.declared.State.{State}
 use Rattle.state.specs.Fresh.{freshState, emptyState}
 use Rattle.fresh.specs.declared.Made.{Made}
 

@@ -8,7 +8,7 @@ use lib.Dec.{eqb}
 use native.Mathlib.Omega.{arith}
 use borrow.Author.Tests.{eqb-true, not-true, le-leb}
 use Rattle.part.specs.declared.Part.{Part}
-use Rattle.part.specs.Part.{shaped, emptyPart, ready}
+use Rattle.part.specs.Part.{emptyPart, ready}
 use Rattle.connection.specs.declared.Config.{Config}
 use Rattle.connection.specs.declared.Connection.{Connection}
 use Rattle.connection.specs.declared.Mode.{Mode}

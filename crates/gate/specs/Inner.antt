@@ -1,5 +1,5 @@
 -- What the contracts of the inner functions cite: the same rules by the bodies, asked for once, and a quick way for records that hold
--- nothing. No sentence of document 01 stands here. Assumes nothing: these are definitions.
+-- nothing. They say nothing that the rules of Gate and Sound do not say. Assumes nothing: these are definitions.
 use Prim.Native.Nat.{ℕ}
 use mathlib.Core.Bool.{Bool, cond, not, _&&_}
 use mathlib.Core.List.{List}

@@ -1,6 +1,6 @@
 -- The state that the bytes of a start state spell (docs/EVENTS.md, "A start state"). Assumes nothing: these are definitions.
 use Prim.Native.Nat.{ℕ, _*_}
-use mathlib.Core.Bool.{Bool, true, false, cond, _&&_}
+use mathlib.Core.Bool.{Bool, cond, _&&_}
 use mathlib.Core.List.{List}
 use lib.Dec.{eqb, leb}
 use lib.ListN.{length, drop}

@@ -1,4 +1,4 @@
--- Rows numbered from 0, taken one after the other, for any state that they change.
+-- Numbered rows, taken one after the other, for any state that they change.
 -- Assumes nothing.
 use Prim.Native.Nat.{ℕ, zero, suc}
 

@@ -8,7 +8,7 @@ use native.Mathlib.Decide.{decLe}
 use lib.Dec.{ltb}
 use lib.ListN.{length, take, drop, length-append, length-drop, take-append-drop}
 use lib.Seq.{drop-drop, take-length, drop-length}
-use borrow.Author.Tests.{ltb-true, ltb-false, le-ltb}
+use borrow.Author.Tests.{ltb-true, le-ltb}
 use borrow.Rule.Slice.PartMut.{midOf, postOf, putMid}
 use Rattle.feed.specs.Frame.{frame}
 use Rattle.frame.specs.declared.Framed.the-variants.{Done, TooLong, NoRoom}

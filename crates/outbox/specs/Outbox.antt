@@ -7,6 +7,6 @@ use lib.ListN.{length}
 use Rattle.feed.specs.Frame.{frame}
 use Rattle.wire.specs.Lay.{lay}
 
--- the frame from at on, and all other bytes as they were; nothing where it does not fit or the payload is longer than any
+-- the frame from at on, and all other bytes as they were; nothing where it does not fit or the payload is longer than 1,464 bytes
 unfoldable pub appendedOf : List ℕ → ℕ → ℕ → List ℕ → List ℕ
 appendedOf tx at id payload = cond (ltb 1464 (length payload)) tx (lay tx at (frame id payload))

@@ -10,7 +10,7 @@ pub enum Part {
     Skip(u32),
 }
 
-// What `held` header bytes stay below as a number; 0 where so many are not held.
+// What `held` header bytes stay below as a number; 0 where so many cannot be held.
 pub fn room_for(held: u8) -> u64
     ensures { λ r. ⌜ r ≡ roomFor held ⌝ }
 {
@@ -42,7 +42,7 @@ pub fn is_shaped(part: Part) -> bool
     }
 }
 
-// Whether nothing is received: no byte of a header is held.
+// Whether nothing is received: the part of a connection that is ready, with 0 header bytes held that stand for 0.
 pub fn is_empty(part: Part) -> bool
     ensures { λ r. ⌜ r ≡ emptyPart part ⌝ }
 {

@@ -1,7 +1,7 @@
 -- A take and a walk leave a sound state sound, and receive memory as long as it was. Assumes nothing.
 use Prim.Native.Nat.{ℕ, _*_, _/_, _≤_, _<_}
-use mathlib.Core.Path.{_≡_, refl, sym, ap, _∙_, subst}
-use mathlib.Core.Bool.{Bool, true, false, cond, not, _&&_, false≢true}
+use mathlib.Core.Path.{_≡_, refl, sym, ap, _∙_}
+use mathlib.Core.Bool.{Bool, true, false, cond, not, false≢true}
 use mathlib.Core.List.{List}
 use native.Mathlib.Omega.{arith}
 use native.Mathlib.Decide.{decLt}
@@ -9,7 +9,7 @@ use lib.ListN.{length, getD, set, List·getD-eq-default}
 use lib.Seq.{getD-set-same}
 use Rattle.wire.proofs.Lay.{lay-length}
 use Rattle.lists.proofs.Both.{and-left, and-both}
-use Rattle.layout.specs.Layout.{rowsOf, bodyOf}
+use Rattle.layout.specs.Layout.{bodyOf}
 use Rattle.layout.specs.declared.Kind.the-variants.{Route as Routes}
 use Rattle.layout.proofs.Parts.{body-rows}
 use Rattle.table.specs.Accepts.{Accepts}

@@ -1,13 +1,13 @@
 -- What the gate shows to a take and to a walk. Assumes nothing.
-use Prim.Native.Nat.{ℕ, _+_, _*_, _/_, _<_, _≤_}
-use mathlib.Core.Path.{_≡_, refl, sym, ap, _∙_, subst}
-use mathlib.Core.Bool.{Bool, true, false, cond, _&&_}
+use Prim.Native.Nat.{ℕ, _*_, _/_, _<_, _≤_}
+use mathlib.Core.Path.{_≡_, refl, sym, subst}
+use mathlib.Core.Bool.{true, _&&_}
 use mathlib.Core.List.{List, []}
 use native.Mathlib.Omega.{arith}
 use native.Mathlib.Decide.{decLt}
 use borrow.Author.Tests.{leb-true}
 use lib.Dec.{eqb, leb, ltb}
-use lib.ListN.{length, getD, take, drop, length-drop, List·getD-eq-default}
+use lib.ListN.{length, drop, length-drop, List·getD-eq-default}
 use lib.Seq.{length-take-le}
 use Rattle.wire.specs.Be.{be}
 use Rattle.lists.proofs.Both.{and-right}
@@ -26,7 +26,7 @@ use Rattle.connection.specs.declared.Connection.{Connection}
 use Rattle.connection.specs.Connection.{zeroRecord}
 use Rattle.state.specs.declared.State.{State}
 use Rattle.state.specs.State.{recordAt}
-use Rattle.stream.specs.Stream.{lengthOf, Limits, Fit}
+use Rattle.stream.specs.Stream.{lengthOf, Limits}
 use Rattle.gate.specs.Sound.{routed, soundAt}
 use Rattle.gate.specs.Gate.{Passed}
 use Rattle.gate.proofs.Records.{row-sound, row-routed, record-at}

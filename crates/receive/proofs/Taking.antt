@@ -1,14 +1,13 @@
 -- The take of a segment at each of its returns, and a stretch of receive memory. Assumes nothing.
-use Prim.Native.Nat.{ℕ, _+_, _-_, _*_, _<_, _≤_}
-use mathlib.Core.Path.{_≡_, refl, sym, ap, ap₂, _∙_, subst}
-use mathlib.Core.Bool.{Bool, true, false, cond}
+use Prim.Native.Nat.{ℕ, _+_, _-_, _*_, _<_}
+use mathlib.Core.Path.{_≡_, sym, ap, ap₂, _∙_, subst}
+use mathlib.Core.Bool.{Bool, true, false}
 use mathlib.Core.List.{List, [], _++_, append-assoc}
 use native.Mathlib.Nat.{add-sub-cancel-left}
 use native.Mathlib.Omega.{arith}
 use lib.ListN.{length, getD, take, drop, length-drop, drop-of-length-le}
 use lib.Seq.{take-all}
 use borrow.Rule.Slice.PartMut.{putMid, post-is}
-use Rattle.wire.specs.Lay.{lay}
 use Rattle.wire.proofs.Lay.{lay-fits}
 use Rattle.layout.specs.Layout.{bodyOf}
 use Rattle.layout.specs.declared.Kind.the-variants.{Route as Routes}

@@ -77,7 +77,7 @@ unfoldable pub memoryOf : List ℕ → State → List ℕ → ℕ → ℕ → Li
 memoryOf image s rx tx connection segment =
     cond (isDone (segmentAnswer image s (length rx) tx connection)) (memoryOn image s rx connection segment) rx
 
--- "all other lent bytes stay": when connection k takes, so does every other stretch of receive memory; and every other record, and
+-- "all other lent bytes stay": when connection k takes, every other stretch of receive memory stays, and so do every other record and
 -- UDP's count
 pub record Apart (k : ℕ) (s t : State) (rx rx′ : List ℕ) : Type 0 where
   pub records : (j : ℕ) → (j ≡ k → ⊥) → recordAt t j ≡ recordAt s j

@@ -1,7 +1,7 @@
 -- What a check that refuses nothing shows of each wanted destination. Assumes nothing.
 use Prim.Native.Nat.{ℕ, _+_, _<_, _≤_}
-use mathlib.Core.Path.{_≡_, refl, sym, ap, _∙_}
-use mathlib.Core.Bool.{Bool, true, false, cond, not, _&&_, _||_}
+use mathlib.Core.Path.{_≡_, refl}
+use mathlib.Core.Bool.{Bool, true, false, cond, not, _||_}
 use mathlib.Core.List.{List}
 use native.Mathlib.Omega.{arith}
 use native.Mathlib.Decide.{decLt}
@@ -19,8 +19,7 @@ use Rattle.rows.specs.declared.DestinationRow.{DestinationRow}
 use Rattle.rows.specs.Rows.{connectionOf, destinationOf}
 use Rattle.state.specs.declared.State.{State}
 use Rattle.state.specs.State.{recordAt}
-use Rattle.send.specs.declared.Transmission.{Transmission}
-use Rattle.send.specs.declared.Transmission.the-variants.{Stored, NoDestination, SwitchedOff, RefusedAt}
+use Rattle.send.specs.declared.Transmission.the-variants.{NoDestination, SwitchedOff, RefusedAt}
 use Rattle.send.specs.Verdict.{isOut, passes, decidedAt, verdictOf, isStored}
 use Rattle.send.specs.Send.{destinations, lookAt, checkOf, wantedAt, Ready, Roomy}
 

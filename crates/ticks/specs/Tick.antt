@@ -29,10 +29,11 @@ restsOf c = not (c .«close_wanted») && isOnline (c .mode) && eqb (c .timer) 0
 unfoldable pub tickedTo : List ℕ → ℕ → State → State
 tickedTo image rows s = withRecords (eachTo (tickAt image) 0 rows (s .connections)) s
 
--- `count` ticks, one after the other
+-- one tick, whatever its number
 abbrev pub tickOnce : List ℕ → ℕ → State → ℕ → State
 tickOnce image rows s k = tickedTo image rows s
 
+-- `count` ticks, one after the other
 unfoldable pub ticksTo : List ℕ → ℕ → ℕ → State → State
 ticksTo image rows count s = foldFrom (tickOnce image rows) count 0 s
 
@@ -44,6 +45,7 @@ unfoldable pub tickEvent : List ℕ → State → ℕ → ℕ → Ticked
 tickEvent image s rx tx =
     through (gateOf image s rx tx) (unticked s) (record { answer = Done; state = tickedTo image (rowsOf image Connections) s })
 
+-- `count` ticks under one check
 unfoldable pub ticksEvent : List ℕ → State → ℕ → ℕ → ℕ → Ticked
 ticksEvent image s rx tx count =
     through (gateOf image s rx tx) (unticked s) (record { answer = Done; state = ticksTo image (rowsOf image Connections) count s })

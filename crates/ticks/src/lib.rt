@@ -15,7 +15,8 @@ use layout::rows_of;
 use state::State;
 use state::config_in;
 
-// What a tick answers, and the state after it. A struct of its own: it has room for more.
+// What a tick answers, and the state after it. Apart from the other events' answer: a tick may come to answer more (docs/EVENTS.md has
+// its bytes).
 pub struct Ticked {
     pub answer: Answer,
     pub state: State,

@@ -1,5 +1,5 @@
 -- THE TRANSITIONS OF A CONNECTION: mode, open wanted and close wanted (its wishes), by the events that concern the record alone and by
--- a tick. Where no row fits, they stay. A datagram or an accept makes the chosen member online (choose/specs `meet`), and what follows
+-- a tick; of a sound record (an unsound one is answered 12). Where no row fits, they stay. A datagram or an accept makes the chosen member online (choose/specs `meet`), and what follows
 -- a non-empty take of waiting bytes is waiting/specs `afterTake`: these are not in the table.
 -- Assumes nothing: these are definitions.
 use Prim.Native.Nat.{ℕ}

@@ -1,11 +1,10 @@
 -- TAKING THE WAITING BYTES of one connection (document 01, "Take waiting bytes"). Assumes nothing.
 use Prim.Native.Nat.{ℕ, _*_}
-use mathlib.Core.Bool.{Bool, true, false, cond, _&&_, _||_}
+use mathlib.Core.Bool.{true, false, cond, _&&_, _||_}
 use mathlib.Core.List.{List}
 use lib.Dec.{eqb, ltb}
 use lib.ListN.{length, take, drop}
 use Rattle.connection.specs.declared.Mode.the-variants.{Reconnect}
-use Rattle.connection.specs.declared.Remote.{Remote}
 use Rattle.connection.specs.declared.Config.{Config}
 use Rattle.connection.specs.declared.Connection.{Connection}
 use Rattle.connection.specs.Connection.{wildcard, withMode, withRemote, withSend, become}

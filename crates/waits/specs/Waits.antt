@@ -36,16 +36,14 @@ module _ (image : List ℕ) (s : State) (pdu : ℕ) (payload : List ℕ) (k : �
   unfoldable pub addedTo : List ℕ
   addedTo = cond (isStored (checkOf image s pdu (length payload))) (framesFrom (destinations image) 0) []
 
--- what an event makes of the waiting bytes: it adds some, empties them (a non-empty take, a closing tick, a loss), or leaves them
+-- what an event makes of the waiting bytes: it adds some, or none; or it empties them (a non-empty take, a closing tick, a loss)
 pub data Turn : Type 0 where
   adds : List ℕ → Turn
   empties : Turn
-  stays : Turn
 
 abbrev pub turned : Turn → List ℕ → List ℕ
 turned (adds bytes) w = w ++ bytes
 turned empties w = []
-turned stays w = w
 
 -- one event after the other
 abbrev pub afterAll : List Turn → List ℕ → List ℕ
@@ -53,18 +51,16 @@ afterAll [] w = w
 afterAll (t ∷ ts) w = afterAll ts (turned t w)
 
 -- whether any of them empties
-abbrev pub emptied : List Turn → Bool
-emptied [] = false
-emptied (adds bytes ∷ ts) = emptied ts
-emptied (empties ∷ ts) = true
-emptied (stays ∷ ts) = emptied ts
+abbrev pub anyEmpties : List Turn → Bool
+anyEmpties [] = false
+anyEmpties (adds bytes ∷ ts) = anyEmpties ts
+anyEmpties (empties ∷ ts) = true
 
 -- all that they add since the last that empties
 abbrev pub since : List Turn → List ℕ
 since [] = []
-since (adds bytes ∷ ts) = cond (emptied ts) (since ts) (bytes ++ since ts)
+since (adds bytes ∷ ts) = cond (anyEmpties ts) (since ts) (bytes ++ since ts)
 since (empties ∷ ts) = since ts
-since (stays ∷ ts) = since ts
 
 -- which connection events empty the waiting bytes: a loss that is allowed
 abbrev pub loses : Event → Config → Connection → Bool

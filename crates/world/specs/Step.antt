@@ -25,7 +25,7 @@ unfoldable pub counts : ℕ → ℕ → ℕ
 counts zero n = n
 counts (suc drops) n = counts drops (counted n)
 
--- of this protocol, or of the other
+-- only where the drops are of this protocol
 abbrev pub countsIf : Bool → ℕ → ℕ → ℕ
 countsIf true drops n = counts drops n
 countsIf false drops n = n
