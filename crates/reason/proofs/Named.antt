@@ -1,4 +1,5 @@
--- The place that the spot of a refusal names is the check's. Assumes nothing.
+-- The place that the spot of a refusal names is the check's, and what stands there is bad; the spot of a spot's place is
+-- that spot. Assumes nothing.
 use Prim.Native.Nat.{ℕ, _-_, _/_, _<_, _≤_}
 use mathlib.Core.Path.{_≡_, refl, sym, ap, _∙_}
 use mathlib.Core.Bool.{Bool, true, false}
@@ -11,11 +12,15 @@ use borrow.Author.Tests.{ne-eqb, leb-false}
 use Rattle.layout.specs.Layout.{rowBytes, rowsOf, bodyBytes, startOf, endOf, rowAt}
 use Rattle.layout.specs.declared.Kind.{Kind}
 use Rattle.layout.specs.declared.Kind.the-variants.{Group, Connection, Route, Destination}
-use Rattle.table.specs.Table.{headGood, entryGood, badRow, demand, then, rowsPlace, entriesPlace, headPlace, allRowsPlace, checkTable}
+use Rattle.lists.proofs.Both.{and-first, and-second}
+use Rattle.table.specs.Table.{headGood, entryGood, rowGood, badRow, demand, then, rowsPlace, entriesPlace, headPlace, allRowsPlace, checkTable}
 use Rattle.table.specs.declared.TableAnswer.{TableAnswer}
 use Rattle.table.specs.declared.TableAnswer.the-variants.{Accepted, Refused}
 use Rattle.reason.specs.Spots.{placeOf, rowSpot, spotOf}
-use Rattle.reason.specs.declared.Spot.the-variants.{Row}
+use Rattle.reason.specs.Good.{There, goodAt}
+use Rattle.reason.specs.declared.Spot.{Spot}
+use Rattle.reason.specs.declared.Spot.the-variants.{Head, Entry, Total, Row}
+use Rattle.reason.proofs.Shares.{found-bad}
 use Rattle.reason.proofs.Ways.{in-groups, in-connections, in-routes, in-destinations}
 
 -- what follows from a refusal of either follows from the refusal of the two
@@ -77,63 +82,94 @@ module _ (s : List ℕ) where
   spot-row p h =
       rw (ne-eqb p 0 (λ e. omega arith), ne-eqb p 2 (λ e. omega arith), ne-eqb p 4 (λ e. omega arith), ne-eqb p 12 (λ e. omega arith), ne-eqb p 20 (λ e. omega arith), ne-eqb p 28 (λ e. omega arith))
 
-  rows-named : (k : Kind) (p : ℕ) → rowsPlace s k ≡ Refused p → placeOf s (spotOf s p) ≡ p
-  unfolding placeOf
-  rows-named k p e =
-      let a = asked (leb (rowsOf s k) (badRow s k)) (rowAt s k (badRow s k)) p e in
-      let h : badRow s k < rowsOf s k = leb-false (rowsOf s k) (badRow s k) (a .1) in
-      let l : 36 ≤ rowAt s k (badRow s k) = omega (arith, first k, above k (badRow s k)) in
-      rw (← a .0) (ap (placeOf s) (spot-row (rowAt s k (badRow s k)) l ∙ sym (row-named k (badRow s k) h)))
+  -- the spot of a spot's place
+  row-back : (k : Kind) (i : ℕ) → i < rowsOf s k → spotOf s (rowAt s k i) ≡ Row k i
+  row-back k i h =
+      let l : 36 ≤ rowAt s k i = omega (arith, first k, above k i) in
+      spot-row (rowAt s k i) l ∙ sym (row-named k i h)
 
-  literal : (t : Bool) (q p : ℕ) → placeOf s (spotOf s q) ≡ q → demand t q ≡ Refused p → placeOf s (spotOf s p) ≡ p
-  literal t q p h e = let a = asked t q p e in rw (← a .0) h
+  pub spot-back : (at : Spot) → There s at → spotOf s (placeOf s at) ≡ at
+  unfolding There placeOf spotOf
+  spot-back Head h = refl
+  spot-back Total h = refl
+  spot-back (Entry Group) h = refl
+  spot-back (Entry Connection) h = refl
+  spot-back (Entry Route) h = refl
+  spot-back (Entry Destination) h = refl
+  spot-back (Row k i) h = row-back k i h
+
+  -- a place is its spot's, and the spot is bad
+  abbrev Bad : ℕ → Type 0
+  Bad p = (placeOf s (spotOf s p) ≡ p) × (goodAt s (spotOf s p) ≡ false)
+
+  rows-bad : (k : Kind) (p : ℕ) → rowsPlace s k ≡ Refused p → Bad p
+  unfolding placeOf goodAt
+  rows-bad k p e =
+      let i = badRow s k in
+      let a = asked (leb (rowsOf s k) i) (rowAt s k i) p e in
+      let h : i < rowsOf s k = leb-false (rowsOf s k) i (a .1) in
+      let b = row-back k i h in
+      rw (← a .0) (ap (placeOf s) b, ap (goodAt s) b ∙ found-bad (rowGood s k) (rowsOf s k) h)
+
+  literal : (t : Bool) (q p : ℕ) → placeOf s (spotOf s q) ≡ q → (t ≡ false → goodAt s (spotOf s q) ≡ false) → demand t q ≡ Refused p → Bad p
+  literal t q p h g e = let a = asked t q p e in rw (← a .0) (h, g (a .1))
 
   -- the literal places
-  zero-named : placeOf s (spotOf s 0) ≡ 0
-  unfolding placeOf spotOf
-  zero-named = refl
+  short-bad : (p : ℕ) → demand (leb 36 (length s)) 0 ≡ Refused p → Bad p
+  unfolding placeOf spotOf goodAt
+  short-bad p = literal (leb 36 (length s)) 0 p refl (and-first (leb 36 (length s)) (headGood s))
 
-  total-named : placeOf s (spotOf s 2) ≡ 2
-  unfolding placeOf spotOf
-  total-named = refl
+  zero-bad : (p : ℕ) → demand (headGood s) 0 ≡ Refused p → Bad p
+  unfolding placeOf spotOf goodAt
+  zero-bad p = literal (headGood s) 0 p refl (and-second (leb 36 (length s)) (headGood s))
 
-  groups-named : placeOf s (spotOf s 4) ≡ 4
-  unfolding placeOf spotOf
-  groups-named = refl
+  total-bad : (p : ℕ) → demand (eqb (length s) (endOf s)) 2 ≡ Refused p → Bad p
+  unfolding placeOf spotOf goodAt
+  total-bad p = literal (eqb (length s) (endOf s)) 2 p refl (λ e. e)
 
-  connections-named : placeOf s (spotOf s 12) ≡ 12
-  unfolding placeOf spotOf
-  connections-named = refl
+  groups-bad : (p : ℕ) → demand (entryGood s Group) 4 ≡ Refused p → Bad p
+  unfolding placeOf spotOf goodAt
+  groups-bad p = literal (entryGood s Group) 4 p refl (λ e. e)
 
-  routes-named : placeOf s (spotOf s 20) ≡ 20
-  unfolding placeOf spotOf
-  routes-named = refl
+  connections-bad : (p : ℕ) → demand (entryGood s Connection) 12 ≡ Refused p → Bad p
+  unfolding placeOf spotOf goodAt
+  connections-bad p = literal (entryGood s Connection) 12 p refl (λ e. e)
 
-  destinations-named : placeOf s (spotOf s 28) ≡ 28
-  unfolding placeOf spotOf
-  destinations-named = refl
+  routes-bad : (p : ℕ) → demand (entryGood s Route) 20 ≡ Refused p → Bad p
+  unfolding placeOf spotOf goodAt
+  routes-bad p = literal (entryGood s Route) 20 p refl (λ e. e)
 
-  entries-named : (p : ℕ) → entriesPlace s ≡ Refused p → placeOf s (spotOf s p) ≡ p
+  destinations-bad : (p : ℕ) → demand (entryGood s Destination) 28 ≡ Refused p → Bad p
+  unfolding placeOf spotOf goodAt
+  destinations-bad p = literal (entryGood s Destination) 28 p refl (λ e. e)
+
+  entries-bad : (p : ℕ) → entriesPlace s ≡ Refused p → Bad p
   unfolding entriesPlace
-  entries-named p =
-      by-either (demand (entryGood s Group) 4) _ p (literal (entryGood s Group) 4 p groups-named)
-      (by-either (demand (entryGood s Connection) 12) _ p (literal (entryGood s Connection) 12 p connections-named)
-      (by-either (demand (entryGood s Route) 20) _ p (literal (entryGood s Route) 20 p routes-named) (literal (entryGood s Destination) 28 p destinations-named)))
+  entries-bad p =
+      by-either (demand (entryGood s Group) 4) _ p (groups-bad p)
+      (by-either (demand (entryGood s Connection) 12) _ p (connections-bad p)
+      (by-either (demand (entryGood s Route) 20) _ p (routes-bad p) (destinations-bad p)))
 
-  head-named : (p : ℕ) → headPlace s ≡ Refused p → placeOf s (spotOf s p) ≡ p
+  head-bad : (p : ℕ) → headPlace s ≡ Refused p → Bad p
   unfolding headPlace
-  head-named p = by-either (demand (headGood s) 0) _ p (literal (headGood s) 0 p zero-named) (entries-named p)
+  head-bad p = by-either (demand (headGood s) 0) _ p (zero-bad p) (entries-bad p)
 
-  all-named : (p : ℕ) → allRowsPlace s ≡ Refused p → placeOf s (spotOf s p) ≡ p
+  all-bad : (p : ℕ) → allRowsPlace s ≡ Refused p → Bad p
   unfolding allRowsPlace
-  all-named p =
-      by-either (rowsPlace s Group) _ p (rows-named Group p)
-      (by-either (rowsPlace s Connection) _ p (rows-named Connection p)
-      (by-either (rowsPlace s Route) _ p (rows-named Route p) (rows-named Destination p)))
+  all-bad p =
+      by-either (rowsPlace s Group) _ p (rows-bad Group p)
+      (by-either (rowsPlace s Connection) _ p (rows-bad Connection p)
+      (by-either (rowsPlace s Route) _ p (rows-bad Route p) (rows-bad Destination p)))
+
+  refused-bad : (p : ℕ) → checkTable s ≡ Refused p → Bad p
+  unfolding checkTable
+  refused-bad p =
+      by-either (demand (leb 36 (length s)) 0) _ p (short-bad p)
+      (by-either (headPlace s) _ p (head-bad p)
+      (by-either (demand (eqb (length s) (endOf s)) 2) _ p (total-bad p) (all-bad p)))
 
   pub named : (p : ℕ) → checkTable s ≡ Refused p → placeOf s (spotOf s p) ≡ p
-  unfolding checkTable
-  named p =
-      by-either (demand (leb 36 (length s)) 0) _ p (literal (leb 36 (length s)) 0 p zero-named)
-      (by-either (headPlace s) _ p (head-named p)
-      (by-either (demand (eqb (length s) (endOf s)) 2) _ p (literal (eqb (length s) (endOf s)) 2 p total-named) (all-named p)))
+  named p e = refused-bad p e .0
+
+  pub bad-there : (p : ℕ) → checkTable s ≡ Refused p → goodAt s (spotOf s p) ≡ false
+  bad-there p e = refused-bad p e .1

@@ -3,12 +3,11 @@ use Prim.Native.Nat.{ℕ}
 use mathlib.Core.Path.{_≡_, _∙_}
 use mathlib.Core.List.{List}
 use Rattle.wire.specs.Be.{be}
-use Rattle.lists.specs.Search.{firstBad}
 use Rattle.layout.specs.Layout.{rowsOf, bodyOf, rowOf}
 use Rattle.layout.specs.declared.Kind.{Kind}
 use Rattle.layout.specs.declared.Kind.the-variants.{Group, Connection, Route, Destination}
 use Rattle.rows.specs.Rules.{sizeIn}
-use Rattle.reason.specs.Faults.{groupFault, connectionFault, routeFault, destinationFault, clearOf, rowFault}
+use Rattle.reason.specs.Faults.{groupFault, connectionFault, routeFault, destinationFault, sharedFault, rowFault}
 use Rattle.reason.specs.declared.Told.{Told}
 
 module _ (s : List ℕ) (k : Kind) (i : ℕ) {r : Told} {row : List ℕ} where
@@ -20,13 +19,13 @@ module _ (s : List ℕ) (k : Kind) (i : ℕ) {r : Told} {row : List ℕ} where
   unfolding rowFault
   connection-told e p g q = q ∙ rw (p, e, g)
 
-  pub route-told : {earlier connections : ℕ} → k ≡ Route → row ≡ rowOf s k i → earlier ≡ firstBad (clearOf s Route i) i → connections ≡ rowsOf s Connection
-      → r ≡ routeFault connections earlier row → r ≡ rowFault s k i
+  pub route-told : {shared : Told} {connections : ℕ} → k ≡ Route → row ≡ rowOf s k i → shared ≡ sharedFault s Route i → connections ≡ rowsOf s Connection
+      → r ≡ routeFault connections shared row → r ≡ rowFault s k i
   unfolding rowFault
   route-told e p f n q = q ∙ rw (p, e, f, n)
 
-  pub destination-told : {earlier connections c size : ℕ} {body : List ℕ} → k ≡ Destination → row ≡ rowOf s k i → earlier ≡ firstBad (clearOf s Destination i) i
+  pub destination-told : {shared : Told} {connections c size : ℕ} {body : List ℕ} → k ≡ Destination → row ≡ rowOf s k i → shared ≡ sharedFault s Destination i
       → body ≡ bodyOf s Connection → c ≡ be 1 row 0 → size ≡ sizeIn body c → connections ≡ rowsOf s Connection
-      → r ≡ destinationFault connections size earlier row → r ≡ rowFault s k i
+      → r ≡ destinationFault connections size shared row → r ≡ rowFault s k i
   unfolding rowFault
   destination-told e p f b c z n q = q ∙ rw (z, c, b, p, e, f, n)

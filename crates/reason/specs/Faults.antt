@@ -1,11 +1,11 @@
--- The first test that fails at a spot, in the order of document 01's words. Assumes nothing.
+-- The first test that fails at a spot, in the order of document 01's words; nothing where none does. Assumes nothing.
 use Prim.Native.Nat.{ℕ, _+_}
-use mathlib.Core.Bool.{Bool, cond, _&&_}
+use mathlib.Core.Bool.{Bool, true, false, cond, _&&_}
 use mathlib.Core.List.{List}
 use lib.Dec.{leb, ltb, eqb}
 use lib.ListN.{length}
 use Rattle.wire.specs.Be.{be}
-use Rattle.lists.specs.Search.{firstBad}
+use Rattle.lists.specs.Search.{firstBad, every}
 use Rattle.layout.specs.Layout.{number, mostRows, entryAt, rowBytes, rowsOf, startOf, endOf, bodyOf, rowOf}
 use Rattle.layout.specs.declared.Kind.{Kind}
 use Rattle.layout.specs.declared.Kind.the-variants.{Group, Connection, Route, Destination}
@@ -42,66 +42,100 @@ use Rattle.reason.specs.declared.Reason.{Reason}
 unfoldable pub toldOf : Fault → ℕ → ℕ → Told
 toldOf fault found asked = record { fault = fault; found = found; asked = asked }
 
--- a fault with its numbers unless the test holds; else the rest
-unfoldable pub unless : Bool → Fault → ℕ → ℕ → Told → Told
-unless ok fault found asked rest = cond ok rest (toldOf fault found asked)
+abbrev pub none : Told
+none = toldOf Nothing 0 0
 
+-- the test that a fault names, of the number found and the number asked; `Nothing` names none, and `Shared` is told
+-- only where it fails
+unfoldable pub passes : Fault → ℕ → ℕ → Bool
+passes Nothing found asked = true
+passes Short found asked = leb asked found
+passes Edition found asked = eqb found asked
+passes Number found asked = eqb found asked
+passes WrongKind found asked = eqb found asked
+passes TooMany found asked = leb found asked
+passes Offset found asked = eqb found asked
+passes Length found asked = eqb found asked
+passes Protocol found asked = leb 1 found && leb found asked
+passes Zero found asked = eqb found 0
+passes NoGroup found asked = ltb found asked
+passes Automatic found asked = leb found asked
+passes SendSize found asked = leb 8 found && leb found asked
+passes NoConnection found asked = ltb found asked
+passes Longest found asked = leb found asked
+passes Trigger found asked = leb found asked
+passes Room found asked = leb (found + 8) asked
+passes Shared found asked = false
+
+-- a fault with its numbers unless they pass its test; else the rest
+unfoldable pub unless : Fault → ℕ → ℕ → Told → Told
+unless fault found asked rest = cond (passes fault found asked) rest (toldOf fault found asked)
+
+-- "0 when shorter than 36 or bytes 0..3 are wrong"
 unfoldable pub headFault : List ℕ → Told
 headFault s =
-    unless (leb 36 (length s)) Short (length s) 36
-    (unless (eqb (be 2 s 0) 1) Edition (be 2 s 0) 1
-    (unless (eqb (be 2 s 2) 4) Number (be 2 s 2) 4 (toldOf Nothing 0 0)))
+    unless Short (length s) 36
+    (unless Edition (be 2 s 0) 1
+    (unless Number (be 2 s 2) 4 none))
 
 -- "wrong kind, too many rows, wrong offset"
 unfoldable pub entryFault : List ℕ → Kind → Told
 entryFault s k =
-    unless (eqb (be 2 s (entryAt k)) (number k)) WrongKind (be 2 s (entryAt k)) (number k)
-    (unless (leb (rowsOf s k) (mostRows k)) TooMany (rowsOf s k) (mostRows k)
-    (unless (eqb (be 4 s (entryAt k + 4)) (startOf s k)) Offset (be 4 s (entryAt k + 4)) (startOf s k) (toldOf Nothing 0 0)))
+    unless WrongKind (be 2 s (entryAt k)) (number k)
+    (unless TooMany (rowsOf s k) (mostRows k)
+    (unless Offset (be 4 s (entryAt k + 4)) (startOf s k) none))
+
+-- "2 for a wrong total length"
+unfoldable pub totalFault : List ℕ → Told
+totalFault s = unless Length (length s) (endOf s) none
 
 unfoldable pub groupFault : List ℕ → Told
 groupFault row =
-    unless (leb 1 (be 1 row 0) && leb (be 1 row 0) 2) Protocol (be 1 row 0) 2
-    (unless (eqb (be 1 row 1) 0) Zero (be 1 row 1) 1 (toldOf Nothing 0 0))
+    unless Protocol (be 1 row 0) 2
+    (unless Zero (be 1 row 1) 1 none)
 
 unfoldable pub connectionFault : ℕ → List ℕ → Told
 connectionFault groups row =
-    unless (ltb (be 1 row 0) groups) NoGroup (be 1 row 0) groups
-    (unless (leb (be 1 row 1) 1) Automatic (be 1 row 1) 1
-    (unless (leb 8 (be 2 row 8) && leb (be 2 row 8) 1472) SendSize (be 2 row 8) 1472
-    (unless (eqb (be 2 row 10) 0) Zero (be 2 row 10) 10 (toldOf Nothing 0 0))))
+    unless NoGroup (be 1 row 0) groups
+    (unless Automatic (be 1 row 1) 1
+    (unless SendSize (be 2 row 8) 1472
+    (unless Zero (be 2 row 10) 10 none)))
 
--- a row whose fields are right shares with the row `earlier`
-unfoldable pub routeFault : ℕ → ℕ → List ℕ → Told
-routeFault connections earlier row =
-    unless (ltb (be 1 row 0) connections) NoConnection (be 1 row 0) connections
-    (unless (eqb (be 1 row 1) 0) Zero (be 1 row 1) 1
-    (unless (leb (be 2 row 2) 1464) Longest (be 2 row 2) 1464
-    (unless (eqb (be 2 row 10) 0) Zero (be 2 row 10) 10 (toldOf Shared earlier 0))))
+-- `shared` is told of a row whose fields are right
+unfoldable pub routeFault : ℕ → Told → List ℕ → Told
+routeFault connections shared row =
+    unless NoConnection (be 1 row 0) connections
+    (unless Zero (be 1 row 1) 1
+    (unless Longest (be 2 row 2) 1464
+    (unless Zero (be 2 row 10) 10 shared)))
 
-unfoldable pub destinationFault : ℕ → ℕ → ℕ → List ℕ → Told
-destinationFault connections size earlier row =
-    unless (ltb (be 1 row 0) connections) NoConnection (be 1 row 0) connections
-    (unless (leb (be 1 row 1) 1) Trigger (be 1 row 1) 1
-    (unless (leb (be 2 row 2) 1464) Longest (be 2 row 2) 1464
-    (unless (leb (be 2 row 2 + 8) size) Room (be 2 row 2) size (toldOf Shared earlier 0))))
+unfoldable pub destinationFault : ℕ → ℕ → Told → List ℕ → Told
+destinationFault connections size shared row =
+    unless NoConnection (be 1 row 0) connections
+    (unless Trigger (be 1 row 1) 1
+    (unless Longest (be 2 row 2) 1464
+    (unless Room (be 2 row 2) size shared)))
 
 -- row i shares with row j nothing that it may not
 abbrev pub clearOf : List ℕ → Kind → ℕ → ℕ → Bool
 clearOf s k i j = clearIn (share k) (rowBytes s k) (bodyOf s k) i j
 
+-- the first earlier row with which row i shares what it may not; nothing where there is none
+unfoldable pub sharedFault : List ℕ → Kind → ℕ → Told
+sharedFault s k i = cond (every (clearOf s k i) i) none (toldOf Shared (firstBad (clearOf s k i) i) 0)
+
 unfoldable pub rowFault : List ℕ → Kind → ℕ → Told
 rowFault s Group i = groupFault (rowOf s Group i)
 rowFault s Connection i = connectionFault (rowsOf s Group) (rowOf s Connection i)
-rowFault s Route i = routeFault (rowsOf s Connection) (firstBad (clearOf s Route i) i) (rowOf s Route i)
+rowFault s Route i = routeFault (rowsOf s Connection) (sharedFault s Route i) (rowOf s Route i)
 rowFault s Destination i =
     destinationFault (rowsOf s Connection) (sizeIn (bodyOf s Connection) (be 1 (rowOf s Destination i) 0))
-    (firstBad (clearOf s Destination i) i) (rowOf s Destination i)
+    (sharedFault s Destination i) (rowOf s Destination i)
 
 unfoldable pub faultAt : List ℕ → Spot → Told
 faultAt s Head = headFault s
 faultAt s (Entry k) = entryFault s k
-faultAt s Total = toldOf Length (length s) (endOf s)
+faultAt s Total = totalFault s
 faultAt s (Row k i) = rowFault s k i
 
 -- the reason of a refusal at a place

@@ -20,7 +20,7 @@ placeOf s (Row k i) = rowAt s k i
 abbrev pub rowFrom : List ℕ → Kind → ℕ → Spot
 rowFrom s k place = Row k ((place - startOf s k) / rowBytes s k)
 
--- the row that starts at a place: of the last kind whose body starts before it
+-- the row that starts at a place: of the last kind whose body starts at it or before it
 unfoldable pub rowSpot : List ℕ → ℕ → Spot
 rowSpot s place =
     cond (ltb place (startOf s Connection)) (rowFrom s Group place)

@@ -1,21 +1,26 @@
 // Why an image is refused: the spot that a place of the check names (bytes 0..3, a contents entry, the total length, a
-// row), and the first test that fails there, with the number found and the number asked. The place that the spot names
-// is the check's (proofs/Named). Everything is total. Assumes nothing.
+// row), and the first test that fails there, with the number found and the number asked; nothing where none fails. The
+// place that the spot names is the check's (proofs/Named), and nothing is told exactly where the spot is good
+// (proofs/Fails). Everything is total. Assumes nothing.
 ghost use mathlib.Core.Path.{_≡_};
-ghost use Prim.Native.Nat.{_-_, _/_};
+ghost use Prim.Native.Nat.{_+_, _-_, _/_};
+ghost use lib.Dec.{leb};
 ghost use Rattle.lists.specs.Search.{firstBad};
 ghost use Rattle.layout.specs.Layout.{startOf, rowBytes, rowOf};
 ghost use Rattle.reason.specs.Spots.{rowSpot, spotOf};
 ghost use Rattle.reason.specs.Faults.{
   toldOf,
+  passes,
   unless,
   headFault,
   entryFault,
+  totalFault,
   groupFault,
   connectionFault,
   routeFault,
   destinationFault,
   clearOf,
+  sharedFault,
   rowFault,
   faultAt,
   reasonOf,
@@ -64,7 +69,8 @@ pub enum Fault {
     Shared,
 }
 
-// A fault, the number found, and the number asked (a limit, the value wanted, or the byte's place in its row).
+// A fault, the number found, and the number asked (a limit, the value wanted, or the byte's place in its row). Of
+// `Shared` the number found is the earlier row's, and asked is 0; of `Nothing` both are 0.
 pub struct Told {
     pub fault: Fault,
     pub found: usize,
@@ -141,11 +147,47 @@ fn told_of(fault: Fault, found: usize, asked: usize) -> Told
     }
 }
 
-// A fault with its numbers unless the test holds; else the rest.
-fn ask(ok: bool, fault: Fault, found: usize, asked: usize, rest: Told) -> Told
-    ensures { λ r. ⌜ r ≡ unless ok fault found asked rest ⌝ }
+// A payload and its 8 header bytes fit the send size.
+fn has_room(longest: usize, size: usize) -> bool
+    ensures { λ r. ⌜ r ≡ leb (longest + 8) size ⌝ }
 {
-    if ok {
+    if size < 8 {
+        return false;
+    }
+    longest <= size - 8
+}
+
+// The test that a fault names, of the number found and the number asked.
+fn passes(fault: Fault, found: usize, asked: usize) -> bool
+    ensures { λ r. ⌜ r ≡ passes fault found asked ⌝ }
+{
+    match fault {
+        Fault::Nothing => true,
+        Fault::Short => asked <= found,
+        Fault::Edition => found == asked,
+        Fault::Number => found == asked,
+        Fault::WrongKind => found == asked,
+        Fault::TooMany => found <= asked,
+        Fault::Offset => found == asked,
+        Fault::Length => found == asked,
+        Fault::Protocol => (1 <= found) & (found <= asked),
+        Fault::Zero => found == 0,
+        Fault::NoGroup => found < asked,
+        Fault::Automatic => found <= asked,
+        Fault::SendSize => (8 <= found) & (found <= asked),
+        Fault::NoConnection => found < asked,
+        Fault::Longest => found <= asked,
+        Fault::Trigger => found <= asked,
+        Fault::Room => has_room(found, asked),
+        Fault::Shared => false,
+    }
+}
+
+// A fault with its numbers unless they pass its test; else the rest.
+fn ask(fault: Fault, found: usize, asked: usize, rest: Told) -> Told
+    ensures { λ r. ⌜ r ≡ unless fault found asked rest ⌝ }
+{
+    if passes(fault, found, asked) {
         rest
     } else {
         told_of(fault, found, asked)
@@ -155,13 +197,10 @@ fn ask(ok: bool, fault: Fault, found: usize, asked: usize, rest: Told) -> Told
 fn head_fault(image: &[u8]) -> Told
     ensures { λ r. ⌜ r ≡ headFault (now (image .entry)) ⌝ }
 {
-    let edition = be16(image, 0);
-    let number = be16(image, 2);
     let none = told_of(Fault::Nothing, 0, 0);
-    let third = ask(number == 4, Fault::Number, number, 4, none);
-    let second = ask(edition == 1, Fault::Edition, edition, 1, third);
-    let n = image.len();
-    ask(36 <= n, Fault::Short, n, 36, second)
+    let third = ask(Fault::Number, be16(image, 2), 4, none);
+    let second = ask(Fault::Edition, be16(image, 0), 1, third);
+    ask(Fault::Short, image.len(), 36, second)
 }
 
 fn entry_fault(image: &[u8], k: Kind) -> Told
@@ -169,88 +208,55 @@ fn entry_fault(image: &[u8], k: Kind) -> Told
 {
     let at = entry_at(k);
     let none = told_of(Fault::Nothing, 0, 0);
-    let offset = be32(image, at + 4);
-    let start = start_of(image, k);
-    let third = ask(offset == start, Fault::Offset, offset, start, none);
-    let rows = rows_of(image, k);
-    let most = most_rows(k);
-    let second = ask(rows <= most, Fault::TooMany, rows, most, third);
-    let kind = be16(image, at);
-    let number = kind_number(k);
-    ask(kind == number, Fault::WrongKind, kind, number, second)
+    let third = ask(Fault::Offset, be32(image, at + 4), start_of(image, k), none);
+    let second = ask(Fault::TooMany, rows_of(image, k), most_rows(k), third);
+    ask(Fault::WrongKind, be16(image, at), kind_number(k), second)
+}
+
+fn total_fault(image: &[u8]) -> Told
+    ensures { λ r. ⌜ r ≡ totalFault (now (image .entry)) ⌝ }
+{
+    let none = told_of(Fault::Nothing, 0, 0);
+    ask(Fault::Length, image.len(), end_of(image), none)
 }
 
 fn group_fault(row: &[u8]) -> Told
     ensures { λ r. ⌜ r ≡ groupFault (now (row .entry)) ⌝ }
 {
     let none = told_of(Fault::Nothing, 0, 0);
-    let zero = be8(row, 1);
-    let second = ask(zero == 0, Fault::Zero, zero, 1, none);
-    let protocol = be8(row, 0);
-    let ok = (1 <= protocol) & (protocol <= 2);
-    ask(ok, Fault::Protocol, protocol, 2, second)
+    let second = ask(Fault::Zero, be8(row, 1), 1, none);
+    ask(Fault::Protocol, be8(row, 0), 2, second)
 }
 
 fn connection_fault(row: &[u8], groups: usize) -> Told
     ensures { λ r. ⌜ r ≡ connectionFault groups (now (row .entry)) ⌝ }
 {
     let none = told_of(Fault::Nothing, 0, 0);
-    let zero = be16(row, 10);
-    let fourth = ask(zero == 0, Fault::Zero, zero, 10, none);
-    let size = be16(row, 8);
-    let third = ask(
-        (8 <= size) & (size <= 1472),
-        Fault::SendSize,
-        size,
-        1472,
-        fourth,
-    );
-    let automatic = be8(row, 1);
-    let second = ask(automatic <= 1, Fault::Automatic, automatic, 1, third);
-    let group = be8(row, 0);
-    ask(group < groups, Fault::NoGroup, group, groups, second)
+    let fourth = ask(Fault::Zero, be16(row, 10), 10, none);
+    let third = ask(Fault::SendSize, be16(row, 8), 1472, fourth);
+    let second = ask(Fault::Automatic, be8(row, 1), 1, third);
+    ask(Fault::NoGroup, be8(row, 0), groups, second)
 }
 
-// `earlier` is the row that it shares connection and id with, if nothing else is wrong.
-fn route_fault(row: &[u8], connections: usize, earlier: usize) -> Told
-    ensures { λ r. ⌜ r ≡ routeFault connections earlier (now (row .entry)) ⌝ }
+// `shared` is told of a row whose fields are right.
+fn route_fault(row: &[u8], connections: usize, shared: Told) -> Told
+    ensures { λ r. ⌜ r ≡ routeFault connections shared (now (row .entry)) ⌝ }
 {
-    let shared = told_of(Fault::Shared, earlier, 0);
-    let zero = be16(row, 10);
-    let fourth = ask(zero == 0, Fault::Zero, zero, 10, shared);
-    let longest = be16(row, 2);
-    let third = ask(longest <= 1464, Fault::Longest, longest, 1464, fourth);
-    let first_zero = be8(row, 1);
-    let second = ask(first_zero == 0, Fault::Zero, first_zero, 1, third);
-    let connection = be8(row, 0);
-    ask(
-        connection < connections,
-        Fault::NoConnection,
-        connection,
-        connections,
-        second,
-    )
+    let fourth = ask(Fault::Zero, be16(row, 10), 10, shared);
+    let third = ask(Fault::Longest, be16(row, 2), 1464, fourth);
+    let second = ask(Fault::Zero, be8(row, 1), 1, third);
+    ask(Fault::NoConnection, be8(row, 0), connections, second)
 }
 
-// `size` is the send size of its connection; `earlier` the row that it shares PDU and connection with, if nothing else is
-// wrong.
-fn destination_fault(row: &[u8], connections: usize, size: usize, earlier: usize) -> Told
-    ensures { λ r. ⌜ r ≡ destinationFault connections size earlier (now (row .entry)) ⌝ }
+// `size` is the send size of its connection.
+fn destination_fault(row: &[u8], connections: usize, size: usize, shared: Told) -> Told
+    ensures { λ r. ⌜ r ≡ destinationFault connections size shared (now (row .entry)) ⌝ }
 {
-    let shared = told_of(Fault::Shared, earlier, 0);
     let longest = be16(row, 2);
-    let fourth = ask(longest + 8 <= size, Fault::Room, longest, size, shared);
-    let third = ask(longest <= 1464, Fault::Longest, longest, 1464, fourth);
-    let trigger = be8(row, 1);
-    let second = ask(trigger <= 1, Fault::Trigger, trigger, 1, third);
-    let connection = be8(row, 0);
-    ask(
-        connection < connections,
-        Fault::NoConnection,
-        connection,
-        connections,
-        second,
-    )
+    let fourth = ask(Fault::Room, longest, size, shared);
+    let third = ask(Fault::Longest, longest, 1464, fourth);
+    let second = ask(Fault::Trigger, be8(row, 1), 1, third);
+    ask(Fault::NoConnection, be8(row, 0), connections, second)
 }
 
 fn row_of(image: &[u8], k: Kind, i: usize) -> &[u8]
@@ -259,7 +265,7 @@ fn row_of(image: &[u8], k: Kind, i: usize) -> &[u8]
     row_in(body_of(image, k), row_bytes(image, k), i)
 }
 
-// The first row that row i shares with what it may not; i where there is none before it.
+// The first earlier row with which row i shares what it may not; i where there is none.
 fn shared_with(image: &[u8], k: Kind, i: usize) -> usize
     ensures { λ r. ⌜ r ≡ firstBad (clearOf (now (image .entry)) k i) i ⌝ }
 {
@@ -275,6 +281,16 @@ fn shared_with(image: &[u8], k: Kind, i: usize) -> usize
     j
 }
 
+fn shared_fault(image: &[u8], k: Kind, i: usize) -> Told
+    ensures { λ r. ⌜ r ≡ sharedFault (now (image .entry)) k i ⌝ }
+{
+    let earlier = shared_with(image, k, i);
+    if earlier < i {
+        return told_of(Fault::Shared, earlier, 0);
+    }
+    told_of(Fault::Nothing, 0, 0)
+}
+
 fn row_fault(image: &[u8], k: Kind, i: usize) -> Told
     ensures { λ r. ⌜ r ≡ rowFault (now (image .entry)) k i ⌝ }
 {
@@ -283,13 +299,13 @@ fn row_fault(image: &[u8], k: Kind, i: usize) -> Told
         Kind::Group => group_fault(row),
         Kind::Connection => connection_fault(row, rows_of(image, Kind::Group)),
         Kind::Route => {
-            let earlier = shared_with(image, Kind::Route, i);
-            route_fault(row, rows_of(image, Kind::Connection), earlier)
+            let shared = shared_fault(image, Kind::Route, i);
+            route_fault(row, rows_of(image, Kind::Connection), shared)
         }
         Kind::Destination => {
-            let earlier = shared_with(image, Kind::Destination, i);
+            let shared = shared_fault(image, Kind::Destination, i);
             let size = size_in(body_of(image, Kind::Connection), be8(row, 0));
-            destination_fault(row, rows_of(image, Kind::Connection), size, earlier)
+            destination_fault(row, rows_of(image, Kind::Connection), size, shared)
         }
     }
 }
@@ -300,7 +316,7 @@ fn fault_at(image: &[u8], spot: Spot) -> Told
     match spot {
         Spot::Head => head_fault(image),
         Spot::Entry(k) => entry_fault(image, k),
-        Spot::Total => told_of(Fault::Length, image.len(), end_of(image)),
+        Spot::Total => total_fault(image),
         Spot::Row(k, i) => row_fault(image, k, i),
     }
 }

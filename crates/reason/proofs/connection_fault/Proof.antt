@@ -1,8 +1,6 @@
 -- `reason::connection_fault` meets its contract, by one law applied at each test. Assumes nothing.
 use Rattle.reason.specs.declared.Fault.the-variants.{NoGroup, Automatic, SendSize, Zero}
 use Rattle.reason.proofs.Asks.{next}
-use lib.Dec.{leb, ltb, eqb}
-use mathlib.Core.Bool.{_&&_}
 use mathlib.Core.Path.{refl}
 use Rattle.reason.specs.Faults.{connectionFault}
 use borrow.Author.Needs.{needs}
@@ -42,10 +40,10 @@ returns c =
     let a₃ = c .before .before in
     let a₂ = a₃ .before .before in
     let a₁ = a₂ .before .before in
-    next (λ x n. ltb x n) NoGroup (c .ask4 .ensures) (c .before .be82 .ensures .is) refl
-    (next (λ x n. leb x 1) Automatic (a₃ .ask3 .ensures) (a₃ .before .be8 .ensures .is) refl
-    (next (λ x n. leb 8 x && leb x 1472) SendSize (a₂ .ask2 .ensures) (a₂ .before .be162 .ensures .is) refl
-    (next (λ x n. eqb x 0) Zero (a₁ .ask .ensures) (a₁ .before .be16 .ensures .is) refl (a₁ .before .before .told-of .ensures))))
+    next NoGroup (c .ask4 .ensures) (c .before .be82 .ensures .is) refl
+    (next Automatic (a₃ .ask3 .ensures) (a₃ .before .be8 .ensures .is) refl
+    (next SendSize (a₂ .ask2 .ensures) (a₂ .before .be162 .ensures .is) refl
+    (next Zero (a₁ .ask .ensures) (a₁ .before .be16 .ensures .is) refl (a₁ .before .before .told-of .ensures))))
 
 pub connection-fault-spec : {M : Type 1} → statement M
 connection-fault-spec =

@@ -1,22 +1,14 @@
 -- `reason::destination_fault` meets its contract, by one law applied at each test. Assumes nothing.
 use Rattle.reason.specs.declared.Fault.the-variants.{NoConnection, Trigger, Longest, Room}
 use Rattle.reason.proofs.Asks.{next}
-use lib.Dec.{leb, ltb}
-use Prim.Native.Nat.{_+_}
 use mathlib.Core.Path.{refl}
 use Rattle.reason.specs.Faults.{destinationFault}
 use borrow.Author.Needs.{needs}
 use Rattle.reason.proofs.destination_fault.Statement.{statement}
 use Rattle.reason.proofs.destination_fault.Tie as tie
 
-told-of-requires : tie.Need-told-of-requires
-told-of-requires c κs = search needs
-
 be16-requires : tie.Need-be16-requires
 be16-requires c κs = search needs
-
-add-ask : tie.Need-add-ask
-add-ask c = search needs
 
 ask-requires : tie.Need-ask-requires
 ask-requires c κs = search needs
@@ -43,18 +35,16 @@ returns c =
     let a₂ = a₃ .before .before in
     let a₁ = a₂ .before in
     let l = a₁ .before .be16 .ensures .is in
-    next (λ x n. ltb x n) NoConnection (c .ask4 .ensures) (c .before .be82 .ensures .is) refl
-    (next (λ x n. leb x 1) Trigger (a₃ .ask3 .ensures) (a₃ .before .be8 .ensures .is) refl
-    (next (λ x n. leb x 1464) Longest (a₂ .ask2 .ensures) l refl
-    (next (λ x n. leb (x + 8) n) Room (a₁ .ask .ensures) l refl (a₁ .before .before .told-of .ensures))))
+    next NoConnection (c .ask4 .ensures) (c .before .be82 .ensures .is) refl
+    (next Trigger (a₃ .ask3 .ensures) (a₃ .before .be8 .ensures .is) refl
+    (next Longest (a₂ .ask2 .ensures) l refl
+    (next Room (a₁ .ask .ensures) l refl refl)))
 
 pub destination-fault-spec : {M : Type 1} → statement M
 destination-fault-spec =
     tie.close
     (tie.spec
-    told-of-requires
     be16-requires
-    add-ask
     ask-requires
     ask-requires-2
     be8-requires

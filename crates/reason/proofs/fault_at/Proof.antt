@@ -19,11 +19,8 @@ entry-fault-requires c κs = search needs
 enum-told-2 : tie.Need-enum-told-2
 enum-told-2 c = search needs
 
-end-of-requires : tie.Need-end-of-requires
-end-of-requires c κs = search needs
-
-told-of-requires : tie.Need-told-of-requires
-told-of-requires c κs = search needs
+total-fault-requires : tie.Need-total-fault-requires
+total-fault-requires c κs = search needs
 
 enum-known-spot-2 : tie.Need-enum-known-spot-2
 enum-known-spot-2 c = search needs
@@ -41,7 +38,7 @@ returns-2 c = rw (c .before .before .spot .given .1) (c .entry-fault .ensures)
 
 returns-3 : tie.Need-returns-3
 unfolding faultAt
-returns-3 c = rw (c .before .before .enum-told2 .given .1) (cc)
+returns-3 c = rw (c .before .enum-told2 .given .1) (c .total-fault .ensures)
 
 returns-4 : tie.Need-returns-4
 unfolding faultAt
@@ -56,8 +53,7 @@ fault-at-spec =
     enum-known-spot
     entry-fault-requires
     enum-told-2
-    end-of-requires
-    told-of-requires
+    total-fault-requires
     enum-known-spot-2
     row-fault-requires
     returns

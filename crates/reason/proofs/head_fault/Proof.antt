@@ -4,17 +4,17 @@ use borrow.Author.Needs.{needs}
 use Rattle.reason.proofs.head_fault.Statement.{statement}
 use Rattle.reason.proofs.head_fault.Tie as tie
 
-be16-requires : tie.Need-be16-requires
-be16-requires c κs = search needs
-
-be16-requires-2 : tie.Need-be16-requires-2
-be16-requires-2 c κs = search needs
-
 told-of-requires : tie.Need-told-of-requires
 told-of-requires c κs = search needs
 
+be16-requires : tie.Need-be16-requires
+be16-requires c κs = search needs
+
 ask-requires : tie.Need-ask-requires
 ask-requires c κs = search needs
+
+be16-requires-2 : tie.Need-be16-requires-2
+be16-requires-2 c κs = search needs
 
 ask-requires-2 : tie.Need-ask-requires-2
 ask-requires-2 c κs = search needs
@@ -30,10 +30,10 @@ pub head-fault-spec : {M : Type 1} → statement M
 head-fault-spec =
     tie.close
     (tie.spec
-    be16-requires
-    be16-requires-2
     told-of-requires
+    be16-requires
     ask-requires
+    be16-requires-2
     ask-requires-2
     ask-requires-3
     returns)

@@ -1,15 +1,11 @@
 -- `reason::route_fault` meets its contract, by one law applied at each test. Assumes nothing.
 use Rattle.reason.specs.declared.Fault.the-variants.{NoConnection, Zero, Longest}
 use Rattle.reason.proofs.Asks.{next}
-use lib.Dec.{leb, ltb, eqb}
 use mathlib.Core.Path.{refl}
 use Rattle.reason.specs.Faults.{routeFault}
 use borrow.Author.Needs.{needs}
 use Rattle.reason.proofs.route_fault.Statement.{statement}
 use Rattle.reason.proofs.route_fault.Tie as tie
-
-told-of-requires : tie.Need-told-of-requires
-told-of-requires c κs = search needs
 
 be16-requires : tie.Need-be16-requires
 be16-requires c κs = search needs
@@ -41,16 +37,15 @@ returns c =
     let a₃ = c .before .before in
     let a₂ = a₃ .before .before in
     let a₁ = a₂ .before .before in
-    next (λ x n. ltb x n) NoConnection (c .ask4 .ensures) (c .before .be82 .ensures .is) refl
-    (next (λ x n. eqb x 0) Zero (a₃ .ask3 .ensures) (a₃ .before .be8 .ensures .is) refl
-    (next (λ x n. leb x 1464) Longest (a₂ .ask2 .ensures) (a₂ .before .be162 .ensures .is) refl
-    (next (λ x n. eqb x 0) Zero (a₁ .ask .ensures) (a₁ .before .be16 .ensures .is) refl (a₁ .before .before .told-of .ensures))))
+    next NoConnection (c .ask4 .ensures) (c .before .be82 .ensures .is) refl
+    (next Zero (a₃ .ask3 .ensures) (a₃ .before .be8 .ensures .is) refl
+    (next Longest (a₂ .ask2 .ensures) (a₂ .before .be162 .ensures .is) refl
+    (next Zero (a₁ .ask .ensures) (a₁ .before .be16 .ensures .is) refl refl)))
 
 pub route-fault-spec : {M : Type 1} → statement M
 route-fault-spec =
     tie.close
     (tie.spec
-    told-of-requires
     be16-requires
     ask-requires
     be16-requires-2

@@ -25,8 +25,8 @@ connection-fault-requires c κs = search needs
 enum-told-3 : tie.Need-enum-told-3
 enum-told-3 c = search needs
 
-shared-with-requires : tie.Need-shared-with-requires
-shared-with-requires c κs = search needs
+shared-fault-requires : tie.Need-shared-fault-requires
+shared-fault-requires c κs = search needs
 
 rows-of-requires-2 : tie.Need-rows-of-requires-2
 rows-of-requires-2 c κs = search needs
@@ -37,8 +37,8 @@ route-fault-requires c κs = search needs
 enum-told-4 : tie.Need-enum-told-4
 enum-told-4 c = search needs
 
-shared-with-requires-2 : tie.Need-shared-with-requires-2
-shared-with-requires-2 c κs = search needs
+shared-fault-requires-2 : tie.Need-shared-fault-requires-2
+shared-fault-requires-2 c κs = search needs
 
 body-of-requires : tie.Need-body-of-requires
 body-of-requires c κs = search needs
@@ -64,12 +64,12 @@ returns-2 c = connection-told _ _ _ (c .before .before .enum-told2 .given .1) (c
 returns-3 : tie.Need-returns-3
 returns-3 c =
     let t = c .before .before .before in
-    route-told _ _ _ (t .enum-told3 .given .1) (t .before .before .row-of .ensures) (c .before .before .shared-with .ensures) (c .before .rows-of2 .ensures .0) (c .route-fault .ensures)
+    route-told _ _ _ (t .enum-told3 .given .1) (t .before .before .row-of .ensures) (c .before .before .shared-fault .ensures) (c .before .rows-of2 .ensures .0) (c .route-fault .ensures)
 
 returns-4 : tie.Need-returns-4
 returns-4 c =
     let t = c .before .before .before .before .before .before in
-    destination-told _ _ _ (t .enum-told4 .given .1) (t .before .before .row-of .ensures) (c .before .before .before .before .before .shared-with2 .ensures) (c .before .before .before .before .body-of .ensures) (c .before .before .before .be8 .ensures .is) (c .before .before .size-in .ensures) (c .before .rows-of3 .ensures .0) (c .destination-fault .ensures)
+    destination-told _ _ _ (t .enum-told4 .given .1) (t .before .before .row-of .ensures) (c .before .before .before .before .before .shared-fault2 .ensures) (c .before .before .before .before .body-of .ensures) (c .before .before .before .be8 .ensures .is) (c .before .before .size-in .ensures) (c .before .rows-of3 .ensures .0) (c .destination-fault .ensures)
 
 pub row-fault-spec : {M : Type 1} → statement M
 row-fault-spec =
@@ -82,11 +82,11 @@ row-fault-spec =
     rows-of-requires
     connection-fault-requires
     enum-told-3
-    shared-with-requires
+    shared-fault-requires
     rows-of-requires-2
     route-fault-requires
     enum-told-4
-    shared-with-requires-2
+    shared-fault-requires-2
     body-of-requires
     be8-requires
     size-in-requires
