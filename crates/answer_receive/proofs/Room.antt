@@ -1,14 +1,14 @@
 -- THE WHOLE ANSWER OF A SEGMENT EVENT FITS: whatever the takes find, it has no more bytes than `roomFor` says, and an out buffer of so
--- many is not refused. And a take after another is never refused. Assumes nothing.
-use Prim.Native.Nat.{ℕ, zero, suc, _+_, _-_, _*_, _/_, _≤_, _<_}
-use mathlib.Core.Path.{_≡_, refl, sym, ap, _∙_, subst}
+-- many is not refused. A take after another is never refused. And what is refused for its length. Assumes nothing.
+use Prim.Native.Nat.{ℕ, zero, suc, _+_, _-_, _*_, _≤_, _<_}
+use mathlib.Core.Path.{_≡_, refl, sym, ap, ap₂, _∙_, subst}
 use mathlib.Core.Bool.{Bool, true, false, cond}
 use mathlib.Core.List.{List}
 use native.Mathlib.Omega.{arith}
 use lib.Dec.{ltb}
 use lib.ListN.{length, getD, drop, length-drop, length-append}
 use lib.Seq.{getD-set-same}
-use borrow.Author.Tests.{ltb-true, ltb-false, lt-ltb, le-ltb}
+use borrow.Author.Tests.{ltb-true, lt-ltb, le-ltb}
 use Rattle.lists.proofs.Both.{and-left, and-right}
 use Rattle.wire.specs.Lay.{spell}
 use Rattle.wire.proofs.Spell.{length-spell}
@@ -34,9 +34,11 @@ use Rattle.receive.specs.Answer.{isDone, judgedOf, answerOf}
 use Rattle.receive.specs.Segment.{takenAt, takeOn, memoryOn, noneTaken, segmentAnswer, segmentOf, memoryOf, payloadOf}
 use Rattle.receive.proofs.Answers.{Clear, done-clear}
 use Rattle.receive.proofs.Keeps.{in-range, count-records, take-clear}
-use Rattle.answering.specs.declared.Verdict.the-variants.{Small}
-use Rattle.answering.specs.Answers.{untouched, doneWith}
+use Rattle.answering.specs.declared.Verdict.the-variants.{Unfit, Small}
+use Rattle.answering.specs.Answers.{Effect, untouched, doneWith}
 use Rattle.answering.proofs.Chain.{length-found}
+use Rattle.answer_receive.specs.Long.{longest, tooLong}
+use Rattle.answer_receive.specs.Walk.{walked, walkEffect}
 use Rattle.answer_receive.specs.Segment.{takeBytes, bytesOf, Run, begun, takeAt, memoryAt, bytesAt, step, goesOn, runOf, allTakes, eventBytes, leaves, roomFor, segmentEffect}
 use Rattle.answer_receive.proofs.Size.{most, most-all, most-least, take-most, take-stops, spent-within, spent-stops}
 
@@ -190,26 +192,55 @@ module _ (image : List ℕ) (tx k : ℕ) (segment : List ℕ) where
   event-fits s rx =
       event-size (allTakes image tx k segment s rx .answer) (allTakes image tx k segment s rx .count) (allTakes image tx k segment s rx .bytes) (all-fit s rx)
 
--- AN OUT BUFFER WITH THAT ROOM IS NOT REFUSED
-pub segment-roomy : (image : List ℕ) (s : State) (rx tx out : List ℕ) (k : ℕ) (segment : List ℕ) → roomFor segment ≤ length out
-    → segmentEffect image s rx tx out k segment ≡ leaves (allTakes image (length tx) k segment s rx) tx out
-unfolding segmentEffect
-segment-roomy image s rx tx out k segment h =
-    ap (λ (b : Bool). cond b (untouched Small s rx tx out) (leaves (allTakes image (length tx) k segment s rx) tx out)) (le-ltb (length out) (roomFor segment) h)
+-- A SEGMENT THAT IS NOT TOO LONG, AND AN OUT BUFFER WITH THAT ROOM, ARE NOT REFUSED
+module _ (image : List ℕ) (s : State) (rx tx out : List ℕ) (k : ℕ) (segment : List ℕ) where
+  abbrev taken : Effect
+  taken = leaves (allTakes image (length tx) k segment s rx) tx out
 
--- with room or without, send memory stays
-pub segment-sent : (image : List ℕ) (s : State) (rx tx out : List ℕ) (k : ℕ) (segment : List ℕ) → tx ≡ segmentEffect image s rx tx out k segment .tx
-unfolding segmentEffect
-segment-sent image s rx tx out k segment = go (ltb (length out) (roomFor segment))
-  where
-    go : (b : Bool) → tx ≡ cond b (untouched Small s rx tx out) (leaves (allTakes image (length tx) k segment s rx) tx out) .tx
-    go true = refl
-    go false = refl
+  abbrev judged : Bool → Bool → Effect
+  judged long short = cond long (untouched Unfit s rx tx out) (cond short (untouched Small s rx tx out) taken)
 
--- the test for that room, by a division: three times a length may be too large a number
-pub room-test : (out segment : List ℕ) → 1502 ≤ length out → ltb ((length out - 1502) / 3) (length segment) ≡ ltb (length out) (roomFor segment)
-room-test out segment h = go (ltb (length out) (roomFor segment)) refl
-  where
-    go : (b : Bool) → ltb (length out) (roomFor segment) ≡ b → ltb ((length out - 1502) / 3) (length segment) ≡ b
-    go true e = lt-ltb ((length out - 1502) / 3) (length segment) (omega (arith, h, ltb-true (length out) (roomFor segment) e))
-    go false e = le-ltb ((length out - 1502) / 3) (length segment) (omega (arith, h, ltb-false (length out) (roomFor segment) e))
+  segment-judged : (long short : Bool) → tooLong segment ≡ long → ltb (length out) (roomFor segment) ≡ short → segmentEffect image s rx tx out k segment ≡ judged long short
+  unfolding segmentEffect
+  segment-judged long short e f = ap₂ judged e f
+
+  pub segment-roomy : length segment ≤ longest → roomFor segment ≤ length out → segmentEffect image s rx tx out k segment ≡ taken
+  segment-roomy short roomy = segment-judged false false (le-ltb longest (length segment) short) (le-ltb (length out) (roomFor segment) roomy)
+
+  pub segment-long : longest < length segment → segmentEffect image s rx tx out k segment ≡ untouched Unfit s rx tx out
+  segment-long long = segment-judged true (ltb (length out) (roomFor segment)) (lt-ltb longest (length segment) long) refl
+
+  pub segment-small : length segment ≤ longest → length out < roomFor segment → segmentEffect image s rx tx out k segment ≡ untouched Small s rx tx out
+  segment-small short small = segment-judged false true (le-ltb longest (length segment) short) (lt-ltb (length out) (roomFor segment) small)
+
+  -- refused or not, send memory stays
+  pub segment-sent : tx ≡ segmentEffect image s rx tx out k segment .tx
+  unfolding segmentEffect
+  segment-sent = go (tooLong segment) (ltb (length out) (roomFor segment))
+    where
+      go : (long short : Bool) → tx ≡ judged long short .tx
+      go true short = refl
+      go false true = refl
+      go false false = refl
+
+-- .. and so a datagram
+module _ (image : List ℕ) (s : State) (rx tx out : List ℕ) (k place : ℕ) (datagram : List ℕ) where
+  abbrev either : Bool → Effect
+  either long = cond long (untouched Unfit s rx tx out) (walked image s rx tx out k place datagram)
+
+  pub walk-short : length datagram ≤ longest → walkEffect image s rx tx out k place datagram ≡ walked image s rx tx out k place datagram
+  unfolding walkEffect
+  walk-short short = rw (le-ltb longest (length datagram) short)
+
+  pub walk-long : longest < length datagram → walkEffect image s rx tx out k place datagram ≡ untouched Unfit s rx tx out
+  unfolding walkEffect
+  walk-long long = rw (lt-ltb longest (length datagram) long)
+
+  -- refused or not, both memories stay
+  pub walk-kept : (rx ≡ walkEffect image s rx tx out k place datagram .rx) × (tx ≡ walkEffect image s rx tx out k place datagram .tx)
+  unfolding walkEffect
+  walk-kept = go (tooLong datagram)
+    where
+      go : (long : Bool) → (rx ≡ either long .rx) × (tx ≡ either long .tx)
+      go true = (refl, refl)
+      go false = (refl, refl)

@@ -25,6 +25,7 @@ use Rattle.state.specs.Memory.{stretch}
 use Rattle.stream.specs.Stream.{cellOf, takenOf, tookOf}
 use Rattle.receive.specs.declared.Answer.{Answer}
 use Rattle.receive.specs.declared.Answer.the-variants.{Done, Refused, NotReceiving}
+use Rattle.receive.specs.declared.SegmentTaken.{SegmentTaken}
 use Rattle.receive.specs.Answer.{isDone}
 use Rattle.receive.specs.Segment.{segmentOf, segmentAnswer, takeOn, noneTaken}
 use Rattle.answering.specs.declared.Verdict.the-variants.{Done as Written}
@@ -32,6 +33,7 @@ use Rattle.answering.specs.declared.Dispatched.{Dispatched}
 use Rattle.answering.specs.Answers.{dispatched, doneWith}
 use Rattle.answer_receive.specs.declared.Turn.{Turn}
 use Rattle.answer_receive.specs.declared.Takes.{Takes}
+use Rattle.answer_receive.specs.Long.{longest}
 use Rattle.answer_receive.specs.Segment.{bytesOf, Run, begun, takeAt, memoryAt, bytesAt, step, goesOn, runOf, allTakes, eventBytes, leaves, roomFor}
 use Rattle.answer_receive.specs.Turn.{turnOf, takenBytes, takesOf, frontOf, lengthOf}
 use Rattle.answer_receive.proofs.Once.{refused-none, done-all}
@@ -104,6 +106,25 @@ module _ (image : List ℕ) (tx connection : ℕ) (segment : List ℕ) where
           (run-done small (length segment) (begun s rx) (sym (answer-is image s rx tx connection (drop 0 segment)) ∙ e))
           ∙ sym (is-done (takeAt image tx connection segment s rx 0 .answer) e)
       go false e = ap (λ (r : Run). r .answer) (stops (length segment) (begun s rx) (and-first (isDone (takeAt image tx connection segment s rx 0 .answer)) _ e))
+
+  -- EACH TAKE BEFORE ANOTHER READS A BYTE: so there are no more takes than bytes
+  run-count : (n : ℕ) (r : Run) → r .count ≤ r .at → r .at < length segment → runOf image tx connection segment n r .count ≤ length segment
+  unfolding runOf step
+  run-count zero r low inside = omega (arith, low, inside)
+  run-count (suc n) r low inside = go (goesOn image tx connection segment (step image tx connection segment r)) refl (run-count n (step image tx connection segment r))
+    where
+      t : SegmentTaken
+      t = takeAt image tx connection segment (r .state) (r .rx) (r .at)
+
+      go : (b : Bool) → goesOn image tx connection segment (step image tx connection segment r) ≡ b
+          → (r .count + 1 ≤ r .at + t .read → r .at + t .read < length segment → runOf image tx connection segment n (step image tx connection segment r) .count ≤ length segment)
+          → cond b (runOf image tx connection segment n (step image tx connection segment r)) (step image tx connection segment r) .count ≤ length segment
+      go true e h =
+          let done : isDone (t .answer) ≡ true = and-left (isDone (t .answer)) (ltb (r .at + t .read) (length segment)) e in
+          let left : r .at + t .read < length segment = ltb-true (r .at + t .read) (length segment) (and-right (isDone (t .answer)) (ltb (r .at + t .read) (length segment)) e) in
+          let some = read-some image (r .state) (r .rx) tx connection (drop (r .at) segment) done (omega (arith, inside, length-drop (r .at) segment)) in
+          h (omega (arith, low, some)) left
+      go false e h = omega (arith, low, inside)
 
   -- the answer of the last take is not asked for the next
   blind : (n : ℕ) (a : Answer) (s : State) (rx bytes : List ℕ) (count at : ℕ)
@@ -250,6 +271,13 @@ module _ (image : List ℕ) (tx connection : ℕ) (segment : List ℕ) where
       where
         kept : Answer → ℕ → ℕ → State → Takes
         kept a n p u = record { answer = a; count = n; place = p; state = u }
+
+-- THE NUMBER OF TAKES over a segment that is not too long: an empty one has one take. So two bytes spell it
+pub count-fits : (image : List ℕ) (tx connection : ℕ) (segment : List ℕ) (s : State) (rx : List ℕ) → length segment ≤ longest
+    → allTakes image tx connection segment s rx .count ≤ longest
+unfolding runOf step
+count-fits image tx connection [] s rx short = omega arith
+count-fits image tx connection (b ∷ bs) s rx short = omega (arith, short, run-count image tx connection (b ∷ bs) (length (b ∷ bs)) (begun s rx) (omega arith) (omega arith))
 
 -- THE FRONT OF THE ANSWER, before the takes' bytes: what is laid behind and then before is laid at once
 lay-front : (d : List ℕ) (m : ℕ) (x y : List ℕ) → length x ≡ m → m + length y ≤ length d → lay (lay d m y) 0 x ≡ lay d 0 (x ++ y)

@@ -1,4 +1,5 @@
 -- What the contracts of this crate cite. Assumes nothing.
+pub mod Long
 pub mod Walk
 pub mod Segment
 pub mod Turn

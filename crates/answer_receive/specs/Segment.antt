@@ -14,8 +14,10 @@ use Rattle.receive.specs.declared.Answer.the-variants.{Done, Refused, NotReceiv
 use Rattle.receive.specs.declared.SegmentTaken.{SegmentTaken}
 use Rattle.receive.specs.Answer.{isDone}
 use Rattle.receive.specs.Segment.{segmentOf, memoryOf, payloadOf}
-use Rattle.answering.specs.declared.Verdict.the-variants.{Small}
-use Rattle.answering.specs.Answers.{Effect, answers, untouched, refused, refusal, doneWith, found}
+use Rattle.answering.specs.declared.Verdict.the-variants.{Unfit, Small}
+use Rattle.answering.specs.Answers.{Effect, answers, untouched, doneWith, found}
+use Rattle.answer_receive.specs.Long.{tooLong}
+use Rattle.answer_receive.specs.Walk.{orRefused}
 
 -- a PDU: "where its payload stood: 0 (1) and the place in the segment (4)", for a take that began at the place from of the segment ..
 abbrev pub hereBytes : ℕ → ℕ → ℕ → ℕ → ℕ → ℕ → List ℕ
@@ -94,9 +96,7 @@ module _ (image : List ℕ) (tx connection : ℕ) (segment : List ℕ) where
 -- "number of takes (2), then for every take" its bytes; "a refusal of the first take is the event's answer (later takes are never
 -- refused)": so the last take's answer is the first's (proofs/Run `first-answer`)
 abbrev pub eventBytes : Answer → ℕ → List ℕ → List ℕ
-eventBytes Done count bytes = doneWith 2 count ++ bytes
-eventBytes (Refused r) count bytes = refusal r
-eventBytes NotReceiving count bytes = refused 4 0
+eventBytes a count bytes = orRefused a (doneWith 2 count ++ bytes)
 
 abbrev pub leaves : Run → List ℕ → List ℕ → Effect
 leaves r tx out = answers (eventBytes (r .answer) (r .count) (r .bytes)) (r .state) (r .rx) tx out
@@ -106,7 +106,10 @@ leaves r tx out = answers (eventBytes (r .answer) (r .count) (r .bytes)) (r .sta
 abbrev pub roomFor : List ℕ → ℕ
 roomFor segment = 1502 + 3 * length segment
 
--- WHAT A SEGMENT EVENT LEAVES: an out buffer that is shorter is "refused and changes nothing"; in any other the answer stands whole
+-- WHAT A SEGMENT EVENT LEAVES: a segment that is too long, and then an out buffer that is too short, "is refused and changes nothing"; in
+-- any other the answer stands whole
 unfoldable pub segmentEffect : List ℕ → State → List ℕ → List ℕ → List ℕ → ℕ → List ℕ → Effect
 segmentEffect image s rx tx out connection segment =
-    cond (ltb (length out) (roomFor segment)) (untouched Small s rx tx out) (leaves (allTakes image (length tx) connection segment s rx) tx out)
+    cond (tooLong segment) (untouched Unfit s rx tx out)
+    (cond (ltb (length out) (roomFor segment)) (untouched Small s rx tx out)
+    (leaves (allTakes image (length tx) connection segment s rx) tx out))

@@ -10,6 +10,7 @@ use Rattle.pieces.specs.Pieces.{placeAfter}
 use Rattle.answering.specs.Answers.{refused, refusal, doneWith}
 use Rattle.answer_receive.specs.declared.Turn as turn
 use Rattle.answer_receive.specs.declared.Takes as takes
+use Rattle.answer_receive.specs.Walk.{orRefused}
 use Rattle.answer_receive.specs.Segment.{bytesOf, Run, takeAt, bytesAt}
 
 -- one take, and the place after its bytes
@@ -31,9 +32,7 @@ takesOf r = record { answer = r .answer; count = r .count; place = 4 + length (t
 
 -- the number of takes before their bytes, or the refusal of the first
 abbrev pub frontOf : Answer → ℕ → List ℕ
-frontOf Done count = doneWith 2 count
-frontOf (Refused r) count = refusal r
-frontOf NotReceiving count = refused 4 0
+frontOf a count = orRefused a (doneWith 2 count)
 
 -- the length of the answer: up to the place after the last take's bytes
 abbrev pub lengthOf : Answer → ℕ → ℕ

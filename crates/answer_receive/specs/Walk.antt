@@ -1,5 +1,6 @@
 -- The answer of a walk as bytes (docs/EVENTS.md, "The answer"). Assumes nothing: these are definitions.
 use Prim.Native.Nat.{ℕ}
+use mathlib.Core.Bool.{cond}
 use mathlib.Core.List.{List, _++_}
 use lib.ListN.{length}
 use Rattle.wire.specs.Lay.{spell}
@@ -10,7 +11,9 @@ use Rattle.receive.specs.declared.Answer.{Answer}
 use Rattle.receive.specs.declared.Answer.the-variants.{Done, Refused, NotReceiving}
 use Rattle.receive.specs.declared.DatagramWalked.{DatagramWalked}
 use Rattle.receive.specs.Walk.{walkOf}
-use Rattle.answering.specs.Answers.{Effect, answers, refused, refusal, done, found}
+use Rattle.answering.specs.declared.Verdict.the-variants.{Unfit}
+use Rattle.answering.specs.Answers.{Effect, answers, untouched, refused, refusal, done, found}
+use Rattle.answer_receive.specs.Long.{tooLong}
 
 -- a refusal's bytes; where there is none, these
 abbrev pub orRefused : Answer → List ℕ → List ℕ
@@ -35,9 +38,14 @@ walkBytes next (Drop reason id n) = stepBytes next 2 reason id n
 abbrev pub walkedBytes : DatagramWalked → List ℕ
 walkedBytes w = orRefused (w .answer) (walkBytes (w .next) (w .outcome))
 
--- what a walk leaves
-unfoldable pub walkEffect : List ℕ → State → List ℕ → List ℕ → List ℕ → ℕ → ℕ → List ℕ → Effect
-walkEffect image s rx tx out connection place datagram =
+-- of any datagram
+abbrev pub walked : List ℕ → State → List ℕ → List ℕ → List ℕ → ℕ → ℕ → List ℕ → Effect
+walked image s rx tx out connection place datagram =
     answers (walkedBytes (walkOf image s (length rx) (length tx) connection datagram place))
     (walkOf image s (length rx) (length tx) connection datagram place .state)
     rx tx out
+
+-- WHAT A WALK LEAVES: a datagram that is too long "is refused and changes nothing"
+unfoldable pub walkEffect : List ℕ → State → List ℕ → List ℕ → List ℕ → ℕ → ℕ → List ℕ → Effect
+walkEffect image s rx tx out connection place datagram =
+    cond (tooLong datagram) (untouched Unfit s rx tx out) (walked image s rx tx out connection place datagram)

@@ -2,7 +2,6 @@
 // is read, one at least. Assumes nothing: every public function is total.
 ghost use mathlib.Core.Path.{_≡_};
 ghost use Prim.Native.Nat.{_+_, _≤_};
-ghost use lib.Dec.{ltb};
 ghost use lib.ListN.{length};
 ghost use Rattle.wire.specs.Lay.{spell, lay};
 ghost use Rattle.pieces.specs.Pieces.{placeAfter};
@@ -92,6 +91,7 @@ fn put_walked(out: &mut [u8], answer: Answer, next: usize, outcome: datagram::Ou
     }
 }
 
+// A walk; a datagram that is too long for an event is refused.
 pub fn walk(
     image: &[u8],
     state: State,
@@ -105,6 +105,12 @@ pub fn walk(
     ensures { λ r. ⌜ r ≡ dispatched (Wk.walkEffect (now (image .entry)) state (now (rx .entry)) (now (tx .entry)) (now (out .entry)) connection place (now (datagram .entry))) ⌝ }
     ensures { λ _. ⌜ now (out .exit) ≡ Wk.walkEffect (now (image .entry)) state (now (rx .entry)) (now (tx .entry)) (now (out .entry)) connection place (now (datagram .entry)) .out ⌝ }
 {
+    if 4096 < datagram.len() {
+        return Dispatched {
+            verdict: Verdict::Unfit,
+            state: state,
+        };
+    }
     let walked = walk_datagram(image, state, rx, tx, connection, datagram, place);
     let answer = walked.answer;
     let outcome = walked.outcome;
@@ -338,18 +344,7 @@ fn put_takes(out: &mut [u8], answer: Answer, count: usize, place: usize) -> usiz
     }
 }
 
-// Whether the out buffer is too short for an answer over this segment, whatever the takes find. Divided: three times a length may be
-// too large a number.
-fn too_short(segment: &[u8], out: &[u8]) -> bool
-    ensures { λ r. ⌜ r ≡ ltb (length (now (out .entry))) (Seg.roomFor (now (segment .entry))) ⌝ }
-{
-    if out.len() < 1502 {
-        return true;
-    }
-    (out.len() - 1502) / 3 < segment.len()
-}
-
-// A segment event; an out buffer that is too short is refused.
+// A segment event; a segment that is too long for an event is refused, and an out buffer that is too short.
 pub fn segment(
     image: &[u8],
     state: State,
@@ -363,8 +358,13 @@ pub fn segment(
     ensures { λ _. ⌜ now (rx .exit) ≡ Seg.segmentEffect (now (image .entry)) state (now (rx .entry)) (now (tx .entry)) (now (out .entry)) connection (now (segment .entry)) .rx ⌝ }
     ensures { λ _. ⌜ now (out .exit) ≡ Seg.segmentEffect (now (image .entry)) state (now (rx .entry)) (now (tx .entry)) (now (out .entry)) connection (now (segment .entry)) .out ⌝ }
 {
-    let short = too_short(segment, out);
-    if short {
+    if 4096 < segment.len() {
+        return Dispatched {
+            verdict: Verdict::Unfit,
+            state: state,
+        };
+    }
+    if out.len() < 1502 + 3 * segment.len() {
         return Dispatched {
             verdict: Verdict::Small,
             state: state,

@@ -11,9 +11,9 @@ use Rattle.answering.specs.declared.Verdict.{Verdict}
 use Rattle.answering.specs.declared.Verdict.the-variants.{Done}
 use Rattle.answering.specs.declared.Dispatched.{Dispatched}
 
--- "Answer number (2). Then, when it is not 0: the place or the destination's row number (4), 0 where the answer has none"
+-- "Answer number (2). Then, when it is not 0: the destination's row number (4) with a transmit's 4, 7 and 8; else 0 (4)"
 abbrev pub refused : ℕ → ℕ → List ℕ
-refused number place = spell 2 number ++ spell 4 place
+refused number destination = spell 2 number ++ spell 4 destination
 
 -- 11, 12, 2, 3
 abbrev pub refusal : Refusal → List ℕ

@@ -1,6 +1,6 @@
--- A SEGMENT CALL CARRIES 4,090 BYTES AT MOST, for its body has 4,096 at most: so an out buffer of 16,384 bytes has room for its answer.
--- Assumes nothing.
-use Prim.Native.Nat.{ℕ, _+_, _≤_}
+-- A SEGMENT OR WALK CALL CARRIES 4,090 BYTES AT MOST, for its body has 4,096 at most: so they are not too long for an event, and an out
+-- buffer of 16,384 bytes has room for the answer. Assumes nothing.
+use Prim.Native.Nat.{ℕ, _+_, _-_, _≤_}
 use mathlib.Core.Path.{_≡_, refl}
 use mathlib.Core.Bool.{Bool, true, false, cond, _&&_}
 use mathlib.Core.List.{List}
@@ -13,10 +13,11 @@ use Rattle.lists.proofs.Both.{and-right}
 use Rattle.calls.specs.declared.Call.{Call}
 use Rattle.calls.specs.declared.Call.the-variants.{Unknown, Unfit, Ticks, Open, Close, Connected, Lost, SetRemote, Switch, Segment, Walk, TakeWaiting, Datagram, Accept, Transmit, SwitchAll, ReadCount, ClearCount}
 use Rattle.calls.specs.Calls.{fitted, plain, counted, addressed, remoteIn, positioned, callOf, bytesFrom}
+use Rattle.answer_receive.specs.Long.{longest}
 use Rattle.answer_receive.specs.Segment.{roomFor}
 use Rattle.dispatch.specs.Dispatch.{room}
 
--- the bytes that a segment call carries
+-- the bytes that a segment or walk call carries
 unfoldable pub carried : List ℕ → Call → ℕ
 carried b Unknown = 0
 carried b Unfit = 0
@@ -28,7 +29,7 @@ carried b (Lost c) = 0
 carried b (SetRemote c r) = 0
 carried b (Switch c n on) = 0
 carried b (Segment c at) = length (drop at b)
-carried b (Walk c p at) = 0
+carried b (Walk c p at) = length (drop at b)
 carried b (TakeWaiting c n) = 0
 carried b (Datagram g r) = 0
 carried b (Accept g r) = 0
@@ -49,10 +50,18 @@ unfolding carried
 fits-short b true x p = p refl
 fits-short b false x p = omega arith
 
+-- behind its length, at the place at of the body, are 4 bytes and the place fewer
+counted-short : (b : List ℕ) (at : ℕ) → counted b at ≡ true → length (drop (at + 4) b) ≤ 4096 - (at + 4)
+counted-short b at e =
+    omega (arith, length-drop (at + 4) b, leb-true (length b) 4096 (and-right (eqb (be 4 b at + (at + 4)) (length b) && eqb (be 1 b 0) 0) (leb (length b) 4096) e))
+
 segment-short : (b : List ℕ) → counted b 2 ≡ true → Short b (Segment (be 1 b 1) 6)
 unfolding carried
-segment-short b e =
-    omega (arith, length-drop 6 b, leb-true (length b) 4096 (and-right (eqb (be 4 b 2 + (2 + 4)) (length b) && eqb (be 1 b 0) 0) (leb (length b) 4096) e))
+segment-short b e = counted-short b 2 e
+
+walk-short : (b : List ℕ) → counted b 6 ≡ true → Short b (Walk (be 1 b 1) (be 4 b 2) 10)
+unfolding carried
+walk-short b e = omega (arith, counted-short b 6 e)
 
 pub call-short : (n : ℕ) (b : List ℕ) → Short b (callOf n b)
 unfolding callOf carried
@@ -65,7 +74,7 @@ call-short n b =
     (either b (eqb n 5) _ _ (fits-short b (addressed b) (SetRemote (be 1 b 1) (remoteIn (drop 2 b))) (λ _. omega arith))
     (either b (eqb n 6) _ _ (fits-short b (positioned b 4 3) (Switch (be 1 b 1) (be 1 b 2) (eqb (be 1 b 3) 1)) (λ _. omega arith))
     (either b (eqb n 7) _ _ (fits-short b (counted b 2) (Segment (be 1 b 1) 6) (segment-short b))
-    (either b (eqb n 8) _ _ (fits-short b (counted b 6) (Walk (be 1 b 1) (be 4 b 2) 10) (λ _. omega arith))
+    (either b (eqb n 8) _ _ (fits-short b (counted b 6) (Walk (be 1 b 1) (be 4 b 2) 10) (walk-short b))
     (either b (eqb n 9) _ _ (fits-short b (plain b 6) (TakeWaiting (be 1 b 1) (be 4 b 2)) (λ _. omega arith))
     (either b (eqb n 10) _ _ (fits-short b (addressed b) (Datagram (be 1 b 1) (remoteIn (drop 2 b))) (λ _. omega arith))
     (either b (eqb n 11) _ _ (fits-short b (addressed b) (Accept (be 1 b 1) (remoteIn (drop 2 b))) (λ _. omega arith))
@@ -75,7 +84,16 @@ call-short n b =
     (either b (eqb n 15) _ _ (fits-short b (plain b 2) (ClearCount (be 1 b 1)) (λ _. omega arith))
     (omega arith))))))))))))))))
 
--- so an out buffer of 16,384 bytes has room for its answer
+-- so they are not too long for an event ..
+pub segment-fits : (b : List ℕ) (c at : ℕ) → Short b (Segment c at) → length (bytesFrom b at) ≤ longest
+unfolding carried
+segment-fits b c at h = omega (arith, h)
+
+pub walk-fits : (b : List ℕ) (c place at : ℕ) → Short b (Walk c place at) → length (bytesFrom b at) ≤ longest
+unfolding carried
+walk-fits b c place at h = omega (arith, h)
+
+-- .. and an out buffer of 16,384 bytes has room for the answer
 pub call-room : (b : List ℕ) (c at : ℕ) → Short b (Segment c at) → roomFor (bytesFrom b at) ≤ room
 unfolding carried
 call-room b c at h = omega (arith, h)

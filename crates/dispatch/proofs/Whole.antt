@@ -26,13 +26,14 @@ use Rattle.sending.specs.Sending.{sendOf, takenOf, takenOut}
 use Rattle.answering.specs.declared.Verdict.the-variants.{Done, Small}
 use Rattle.answering.specs.Answers.{Effect, untouched}
 use Rattle.answer_events.specs.Events.{ownEffect, lostEffect, ticksEffect, switchAllEffect, readEffect, clearEffect}
+use Rattle.answer_receive.specs.Long.{longest}
 use Rattle.answer_receive.specs.Walk.{walkEffect}
 use Rattle.answer_receive.specs.Segment.{roomFor, segmentEffect}
-use Rattle.answer_receive.proofs.Room.{event-fits, segment-roomy}
+use Rattle.answer_receive.proofs.Room.{event-fits, segment-roomy, walk-short}
 use Rattle.answer_send.specs.Send.{roomOf, datagramEffect, acceptEffect, transmitEffect, takeEffect}
 use Rattle.dispatch.specs.Dispatch.{room, effectOf, dispatchOf}
 use Rattle.dispatch.specs.Whole.{Whole, answer, unknown, unfit, small}
-use Rattle.dispatch.proofs.Calls.{Short, call-short, call-room}
+use Rattle.dispatch.proofs.Calls.{Short, call-short, segment-fits, walk-fits, call-room}
 use Rattle.dispatch.proofs.Sizes.{told-size, loss-size, ticks-size, count-size, arrival-size, transmission-size, walked-size, taking-size, taken-size, buffer-size}
 
 module _ (image : List ℕ) (s : State) (rx tx out : List ℕ) (long : room ≤ length out) where
@@ -69,14 +70,14 @@ module _ (image : List ℕ) (s : State) (rx tx out : List ℕ) (long : room ≤ 
   unfolding clearEffect
   clear-whole p = laid _ (omega (arith, count-size (clearOf image s (length rx) (length tx) p .answer)))
 
-  segment-whole : (c : ℕ) (bytes : List ℕ) → roomFor bytes ≤ room → Told (segmentEffect image s rx tx out c bytes)
-  segment-whole c bytes h =
-      subst Told (sym (segment-roomy image s rx tx out c bytes (omega (arith, h, long)))) (laid _ (omega (arith, h, event-fits image (length tx) c bytes s rx)))
+  segment-whole : (c : ℕ) (bytes : List ℕ) → length bytes ≤ longest → roomFor bytes ≤ room → Told (segmentEffect image s rx tx out c bytes)
+  segment-whole c bytes short h =
+      subst Told (sym (segment-roomy image s rx tx out c bytes short (omega (arith, h, long)))) (laid _ (omega (arith, h, event-fits image (length tx) c bytes s rx)))
 
-  walk-whole : (c place : ℕ) (bytes : List ℕ) → Told (walkEffect image s rx tx out c place bytes)
-  unfolding walkEffect
-  walk-whole c place bytes =
-      laid _ (omega (arith, walked-size (walkOf image s (length rx) (length tx) c bytes place .answer) (walkOf image s (length rx) (length tx) c bytes place .next) (walkOf image s (length rx) (length tx) c bytes place .outcome)))
+  walk-whole : (c place : ℕ) (bytes : List ℕ) → length bytes ≤ longest → Told (walkEffect image s rx tx out c place bytes)
+  walk-whole c place bytes short =
+      let w = walkOf image s (length rx) (length tx) c bytes place in
+      subst Told (sym (walk-short image s rx tx out c place bytes short)) (laid _ (omega (arith, walked-size (w .answer) (w .next) (w .outcome))))
 
   take-whole : (c n : ℕ) → Told (takeEffect image s rx tx out c n)
   unfolding takeEffect
@@ -96,7 +97,7 @@ module _ (image : List ℕ) (s : State) (rx tx out : List ℕ) (long : room ≤ 
   unfolding transmitEffect
   transmit-whole pdu payload = laid _ (omega (arith, transmission-size (sendOf image s (length rx) tx pdu payload .answer)))
 
-  -- the step of a call whose segment, where it has one, is short enough
+  -- the step of a call whose segment or datagram, where it has one, is short enough
   call-whole : (body : List ℕ) (call : Call) → Short body call → Told (effectOf image s rx tx out body call)
   unfolding effectOf
   call-whole body Unknown h = unknown
@@ -108,8 +109,8 @@ module _ (image : List ℕ) (s : State) (rx tx out : List ℕ) (long : room ≤ 
   call-whole body (Lost c) h = lost-whole c
   call-whole body (SetRemote c remote) h = own-whole c (SetsRemote remote)
   call-whole body (Switch c number on) h = own-whole c (Switches number on)
-  call-whole body (Segment c at) h = segment-whole c (bytesFrom body at) (call-room body c at h)
-  call-whole body (Walk c place at) h = walk-whole c place (bytesFrom body at)
+  call-whole body (Segment c at) h = segment-whole c (bytesFrom body at) (segment-fits body c at h) (call-room body c at h)
+  call-whole body (Walk c place at) h = walk-whole c place (bytesFrom body at) (walk-fits body c place at h)
   call-whole body (TakeWaiting c n) h = take-whole c n
   call-whole body (Datagram group source) h = datagram-whole group source
   call-whole body (Accept group source) h = accept-whole group source

@@ -15,6 +15,7 @@ use Rattle.state.specs.declared.State.{State}
 use Rattle.receive.specs.declared.Answer.{Answer}
 use Rattle.receive.specs.declared.Answer.the-variants as Received
 use Rattle.receive.specs.Answer.{isDone}
+use Rattle.receive.specs.Walk.{walkOf}
 use Rattle.calls.specs.declared.Call.{Call}
 use Rattle.calls.specs.declared.Call.the-variants.{Unknown, Unfit, Ticks, Open, Close, Connected, Lost, SetRemote, Switch, Segment, Walk, TakeWaiting, Datagram, Accept, Transmit, SwitchAll, ReadCount, ClearCount}
 use Rattle.calls.specs.Calls.{callOf, bytesFrom}
@@ -22,13 +23,14 @@ use Rattle.answering.specs.declared.Verdict.{Verdict}
 use Rattle.answering.specs.declared.Verdict.the-variants.{Done, Unknown as NoEvent, Unfit as DoesNotFit, Small}
 use Rattle.answering.specs.Answers.{Effect, answers, untouched}
 use Rattle.answer_events.specs.Events.{ownEffect, lostEffect, ticksEffect, switchAllEffect, readEffect, clearEffect}
-use Rattle.answer_receive.specs.Walk.{walkEffect}
+use Rattle.answer_receive.specs.Long.{longest}
+use Rattle.answer_receive.specs.Walk.{walkedBytes}
 use Rattle.answer_receive.specs.Segment.{Run, begun, step, runOf, allTakes, eventBytes, roomFor, segmentEffect}
-use Rattle.answer_receive.proofs.Room.{segment-roomy}
+use Rattle.answer_receive.proofs.Room.{segment-roomy, walk-short}
 use Rattle.answer_send.specs.Send.{datagramEffect, acceptEffect, transmitEffect, takeEffect}
 use Rattle.dispatch.specs.Dispatch.{room, effectOf, dispatchOf}
 use Rattle.dispatch.specs.Whole.{Whole, answer, unknown, unfit, small}
-use Rattle.dispatch.proofs.Calls.{Short, call-short, call-room}
+use Rattle.dispatch.proofs.Calls.{Short, call-short, segment-fits, walk-fits, call-room}
 use Rattle.dispatch.proofs.Whole.{whole}
 use Rattle.tie.specs.Machine.{Machine}
 use Rattle.dispatched.specs.Spelt.{Spoken}
@@ -75,11 +77,11 @@ module _ (image : List ℕ) (s : State) (rx tx : List ℕ) where
       (takesOver image s rx tx c seg) (λ d. takes-count image (length tx) c seg (length seg) (begun s rx) d ∙ zero-add _) (segment-bytes image (length tx) c seg s rx)
 
   -- what it leaves, where there is room for it
-  segment-says : (out : List ℕ) (c : ℕ) (seg : List ℕ) → roomFor seg ≤ length out
+  segment-says : (out : List ℕ) (c : ℕ) (seg : List ℕ) → length seg ≤ longest → roomFor seg ≤ length out
       → segmentEffect image s rx tx out c seg
       ≡ answers (segmentAnswer image s rx tx c seg) (allTakes image (length tx) c seg s rx .state) (allTakes image (length tx) c seg s rx .rx) tx out
-  segment-says out c seg h =
-      segment-roomy image s rx tx out c seg h
+  segment-says out c seg short h =
+      segment-roomy image s rx tx out c seg short h
       ∙ ap (λ (l : List ℕ). answers l (allTakes image (length tx) c seg s rx .state) (allTakes image (length tx) c seg s rx .rx) tx out) (segment-named c seg)
 
 -- how many bytes a verdict says are written, and whether it says so
@@ -117,10 +119,10 @@ module _ (image : List ℕ) (s : State) (rx tx out : List ℕ) (n : ℕ) (low : 
       let is : n ≡ 0 = sym (ap written e) ∙ z in
       (is, ap (λ (k : ℕ). drop k out) (sym is))
 
-  -- the step of a call whose segment, where it has one, is short enough
+  -- the step of a call whose segment or datagram, where it has one, is short enough
   call-named : (body : List ℕ) (call : Call) → Short body call → effectOf image s rx tx out body call .verdict ≡ Done n
       → Named out (answerOf image s rx tx body call) n (effectOf image s rx tx out body call .out)
-  unfolding effectOf answerOf ownEffect lostEffect ticksEffect switchAllEffect readEffect clearEffect walkEffect datagramEffect acceptEffect transmitEffect takeEffect
+  unfolding effectOf answerOf ownEffect lostEffect ticksEffect switchAllEffect readEffect clearEffect datagramEffect acceptEffect transmitEffect takeEffect
   call-named body Unknown h e = none NoEvent refl e
   call-named body Unfit h e = none DoesNotFit refl e
   call-named body (Ticks k) h e = laid _ e
@@ -132,8 +134,10 @@ module _ (image : List ℕ) (s : State) (rx tx out : List ℕ) (n : ℕ) (low : 
   call-named body (Switch c number position) h e = laid _ e
   call-named body (Segment c at) h e =
       subst (λ (x : Effect). x .verdict ≡ Done n → Named out (segmentAnswer image s rx tx c (bytesFrom body at)) n (x .out))
-      (sym (segment-says image s rx tx out c (bytesFrom body at) (omega (arith, long, call-room body c at h)))) (laid _) e
-  call-named body (Walk c place at) h e = laid _ e
+      (sym (segment-says image s rx tx out c (bytesFrom body at) (segment-fits body c at h) (omega (arith, long, call-room body c at h)))) (laid _) e
+  call-named body (Walk c place at) h e =
+      subst (λ (x : Effect). x .verdict ≡ Done n → Named out (walkedBytes (walkOf image s (length rx) (length tx) c (bytesFrom body at) place)) n (x .out))
+      (sym (walk-short image s rx tx out c place (bytesFrom body at) (walk-fits body c place at h))) (laid _) e
   call-named body (TakeWaiting c k) h e = laid _ e
   call-named body (Datagram group source) h e = laid _ e
   call-named body (Accept group source) h e = laid _ e
@@ -146,7 +150,7 @@ module _ (image : List ℕ) (s : State) (rx tx out : List ℕ) (n : ℕ) (low : 
 module _ (image : List ℕ) (s : State) (rx tx out : List ℕ) (long : room ≤ length out) where
   call-answered : (body : List ℕ) (call : Call) → Short body call → (call ≡ Unknown → ⊥) → (call ≡ Unfit → ⊥)
       → effectOf image s rx tx out body call .verdict ≡ Done (length (answerOf image s rx tx body call))
-  unfolding effectOf answerOf ownEffect lostEffect ticksEffect switchAllEffect readEffect clearEffect walkEffect datagramEffect acceptEffect transmitEffect takeEffect
+  unfolding effectOf answerOf ownEffect lostEffect ticksEffect switchAllEffect readEffect clearEffect datagramEffect acceptEffect transmitEffect takeEffect
   call-answered body Unknown h known fit = absurd (known refl)
   call-answered body Unfit h known fit = absurd (fit refl)
   call-answered body (Ticks k) h known fit = refl
@@ -157,8 +161,9 @@ module _ (image : List ℕ) (s : State) (rx tx out : List ℕ) (long : room ≤ 
   call-answered body (SetRemote c remote) h known fit = refl
   call-answered body (Switch c number position) h known fit = refl
   call-answered body (Segment c at) h known fit =
-      ap (λ (x : Effect). x .verdict) (segment-says image s rx tx out c (bytesFrom body at) (omega (arith, long, call-room body c at h)))
-  call-answered body (Walk c place at) h known fit = refl
+      ap (λ (x : Effect). x .verdict) (segment-says image s rx tx out c (bytesFrom body at) (segment-fits body c at h) (omega (arith, long, call-room body c at h)))
+  call-answered body (Walk c place at) h known fit =
+      ap (λ (x : Effect). x .verdict) (walk-short image s rx tx out c place (bytesFrom body at) (walk-fits body c place at h))
   call-answered body (TakeWaiting c k) h known fit = refl
   call-answered body (Datagram group source) h known fit = refl
   call-answered body (Accept group source) h known fit = refl

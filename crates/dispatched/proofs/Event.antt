@@ -19,11 +19,10 @@ use Rattle.calls.specs.Calls.{callOf, bytesFrom}
 use Rattle.answering.specs.declared.Verdict.the-variants.{Small}
 use Rattle.answering.specs.Answers.{untouched}
 use Rattle.answer_events.specs.Events.{ownEffect, lostEffect, ticksEffect, switchAllEffect, readEffect, clearEffect}
-use Rattle.answer_receive.specs.Walk.{walkEffect}
-use Rattle.answer_receive.proofs.Room.{segment-roomy}
+use Rattle.answer_receive.proofs.Room.{segment-roomy, walk-short}
 use Rattle.answer_send.specs.Send.{roomOf, datagramEffect, acceptEffect, transmitEffect, takeEffect}
 use Rattle.dispatch.specs.Dispatch.{room, effectOf, dispatchOf}
-use Rattle.dispatch.proofs.Calls.{Short, call-short, call-room}
+use Rattle.dispatch.proofs.Calls.{Short, call-short, segment-fits, walk-fits, call-room}
 use Rattle.tie.specs.Machine.{Machine, machine}
 use Rattle.tie.specs.Run.{afterOwn, afterWhole, afterEvent, afterRun}
 use Rattle.dispatched.specs.Spelt.{eventsOf, Spoken, speltBy, machineOf, afterCall}
@@ -41,9 +40,9 @@ unfolding takenOf
 take-room image s rx tx c a b e = ap (λ (n : ℕ). through (gateAt image s rx (length tx) c) (notTaken s) (takePast image s c n)) e
 
 module _ (image : List ℕ) (s : State) (rx tx out body : List ℕ) (long : room ≤ length out) where
-  -- the step of a call whose segment, where it has one, is short enough
+  -- the step of a call whose segment or datagram, where it has one, is short enough
   call-events : (call : Call) → Short body call → machineOf (effectOf image s rx tx out body call) ≡ afterRun image (machine s rx tx) (eventsOf body call)
-  unfolding effectOf eventsOf afterRun afterEvent afterOwn afterWhole ownEffect lostEffect lossOf ticksEffect switchAllEffect readEffect clearEffect walkEffect datagramEffect acceptEffect transmitEffect takeEffect
+  unfolding effectOf eventsOf afterRun afterEvent afterOwn afterWhole ownEffect lostEffect lossOf ticksEffect switchAllEffect readEffect clearEffect datagramEffect acceptEffect transmitEffect takeEffect
   call-events Unknown h = refl
   call-events Unfit h = refl
   call-events (Ticks n) h = ticks-run image rx tx s n
@@ -54,9 +53,9 @@ module _ (image : List ℕ) (s : State) (rx tx out body : List ℕ) (long : room
   call-events (SetRemote c remote) h = refl
   call-events (Switch c number position) h = refl
   call-events (Segment c at) h =
-      ap machineOf (segment-roomy image s rx tx out c (bytesFrom body at) (omega (arith, long, call-room body c at h)))
+      ap machineOf (segment-roomy image s rx tx out c (bytesFrom body at) (segment-fits body c at h) (omega (arith, long, call-room body c at h)))
       ∙ segment-machine image c (bytesFrom body at) s rx tx
-  call-events (Walk c place at) h = refl
+  call-events (Walk c place at) h = ap machineOf (walk-short image s rx tx out c place (bytesFrom body at) (walk-fits body c place at h))
   call-events (TakeWaiting c n) h =
       ap (λ (t : Taken). machine (t .state) rx tx) (take-room image s (length rx) tx c (front (roomOf n) (replicate 1472 0)) (replicate (roomOf n) 0) (buffer-room n))
   call-events (Datagram group source) h = refl

@@ -51,7 +51,7 @@ abbrev pub tookThen : Bool → Bool → Take → List Take → List Take
 tookThen done left t ts = cond done (t ∷ cond left ts []) []
 
 module _ (image : List ℕ) (tx connection : ℕ) (segment : List ℕ) where
-  -- the next take of a segment event that is so far
+  -- the next take of a segment event that has come so far
   abbrev pub nextTake : Run → Take
   nextTake r =
       record {

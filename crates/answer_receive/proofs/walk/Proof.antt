@@ -1,11 +1,17 @@
 -- `answer_receive::walk` meets its contract. Assumes nothing.
-use mathlib.Core.Path.{ap}
+use mathlib.Core.Path.{refl, ap}
 use Rattle.answering.proofs.Reply.{reply}
 use Rattle.receive.specs.declared.DatagramWalked.{DatagramWalked}
-use Rattle.answer_receive.specs.Walk.{walkedBytes, walkEffect}
+use Rattle.answer_receive.specs.Walk.{walkedBytes}
+use Rattle.answer_receive.proofs.Room.{walk-short, walk-long}
 use borrow.Author.Needs.{needs}
 use Rattle.answer_receive.proofs.walk.Statement.{statement}
 use Rattle.answer_receive.proofs.walk.Tie as tie
+
+returns : tie.Need-returns
+returns c =
+    let a = c .before .before .before .before .before .before .args in
+    rw (walk-long (a .image .now) (a .state) (a .rx .now) (a .tx .now) (a .out .now) (a .connection) (a .place) (a .datagram .now) (c .if1 .taken)) (refl, refl)
 
 walk-datagram-requires : tie.Need-walk-datagram-requires
 walk-datagram-requires c κs = search needs
@@ -16,9 +22,14 @@ put-walked-requires c κs = search needs
 same-length : tie.Need-same-length
 same-length c = search needs
 
-returns : tie.Need-returns
-unfolding walkEffect
-returns c = let h = c .before .before .before .before .before .walk-datagram .ensures in let p = c .before .before .put-walked .ensures in reply (c .before .before .before .before .before .before .before .before .before .before .before .args .out .now) (p .0) (p .1) (ap walkedBytes h) (ap (λ (t : DatagramWalked). t .state) h)
+returns-2 : tie.Need-returns-2
+returns-2 c =
+    let i = c .before .before .before .before .before .before in
+    let a = i .before .before .before .before .before .before .args in
+    let h = c .before .before .before .before .before .walk-datagram .ensures in
+    let p = c .before .before .put-walked .ensures in
+    rw (walk-short (a .image .now) (a .state) (a .rx .now) (a .tx .now) (a .out .now) (a .connection) (a .place) (a .datagram .now) (i .if1 .left))
+    (reply (a .out .now) (p .0) (p .1) (ap walkedBytes h) (ap (λ (t : DatagramWalked). t .state) h))
 
 pub walk-spec : {M : Type 1} → statement M
-walk-spec = tie.close (tie.spec walk-datagram-requires put-walked-requires same-length returns)
+walk-spec = tie.close (tie.spec returns walk-datagram-requires put-walked-requires same-length returns-2)

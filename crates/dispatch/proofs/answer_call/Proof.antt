@@ -2,8 +2,7 @@
 use mathlib.Core.Path.{refl}
 use Rattle.dispatch.specs.Dispatch.{effectOf}
 use Rattle.answer_events.specs.Events.{ownEffect, lostEffect, ticksEffect, switchAllEffect, readEffect, clearEffect}
-use Rattle.answer_receive.specs.Walk.{walkEffect}
-use Rattle.answer_receive.proofs.Room.{segment-sent}
+use Rattle.answer_receive.proofs.Room.{segment-sent, walk-kept}
 use Rattle.answer_send.specs.Send.{datagramEffect, acceptEffect, transmitEffect, takeEffect}
 use borrow.Author.Needs.{needs}
 use Rattle.dispatch.proofs.answer_call.Statement.{statement}
@@ -245,8 +244,8 @@ same-length-27 : tie.Need-same-length-27
 same-length-27 c = search needs
 
 returns-11 : tie.Need-returns-11
-unfolding effectOf walkEffect
-returns-11 c = let p = c .before .before .walk .ensures in rw (c .before .before .before .before .before .before .before .before .call9 .given .1, ← c .before .before .before .before .bytes-from2 .ensures) (p .0, (refl, (refl, p .1)))
+unfolding effectOf
+returns-11 c = let p = c .before .before .walk .ensures in let w = walk-kept _ _ _ _ _ _ _ _ in rw (c .before .before .before .before .before .before .before .before .call9 .given .1, ← c .before .before .before .before .bytes-from2 .ensures) (p .0, (w .0, (w .1, p .1)))
 
 same-length-28 : tie.Need-same-length-28
 same-length-28 c = search needs
