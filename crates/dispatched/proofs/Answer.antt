@@ -54,7 +54,7 @@ module _ (image : List ℕ) (tx k : ℕ) (seg : List ℕ) where
   abbrev next : Run → Run
   next r = step image tx k seg r
 
-  takes-count : (n : ℕ) (r : Run) → isDone (runOf image tx k seg n r .answer) ≡ true → runOf image tx k seg n r .count ≡ r .count + length (takesFrom image tx k seg n r)
+  pub takes-count : (n : ℕ) (r : Run) → isDone (runOf image tx k seg n r .answer) ≡ true → runOf image tx k seg n r .count ≡ r .count + length (takesFrom image tx k seg n r)
   unfolding runOf step takesFrom
   takes-count zero r d = ap (λ (n : ℕ). r .count + n) (last-counts (isDone (next r .answer)) (nextTake image tx k seg r) [] d)
   takes-count (suc n) r d =

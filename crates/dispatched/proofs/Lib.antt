@@ -4,5 +4,7 @@ pub mod Takes
 pub mod Ticks
 pub mod Event
 pub mod Calls
-pub mod Told
 pub mod Answer
+pub mod Read
+pub mod Fits
+pub mod Told

@@ -7,6 +7,7 @@ use mathlib.Core.List.{List, [], _∷_, _++_, append-assoc, append-nil}
 use lib.Dec.{eqb, ltb}
 use lib.ListN.{length, replicate}
 use Rattle.feed.specs.Feed.{Pdu}
+use Rattle.lengths.specs.Listed.{Bytes}
 use Rattle.calls.specs.declared.Call.{Call}
 use Rattle.calls.specs.declared.Call.the-variants.{Unknown, Unfit, Ticks, Open, Close, Connected, Lost, SetRemote, Switch, Segment, Walk, TakeWaiting, Datagram, Accept, Transmit, SwitchAll, ReadCount, ClearCount}
 use Rattle.calls.specs.Calls.{callOf, bytesFrom}
@@ -18,9 +19,12 @@ use Rattle.tie.specs.Run.{afterEvent, given, afterRun, givenIn, Good}
 use Rattle.demands.specs.Three.{Demand3}
 use Rattle.demands.proofs.Three.{demand-3}
 use Rattle.dispatched.specs.Spelt.{eventsOf, Spoken, speltBy, spelt, CallBytes, afterCall}
-use Rattle.dispatched.specs.Told.{tellsOf, toldBy, toldIn}
+use Rattle.dispatched.specs.Told.{tellsOf}
+use Rattle.dispatched.specs.Read.{readOf, toldBy, toldIn}
+use Rattle.dispatched.specs.Answer.{answerBy}
 use Rattle.dispatched.specs.Three.{CallsAlike}
 use Rattle.dispatched.proofs.Takes.{segment-told}
+use Rattle.dispatched.proofs.Fits.{answers-read}
 use Rattle.dispatched.proofs.Event.{dispatched-events}
 use Rattle.dispatched.proofs.Calls.{calls-run, spelt-bytes}
 
@@ -53,13 +57,15 @@ module _ (image : List ℕ) (k : ℕ) where
   call-tells m body (ClearCount protocol) = refl
 
   -- ONE CALL
-  pub dispatched-tells : (m : Machine) (c : Spoken) → toldBy image k m c ≡ givenIn image k m (speltBy c)
+  pub dispatched-tells : (m : Machine) (c : Spoken) → Bytes (c .body) → toldBy image k m c ≡ givenIn image k m (speltBy c)
   unfolding toldBy speltBy givenIn
-  dispatched-tells m c = go (ltb (length (c .out)) room)
+  dispatched-tells m c bytes = go (ltb (length (c .out)) room)
     where
-      go : (b : Bool) → cond b [] (tellsOf image k m (c .body) (callOf (c .number) (c .body))) ≡ givenIn image k m (cond b [] (eventsOf (c .body) (callOf (c .number) (c .body))))
+      go : (b : Bool)
+          → cond b [] (readOf k (c .body) (callOf (c .number) (c .body)) (answerBy image m c))
+          ≡ givenIn image k m (cond b [] (eventsOf (c .body) (callOf (c .number) (c .body))))
       go true = refl
-      go false = call-tells m (c .body) (callOf (c .number) (c .body))
+      go false = answers-read image k m c bytes ∙ call-tells m (c .body) (callOf (c .number) (c .body))
 
   given-append : (m : Machine) (es fs : List Event) → givenIn image k m (es ++ fs) ≡ givenIn image k m es ++ givenIn image k (afterRun image m es) fs
   unfolding givenIn afterRun
@@ -69,22 +75,22 @@ module _ (image : List ℕ) (k : ℕ) where
       ∙ sym (append-assoc (given image k e m) (givenIn image k (afterEvent image e m) es) (givenIn image k (afterRun image (afterEvent image e m) es) fs))
 
   -- CALLS one after the other
-  pub calls-told : (m : Machine) (cs : List Spoken) → toldIn image k m cs ≡ givenIn image k m (spelt cs)
+  pub calls-told : (m : Machine) (cs : List Spoken) → CallBytes cs → toldIn image k m cs ≡ givenIn image k m (spelt cs)
   unfolding toldIn spelt givenIn
-  calls-told m [] = refl
-  calls-told m (c ∷ cs) =
-      ap₂ _++_ (dispatched-tells m c)
-      (calls-told (afterCall image c m) cs ∙ ap (λ (n : Machine). givenIn image k n (spelt cs)) (dispatched-events image m c))
+  calls-told m [] bytes = refl
+  calls-told m (c ∷ cs) (bytes, later) =
+      ap₂ _++_ (dispatched-tells m c bytes)
+      (calls-told (afterCall image c m) cs later ∙ ap (λ (n : Machine). givenIn image k n (spelt cs)) (dispatched-events image m c))
       ∙ sym (given-append m (speltBy c) (spelt cs))
 
 -- DEMAND 3, of the dispatcher: calls that spell same runs end in the same state, and their answers have told the same PDUs, exactly demand 2's
-pub calls-demand-3 : (image : List ℕ) (m : Machine) → Good image m → (cs ds : List Spoken) → CallBytes cs → Same (spelt cs) (spelt ds) → CallsAlike image m cs ds
-calls-demand-3 image m good cs ds bytes alike = go (demand-3 image m good alike (spelt-bytes cs bytes))
+pub calls-demand-3 : (image : List ℕ) (m : Machine) → Good image m → (cs ds : List Spoken) → CallBytes cs → CallBytes ds → Same (spelt cs) (spelt ds) → CallsAlike image m cs ds
+calls-demand-3 image m good cs ds bytes others alike = go (demand-3 image m good alike (spelt-bytes cs bytes))
   where
     go : Demand3 image m (spelt cs) (spelt ds) → CallsAlike image m cs ds
     go d =
         record {
           state = ap seen (calls-run image m cs) ∙ d .state ∙ ap seen (sym (calls-run image m ds));
-          pdus = λ k. calls-told image k m cs ∙ d .pdus k ∙ sym (calls-told image k m ds);
-          list = λ k there tcp. calls-told image k m cs ∙ d .list k there tcp;
+          pdus = λ k. calls-told image k m cs bytes ∙ d .pdus k ∙ sym (calls-told image k m ds others);
+          list = λ k there tcp. calls-told image k m cs bytes ∙ d .list k there tcp;
         }

@@ -1,5 +1,6 @@
 -- What the laws of this crate speak of. Assumes nothing.
 pub mod Spelt
 pub mod Told
-pub mod Three
 pub mod Answer
+pub mod Read
+pub mod Three

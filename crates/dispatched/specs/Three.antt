@@ -12,12 +12,12 @@ use Rattle.runs.specs.Streams.{listedIn}
 use Rattle.tie.specs.Machine.{Machine, seen}
 use Rattle.demands.specs.Streams.{streamsIn}
 use Rattle.dispatched.specs.Spelt.{Spoken, spelt, afterCalls}
-use Rattle.dispatched.specs.Told.{toldIn}
+use Rattle.dispatched.specs.Read.{toldIn}
 
 pub record CallsAlike (image : List ℕ) (m : Machine) (cs ds : List Spoken) : Type 0 where
   -- the end state is the same: same numbers and same held bytes
   pub state : seen (afterCalls image m cs) ≡ seen (afterCalls image m ds)
-  -- the answers tell for each connection the same PDUs in the same order
+  -- the bytes of the answers tell for each connection the same PDUs in the same order
   pub pdus : (k : ℕ) → toldIn image k m cs ≡ toldIn image k m ds
   -- and, of a TCP connection, that list is exactly demand 2's: of each online period's stream, by lengths; the first stream begun with what
   -- the record holds

@@ -1,6 +1,5 @@
--- WHAT THE ANSWERS OF THE DISPATCHER HAND OUT (docs/EVENTS.md, "The answer"): the takes of a segment event, each as its answer tells it, and
--- the PDUs that a reader of the answer gets out of them, out of a walk's answer, and out of the answers of calls one after the other.
--- Assumes nothing: these are definitions.
+-- THE TAKES WHOSE BYTES AN ANSWER IS (docs/EVENTS.md, "The answer"): those of a segment event, each as its answer tells it, and the PDUs
+-- that they tell, and that a walk's answer tells. Assumes nothing: these are definitions.
 use Prim.Native.Nat.{ℕ, zero, suc, _+_}
 use mathlib.Core.Bool.{Bool, true, false, cond}
 use mathlib.Core.List.{List, [], _∷_, _++_}
@@ -15,12 +14,10 @@ use Rattle.receive.specs.Segment.{payloadOf}
 use Rattle.receive.specs.Walk.{walkOf}
 use Rattle.calls.specs.declared.Call.{Call}
 use Rattle.calls.specs.declared.Call.the-variants.{Unknown, Unfit, Ticks, Open, Close, Connected, Lost, SetRemote, Switch, Segment, Walk, TakeWaiting, Datagram, Accept, Transmit, SwitchAll, ReadCount, ClearCount}
-use Rattle.calls.specs.Calls.{callOf, bytesFrom}
+use Rattle.calls.specs.Calls.{bytesFrom}
 use Rattle.answer_receive.specs.Segment.{takeBytes, Run, begun, takeAt, memoryAt, step}
-use Rattle.dispatch.specs.Dispatch.{room}
 use Rattle.tie.specs.Machine.{Machine}
 use Rattle.tie.specs.Run.{toldWalk}
-use Rattle.dispatched.specs.Spelt.{Spoken, afterCall}
 
 -- ONE TAKE THAT IS NOT REFUSED: where in the segment it began, the bytes read, what it found, and the payload that it handed out
 pub record Take : Type 0 where
@@ -71,7 +68,7 @@ module _ (image : List ℕ) (tx connection : ℕ) (segment : List ℕ) where
       (takesFrom n (step image tx connection segment r))
 
 module _ (image : List ℕ) (k : ℕ) where
-  -- the PDUs that the answer of a call tells for connection k
+  -- the PDUs that the answer of a call tells for connection k, by the takes or the walk that it answers
   unfoldable pub tellsOf : Machine → List ℕ → Call → List Pdu
   tellsOf m body Unknown = []
   tellsOf m body Unfit = []
@@ -95,12 +92,3 @@ module _ (image : List ℕ) (k : ℕ) where
   tellsOf m body (SwitchAll number position) = []
   tellsOf m body (ReadCount protocol) = []
   tellsOf m body (ClearCount protocol) = []
-
-  -- an out buffer that is too short has no answer
-  unfoldable pub toldBy : Machine → Spoken → List Pdu
-  toldBy m c = cond (ltb (length (c .out)) room) [] (tellsOf m (c .body) (callOf (c .number) (c .body)))
-
-  -- .. and the answers of calls one after the other
-  unfoldable pub toldIn : Machine → List Spoken → List Pdu
-  toldIn m [] = []
-  toldIn m (c ∷ cs) = toldBy m c ++ toldIn (afterCall image c m) cs

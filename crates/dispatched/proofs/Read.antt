@@ -1,0 +1,205 @@
+-- WHAT STANDS IN THE BYTES OF A TAKE OR A WALK IS READ BACK: kind, route, length, place and payload, where they fit their widths.
+-- Assumes nothing.
+use Prim.Native.Nat.{ℕ, _+_, _^_, _<_}
+use mathlib.Core.Path.{_≡_, refl, sym, ap, ap₂, _∙_}
+use mathlib.Core.Bool.{Bool, true, false}
+use mathlib.Core.List.{List, [], _∷_, _++_, append-assoc, append-nil}
+use native.Mathlib.Omega.{arith}
+use lib.Dec.{eqb}
+use lib.ListN.{length, take, drop, length-append}
+use lib.Seq.{take-at, drop-at}
+use Rattle.wire.specs.Be.{be}
+use Rattle.wire.specs.Lay.{spell}
+use Rattle.wire.proofs.Spell.{length-spell, be-spell}
+use Rattle.layout.specs.Layout.{partOf}
+use Rattle.feed.specs.Feed.{Pdu, handed}
+use Rattle.connection.specs.declared.Refusal.{Refusal}
+use Rattle.connection.specs.declared.Refusal.the-variants.{Memory, Unsound, Missing, Denied}
+use Rattle.connection.specs.Event.{refusalNumber}
+use Rattle.stream.specs.declared.Outcome.{Outcome}
+use Rattle.stream.specs.declared.Outcome.the-variants as Found
+use Rattle.datagram.specs.declared.Outcome.{Outcome as Step}
+use Rattle.datagram.specs.declared.Outcome.the-variants as Met
+use Rattle.receive.specs.declared.Answer.{Answer}
+use Rattle.receive.specs.declared.Answer.the-variants.{Done, Refused, NotReceiving}
+use Rattle.receive.specs.Answer.{isDone}
+use Rattle.answering.specs.Answers.{refused, doneWith, found}
+use Rattle.answering.proofs.Chain.{length-found}
+use Rattle.answer_receive.specs.Segment.{hereBytes, heldBytes, takeBytes, eventBytes}
+use Rattle.answer_receive.specs.Walk.{orRefused, stepBytes, walkBytes}
+use Rattle.answer_receive.proofs.Written.{length-here, length-held}
+use Rattle.tie.specs.Run.{toldWalk}
+use Rattle.dispatched.specs.Told.{Take, bytesIn, pduIn, pdusIn, tookThen}
+use Rattle.dispatched.specs.Read.{payloadRead, takeRead, takeLong, takesRead, stepRead, ifDone, segmentRead, walkRead}
+
+-- a number behind other bytes
+number-at : (w v : ℕ) (a r : List ℕ) {l : List ℕ} (at : ℕ) → v < 256 ^ w → length a ≡ at → l ≡ a ++ (spell w v ++ r) → be w l at ≡ v
+number-at w v a r at small e f = ap₂ (λ (x : List ℕ) (n : ℕ). be w x n) f (sym e) ∙ be-spell w v a r small
+
+-- WHAT A TAKE OR A WALK FOUND, and r behind it
+module _ (first kind which id n : ℕ) (r : List ℕ) {l : List ℕ} (is : l ≡ found first kind which id n ++ r) where
+  kind-at : kind < 256 → be 1 l 4 ≡ kind
+  kind-at h =
+      number-at 1 kind (spell 4 first) (spell 1 which ++ spell 4 id ++ spell 4 n ++ r) 4 h (length-spell 4 first) (is ∙ simp append-assoc)
+
+  which-at : which < 256 → be 1 l 5 ≡ which
+  which-at h =
+      number-at 1 which (spell 4 first ++ spell 1 kind) (spell 4 id ++ spell 4 n ++ r) 5 h (simp (length-append, length-spell)) (is ∙ simp append-assoc)
+
+  length-at : n < 256 ^ 4 → be 4 l 10 ≡ n
+  length-at h =
+      number-at 4 n (spell 4 first ++ spell 1 kind ++ spell 1 which ++ spell 4 id) r 10 h (simp (length-append, length-spell)) (is ∙ simp append-assoc)
+
+-- what fits its width: route, length, and the place of the payload or the payload as long as it is said to be
+abbrev pub TakeFits : ℕ → Outcome → List ℕ → Type 0
+TakeFits begins Found.More payload = Unit {0}
+TakeFits begins (Found.Pdu route id true at n) payload = (route < 256) × ((n < 256 ^ 4) × (begins + at < 256 ^ 4))
+TakeFits begins (Found.Pdu route id false at n) payload = (route < 256) × ((n < 256 ^ 4) × (length payload ≡ n))
+TakeFits begins (Found.Drop reason id n) payload = Unit {0}
+
+-- A TAKE
+module _ (segment : List ℕ) where
+  none-read : (l : List ℕ) (kind : ℕ) → be 1 l 4 ≡ kind → eqb kind 1 ≡ false → (takeRead segment l ≡ []) × (takeLong l ≡ 14)
+  unfolding takeRead takeLong
+  none-read l kind e f = (rw (e, f) refl, rw (e, f) refl)
+
+  pdu-read : (l : List ℕ) (route : ℕ) (payload : List ℕ) → be 1 l 4 ≡ 1 → be 1 l 5 ≡ route → payloadRead segment l ≡ payload → takeRead segment l ≡ handed route payload ∷ []
+  unfolding takeRead
+  pdu-read l route payload e f g = rw (e, f, g) refl
+
+  here-read : (l : List ℕ) (place n : ℕ) → be 1 l 4 ≡ 1 → be 1 l 14 ≡ 0 → be 4 l 15 ≡ place → be 4 l 10 ≡ n
+      → (payloadRead segment l ≡ partOf segment place n) × (takeLong l ≡ 19)
+  unfolding payloadRead takeLong
+  here-read l place n e w p f = (rw (w, p, f) refl, rw (e, w) refl)
+
+  held-read : (l payload : List ℕ) (n : ℕ) → be 1 l 4 ≡ 1 → be 1 l 14 ≡ 1 → be 4 l 10 ≡ n → take n (drop 15 l) ≡ payload
+      → (payloadRead segment l ≡ payload) × (takeLong l ≡ 15 + n)
+  unfolding payloadRead takeLong
+  held-read l payload n e w f p = (rw (w, f) p, rw (e, w, f) refl)
+
+  -- its PDU, and the bytes behind it
+  abbrev Back : ℕ → ℕ → Outcome → List ℕ → List ℕ → Type 0
+  Back begins read o payload rest =
+      (takeRead segment (takeBytes begins read o payload ++ rest) ≡ pduIn segment begins o payload)
+      × (drop (takeLong (takeBytes begins read o payload ++ rest)) (takeBytes begins read o payload ++ rest) ≡ rest)
+
+  take-back : (begins read : ℕ) (o : Outcome) (payload rest : List ℕ) → TakeFits begins o payload → Back begins read o payload rest
+  take-back begins read Found.More payload rest h =
+      let l : List ℕ = found read 0 0 0 0 ++ rest in
+      let t = none-read l 0 (kind-at read 0 0 0 0 rest refl (omega arith)) refl in
+      (t .0, drop-at (found read 0 0 0 0) rest (takeLong l) (length-found read 0 0 0 0 ∙ sym (t .1)))
+  take-back begins read (Found.Drop reason id n) payload rest h =
+      let l : List ℕ = found read 2 reason id n ++ rest in
+      let t = none-read l 2 (kind-at read 2 reason id n rest refl (omega arith)) refl in
+      (t .0, drop-at (found read 2 reason id n) rest (takeLong l) (length-found read 2 reason id n ∙ sym (t .1)))
+  take-back begins read (Found.Pdu route id true at n) payload rest h =
+      let l : List ℕ = hereBytes read route id n begins at ++ rest in
+      let behind : List ℕ = spell 1 0 ++ (spell 4 (begins + at) ++ rest) in
+      let is : l ≡ found read 1 route id n ++ behind = simp append-assoc in
+      let kind : be 1 l 4 ≡ 1 = kind-at read 1 route id n behind is (omega arith) in
+      let where₀ : be 1 l 14 ≡ 0 = number-at 1 0 (found read 1 route id n) (spell 4 (begins + at) ++ rest) 14 (omega arith) (length-found read 1 route id n) is in
+      let place : be 4 l 15 ≡ begins + at =
+      number-at 4 (begins + at) (found read 1 route id n ++ spell 1 0) rest 15 (h .1 .1) (simp (length-append, length-spell)) (simp append-assoc) in
+      let t = here-read l (begins + at) n kind where₀ place (length-at read 1 route id n behind is (h .1 .0)) in (
+        pdu-read l route (partOf segment (begins + at) n) kind (which-at read 1 route id n behind is (h .0)) (t .0),
+        drop-at (hereBytes read route id n begins at) rest (takeLong l) (length-here read route id n begins at ∙ sym (t .1)),
+      )
+  take-back begins read (Found.Pdu route id false at n) payload rest h =
+      let l : List ℕ = heldBytes read route id n payload ++ rest in
+      let behind : List ℕ = spell 1 1 ++ (payload ++ rest) in
+      let is : l ≡ found read 1 route id n ++ behind = simp append-assoc in
+      let kind : be 1 l 4 ≡ 1 = kind-at read 1 route id n behind is (omega arith) in
+      let where₁ : be 1 l 14 ≡ 1 = number-at 1 1 (found read 1 route id n) (payload ++ rest) 14 (omega arith) (length-found read 1 route id n) is in
+      let parted : l ≡ found read 1 route id n ++ spell 1 1 ++ (payload ++ rest) = simp append-assoc in
+      let body : take n (drop 15 l) ≡ payload =
+      ap (λ (x : List ℕ). take n (drop 15 x)) parted
+      ∙ ap (take n) (drop-at (found read 1 route id n ++ spell 1 1) (payload ++ rest) 15 (simp (length-append, length-spell)))
+      ∙ take-at payload rest n (h .1 .1) in
+      let t = held-read l payload n kind where₁ (length-at read 1 route id n behind is (h .1 .0)) body in (
+        pdu-read l route payload kind (which-at read 1 route id n behind is (h .0)) (t .0),
+        drop-at (heldBytes read route id n payload) rest (takeLong l) (omega (arith, length-held read route id n payload, h .1 .1, t .1)),
+      )
+
+  -- TAKES, one after the other
+  abbrev TookFits : Take → Type 0
+  TookFits t = TakeFits (t .begins) (t .outcome) (t .payload)
+
+  one-back : (t : Take) (ts : List Take) → TookFits t → takesRead segment (length ts) (bytesIn ts) ≡ pdusIn segment ts
+      → takesRead segment (length (t ∷ ts)) (bytesIn (t ∷ ts)) ≡ pdusIn segment (t ∷ ts)
+  unfolding takesRead bytesIn pdusIn
+  one-back t ts h later =
+      let b = take-back (t .begins) (t .read) (t .outcome) (t .payload) (bytesIn ts) h in
+      ap₂ _++_ (b .0) (ap (takesRead segment (length ts)) (b .1) ∙ later)
+
+  pub more-back : (done left : Bool) (t : Take) (ts : List Take) → (done ≡ true → TakeFits (t .begins) (t .outcome) (t .payload))
+      → takesRead segment (length ts) (bytesIn ts) ≡ pdusIn segment ts
+      → takesRead segment (length (tookThen done left t ts)) (bytesIn (tookThen done left t ts)) ≡ pdusIn segment (tookThen done left t ts)
+  unfolding takesRead bytesIn pdusIn
+  more-back true true t ts h later = one-back t ts (h refl) later
+  more-back true false t ts h later = one-back t [] (h refl) refl
+  more-back false left t ts h later = refl
+
+  -- THE ANSWER OF A SEGMENT EVENT
+  pub done-back : (ts : List Take) → length ts < 256 ^ 2 → takesRead segment (length ts) (bytesIn ts) ≡ pdusIn segment ts
+      → segmentRead segment (eventBytes Done (length ts) (bytesIn ts)) ≡ pdusIn segment ts
+  unfolding segmentRead
+  done-back ts few later =
+      let l : List ℕ = eventBytes Done (length ts) (bytesIn ts) in
+      let zero-at : be 2 l 0 ≡ 0 = number-at 2 0 [] (spell 2 (length ts) ++ bytesIn ts) 0 (omega arith) refl (simp append-assoc) in
+      let count : be 2 l 2 ≡ length ts = number-at 2 (length ts) (spell 2 0) (bytesIn ts) 2 few (length-spell 2 0) (simp append-assoc) in
+      let rest : drop 4 l ≡ bytesIn ts = drop-at (doneWith 2 (length ts)) (bytesIn ts) 4 (simp (length-append, length-spell)) in
+      rw (zero-at, count, rest) later
+
+-- A REFUSAL has no PDU
+some-number : (r : Refusal) → (refusalNumber r < 256 ^ 2) × (eqb (refusalNumber r) 0 ≡ false)
+some-number Memory = (omega arith, refl)
+some-number Unsound = (omega arith, refl)
+some-number Missing = (omega arith, refl)
+some-number Denied = (omega arith, refl)
+
+not-read : (number : ℕ) (read : List Pdu) → number < 256 ^ 2 → eqb number 0 ≡ false → ifDone (refused number 0) read ≡ []
+not-read number read h e =
+    let z : be 2 (refused number 0) 0 ≡ number = number-at 2 number [] (spell 4 0) 0 h refl refl in
+    rw (z, e) refl
+
+pub refused-back : (segment : List ℕ) (a : Answer) (count : ℕ) (bytes : List ℕ) → isDone a ≡ false → segmentRead segment (eventBytes a count bytes) ≡ []
+unfolding segmentRead
+refused-back segment Done count bytes e = let z : _≡_ {A = ℕ} 0 1 = cc in absurd (omega arith)
+refused-back segment (Refused r) count bytes e = not-read (refusalNumber r) _ (some-number r .0) (some-number r .1)
+refused-back segment NotReceiving count bytes e = not-read 4 _ (omega arith) refl
+
+-- A WALK
+abbrev pub StepFits : Step → Type 0
+StepFits Met.End = Unit {0}
+StepFits (Met.Pdu route id at n) = (route < 256) × ((n < 256 ^ 4) × (at < 256 ^ 4))
+StepFits (Met.Drop reason id n) = Unit {0}
+
+module _ (datagram : List ℕ) where
+  none-step : (next kind which id n : ℕ) → kind < 256 → eqb kind 1 ≡ false → walkRead datagram (stepBytes next kind which id n) ≡ []
+  unfolding walkRead stepRead
+  none-step next kind which id n h e =
+      let l : List ℕ = stepBytes next kind which id n in
+      let zero-at : be 2 l 0 ≡ 0 = number-at 2 0 [] (found next kind which id n) 0 (omega arith) refl refl in
+      let k : be 1 (drop 2 l) 4 ≡ kind = kind-at next kind which id n [] (drop-at (spell 2 0) (found next kind which id n) 2 (length-spell 2 0) ∙ sym (append-nil _)) h in
+      rw (zero-at, k, e) refl
+
+  step-back : (next : ℕ) (o : Step) → StepFits o → walkRead datagram (walkBytes next o) ≡ toldWalk datagram o
+  unfolding walkRead stepRead
+  step-back next Met.End h = none-step next 0 0 0 0 (omega arith) refl
+  step-back next (Met.Drop reason id n) h = none-step next 2 reason id n (omega arith) refl
+  step-back next (Met.Pdu route id at n) h =
+      let l : List ℕ = walkBytes next (Met.Pdu route id at n) in
+      let zero-at : be 2 l 0 ≡ 0 = number-at 2 0 [] (found next 1 route id n ++ spell 4 at) 0 (omega arith) refl (simp append-assoc) in
+      let is : drop 2 l ≡ found next 1 route id n ++ spell 4 at =
+      ap (drop 2) (append-assoc (spell 2 0) (found next 1 route id n) (spell 4 at)) ∙ drop-at (spell 2 0) (found next 1 route id n ++ spell 4 at) 2 (length-spell 2 0) in
+      let k : be 1 (drop 2 l) 4 ≡ 1 = kind-at next 1 route id n (spell 4 at) is (omega arith) in
+      let w : be 1 (drop 2 l) 5 ≡ route = which-at next 1 route id n (spell 4 at) is (h .0) in
+      let m : be 4 (drop 2 l) 10 ≡ n = length-at next 1 route id n (spell 4 at) is (h .1 .0) in
+      let p : be 4 (drop 2 l) 14 ≡ at = number-at 4 at (found next 1 route id n) [] 14 (h .1 .1) (length-found next 1 route id n) (is ∙ ap (λ (x : List ℕ). found next 1 route id n ++ x) (sym (append-nil (spell 4 at)))) in
+      rw (zero-at, k, w, m, p) refl
+
+  pub walk-back : (a : Answer) (next : ℕ) (o : Step) → StepFits o → (isDone a ≡ false → o ≡ Met.End) → walkRead datagram (orRefused a (walkBytes next o)) ≡ toldWalk datagram o
+  unfolding walkRead
+  walk-back Done next o h none = step-back next o h
+  walk-back (Refused r) next o h none = not-read (refusalNumber r) _ (some-number r .0) (some-number r .1) ∙ sym (ap (toldWalk datagram) (none refl))
+  walk-back NotReceiving next o h none = not-read 4 _ (omega arith) refl ∙ sym (ap (toldWalk datagram) (none refl))
