@@ -4,5 +4,6 @@ pub mod Answers
 pub mod Taking
 pub mod Walking
 pub mod Routed
+pub mod Decided
 pub mod Keeps
 pub mod Apart

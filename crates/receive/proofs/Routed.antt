@@ -21,7 +21,7 @@ rows-all : (routes : List ℕ) → length routes / 16 ≤ 64 → rowsIn routes �
 unfolding rowsIn
 rows-all routes h = rw (le-leb (length routes / 16) 64 h)
 
-rows-within : (routes : List ℕ) → rowsIn routes ≤ length routes / 16
+pub rows-within : (routes : List ℕ) → rowsIn routes ≤ length routes / 16
 unfolding rowsIn
 rows-within routes = go (leb (length routes / 16) 64) refl
   where

@@ -1,10 +1,12 @@
--- The routes of a connection, as its switches stand. Assumes nothing: this is a definition.
+-- The routes of a connection, as its switches stand, and when they give which decision. Assumes nothing: these are definitions.
 use Prim.Native.Nat.{ℕ}
 use mathlib.Core.List.{List}
+use Rattle.feed.specs.declared.Decision.{Decision}
 use Rattle.feed.specs.Feed.{Routes}
 use Rattle.layout.specs.Layout.{bodyOf}
 use Rattle.layout.specs.declared.Kind.the-variants.{Route}
 use Rattle.route.specs.Route.{lookupOf}
+use Rattle.route.specs.Decided.{Decided}
 use Rattle.state.specs.declared.State.{State}
 use Rattle.state.specs.State.{recordAt}
 
@@ -12,3 +14,7 @@ use Rattle.state.specs.State.{recordAt}
 -- connection's switches": what the table's routes say on connection k of a state
 abbrev pub routesIn : List ℕ → State → ℕ → Routes
 routesIn image s k = lookupOf (bodyOf image Route) k (recordAt s k .switches)
+
+-- the ground of a decision on a header with this id and length, on connection k of a state
+abbrev pub DecidedIn : List ℕ → State → ℕ → ℕ → ℕ → Decision → Type 0
+DecidedIn image s k id n d = Decided (bodyOf image Route) k (recordAt s k .switches) id n d

@@ -1,16 +1,14 @@
--- The laws of the lookup: the search for a row, the reason, and what an accepted header's row says.
--- Assumes nothing.
+-- The laws of the lookup: the search for a row, the reason, and the decision at it. Assumes nothing.
 use Prim.Native.Nat.{ℕ, zero, suc, _+_, _-_, _*_, _/_, _<_, _≤_}
 use mathlib.Core.Path.{_≡_, refl, sym, ap, ap₂, subst, _∙_}
 use mathlib.Core.Bool.{Bool, true, false, cond, not, _&&_}
 use mathlib.Core.List.{List}
 use native.Mathlib.Omega.{arith}
-use borrow.Author.Tests.{ltb-true, ltb-false, eqb-true, not-false, lt-ltb, le-ltb}
+use borrow.Author.Tests.{lt-ltb, le-ltb}
 use lib.Dec.{ltb, eqb}
 use lib.ListN.{length, take, drop}
 use Rattle.feed.specs.declared.Decision.the-variants.{Accept, Refuse}
-use Rattle.lists.specs.Search.{badFrom, firstBad}
-use Rattle.lists.proofs.Both.{and-left, and-right}
+use Rattle.lists.specs.Search.{firstBad}
 use Rattle.lists.proofs.Search.{Searched, search-on, search-found, search-ended}
 use Rattle.rows.specs.declared.RouteRow.{RouteRow}
 use Rattle.layout.proofs.Parts.{row-range}
@@ -94,52 +92,6 @@ pub refuses : (routes : List ℕ) (connection switches id length row k : ℕ) �
 unfolding lookupOf
 refuses routes connection switches id length row k er ek h =
     refusal k row h ∙ ap (λ (j : ℕ). decisionOf j row) ek ∙ ap (λ (r : ℕ). decisionOf (reasonOf routes r switches length) r) er
-
--- WHAT AN ACCEPTED HEADER'S ROW SAYS: it is there, it is the connection's, it has the header's id, it is on and allows the length
-pub record Allows (routes : List ℕ) (connection switches id length route : ℕ) : Type 0 where
-  pub there : route < rowsIn routes
-  pub owned : routeIn routes route .connection ≡ connection
-  pub named : routeIn routes route .id ≡ id
-  pub on : isOn (routeIn routes route .groups) switches ≡ true
-  pub fits : length ≤ routeIn routes route .longest
-
-bad-from : (good : ℕ → Bool) (n k : ℕ) → badFrom good n k < k + n → good (badFrom good n k) ≡ false
-unfolding badFrom
-bad-from good zero k h = absurd (omega arith)
-bad-from good (suc n) k h = go (good k) refl h (bad-from good n (suc k))
-  where
-    go : (b : Bool) → good k ≡ b → cond b (badFrom good n (suc k)) k < k + suc n
-        → (badFrom good n (suc k) < suc k + n → good (badFrom good n (suc k)) ≡ false) → good (cond b (badFrom good n (suc k)) k) ≡ false
-    go true p l more = more (omega arith)
-    go false p l more = p
-
--- the row that the search finds, where it finds one, counts
-row-counts : (routes : List ℕ) (connection id : ℕ) → rowFor routes connection id < rowsIn routes → counts (routeIn routes (rowFor routes connection id)) connection id ≡ true
-unfolding rowFor
-row-counts routes connection id h = not-false _ (bad-from (passed routes connection id) (rowsIn routes) 0 (omega arith))
-
-row-named : (row : RouteRow) (connection id : ℕ) → counts row connection id ≡ true → (row .connection ≡ connection) × (row .id ≡ id)
-unfolding counts
-row-named row connection id e = (eqb-true _ _ (and-left _ _ e), eqb-true _ _ (and-right (eqb (row .connection) connection) _ e))
-
-pub accepted : (routes : List ℕ) (connection switches id length route : ℕ) → lookupOf routes connection switches id length ≡ Accept route
-    → Allows routes connection switches id length route
-unfolding lookupOf decisionOf reasonOf reasonIn
-accepted routes connection switches id length route e =
-    go (rowFor routes connection id) (row-counts routes connection id) (ltb (rowFor routes connection id) (rowsIn routes)) refl
-    (isOn (routeIn routes (rowFor routes connection id) .groups) switches) refl (ltb (routeIn routes (rowFor routes connection id) .longest) length) refl e
-  where
-    go : (r : ℕ) → (r < rowsIn routes → counts (routeIn routes r) connection id ≡ true) → (a : Bool) → ltb r (rowsIn routes) ≡ a
-        → (b : Bool) → isOn (routeIn routes r .groups) switches ≡ b → (c : Bool) → ltb (routeIn routes r .longest) length ≡ c
-        → decisionOf (cond a (cond (not b) 21 (cond c 22 0)) 20) r ≡ Accept route → Allows routes connection switches id length route
-    go r k false ea b eb c ec q = let z : _≡_ {A = ℕ} 0 1 = cc in absurd (omega arith)
-    go r k true ea false eb c ec q = let z : _≡_ {A = ℕ} 0 1 = cc in absurd (omega arith)
-    go r k true ea true eb true ec q = let z : _≡_ {A = ℕ} 0 1 = cc in absurd (omega arith)
-    go r k true ea true eb false ec q =
-        let p : r ≡ route = cc in
-        let l : r < rowsIn routes = ltb-true _ _ ea in
-        let n : (routeIn routes r .connection ≡ connection) × (routeIn routes r .id ≡ id) = row-named _ _ _ (k l) in
-        subst (Allows routes connection switches id length) p (record { there = l; owned = n .0; named = n .1; on = eb; fits = ltb-false _ _ ec })
 
 -- a drop reason is 20, 21 or 22
 pub refused : (routes : List ℕ) (connection switches id length k : ℕ) → lookupOf routes connection switches id length ≡ Refuse k → Known k

@@ -1,3 +1,4 @@
 -- The laws of the lookup. Assumes nothing.
 pub mod Laws
+pub mod Decided
 pub mod On

@@ -1,2 +1,3 @@
 -- What the contracts of this crate cite. Assumes nothing.
 pub mod Route
+pub mod Decided

@@ -28,10 +28,11 @@ pub record Counted (routes : List ℕ) (n : ℕ) : Type 0 where
 unfoldable pub counts : RouteRow → ℕ → ℕ → Bool
 counts row connection id = eqb (row .connection) connection && eqb (row .id) id
 
--- the first row that counts; the number of rows where none does
+-- row i does not count
 abbrev pub passed : List ℕ → ℕ → ℕ → ℕ → Bool
 passed routes connection id i = not (counts (routeIn routes i) connection id)
 
+-- the first row that counts; the number of rows where none does
 unfoldable pub rowFor : List ℕ → ℕ → ℕ → ℕ
 rowFor routes connection id = firstBad (passed routes connection id) (rowsIn routes)
 

@@ -19,7 +19,8 @@ use Rattle.part.specs.declared.Part.{Part}
 use Rattle.part.specs.declared.Part.the-variants.{Header, Payload, Skip}
 use Rattle.part.specs.Part.{shaped}
 use Rattle.route.specs.Route.{lookupOf, rowsIn}
-use Rattle.route.proofs.Laws.{Allows, accepted}
+use Rattle.route.specs.Decided.{Allows}
+use Rattle.route.proofs.Decided.{accepted}
 use Rattle.rows.specs.Rows.{routeIn}
 use Rattle.wire.specs.Lay.{lay}
 use Rattle.wire.proofs.Lay.{lay-fits, lay-own, lay-length}
@@ -207,7 +208,7 @@ pub record Owns (routes : List ℕ) (connection route n : ℕ) : Type 0 where
 owns : (routes : List ℕ) (connection switches i n r : ℕ) → lookupOf routes connection switches i n ≡ Accept r → Owns routes connection r n
 owns routes connection switches i n r e =
     let a : Allows routes connection switches i n r = accepted routes connection switches i n r e in
-    record { there = a .there; owned = a .owned; allows = a .fits }
+    record { there = a .bears .there; owned = a .bears .owned; allows = a .fits }
 
 -- THE WHOLE TAKE, from a part and a stretch that fit, of a segment of bytes
 module _ (routes : List ℕ) (connection switches : ℕ) (part : Part) (rx segment : List ℕ) (fit : Fit routes part rx) (bytes : (i : ℕ) → getD segment i 0 < 256) where

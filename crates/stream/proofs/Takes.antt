@@ -16,7 +16,7 @@ use Rattle.part.specs.declared.Part.the-variants.{Header, Payload, Skip}
 use Rattle.part.specs.Part.{shaped}
 use Rattle.lists.proofs.Both.{and-left, and-right}
 use Rattle.route.specs.Route.{lookupOf}
-use Rattle.route.proofs.Laws.{accepted}
+use Rattle.route.proofs.Decided.{accepted}
 use Rattle.wire.specs.Be.{Number}
 use Rattle.wire.specs.Lay.{lay}
 use Rattle.wire.proofs.Join.{join}
@@ -186,7 +186,7 @@ module _ (routes : List ℕ) (connection switches i n r : ℕ) (is : lookupOf ro
   accepted-short most = omega (arith, accepted routes connection switches i n r is .fits, most r)
 
   pub accepted-id : idOf routes r ≡ i
-  accepted-id = accepted routes connection switches i n r is .named
+  accepted-id = accepted routes connection switches i n r is .bears .named
 
 -- the answer and receive memory of the whole take, at a part of a known kind
 pub at-part : (routes : List ℕ) (connection switches : ℕ) (rx segment rx′ : List ℕ) (t : Taken) {part p : Part} → part ≡ p

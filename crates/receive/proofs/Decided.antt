@@ -1,0 +1,31 @@
+-- THE DECISION ON A HEADER, of an accepted table: it has the ground that document 01 gives for it, and no other decision has one; one row
+-- at most bears an id on a connection. Assumes nothing.
+use Prim.Native.Nat.{ℕ}
+use mathlib.Core.Path.{_≡_}
+use mathlib.Core.List.{List}
+use native.Mathlib.Omega.{arith}
+use Rattle.feed.specs.declared.Decision.{Decision}
+use Rattle.layout.specs.Layout.{bodyOf}
+use Rattle.layout.specs.declared.Kind.the-variants.{Route}
+use Rattle.layout.proofs.Parts.{body-rows}
+use Rattle.table.specs.Accepts.{Accepts}
+use Rattle.state.specs.declared.State.{State}
+use Rattle.state.specs.State.{recordAt}
+use Rattle.route.specs.Decided.{Bears, Alone}
+use Rattle.route.proofs.Decided.{lookup-decided, one-bears, decided-lookup}
+use Rattle.receive.specs.Routes.{routesIn, DecidedIn}
+use Rattle.receive.proofs.Routed.{rows-within}
+
+module _ (image : List ℕ) (a : Accepts image) where
+  alone : Alone (bodyOf image Route)
+  alone i j l h = a .routesApart i j l (omega (arith, h, rows-within (bodyOf image Route), body-rows image (a .laid) Route))
+
+  pub one-route : (k id i j : ℕ) → Bears (bodyOf image Route) k id i → Bears (bodyOf image Route) k id j → i ≡ j
+  one-route k id = one-bears (bodyOf image Route) k id alone
+
+  module _ (s : State) (k id n : ℕ) where
+    pub header-decided : DecidedIn image s k id n (routesIn image s k id n)
+    header-decided = lookup-decided (bodyOf image Route) k (recordAt s k .switches) id n
+
+    pub decided-header : (d : Decision) → DecidedIn image s k id n d → routesIn image s k id n ≡ d
+    decided-header d h = decided-lookup (bodyOf image Route) k id alone (recordAt s k .switches) n d h
