@@ -10,6 +10,7 @@ use lib.ListN.{length, take, drop}
 use Rattle.wire.specs.Be.{be}
 use Rattle.layout.specs.Layout.{bodyOf}
 use Rattle.layout.specs.declared.Kind.the-variants.{Route}
+use Rattle.rows.specs.Rows.{routeOf}
 use Rattle.feed.specs.Feed.{Routes, Out, nothing, pdu, dropped, ready, segment, segments}
 use Rattle.route.specs.Route.{lookupOf}
 use Rattle.walk.specs.Walk.{walkAt, told}
@@ -28,11 +29,12 @@ pub record Edge : Type 0 where
 abbrev pub edge : List ℕ → List ℕ → Edge
 edge a b = record { is = a; says = b }
 
--- outcomes as numbers: a PDU by 0, its route, the number that its payload stands for, and its length; a drop by reason, id, length
+-- outcomes as numbers: a PDU by 0, its route, the header id of that route's row, the number that its payload stands for, and its length; a
+-- drop by reason, id, length
 abbrev pub numbers : List Out → List ℕ
 numbers [] = []
 numbers (nothing ∷ os) = numbers os
-numbers (pdu r p ∷ os) = 0 ∷ r ∷ be (length p) p 0 ∷ length p ∷ numbers os
+numbers (pdu r p ∷ os) = 0 ∷ r ∷ routeOf image r .id ∷ be (length p) p 0 ∷ length p ∷ numbers os
 numbers (dropped k i n ∷ os) = k ∷ i ∷ n ∷ numbers os
 
 -- an arrival by its number, and the connection that it names
@@ -57,20 +59,20 @@ abbrev pub edges : List Edge
 edges =
     -- the image is accepted
     edge (answerNumber (checkTable image) ∷ []) (0 ∷ [])
-    -- "is PDU 0x101, payload 180": route 0, which is 0x101's
-    ∷ edge (numbers (segment (routes 2 1) ready bar .list)) (0 ∷ 0 ∷ 180 ∷ 2 ∷ [])
+    -- "is PDU 0x101, payload 180"
+    ∷ edge (numbers (segment (routes 2 1) ready bar .list)) (0 ∷ 0 ∷ 0x101 ∷ 180 ∷ 2 ∷ [])
     -- "The same cut after byte 3, and after byte 8: the same PDU"
-    ∷ edge (numbers (segments (routes 2 1) ready (take 3 bar ∷ drop 3 bar ∷ []) .list)) (0 ∷ 0 ∷ 180 ∷ 2 ∷ [])
-    ∷ edge (numbers (segments (routes 2 1) ready (take 8 bar ∷ drop 8 bar ∷ []) .list)) (0 ∷ 0 ∷ 180 ∷ 2 ∷ [])
+    ∷ edge (numbers (segments (routes 2 1) ready (take 3 bar ∷ drop 3 bar ∷ []) .list)) (0 ∷ 0 ∷ 0x101 ∷ 180 ∷ 2 ∷ [])
+    ∷ edge (numbers (segments (routes 2 1) ready (take 8 bar ∷ drop 8 bar ∷ []) .list)) (0 ∷ 0 ∷ 0x101 ∷ 180 ∷ 2 ∷ [])
     -- "`46 50` as payload is 18,000"
-    ∷ edge (numbers (segment (routes 2 1) ready (framed 2 2 (0x46 ∷ 0x50 ∷ [])) .list)) (0 ∷ 1 ∷ 18000 ∷ 2 ∷ [])
+    ∷ edge (numbers (segment (routes 2 1) ready (framed 2 2 (0x46 ∷ 0x50 ∷ [])) .list)) (0 ∷ 1 ∷ 0x102 ∷ 18000 ∷ 2 ∷ [])
     -- "Length 0"
-    ∷ edge (numbers (segment (routes 2 1) ready (framed 1 0 []) .list)) (0 ∷ 0 ∷ 0 ∷ 0 ∷ [])
+    ∷ edge (numbers (segment (routes 2 1) ready (framed 1 0 []) .list)) (0 ∷ 0 ∷ 0x101 ∷ 0 ∷ 0 ∷ [])
     -- "Longest 2 against length 2 and 3"
-    ∷ edge (numbers (segment (routes 2 1) ready (framed 1 2 (7 ∷ 8 ∷ [])) .list)) (0 ∷ 0 ∷ 1800 ∷ 2 ∷ [])
+    ∷ edge (numbers (segment (routes 2 1) ready (framed 1 2 (7 ∷ 8 ∷ [])) .list)) (0 ∷ 0 ∷ 0x101 ∷ 1800 ∷ 2 ∷ [])
     ∷ edge (numbers (segment (routes 2 1) ready (framed 1 3 (7 ∷ 8 ∷ 9 ∷ [])) .list)) (22 ∷ 0x101 ∷ 3 ∷ [])
-    -- "Groups 0 with all switches off: on"; and a route of group 0 then
-    ∷ edge (numbers (segment (routes 2 0) ready (framed 2 1 (5 ∷ [])) .list)) (0 ∷ 1 ∷ 5 ∷ 1 ∷ [])
+    -- "Groups 0 with all switches off: on"; and a route with groups 1, whose switch 0 is off: 21
+    ∷ edge (numbers (segment (routes 2 0) ready (framed 2 1 (5 ∷ [])) .list)) (0 ∷ 1 ∷ 0x102 ∷ 5 ∷ 1 ∷ [])
     ∷ edge (numbers (segment (routes 2 0) ready bar .list)) (21 ∷ 0x101 ∷ 2 ∷ [])
     -- "Remote 0:0 against an exact row: the exact row"
     ∷ edge (arrived (arriveOf image waitingFor false 0 exact .answer)) (0 ∷ 1 ∷ [])
@@ -81,7 +83,7 @@ edges =
     ∷ edge (transmissionNumber (checkOf image (used 1463) 9 2) ∷ []) (8 ∷ [])
     -- "Datagram of 7 bytes: 23", and the whole one
     ∷ edge (numbers (told (take 7 bar) (walkAt (routes 0 0) (take 7 bar) 0 .found) [])) (23 ∷ 0 ∷ 0 ∷ [])
-    ∷ edge (numbers (told bar (walkAt (routes 0 0) bar 0 .found) [])) (0 ∷ 2 ∷ 180 ∷ 2 ∷ [])
+    ∷ edge (numbers (told bar (walkAt (routes 0 0) bar 0 .found) [])) (0 ∷ 2 ∷ 0x101 ∷ 180 ∷ 2 ∷ [])
     ∷ []
 
 -- two lists of numbers are the same; all rows are

@@ -27,13 +27,14 @@ image =
     -- PDU 9 to connection 2, id 0x202, to 1,464 bytes, groups 0
     ∷ 2 ∷ 0 ∷ 5 ∷ 0xB8 ∷ 0 ∷ 0 ∷ 2 ∷ 2 ∷ 0 ∷ 9 ∷ 0 ∷ 0 ∷ 0 ∷ 0 ∷ 0 ∷ 0 ∷ []
 
--- fresh; both UDP connections in reconnect; the TCP connection online with so many bytes waiting
 abbrev pub fresh : State
 fresh = freshState image
 
+-- both UDP connections in reconnect: they wait for a datagram
 abbrev pub waitingFor : State
 waitingFor = withRecord 0 (become Reconnect (recordAt fresh 0)) (withRecord 1 (become Reconnect (recordAt fresh 1)) fresh)
 
+-- the TCP connection online with so many bytes waiting, and due
 abbrev pub used : ℕ → State
 used n = withRecord 2 (withSend n 0 true (become Online (recordAt fresh 2))) fresh
 

@@ -1,5 +1,5 @@
--- WRONG PROGRAMS (document 01, "What each answer owes") that concern the state and the send bytes: what each of them would do, of any
--- function that answers as the entry points do. None of them meets its contract's definition.
+-- WRONG PROGRAMS (document 01, "What each answer owes") that concern the state and the send bytes: each as a property of a function with an
+-- entry point's arguments and result; no function has it and meets the contract's definition.
 -- Assumes nothing: these are definitions.
 use Prim.Native.Nat.{ℕ}
 use mathlib.Core.Path.{_≡_}
