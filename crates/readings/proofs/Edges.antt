@@ -35,6 +35,9 @@ edges =
       eleven = refl;
       end = refl;
       beyond-unknown = refl;
+      beyond-off = refl;
+      beyond-too-long = refl;
       unknown-walked = refl;
+      off-walked = refl;
       too-long-walked = refl;
     }

@@ -83,7 +83,10 @@ pub record ReadingEdges : Type 0 where
   pub ten : walkAt (table 1) bar 0 ≡ walked (a-pdu 0 8 2 0x101) 10
   pub eleven : listOf (table 1) (bar ++ 0 ∷ []) ≡ pdu 0 (0 ∷ 180 ∷ []) ∷ dropped 23 0 0 ∷ []
   pub end : walkAt (table 1) bar 10 ≡ walked the-end 10
-  -- 23 is tested before 20 and 22
+  -- 23 is tested before 20, 21, 22: each in a datagram that is too short, and then in a whole one
   pub beyond-unknown : walkAt (table 1) longest 0 ≡ walked (a-drop 23 0x103 4294967295) 8
+  pub beyond-off : walkAt (table 2) (take 9 bar) 0 ≡ walked (a-drop 23 0x101 2) 9
+  pub beyond-too-long : walkAt (table 1) (take 10 three) 0 ≡ walked (a-drop 23 0x101 3) 10
   pub unknown-walked : walkAt (table 1) (unknown ++ bar) 0 ≡ walked (a-drop 20 0x103 2) 10
+  pub off-walked : walkAt (table 2) bar 0 ≡ walked (a-drop 21 0x101 2) 10
   pub too-long-walked : walkAt (table 1) three 0 ≡ walked (a-drop 22 0x101 3) 11
