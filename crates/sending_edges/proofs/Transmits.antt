@@ -1,7 +1,7 @@
 -- The edges of a transmit. Assumes nothing.
 use Prim.Native.Nat.{ℕ}
 use mathlib.Core.Path.{_≡_, refl, sym, ap, _∙_}
-use mathlib.Core.Bool.{Bool, true, false, cond}
+use mathlib.Core.Bool.{true, false}
 use mathlib.Core.List.{List, [], _∷_}
 use native.Mathlib.Omega.{arith}
 use lib.ListN.{length, getD}
@@ -90,26 +90,13 @@ pub nothing-stored : (image : List ℕ) (s : State) (pdu : ℕ) (payload tx : Li
 unfolding transmitOf
 nothing-stored image s pdu payload tx e = rw e
 
--- the second valve is full: the first gets nothing
-pub second-full : checkOf valves (both 0 1463) 9 2 ≡ RefusedAt 8 1
-unfolding checkOf lookAt lookOf refusalOf isOn verdictOf every badFrom rowsOf bodyBytes startOf partOf bodyOf rowIn connectionRow destinationRow be
-second-full = refl
-
-pub first-gets-nothing : (tx : List ℕ) → transmitOf valves (both 0 1463) 9 setpoint tx ≡ sending (both 0 1463) tx
-first-gets-nothing tx = nothing-stored valves (both 0 1463) 9 setpoint tx (ap isStored second-full)
-
--- both have room: both get it
-pub both-stored : checkOf valves (both 0 1462) 9 2 ≡ Stored
-unfolding checkOf lookAt lookOf refusalOf isOn verdictOf every badFrom rowsOf bodyBytes startOf partOf bodyOf rowIn connectionRow destinationRow be
-both-stored = refl
-
 pub other-pdu : checkOf valves (both 0 0) 8 2 ≡ NoDestination
-unfolding checkOf lookAt lookOf refusalOf isOn verdictOf every badFrom rowsOf bodyBytes startOf partOf bodyOf rowIn connectionRow destinationRow be
+unfolding valves checkOf lookAt lookOf refusalOf isOn verdictOf every badFrom rowsOf bodyBytes startOf partOf bodyOf rowIn connectionRow destinationRow be
 other-pdu = refl
 
 -- what is stored: the header with its length, then the payload
 pub stored-bytes : transmitOf valves (both 0 0) 9 setpoint (0 ∷ 0 ∷ 0 ∷ 0 ∷ 0 ∷ 0 ∷ 0 ∷ 0 ∷ 0 ∷ 0 ∷ []) .memory ≡ 0 ∷ 0 ∷ 1 ∷ 1 ∷ 0 ∷ 0 ∷ 0 ∷ 2 ∷ 0 ∷ 180 ∷ []
-unfolding transmitOf storeAll storeOf appendOf foldFrom wantedAt checkOf lookAt lookOf refusalOf timerOf isOn verdictOf every badFrom rowsOf bodyBytes startOf partOf bodyOf rowIn connectionRow destinationRow be lay frame spell
+unfolding valves transmitOf storeAll storeOf appendOf foldFrom wantedAt checkOf lookAt lookOf refusalOf timerOf isOn verdictOf every badFrom rowsOf bodyBytes startOf partOf bodyOf rowIn connectionRow destinationRow be lay frame spell
 stored-bytes = refl
 
 -- so no transmit that stores nothing meets the definition

@@ -1,2 +1,3 @@
 -- The examples of the crate. Assumes nothing.
 pub mod Valves
+pub mod Setpoint

@@ -1,17 +1,19 @@
--- Two valves on one UDP group, and a setpoint for both: a table image, records, and a payload. Assumes nothing.
+-- Two valves on one UDP group, and a setpoint for both: a table image, records, and a payload. Assumes nothing: these are definitions.
 use Prim.Native.Nat.{ℕ}
 use mathlib.Core.Bool.{Bool, true, false}
 use mathlib.Core.List.{List, [], _∷_, _++_}
+use lib.ListN.{replicate}
 use Rattle.part.specs.Part.{ready}
 use Rattle.connection.specs.declared.Mode.{Mode}
-use Rattle.connection.specs.declared.Mode.the-variants.{Reconnect, Online}
+use Rattle.connection.specs.declared.Mode.the-variants.{Online}
 use Rattle.connection.specs.declared.Remote.{Remote}
 use Rattle.connection.specs.declared.Config.{Config}
 use Rattle.connection.specs.declared.Connection.{Connection}
+use Rattle.connection.specs.Connection.{zeroRecord}
 use Rattle.rows.specs.declared.DestinationRow.{DestinationRow}
 use Rattle.state.specs.declared.State.{State}
 
--- one group (UDP), two connections, no route, two destinations of PDU 9 with header id 0x101 and at most 2 bytes
+-- one group (UDP), two connections, no route, two destinations of PDU 9 with header ids 0x101 and 0x102 and at most 2 bytes
 abbrev pub contents : List ℕ
 contents =
     0 ∷ 1 ∷ 0 ∷ 4 ∷ 0 ∷ 1 ∷ 0 ∷ 1 ∷ 0 ∷ 0 ∷ 0 ∷ 36 ∷ 0 ∷ 2 ∷ 0 ∷ 2 ∷ 0 ∷ 0 ∷ 0 ∷ 38 ∷ 0 ∷ 3 ∷ 0 ∷ 0 ∷ 0 ∷ 0 ∷ 0 ∷ 70 ∷ 0 ∷ 4 ∷ 0 ∷ 2 ∷ 0 ∷ 0 ∷ 0 ∷ 70 ∷ []
@@ -22,9 +24,9 @@ connections =
 
 abbrev pub destinationRows : List ℕ
 destinationRows =
-    0 ∷ 0 ∷ 0 ∷ 2 ∷ 0 ∷ 0 ∷ 1 ∷ 1 ∷ 0 ∷ 9 ∷ 0 ∷ 0 ∷ 0 ∷ 0 ∷ 0 ∷ 0 ∷ 1 ∷ 0 ∷ 0 ∷ 2 ∷ 0 ∷ 0 ∷ 1 ∷ 1 ∷ 0 ∷ 9 ∷ 0 ∷ 0 ∷ 0 ∷ 0 ∷ 0 ∷ 0 ∷ []
+    0 ∷ 0 ∷ 0 ∷ 2 ∷ 0 ∷ 0 ∷ 1 ∷ 1 ∷ 0 ∷ 9 ∷ 0 ∷ 0 ∷ 0 ∷ 0 ∷ 0 ∷ 0 ∷ 1 ∷ 0 ∷ 0 ∷ 2 ∷ 0 ∷ 0 ∷ 1 ∷ 2 ∷ 0 ∷ 9 ∷ 0 ∷ 0 ∷ 0 ∷ 0 ∷ 0 ∷ 0 ∷ []
 
-abbrev pub valves : List ℕ
+unfoldable pub valves : List ℕ
 valves = contents ++ (1 ∷ 0 ∷ (connections ++ destinationRows))
 
 -- "payload 180"
@@ -43,9 +45,9 @@ recordOf m k r used =
 abbrev pub holding : ℕ → Connection
 holding used = recordOf Online false (remote 1 1) used
 
--- both valves online, with so many bytes used
+-- both valves online, with so many bytes used, and nothing else
 abbrev pub both : ℕ → ℕ → State
-both a b = record { connections = holding a ∷ holding b ∷ []; «udp_drops» = 0; «tcp_drops» = 0 }
+both a b = record { connections = holding a ∷ holding b ∷ replicate 14 zeroRecord; «udp_drops» = 0; «tcp_drops» = 0 }
 
 -- a destination of so long a payload, with its groups
 abbrev pub destination : ℕ → ℕ → DestinationRow
