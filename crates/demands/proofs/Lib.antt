@@ -1,8 +1,9 @@
--- The demands: 1 (Refusals, Refused, Numbers), 2 (Waiting from Empties, Trip from Walking), 3 (Three from Runs, Ends); uniqueness (Unique). Assumes nothing.
+-- The demands: 1 (Refusals, Refused, Numbers, Single), 2 (Waiting from Empties, Trip from Walking), 3 (Three from Runs, Ends); uniqueness (Unique). Assumes nothing.
 pub mod Runs
 pub mod Refused
 pub mod Refusals
 pub mod Numbers
+pub mod Single
 pub mod Empties
 pub mod Waiting
 pub mod Walking

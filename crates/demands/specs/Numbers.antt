@@ -42,8 +42,8 @@ unfoldable pub numbersIn : List ℕ → Machine → List Event → List ℕ
 numbersIn image m [] = []
 numbersIn image m (e ∷ es) = numberOf image m e ∷ numbersIn image (afterEvent image e m) es
 
--- THE NUMBERS THAT AN EVENT CAN BE ANSWERED WITH, in the order of their checks: "Checks run 11, 12, 2, 3, then the event's own order"; 0
--- where none of them refuses
+-- THE NUMBERS THAT AN EVENT CAN BE ANSWERED WITH, as a set; 0 where none of them refuses. When each is given, and in which order the checks
+-- run (of a transmit 4, 7 and 8 of one destination before the next), is exactly/specs/When `checksFor`
 unfoldable pub numbersFor : Event → List ℕ
 numbersFor (on k (change Open)) = 11 ∷ 12 ∷ 2 ∷ 3 ∷ 0 ∷ []
 numbersFor (on k (change Close)) = 11 ∷ 12 ∷ 2 ∷ 3 ∷ 0 ∷ []

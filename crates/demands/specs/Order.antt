@@ -1,0 +1,48 @@
+-- CALLS IN ANY ORDER: whole events, and single takes of a segment, so that other calls may stand between two takes of one segment.
+-- Assumes nothing: these are definitions.
+use Prim.Native.Nat.{ℕ}
+use mathlib.Core.Bool.{cond}
+use mathlib.Core.List.{List, [], _∷_, _++_}
+use lib.Dec.{eqb}
+use lib.ListN.{take}
+use Rattle.feed.specs.Feed.{Pdu}
+use Rattle.world.specs.Events.{segment, Event, on}
+use Rattle.tie.specs.Machine.{Machine, taken, afterOne, toldBy}
+use Rattle.tie.specs.Run.{afterEvent, given}
+
+-- an event, or one take of a segment on connection k
+pub data Call : Type 0 where
+  event : Event → Call
+  once : ℕ → List ℕ → Call
+
+module _ (image : List ℕ) where
+  -- the bytes of the segment that one take reads
+  abbrev pub bytesTaken : ℕ → Machine → List ℕ → List ℕ
+  bytesTaken k m bytes = take (taken image k m bytes .read) bytes
+
+  -- what a call makes of the machine, the PDUs that the caller is given for connection i, and the event that it is: one take is the
+  -- segment event of the bytes that it reads
+  unfoldable pub afterCall : Call → Machine → Machine
+  afterCall (event e) m = afterEvent image e m
+  afterCall (once k bytes) m = afterOne image k m bytes
+
+  unfoldable pub givenBy : ℕ → Call → Machine → List Pdu
+  givenBy i (event e) m = given image i e m
+  givenBy i (once k bytes) m = cond (eqb k i) (toldBy image k m bytes) []
+
+  unfoldable pub asEvent : Call → Machine → Event
+  asEvent (event e) m = e
+  asEvent (once k bytes) m = on k (segment (bytesTaken k m bytes))
+
+  -- of calls one after the other, each lent the memory that the last one left
+  unfoldable pub afterCalls : Machine → List Call → Machine
+  afterCalls m [] = m
+  afterCalls m (c ∷ cs) = afterCalls (afterCall c m) cs
+
+  unfoldable pub givenCalls : ℕ → Machine → List Call → List Pdu
+  givenCalls i m [] = []
+  givenCalls i m (c ∷ cs) = givenBy i c m ++ givenCalls i (afterCall c m) cs
+
+  unfoldable pub asEvents : Machine → List Call → List Event
+  asEvents m [] = []
+  asEvents m (c ∷ cs) = asEvent c m ∷ asEvents (afterCall c m) cs

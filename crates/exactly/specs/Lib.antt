@@ -1,0 +1,2 @@
+-- The checks of an event in their order. Assumes nothing.
+pub mod When

@@ -1,0 +1,145 @@
+-- WHEN EACH NUMBER IS GIVEN (document 01, "Answer numbers"): the checks of each event in their order, each test in the document's words.
+-- Assumes nothing: these are definitions.
+use Prim.Native.Nat.{ℕ, zero, suc, _+_}
+use mathlib.Core.Bool.{Bool, true, false, cond, not, _&&_, _||_}
+use mathlib.Core.List.{List, [], _∷_}
+use lib.Dec.{eqb, leb, ltb}
+use lib.ListN.{length}
+use Rattle.lists.specs.Search.{every}
+use Rattle.layout.specs.Layout.{rowsOf}
+use Rattle.layout.specs.declared.Kind.the-variants.{Connection as Connections, Group}
+use Rattle.rows.specs.declared.DestinationRow.{DestinationRow}
+use Rattle.rows.specs.Rows.{groupOf, connectionOf, destinationOf}
+use Rattle.feed.specs.On.{isOn}
+use Rattle.connection.specs.declared.Config.{Config}
+use Rattle.connection.specs.declared.Connection.{Connection}
+use Rattle.connection.specs.declared.Remote.{Remote}
+use Rattle.connection.specs.declared.Event.the-variants.{Open, Close, Connected, Lost, SetRemote, Switch}
+use Rattle.connection.specs.Connection.{isOnline, equalFields, wildFields, wildcard}
+use Rattle.connection.specs.Event.{openAllowed, closeAllowed, connectedAllowed, lostAllowed, remoteAllowed}
+use Rattle.state.specs.State.{recordAt}
+use Rattle.state.specs.Fresh.{configOf}
+use Rattle.gate.specs.Sound.{soundState}
+use Rattle.choose.specs.Choose.{matches, counts, member, protocolOf}
+use Rattle.send.specs.Send.{destinations}
+use Rattle.world.specs.Events.{change, segment, walk, take, datagram, accept, tick, transmit, switchAll, readCount, clearCount, Event, on, all}
+use Rattle.tie.specs.Machine.{Machine}
+
+-- one check: whether it fails, and the number that is then given
+pub record Check : Type 0 where
+  pub fails : Bool
+  pub number : ℕ
+
+abbrev pub check : Bool → ℕ → Check
+check fails number = record { fails = fails; number = number }
+
+-- the number of the first that fails; 0 "done" where none does
+unfoldable pub firstFailing : List Check → ℕ
+firstFailing [] = 0
+firstFailing (c ∷ cs) = cond (c .fails) (c .number) (firstFailing cs)
+
+module _ (image : List ℕ) (m : Machine) where
+  -- the row and the record of connection k
+  abbrev pub row : ℕ → Config
+  row k = configOf image k
+
+  abbrev pub here : ℕ → Connection
+  here k = recordAt (m .state) k
+
+  -- 11 "lent receive or send memory has another length", 12 "state or table not sound": of every event
+  abbrev pub first : List Check → List Check
+  first own = check (not (eqb (length (m .rx)) 23424) || not (eqb (length (m .tx)) 23552)) 11 ∷ check (not (soundState image (m .state))) 12 ∷ own
+
+  -- 2 "connection, group or switch number not there": then, of a connection event, the connection
+  abbrev pub firstOf : ℕ → List Check → List Check
+  firstOf k own = first (check (leb (rowsOf image Connections) k) 2 ∷ own)
+
+  -- switch numbers go from 0 to 31
+  abbrev pub noSwitch : ℕ → Check
+  noSwitch number = check (ltb 31 number) 2
+
+  -- 4 "segment, walk or transmit on a connection not online or with close wanted"
+  abbrev pub notOnline : ℕ → Check
+  notOnline k = check (not (isOnline (here k .mode)) || here k .«close_wanted») 4
+
+  -- "a protocol other than 1 or 2 gets 3"
+  abbrev pub noProtocol : ℕ → Check
+  noProtocol protocol = check (not (eqb protocol 1 || eqb protocol 2)) 3
+
+  -- A DATAGRAM (accept false) OR AN ACCEPT (accept true)
+  module _ (accept : Bool) (group : ℕ) (source : Remote) where
+    -- connection i: a member that counts, and both fields match
+    abbrev pub matching : ℕ → Bool
+    matching i =
+        member image (m .state) accept group source i && counts accept (here i) && matches (equalFields (here i .remote) source) (wildFields (here i .remote))
+
+    -- 2; 3 a group of the other protocol, "a source with address 0 or port 0 gets 3"; 10 "no connection matches"
+    abbrev pub arrives : List Check
+    arrives =
+        check (leb (rowsOf image Group) group) 2
+        ∷ check (not (eqb (groupOf image group .protocol) (protocolOf accept)) || wildcard source) 3
+        ∷ check (every (λ i. not (matching i)) 16) 10
+        ∷ []
+
+  -- A TRANSMIT of len bytes for a PDU
+  module _ (pdu len : ℕ) where
+    abbrev pub destination : ℕ → DestinationRow
+    destination i = destinationOf image i
+
+    -- destination i has this PDU; it is switched on "by the routes' rule, at the call"
+    abbrev pub has : ℕ → Bool
+    has i = eqb (destination i .pdu) pdu
+
+    abbrev pub switchedOn : ℕ → Bool
+    switchedOn i = isOn (destination i .groups) (here (destination i .connection) .switches)
+
+    -- 5 "no destination has this PDU"
+    abbrev pub nowhere : Check
+    nowhere = check (every (λ i. not (has i)) (destinations image)) 5
+
+    -- 6 "every destination of the PDU is switched off"
+    abbrev pub allOff : Check
+    allOff = check (every (λ i. not (has i) || not (switchedOn i)) (destinations image)) 6
+
+    -- 7 "payload longer than a switched-on destination allows"
+    abbrev pub tooLong : ℕ → Check
+    tooLong i = check (ltb (destination i .longest) len) 7
+
+    -- 8 "flush first: used + 8 + length exceeds the send size"
+    abbrev pub noRoom : ℕ → Check
+    noRoom i = check (ltb (connectionOf image (destination i .connection) .size) (here (destination i .connection) .used + 8 + len)) 8
+
+    -- "each switched-on destination in table order for 4, then 7, then 8, all three before the next": of n rows from row i on
+    abbrev pub asked : ℕ → List Check → List Check
+    asked i next = cond (has i && switchedOn i) (notOnline (destination i .connection) ∷ tooLong i ∷ noRoom i ∷ next) next
+
+    unfoldable pub askedFrom : ℕ → ℕ → List Check
+    askedFrom zero i = []
+    askedFrom (suc n) i = asked i (askedFrom n (suc i))
+
+    -- "Transmit: 5; 6; then each switched-on destination"
+    abbrev pub sends : List Check
+    sends = nowhere ∷ allOff ∷ askedFrom (destinations image) 0
+
+  -- THE CHECKS OF AN EVENT: "Checks run 11, 12, 2, 3, then the event's own order". When a connection event is not allowed (3) is in the
+  -- document's words beside connection/specs/Event `openAllowed` and its fellows
+  unfoldable pub checksFor : Event → List Check
+  checksFor (on k (change Open)) = firstOf k (check (not (openAllowed (row k) (here k))) 3 ∷ [])
+  checksFor (on k (change Close)) = firstOf k (check (not (closeAllowed (row k) (here k))) 3 ∷ [])
+  checksFor (on k (change Connected)) = firstOf k (check (not (connectedAllowed (row k) (here k))) 3 ∷ [])
+  checksFor (on k (change Lost)) = firstOf k (check (not (lostAllowed (row k) (here k))) 3 ∷ [])
+  checksFor (on k (change (SetRemote remote))) = firstOf k (check (not (remoteAllowed (here k))) 3 ∷ [])
+  checksFor (on k (change (Switch number position))) = firstOf k (noSwitch number ∷ [])
+  -- "Segment: TCP, else 3"
+  checksFor (on k (segment bytes)) = firstOf k (check (not (row k .tcp)) 3 ∷ notOnline k ∷ [])
+  -- "beyond the end: 3; a TCP connection: 3"
+  checksFor (on k (walk d place)) = firstOf k (check (row k .tcp || ltb (length d) place) 3 ∷ notOnline k ∷ [])
+  -- 9 "out buffer shorter than the waiting bytes"
+  checksFor (on k (take room)) = firstOf k (check (ltb room (here k .used)) 9 ∷ [])
+  checksFor (all (datagram group source)) = first (arrives false group source)
+  checksFor (all (accept group source)) = first (arrives true group source)
+  checksFor (all tick) = first []
+  checksFor (all (transmit pdu payload)) = first (sends pdu (length payload))
+  checksFor (all (switchAll number position)) = first (noSwitch number ∷ [])
+  checksFor (all (readCount protocol)) = first (noProtocol protocol ∷ [])
+  checksFor (all (clearCount protocol)) = first (noProtocol protocol ∷ [])
