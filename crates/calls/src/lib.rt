@@ -1,5 +1,7 @@
 // The call that an event number and a body spell (docs/EVENTS.md). Bytes stay in the body: a call names where they begin, and
 // they end the body. Assumes nothing: every function is total.
+ghost use denote.Ref.{ptr};
+ghost use Rattle.wire.specs.Place.{behind, fromAt};
 ghost use mathlib.Core.Path.{_≡_};
 ghost use Rattle.wire.specs.Be.{be};
 ghost use Rattle.calls.specs.Calls as Is;
@@ -81,7 +83,8 @@ pub fn four_bytes(body: &[u8], at: usize) -> u32
 
 // The bytes from a place on; none past the end.
 pub fn bytes_from(body: &[u8], at: usize) -> &[u8]
-    ensures { λ r. ⌜ now r ≡ Is.bytesFrom (now (body .entry)) at ⌝ }
+    ensures bytes { λ r. ⌜ now r ≡ Is.bytesFrom (now (body .entry)) at ⌝ }
+    ensures place { λ r. ⌜ ptr r ≡ behind (ptr (body .entry)) (fromAt (now (body .entry)) at) ⌝ }
 {
     if body.len() < at {
         return &body[..0];

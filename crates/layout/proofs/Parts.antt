@@ -2,12 +2,14 @@
 use Prim.Native.Nat.{ℕ, _+_, _-_, _*_, _/_, _<_, _≤_}
 use mathlib.Core.Path.{_≡_, sym, ap, _∙_}
 use mathlib.Core.List.{List, []}
+use Rattle.wire.specs.Place.{behind}
+use Rattle.wire.proofs.Place.{at-front, at-behind}
 use native.Mathlib.Nat.{mul-le-mul, le-of-lt, add-sub-cancel-left, suc-mul, mul-le-mul-right, div-mul-le-self, le-trans, div-zero, mul-div-cancel}
 use native.Mathlib.Omega.{arith}
 use borrow.Author.Tests.{le-leb, lt-leb, lt-ltb, le-ltb}
 use lib.ListN.{length, take, drop, length-drop}
 use lib.Seq.{length-take-le}
-use Rattle.layout.specs.Layout.{rowBytes, rowsOf, bodyBytes, startOf, endOf, partOf, bodyOf, rowIn, Laid}
+use Rattle.layout.specs.Layout.{rowBytes, rowsOf, bodyBytes, startOf, endOf, partOf, partAt, bodyOf, rowIn, rowInAt, Laid}
 use Rattle.layout.specs.declared.Kind.{Kind}
 use Rattle.layout.specs.declared.Kind.the-variants.{Group, Connection, Route, Destination}
 
@@ -26,6 +28,15 @@ module _ (s : List ℕ) (at n : ℕ) where
   pub part-out : length s < at + n → [] ≡ partOf s at n
   unfolding partOf
   part-out h = rw (lt-leb (at + n) (length s) h)
+
+  -- where it stands: behind a place p by `at`, as the code adds it, or at the front
+  pub part-there : (p : ℕ × ℕ) → at + n ≤ length s → (p .0, at + p .1) ≡ behind p (partAt s at n)
+  unfolding partAt
+  part-there p h = rw (le-leb (at + n) (length s) h) (at-behind p at)
+
+  pub part-front : (p : ℕ × ℕ) → length s < at + n → p ≡ behind p (partAt s at n)
+  unfolding partAt
+  part-front p h = rw (lt-leb (at + n) (length s) h) (at-front p)
 
   pub part-length : at + n ≤ length s → length (partOf s at n) ≡ n
   part-length h = ap length (part-fits h) ∙ length-take-le n (drop at s) (omega (arith, length-drop at s))
@@ -50,8 +61,20 @@ module _ (n : ℕ) (body : List ℕ) (i : ℕ) where
   unfolding rowIn
   row-none h = rw (le-ltb i (length body / n) h)
 
+  -- where it stands
+  pub row-there : (p : ℕ × ℕ) → i < length body / n → (p .0, i * n + p .1) ≡ behind p (rowInAt n body i)
+  unfolding rowInAt
+  row-there p h = rw (lt-ltb i (length body / n) h) (at-behind p (i * n))
+
+  pub row-front : (p : ℕ × ℕ) → length body / n ≤ i → p ≡ behind p (rowInAt n body i)
+  unfolding rowInAt
+  row-front p h = rw (le-ltb i (length body / n) h) (at-front p)
+
 pub row-zero : (body : List ℕ) (i n : ℕ) → n ≡ 0 → [] ≡ rowIn n body i
 row-zero body i n z = row-none n body i (rw (z, div-zero) (omega arith))
+
+pub row-front-zero : (body : List ℕ) (i n : ℕ) (p : ℕ × ℕ) → n ≡ 0 → p ≡ behind p (rowInAt n body i)
+row-front-zero body i n p z = row-front n body i p (rw (z, div-zero) (omega arith))
 
 -- in an image that is laid out every body stands within it
 module _ (s : List ℕ) (l : Laid s) where

@@ -64,13 +64,23 @@ rowAt s k i = startOf s k + i * rowBytes s k
 unfoldable pub partOf : List ℕ → ℕ → ℕ → List ℕ
 partOf s at n = cond (leb (at + n) (length s)) (take n (drop at s)) []
 
+-- how far from the front of s it stands; an empty part, of bytes that do not fit, at the front
+unfoldable pub partAt : List ℕ → ℕ → ℕ → ℕ
+partAt s at n = cond (leb (at + n) (length s)) at 0
+
 -- the body of a kind, as the part of the image that it occupies; nothing where it does not fit
 unfoldable pub bodyOf : List ℕ → Kind → List ℕ
 bodyOf s k = partOf s (startOf s k) (bodyBytes s k)
 
+unfoldable pub bodyAt : List ℕ → Kind → ℕ
+bodyAt s k = partAt s (startOf s k) (bodyBytes s k)
+
 -- row i of a body whose rows have n bytes; nothing where there is no such row
 unfoldable pub rowIn : ℕ → List ℕ → ℕ → List ℕ
 rowIn n body i = cond (ltb i (length body / n)) (take n (drop (i * n) body)) []
+
+unfoldable pub rowInAt : ℕ → List ℕ → ℕ → ℕ
+rowInAt n body i = cond (ltb i (length body / n)) (i * n) 0
 
 -- row i of a kind
 abbrev pub rowOf : List ℕ → Kind → ℕ → List ℕ

@@ -2,6 +2,8 @@
 // Everything is total: a number past the end is 0, a part that does not fit is empty. Assumes nothing.
 ghost use mathlib.Core.Path.{_≡_};
 ghost use Prim.Native.Nat.{_+_, _*_, _≤_, _<_};
+ghost use denote.Ref.{ptr};
+ghost use Rattle.wire.specs.Place.{behind};
 ghost use Rattle.layout.specs.Layout.{
   number,
   mostRows,
@@ -12,8 +14,11 @@ ghost use Rattle.layout.specs.Layout.{
   startOf,
   endOf,
   partOf,
+  partAt,
   bodyOf,
+  bodyAt,
   rowIn,
+  rowInAt,
 };
 use wire::be16;
 
@@ -105,7 +110,8 @@ pub fn end_of(image: &[u8]) -> usize
 
 // n bytes of s from `at` on, or an empty part where they do not fit.
 pub fn part_of(s: &[u8], at: usize, n: usize) -> &[u8]
-    ensures { λ r. ⌜ now r ≡ partOf (now (s .entry)) at n ⌝ }
+    ensures bytes { λ r. ⌜ now r ≡ partOf (now (s .entry)) at n ⌝ }
+    ensures place { λ r. ⌜ ptr r ≡ behind (ptr (s .entry)) (partAt (now (s .entry)) at n) ⌝ }
 {
     if s.len() < at {
         return &s[..0];
@@ -118,14 +124,16 @@ pub fn part_of(s: &[u8], at: usize, n: usize) -> &[u8]
 
 // The body of a kind, as the part of the image that it occupies; an empty part where it does not fit.
 pub fn body_of(image: &[u8], k: Kind) -> &[u8]
-    ensures { λ r. ⌜ now r ≡ bodyOf (now (image .entry)) k ⌝ }
+    ensures bytes { λ r. ⌜ now r ≡ bodyOf (now (image .entry)) k ⌝ }
+    ensures place { λ r. ⌜ ptr r ≡ behind (ptr (image .entry)) (bodyAt (now (image .entry)) k) ⌝ }
 {
     part_of(image, start_of(image, k), body_bytes(image, k))
 }
 
 // Row i of a body whose rows have n bytes; an empty part where there is no such row.
 pub fn row_in(body: &[u8], n: usize, i: usize) -> &[u8]
-    ensures { λ r. ⌜ now r ≡ rowIn n (now (body .entry)) i ⌝ }
+    ensures bytes { λ r. ⌜ now r ≡ rowIn n (now (body .entry)) i ⌝ }
+    ensures place { λ r. ⌜ ptr r ≡ behind (ptr (body .entry)) (rowInAt n (now (body .entry)) i) ⌝ }
 {
     if n == 0 {
         return &body[..0];

@@ -1,5 +1,6 @@
 // Pieces laid one after the other into a lent buffer: each whole, or not at all where it does not fit, and the place after it is
 // handed back. Assumes nothing: every function is total.
+ghost use denote.Ref.{ptr};
 ghost use mathlib.Core.Path.{_≡_};
 ghost use lib.ListN.{take};
 ghost use Rattle.wire.specs.Lay.{lay};
@@ -30,7 +31,8 @@ pub fn put_piece(out: &mut [u8], at: usize, s: &[u8]) -> usize
 
 // The first n bytes; all of them where there are fewer.
 pub fn front(s: &[u8], n: usize) -> &[u8]
-    ensures { λ r. ⌜ now r ≡ take n (now (s .entry)) ⌝ }
+    ensures bytes { λ r. ⌜ now r ≡ take n (now (s .entry)) ⌝ }
+    ensures place { λ r. ⌜ ptr r ≡ ptr (s .entry) ⌝ }
 {
     if s.len() < n {
         return s;

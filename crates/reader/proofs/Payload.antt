@@ -17,11 +17,6 @@ use Rattle.datagram.specs.declared.Outcome.the-variants.{Pdu}
 use Rattle.datagram.specs.Datagram.{outcomeOf}
 use Rattle.reader.specs.Reader.{payloadIn, tellOf}
 
--- an outcome that is a PDU
-pub payload-pdu : (d : List ℕ) (o : Outcome) (route id at n : ℕ) → o ≡ Pdu route id at n → (r : List ℕ) → r ≡ partOf d at n → r ≡ payloadIn d o
-unfolding payloadIn
-payload-pdu d o route id at n e r h = h ∙ sym (ap (payloadIn d) e)
-
 -- THE PAYLOAD HANDED OUT is all of the payload that the walk found there
 pub told-is : (R : Routes) (d : List ℕ) (p : ℕ) (later : List Out) → p ≤ length d → tellOf d (outcomeOf (walkAt R d p .found)) later ≡ told d (walkAt R d p .found) later
 unfolding walkAt payloadIn partOf

@@ -1,10 +1,12 @@
 -- The datagram reader (document 01, "The core takes the datagram and a place; afterwards a datagram reader that holds the
 -- datagram and its place is wanted over it"). Assumes nothing: these are definitions.
 use Prim.Native.Nat.{ℕ, zero, suc}
+use mathlib.Core.Path.{_≡_}
 use mathlib.Core.List.{List, [], _∷_}
-use denote.Ref.{RefT, now}
+use denote.Ref.{RefT, ptr, now}
+use Rattle.wire.specs.Place.{behind}
 use Rattle.feed.specs.Feed.{Out, pdu, dropped}
-use Rattle.layout.specs.Layout.{partOf}
+use Rattle.layout.specs.Layout.{partOf, partAt}
 use Rattle.datagram.specs.declared.Outcome.{Outcome}
 use Rattle.datagram.specs.declared.Outcome.the-variants.{End, Pdu, Drop}
 use Rattle.state.specs.declared.State.{State}
@@ -29,6 +31,16 @@ unfoldable pub payloadIn : List ℕ → Outcome → List ℕ
 payloadIn datagram End = []
 payloadIn datagram (Pdu route id at n) = partOf datagram at n
 payloadIn datagram (Drop reason id n) = []
+
+-- and how far from the datagram's front it stands; an empty part at the front
+unfoldable pub payloadInAt : List ℕ → Outcome → ℕ
+payloadInAt datagram End = 0
+payloadInAt datagram (Pdu route id at n) = partAt datagram at n
+payloadInAt datagram (Drop reason id n) = 0
+
+-- a part of a lent datagram: these bytes of it, at this place
+abbrev pub Found : RefT (List ℕ) → Outcome → RefT (List ℕ) → Type 0
+Found datagram outcome r = (now r ≡ payloadIn (now datagram) outcome) × (ptr r ≡ behind (ptr datagram) (payloadInAt (now datagram) outcome))
 
 -- what an answer tells, before what later answers tell: a PDU with its payload, a drop, or nothing any more
 abbrev pub tellOf : List ℕ → Outcome → List Out → List Out

@@ -3,7 +3,7 @@
 ghost use mathlib.Core.Path.{_≡_};
 ghost use lib.ListN.{length};
 ghost use Rattle.receive.specs.Walk.{walkOf};
-ghost use Rattle.reader.specs.Reader.{opened, movedTo, answerAt, payloadIn};
+ghost use Rattle.reader.specs.Reader.{opened, movedTo, answerAt, Found};
 use datagram::Outcome;
 use layout::part_of;
 use receive::DatagramWalked;
@@ -55,7 +55,7 @@ pub fn next<'a>(
 
 // The payload of a PDU that a walk found in a datagram, as the part where it stands; where none was found, an empty part.
 pub fn payload_in(datagram: &[u8], outcome: Outcome) -> &[u8]
-    ensures { λ r. ⌜ now r ≡ payloadIn (now (datagram .entry)) outcome ⌝ }
+    ensures { λ r. ⌜ Found (datagram .entry) outcome r ⌝ }
 {
     match outcome {
         Outcome::End => &datagram[..0],
@@ -75,7 +75,7 @@ pub fn payload_in(datagram: &[u8], outcome: Outcome) -> &[u8]
 
 // The same, in the reader's datagram.
 pub fn payload_of<'a>(reader: DatagramReader<'a>, outcome: Outcome) -> &'a [u8]
-    ensures { λ r. ⌜ now r ≡ payloadIn (now (reader .entry .datagram)) outcome ⌝ }
+    ensures { λ r. ⌜ Found (reader .entry .datagram) outcome r ⌝ }
 {
     payload_in(reader.datagram, outcome)
 }

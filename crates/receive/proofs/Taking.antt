@@ -8,6 +8,7 @@ use native.Mathlib.Omega.{arith}
 use lib.ListN.{length, getD, take, drop, length-drop, drop-of-length-le}
 use lib.Seq.{take-all}
 use borrow.Rule.Slice.PartMut.{putMid, post-is}
+use Rattle.wire.specs.Place.{behind, fromAt}
 use Rattle.wire.proofs.Lay.{lay-fits}
 use Rattle.layout.specs.Layout.{bodyOf}
 use Rattle.layout.specs.declared.Kind.the-variants.{Route as Routes}
@@ -20,14 +21,14 @@ use Rattle.state.specs.Fresh.{configOf}
 use Rattle.stream.specs.declared.Outcome.{Outcome}
 use Rattle.stream.specs.declared.Outcome.the-variants.{Pdu}
 use Rattle.stream.specs.declared.Taken.{Taken}
-use Rattle.stream.specs.Stream.{takenOf, rxAfter, payloadAt, Fit}
+use Rattle.stream.specs.Stream.{takenOf, rxAfter, payloadAt, payloadPlace, Fit}
 use Rattle.stream.proofs.Leaves.{leaves-length}
 use Rattle.state.specs.Memory.{stretch}
 use Rattle.receive.specs.declared.Answer.{Answer}
 use Rattle.receive.specs.declared.Answer.the-variants.{Done}
 use Rattle.receive.specs.declared.SegmentTaken.{SegmentTaken}
 use Rattle.receive.specs.Answer.{isDone, answerOf}
-use Rattle.receive.specs.Segment.{countTake, takenAt, stretchAt, takeOn, memoryOn, Takes, noneTaken, segmentAnswer, segmentOf, memoryOf, payloadOf}
+use Rattle.receive.specs.Segment.{countTake, takenAt, stretchAt, takeOn, memoryOn, Takes, noneTaken, segmentAnswer, segmentOf, memoryOf, payloadOf, payloadStands}
 use Rattle.receive.proofs.Answers.{Clear, done-clear}
 use Rattle.receive.proofs.Past.{passed-takes}
 
@@ -50,6 +51,14 @@ pub payload-pdu : (segment rx : List ℕ) (n : ℕ) (outcome : Outcome) (route i
 unfolding payloadOf
 payload-pdu segment rx n outcome route id inside at size eo own ew p ep =
     rw eo (ep ∙ ap (λ (l : List ℕ). payloadAt segment l inside at size) ew)
+
+-- and where it stands
+pub payload-there : (p : ℕ × ℕ) (segment : List ℕ) (q : ℕ × ℕ) (rx : List ℕ) (n : ℕ) (outcome : Outcome) (route id : ℕ) (inside : Bool) (at size : ℕ) → outcome ≡ Pdu route id inside at size
+    → (own : List ℕ) → own ≡ stretch 1464 n rx → (o : ℕ × ℕ) → o ≡ behind q (fromAt rx (n * 1464)) → (r : ℕ × ℕ) → r ≡ payloadPlace p segment o own inside at size
+    → r ≡ payloadStands p segment q rx n outcome
+unfolding payloadStands
+payload-there p segment q rx n outcome route id inside at size eo own ew o ep r er =
+    rw eo (er ∙ ap₂ (λ (x : ℕ × ℕ) (l : List ℕ). payloadPlace p segment x l inside at size) ep ew)
 
 -- PAST ALL REFUSALS: the take on the lent part of receive memory
 module _ (image : List ℕ) (s : State) (rx : List ℕ) (n : ℕ) (segment : List ℕ) (takes : Takes image s rx n) (routes : List ℕ) (er : routes ≡ bodyOf image Routes) where

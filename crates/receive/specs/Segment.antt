@@ -6,6 +6,7 @@ use mathlib.Core.Bool.{true, cond}
 use mathlib.Core.List.{List, []}
 use lib.ListN.{length}
 use Rattle.wire.specs.Lay.{lay}
+use Rattle.wire.specs.Place.{behind, fromAt}
 use Rattle.layout.specs.Layout.{bodyOf}
 use Rattle.layout.specs.declared.Kind.the-variants.{Route as Routes}
 use Rattle.connection.specs.Connection.{withPart}
@@ -15,7 +16,7 @@ use Rattle.state.specs.Fresh.{configOf}
 use Rattle.stream.specs.declared.Outcome.{Outcome}
 use Rattle.stream.specs.declared.Outcome.the-variants.{More, Pdu, Drop}
 use Rattle.stream.specs.declared.Taken.{Taken}
-use Rattle.stream.specs.Stream.{takenOf, rxAfter, payloadAt, Fit}
+use Rattle.stream.specs.Stream.{takenOf, rxAfter, payloadAt, payloadPlace, Fit}
 use Rattle.state.specs.Memory.{stretch}
 use Rattle.receive.specs.declared.Answer.{Answer}
 use Rattle.receive.specs.declared.Answer.the-variants.{Done}
@@ -90,3 +91,11 @@ unfoldable pub payloadOf : List ℕ → List ℕ → ℕ → Outcome → List �
 payloadOf segment rx connection More = []
 payloadOf segment rx connection (Pdu route id inside at n) = payloadAt segment (stretch 1464 connection rx) inside at n
 payloadOf segment rx connection (Drop reason id n) = []
+
+-- and where it stands: in the segment, whose front is at the place p, or in the connection's stretch of receive memory, whose front is at
+-- q; an empty part at the segment's front
+unfoldable pub payloadStands : ℕ × ℕ → List ℕ → ℕ × ℕ → List ℕ → ℕ → Outcome → ℕ × ℕ
+payloadStands p segment q rx connection More = p
+payloadStands p segment q rx connection (Pdu route id inside at n) =
+    payloadPlace p segment (behind q (fromAt rx (connection * 1464))) (stretch 1464 connection rx) inside at n
+payloadStands p segment q rx connection (Drop reason id n) = p

@@ -1,8 +1,10 @@
 // The entry points for what is received: a take of a segment on a TCP connection, the payload that it hands out, and a step of a
 // walk over a datagram on a UDP connection. Each is lent image, state and both memories, and answers any of them.
 // Assumes nothing: no entry relies on its caller.
+ghost use denote.Ref.{ptr};
+ghost use Rattle.wire.specs.Place.{behind, fromAt};
 ghost use mathlib.Core.Path.{_≡_};
-ghost use Prim.Native.Nat.{_<_};
+ghost use Prim.Native.Nat.{_*_, _<_};
 ghost use lib.ListN.{length};
 ghost use Rattle.state.specs.Memory.{stretch};
 ghost use Rattle.receive.specs.Answer as Is;
@@ -170,7 +172,8 @@ pub fn segment_take(
 
 // A connection's stretch of receive memory; what there is of it in memory of another length.
 fn stretch_of(rx: &[u8], connection: u8) -> &[u8]
-    ensures { λ r. ⌜ now r ≡ stretch 1464 connection (now (rx .entry)) ⌝ }
+    ensures bytes { λ r. ⌜ now r ≡ stretch 1464 connection (now (rx .entry)) ⌝ }
+    ensures place { λ r. ⌜ ptr r ≡ behind (ptr (rx .entry)) (fromAt (now (rx .entry)) (connection * 1464)) ⌝ }
 {
     let start = connection as usize * 1464;
     if rx.len() < start {
@@ -189,7 +192,8 @@ pub fn segment_payload<'a>(
     connection: u8,
     outcome: Outcome,
 ) -> &'a [u8]
-    ensures { λ r. ⌜ now r ≡ Seg.payloadOf (now (segment .entry)) (now (rx .entry)) connection outcome ⌝ }
+    ensures bytes { λ r. ⌜ now r ≡ Seg.payloadOf (now (segment .entry)) (now (rx .entry)) connection outcome ⌝ }
+    ensures place { λ r. ⌜ ptr r ≡ Seg.payloadStands (ptr (segment .entry)) (now (segment .entry)) (ptr (rx .entry)) (now (rx .entry)) connection outcome ⌝ }
 {
     let own = stretch_of(rx, connection);
     match outcome {

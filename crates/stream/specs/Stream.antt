@@ -7,7 +7,8 @@ use mathlib.Core.Bool.{Bool, true, false, cond}
 use mathlib.Core.List.{List, [], _∷_}
 use lib.ListN.{length, take}
 use Rattle.feed.specs.Feed.{Cell, cell, header, payload, skip, Out, nothing, pdu, dropped, Took, takeB}
-use Rattle.layout.specs.Layout.{partOf}
+use Rattle.wire.specs.Place.{behind}
+use Rattle.layout.specs.Layout.{partOf, partAt}
 use Rattle.part.specs.declared.Part.{Part}
 use Rattle.part.specs.declared.Part.the-variants.{Header, Payload, Skip}
 use Rattle.part.specs.Part.{shaped}
@@ -107,3 +108,8 @@ skipPart (suc n) = Skip (suc n)
 abbrev pub payloadAt : List ℕ → List ℕ → Bool → ℕ → ℕ → List ℕ
 payloadAt segment rx true at n = partOf segment at n
 payloadAt segment rx false at n = partOf rx at n
+
+-- and where it stands: "handed out from the segment itself", whose front is at the place p, or from receive memory, whose front is at q
+abbrev pub payloadPlace : ℕ × ℕ → List ℕ → ℕ × ℕ → List ℕ → Bool → ℕ → ℕ → ℕ × ℕ
+payloadPlace p segment q rx true at n = behind p (partAt segment at n)
+payloadPlace p segment q rx false at n = behind q (partAt rx at n)

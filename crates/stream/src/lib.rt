@@ -5,11 +5,12 @@ ghost use mathlib.Core.Path.{_≡_};
 ghost use mathlib.Core.Bool.{true, false};
 ghost use Prim.Native.Nat.{ℕ, _+_, _-_, _^_, _≤_, _<_};
 ghost use lib.ListN.{length, take};
+ghost use denote.Ref.{ptr};
 ghost use Rattle.feed.specs.Feed.{Routes, takeB, cell, header, payload, spelt, decided, resume};
 ghost use Rattle.feed.specs.declared.Decision.the-variants.{Accept};
 ghost use Rattle.route.specs.Route.{lookupOf};
 ghost use Rattle.rows.specs.Rows.{routeIn};
-ghost use Rattle.stream.specs.Stream.{Fit, Limits, idOf, cellOf, inSegment, Answers, skipPart, takenOf, rxAfter, payloadAt};
+ghost use Rattle.stream.specs.Stream.{Fit, Limits, idOf, cellOf, inSegment, Answers, skipPart, takenOf, rxAfter, payloadAt, payloadPlace};
 use feed::Decision;
 use layout::part_of;
 use part::Part;
@@ -272,7 +273,8 @@ pub fn payload_of<'a>(
     at: usize,
     size: u16,
 ) -> &'a [u8]
-    ensures { λ r. ⌜ now r ≡ payloadAt (now (segment .entry)) (now (rx .entry)) «in_segment» at size ⌝ }
+    ensures bytes { λ r. ⌜ now r ≡ payloadAt (now (segment .entry)) (now (rx .entry)) «in_segment» at size ⌝ }
+    ensures place { λ r. ⌜ ptr r ≡ payloadPlace (ptr (segment .entry)) (now (segment .entry)) (ptr (rx .entry)) (now (rx .entry)) «in_segment» at size ⌝ }
 {
     let n = size as usize;
     if in_segment {

@@ -6,7 +6,7 @@ use lib.ListN.{length}
 use lib.Dec.{leb, eqb}
 use Rattle.wire.specs.Be.{be}
 use Rattle.lists.specs.Search.{firstBad}
-use Rattle.layout.specs.Layout.{number, mostRows, entryAt, rowBytes, rowsOf, startOf, endOf, rowAt, bodyOf}
+use Rattle.layout.specs.Layout.{number, mostRows, entryAt, rowBytes, rowsOf, startOf, endOf, rowAt, bodyOf, bodyAt}
 use Rattle.layout.specs.declared.Kind.{Kind}
 use Rattle.layout.specs.declared.Kind.the-variants.{Group, Connection, Route, Destination}
 use Rattle.rows.specs.Rules.{groupGood, connectionGood, routeGood, destinationGood, sizeIn}
@@ -95,18 +95,19 @@ answerPlace (Refused p) before = p
 
 -- ---- "Each body is handed back as the part of the caller's image it occupies."
 
--- a kind's number; nothing at any other number
-abbrev pub bodyNumbered : List ℕ → ℕ → List ℕ
-bodyNumbered s n =
-    cond (eqb n 1) (bodyOf s Group)
-    (cond (eqb n 2) (bodyOf s Connection)
-    (cond (eqb n 3) (bodyOf s Route)
-    (cond (eqb n 4) (bodyOf s Destination) [])))
+-- what there is of the kind with a number; nothing at any other number
+abbrev pub ofKind : {A : Type 0} → (Kind → A) → A → ℕ → A
+ofKind of none n = cond (eqb n 1) (of Group) (cond (eqb n 2) (of Connection) (cond (eqb n 3) (of Route) (cond (eqb n 4) (of Destination) none)))
 
 -- and nothing of a refused image
-abbrev pub ifAccepted : TableAnswer → List ℕ → List ℕ
-ifAccepted Accepted l = l
-ifAccepted (Refused p) l = []
+abbrev pub ifAccepted : {A : Type 0} → TableAnswer → A → A → A
+ifAccepted Accepted x none = x
+ifAccepted (Refused p) x none = none
 
+-- its bytes
 unfoldable pub bodyAnswer : List ℕ → ℕ → List ℕ
-bodyAnswer s n = ifAccepted (checkTable s) (bodyNumbered s n)
+bodyAnswer s n = ifAccepted (checkTable s) (ofKind (bodyOf s) [] n) []
+
+-- and how far from the image's front it stands; an empty part at the front
+unfoldable pub bodyAnswerAt : List ℕ → ℕ → ℕ
+bodyAnswerAt s n = ifAccepted (checkTable s) (ofKind (bodyAt s) 0 n) 0

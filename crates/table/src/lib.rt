@@ -1,8 +1,11 @@
 // The table image: its check, with the place of the first fault, and each body handed back as the part of the image that
 // it occupies. Everything public is total. Assumes nothing.
 ghost use mathlib.Core.Path.{_≡_};
+ghost use mathlib.Core.List.{[]};
 ghost use lib.Dec.{leb};
-ghost use Rattle.layout.specs.Layout.{rowsOf, rowAt, Laid};
+ghost use denote.Ref.{ptr};
+ghost use Rattle.wire.specs.Place.{behind};
+ghost use Rattle.layout.specs.Layout.{rowsOf, rowAt, bodyOf, bodyAt, Laid};
 ghost use Rattle.table.specs.Table.{
   headGood,
   entryGood,
@@ -13,8 +16,9 @@ ghost use Rattle.table.specs.Table.{
   allRowsPlace,
   headPlace,
   checkTable,
-  bodyNumbered,
+  ofKind,
   bodyAnswer,
+  bodyAnswerAt,
 };
 use layout::Kind;
 use layout::body_of;
@@ -181,7 +185,8 @@ pub fn check_table(image: &[u8]) -> TableAnswer
 
 // The body of the kind with this number; at a number that is no kind's, an empty part.
 fn body_numbered(image: &[u8], number: usize) -> &[u8]
-    ensures { λ r. ⌜ now r ≡ bodyNumbered (now (image .entry)) number ⌝ }
+    ensures bytes { λ r. ⌜ now r ≡ ofKind (bodyOf (now (image .entry))) [] number ⌝ }
+    ensures place { λ r. ⌜ ptr r ≡ behind (ptr (image .entry)) (ofKind (bodyAt (now (image .entry))) 0 number) ⌝ }
 {
     match number {
         1 => body_of(image, Kind::Group),
@@ -194,7 +199,8 @@ fn body_numbered(image: &[u8], number: usize) -> &[u8]
 
 // The same, and an empty part of an image that is refused.
 pub fn body(image: &[u8], number: usize) -> &[u8]
-    ensures { λ r. ⌜ now r ≡ bodyAnswer (now (image .entry)) number ⌝ }
+    ensures bytes { λ r. ⌜ now r ≡ bodyAnswer (now (image .entry)) number ⌝ }
+    ensures place { λ r. ⌜ ptr r ≡ behind (ptr (image .entry)) (bodyAnswerAt (now (image .entry)) number) ⌝ }
 {
     let answer = check_table(image);
     match answer {

@@ -1,4 +1,7 @@
 // Taking the waiting bytes of one connection. Assumes nothing: every function is total.
+ghost use Prim.Native.Nat.{_*_};
+ghost use denote.Ref.{ptr};
+ghost use Rattle.wire.specs.Place.{behind, fromAt};
 ghost use mathlib.Core.Path.{_≡_};
 ghost use lib.ListN.{length};
 ghost use Rattle.waiting.specs.Waiting.{waitingOf, takingOf, outOf, afterTake, takeOf};
@@ -23,7 +26,8 @@ pub struct Drained {
 
 // The waiting bytes of connection k, as the part of send memory that they occupy.
 pub fn waiting_of(tx: &[u8], connection: u8, used: u16) -> &[u8]
-    ensures { λ r. ⌜ now r ≡ waitingOf (now (tx .entry)) connection used ⌝ }
+    ensures bytes { λ r. ⌜ now r ≡ waitingOf (now (tx .entry)) connection used ⌝ }
+    ensures place { λ r. ⌜ ptr r ≡ behind (ptr (tx .entry)) (fromAt (now (tx .entry)) (connection * 1472)) ⌝ }
 {
     let at = connection as usize * 1472;
     let n = used as usize;

@@ -5,3 +5,4 @@ pub mod Lay
 pub mod Spell
 pub mod Part
 pub mod Room
+pub mod Place

@@ -2,3 +2,4 @@
 pub mod Be
 pub mod Lay
 pub mod Bits
+pub mod Place

@@ -54,7 +54,7 @@ abbrev A : tie.After-score Inv-loop μ-loop → tie.Start Inv-loop μ-loop
 A c = L c .before .before .before .before
 
 scored : (c : tie.After-score Inv-loop μ-loop) → c .score .result ≡ scoreAt (now (A c .args .image)) (A c .args .t2) (A c .args .accept) (A c .args .group) (A c .args .source) (L c .loop .i)
-scored c = score-at _ (A c .args .t2) _ _ _ _ _ (L c .loop .i) _ (L c .before .before .rows-of .ensures .0) (c .before .before .before .brief-in .ensures ∙ ap (λ (b : List ℕ). briefIn b (L c .loop .i)) (L c .before .body-of .ensures)) (c .score .ensures)
+scored c = score-at _ (A c .args .t2) _ _ _ _ _ (L c .loop .i) _ (L c .before .before .rows-of .ensures .0) (c .before .before .before .brief-in .ensures ∙ ap (λ (b : List ℕ). briefIn b (L c .loop .i)) (L c .before .body-of .ensures .0)) (c .score .ensures)
 
 loop-again : tie.Need-loop-again Inv-loop μ-loop
 loop-again c = let l = L (c .before) in pass-no _ _ _ _ _ (l .loop .i) _ _ _ (l .loop .inv) (omega arith) (scored (c .before)) (c .if1 .taken)

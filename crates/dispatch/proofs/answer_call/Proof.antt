@@ -232,7 +232,7 @@ same-length-24 c = search needs
 
 returns-10 : tie.Need-returns-10
 unfolding effectOf
-returns-10 c = let a = c .before .before .before .before .before .before .before .before .before .before .before .before .before .before .before .before .before .args in let p = c .before .before .before .before .segment .ensures in rw (c .before .before .before .before .before .before .before .before .before .before .call8 .given .1, ← c .before .before .before .before .before .before .bytes-from .ensures) (p .0, (p .1 .0, (segment-sent _ _ _ (a .tx .now) _ _ _, p .1 .1)))
+returns-10 c = let a = c .before .before .before .before .before .before .before .before .before .before .before .before .before .before .before .before .before .args in let p = c .before .before .before .before .segment .ensures in rw (c .before .before .before .before .before .before .before .before .before .before .call8 .given .1, ← c .before .before .before .before .before .before .bytes-from .ensures .0) (p .0, (p .1 .0, (segment-sent _ _ _ (a .tx .now) _ _ _, p .1 .1)))
 
 same-length-25 : tie.Need-same-length-25
 same-length-25 c = search needs
@@ -245,7 +245,7 @@ same-length-27 c = search needs
 
 returns-11 : tie.Need-returns-11
 unfolding effectOf
-returns-11 c = let p = c .before .before .walk .ensures in let w = walk-kept _ _ _ _ _ _ _ _ in rw (c .before .before .before .before .before .before .before .before .call9 .given .1, ← c .before .before .before .before .bytes-from2 .ensures) (p .0, (w .0, (w .1, p .1)))
+returns-11 c = let p = c .before .before .walk .ensures in let w = walk-kept _ _ _ _ _ _ _ _ in rw (c .before .before .before .before .before .before .before .before .call9 .given .1, ← c .before .before .before .before .bytes-from2 .ensures .0) (p .0, (w .0, (w .1, p .1)))
 
 same-length-28 : tie.Need-same-length-28
 same-length-28 c = search needs
@@ -297,7 +297,7 @@ same-length-39 c = search needs
 
 returns-15 : tie.Need-returns-15
 unfolding effectOf transmitEffect
-returns-15 c = let p = c .before .before .before .before .transmit .ensures in rw (c .before .before .before .before .before .before .before .before .before .before .call13 .given .1, ← c .before .before .before .before .before .before .bytes-from3 .ensures) (p .0, (refl, (p .1 .0, p .1 .1)))
+returns-15 c = let p = c .before .before .before .before .transmit .ensures in rw (c .before .before .before .before .before .before .before .before .before .before .call13 .given .1, ← c .before .before .before .before .before .before .bytes-from3 .ensures .0) (p .0, (refl, (p .1 .0, p .1 .1)))
 
 same-length-40 : tie.Need-same-length-40
 same-length-40 c = search needs

@@ -1,5 +1,5 @@
 -- `layout::body_of` meets its contract. Assumes nothing.
-use Rattle.layout.specs.Layout.{bodyOf}
+use Rattle.layout.specs.Layout.{bodyOf, bodyAt}
 use borrow.Author.Needs.{needs}
 use Rattle.layout.proofs.body_of.Statement.{statement}
 use Rattle.layout.proofs.body_of.Tie as tie
@@ -14,8 +14,8 @@ part-of-requires : tie.Need-part-of-requires
 part-of-requires c κs = search needs
 
 returns : tie.Need-returns
-unfolding bodyOf
-returns c = cc
+unfolding bodyOf bodyAt
+returns c = (cc, cc)
 
 pub body-of-spec : {M : Type 1} → statement M
 body-of-spec = tie.close (tie.spec start-of-requires body-bytes-requires part-of-requires returns)

@@ -1,6 +1,7 @@
 -- `reader::payload_in` meets its contract. Assumes nothing.
-use Rattle.reader.specs.Reader.{payloadIn}
-use Rattle.reader.proofs.Payload.{payload-pdu}
+use mathlib.Core.Path.{refl}
+use Rattle.reader.specs.Reader.{payloadIn, payloadInAt}
+use Rattle.wire.proofs.Place.{at-front}
 use borrow.Author.Needs.{needs}
 use Rattle.reader.proofs.payload_in.Statement.{statement}
 use Rattle.reader.proofs.payload_in.Tie as tie
@@ -27,15 +28,16 @@ slice-aggregate-result-2 : tie.Need-slice-aggregate-result-2
 slice-aggregate-result-2 c = search needs
 
 returns : tie.Need-returns
-unfolding payloadIn
-returns c = rw (c .before .enum-told .given .1)
+unfolding payloadIn payloadInAt
+returns c = rw (c .before .enum-told .given .1) (refl, at-front _)
 
 returns-2 : tie.Need-returns-2
-returns-2 c = payload-pdu _ _ _ _ _ _ (c .before .before .outcome .given .1) _ (c .part-of .ensures)
+unfolding payloadIn payloadInAt
+returns-2 c = rw (c .before .before .outcome .given .1) (c .part-of .ensures)
 
 returns-3 : tie.Need-returns-3
-unfolding payloadIn
-returns-3 c = rw (c .before .enum-told2 .given .1)
+unfolding payloadIn payloadInAt
+returns-3 c = rw (c .before .enum-told2 .given .1) (refl, at-front _)
 
 pub payload-in-spec : {M : Type 1} → statement M
 payload-in-spec =

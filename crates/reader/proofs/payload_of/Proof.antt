@@ -25,7 +25,7 @@ use sound.WpLaws.{FmC, fmOf, WpFn-mono}
 use denote.RattleType.{RattleType, owns}
 use denote.Laws.{Is, shows}
 use denote.Builtin.{u8}
-use denote.Ref.{RefT, now}
+use denote.Ref.{RefT}
 use denote.Signature.{namedLft}
 use denote.Slice.{sliceVal, ShrSlice, shr-slice-lawful}
 use denote.Steps.{owned, peeks, heard, nothing}
@@ -43,7 +43,7 @@ use denote.Triple.Walked.{says, Stays, stay-none, walkOf, goes-none, Walks, ends
 use denote.Exit.{yes}
 use denote.Triple.Clauses.{ensured, lasts}
 use Rattle.datagram.specs.declared.Outcome.{Outcome}
-use Rattle.reader.specs.Reader.{payloadIn}
+use Rattle.reader.specs.Reader.{Found}
 use Rattle.reader.specs.declared.DatagramReader.{DatagramReader}
 use Rattle.reader.proofs.DatagramReader as T
 use Rattle.reader.proofs.DatagramReader.Laws as T′
@@ -78,8 +78,9 @@ module _ {M : Type 1} (𝓤 : URA M) (H : Heap 𝓤) (A : Atoms 𝓤) (W : Given
   abbrev v : Val
   v = sliceVal (d .datagram .ptr) (length (d .datagram .now))
 
-  abbrev found : List ℕ
-  found = payloadIn (now (d .datagram)) o
+  -- what both contracts say of the part
+  abbrev Says : RefT (List ℕ) → Type 0
+  Says r = Found (d .datagram) o r
 
   abbrev xs : DatagramReader × (Outcome × Unit {0})
   xs = (d, (o, tt))
@@ -131,10 +132,10 @@ module _ {M : Type 1} (𝓤 : URA M) (H : Heap 𝓤) (A : Atoms 𝓤) (W : Given
       move ! (2 ∷ 0 ∷ []) $ use2 W (raw (PayloadIn 𝓤 H A mem run .pre to)) asked $ frame ! $ done !)
 
   -- of the callee's `ensured`, the clause alone: it has no `&mut`, so what is said of last values is dropped
-  said : (r : RefT (List ℕ)) → ent 𝓤 (ensured 𝓤 H A payload-in.ended (payload-in.clauses 𝓤 H A mem run) (κ, tt) ys tt r) (fact 𝓤 (now r ≡ found))
-  said r = exE 𝓤 _ (λ ws. snd∗ 𝓤 (sem 𝓤 H A (lasts payload-in.ended (κ, tt) ys ws)) (fact 𝓤 (now r ≡ found)))
+  said : (r : RefT (List ℕ)) → ent 𝓤 (ensured 𝓤 H A payload-in.ended (payload-in.clauses 𝓤 H A mem run) (κ, tt) ys tt r) (fact 𝓤 (Says r))
+  said r = exE 𝓤 _ (λ ws. snd∗ 𝓤 (sem 𝓤 H A (lasts payload-in.ended (κ, tt) ys ws)) (fact 𝓤 (Says r)))
 
-  exits : (r : RefT (List ℕ)) (u : Val) → now r ≡ found → ent 𝓤 (⋆ 𝓤 H A (‵ (Slice .own r (u ∷ [])) ∷ (‵ (flft κ q) ⊛ ‵ ftrue) ∷ ‵ Own ∷ [])) (Post u)
+  exits : (r : RefT (List ℕ)) (u : Val) → Says r → ent 𝓤 (⋆ 𝓤 H A (‵ (Slice .own r (u ∷ [])) ∷ (‵ (flft κ q) ⊛ ‵ ftrue) ∷ ‵ Own ∷ [])) (Post u)
   exits r u e =
       qed W (‵ (Slice .own r (u ∷ [])) ∷ (‵ (flft κ q) ⊛ ‵ ftrue) ∷ ‵ Own ∷ []) ∵
       suffices ! _ (ends-at 𝓤 H A payload-of.ended stayed (payload-of.clauses 𝓤 H A mem run) W (((κ, tt), (q, tt), tt, xs, at), tt) u r (tt, (tt, tt)) (tt, (tt, tt))) $ says ! e $
@@ -149,7 +150,7 @@ module _ {M : Type 1} (𝓤 : URA M) (H : Heap 𝓤) (A : Atoms 𝓤) (W : Given
         move ! (8 ∷ []) $ use1 W (raw (PayloadIn 𝓤 H A mem run .pre to) ⊛ ‵ Own) apart $ split ! $
         calls-at ! fm (PayloadIn 𝓤 H A mem run) known to (and-then ! (load ! (from ! (stop !)) (look ! 2 refl)) (and-then ! (load ! (from ! (stop !)) (look ! 4 refl)) (no-more !))) (λ u.
         use1 W (later (some (λ (r : RefT (List ℕ)). ((‵ (flft κ q) ⊛ ‵ ftrue) ⊛ ‵ (Slice .own r (u ∷ []))) ⊛ raw (ensured 𝓤 H A payload-in.ended (payload-in.clauses 𝓤 H A mem run) (κ, tt) ys tt r)))) (id⊢ 𝓤 _) $ await ! tt $ pick ! (λ r.
-        split ! $ move ! (1 ∷ []) $ use1 W (raw (fact 𝓤 (now r ≡ found))) (said r) $ heard ! (now r ≡ found) (λ e. split ! $ move ! (1 ∷ []) $
+        split ! $ move ! (1 ∷ []) $ use1 W (raw (fact 𝓤 (Says r))) (said r) $ heard ! (Says r) (λ e. split ! $ move ! (1 ∷ []) $
         -- [the result; the token; what the struct owns; _3; …; _2; …; _1; …; room for _0; …]
         peeks ! Slice (Is Slice) (shows 𝓤 H A Slice) r (u ∷ []) (λ is.
         land ! (from ! (stop !)) (init ! 9 refl (shr-slice-lawful 𝓤 H A W (named 0) κ u8 .typed r (u ∷ []) is .0)) $

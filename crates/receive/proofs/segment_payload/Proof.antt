@@ -1,6 +1,7 @@
 -- `receive::segment_payload` meets its contract. Assumes nothing.
-use Rattle.receive.specs.Segment.{payloadOf}
-use Rattle.receive.proofs.Taking.{payload-pdu}
+use mathlib.Core.Path.{refl}
+use Rattle.receive.specs.Segment.{payloadOf, payloadStands}
+use Rattle.receive.proofs.Taking.{payload-pdu, payload-there}
 use borrow.Author.Needs.{needs}
 use Rattle.receive.proofs.segment_payload.Statement.{statement}
 use Rattle.receive.proofs.segment_payload.Tie as tie
@@ -27,17 +28,19 @@ slice-aggregate-result-2 : tie.Need-slice-aggregate-result-2
 slice-aggregate-result-2 c = search needs
 
 returns : tie.Need-returns
-unfolding payloadOf
-returns c = rw (c .before .enum-told .given .1)
+unfolding payloadOf payloadStands
+returns c = rw (c .before .enum-told .given .1) (refl, refl)
 
 returns-2 : tie.Need-returns-2
 returns-2 c =
     let s = c .before .before .before .before in
-    payload-pdu _ _ _ _ _ _ _ _ _ (c .before .before .outcome .given .1) _ (s .stretch-of .ensures) _ (c .payload-of .ensures)
+    let w = s .stretch-of .ensures in
+    let e = c .before .before .outcome .given .1 in
+    (payload-pdu _ _ _ _ _ _ _ _ _ e _ (w .0) _ (c .payload-of .ensures .0), payload-there _ _ _ _ _ _ _ _ _ _ _ e _ (w .0) _ (w .1) _ (c .payload-of .ensures .1))
 
 returns-3 : tie.Need-returns-3
-unfolding payloadOf
-returns-3 c = rw (c .before .enum-told2 .given .1)
+unfolding payloadOf payloadStands
+returns-3 c = rw (c .before .enum-told2 .given .1) (refl, refl)
 
 pub segment-payload-spec : {M : Type 1} → statement M
 segment-payload-spec =

@@ -1,5 +1,7 @@
 -- `receive::stretch_of` meets its contract. Assumes nothing.
+use Prim.Native.Nat.{_*_}
 use native.Mathlib.Omega.{arith}
+use Rattle.wire.proofs.Place.{from-there, from-past}
 use Rattle.receive.proofs.Taking.{stretch-none, stretch-some, stretch-all}
 use borrow.Author.Needs.{needs}
 use Rattle.receive.proofs.stretch_of.Statement.{statement}
@@ -12,7 +14,7 @@ slice-aggregate-result : tie.Need-slice-aggregate-result
 slice-aggregate-result c = search needs
 
 returns : tie.Need-returns
-returns c = let a = c .before .before .args in stretch-none (a .connection) (a .rx .now) (omega arith)
+returns c = let a = c .before .before .args in (stretch-none (a .connection) (a .rx .now) (omega arith), from-past (a .rx .ptr) (a .rx .now) (a .connection * 1464) (omega arith))
 
 sub-if2 : tie.Need-sub-if2
 sub-if2 c = search needs
@@ -27,7 +29,7 @@ part-result-end : tie.Need-part-result-end
 part-result-end c = search needs
 
 returns-2 : tie.Need-returns-2
-returns-2 c = let a = c .before .before .before .args in stretch-some (a .connection) (a .rx .now) (omega arith)
+returns-2 c = let a = c .before .before .before .args in (stretch-some (a .connection) (a .rx .now) (omega arith), from-there (a .rx .ptr) (a .rx .now) (a .connection * 1464) (omega arith))
 
 add-result : tie.Need-add-result
 add-result c = search needs
@@ -42,7 +44,7 @@ part-result-end-2 : tie.Need-part-result-end-2
 part-result-end-2 c = search needs
 
 returns-3 : tie.Need-returns-3
-returns-3 c = let a = c .before .before .before .args in stretch-all (a .connection) (a .rx .now)
+returns-3 c = let a = c .before .before .before .args in (stretch-all (a .connection) (a .rx .now), from-there (a .rx .ptr) (a .rx .now) (a .connection * 1464) (omega arith))
 
 pub stretch-of-spec : {M : Type 1} → statement M
 stretch-of-spec =

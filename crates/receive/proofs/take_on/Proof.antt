@@ -34,7 +34,7 @@ take-requires c κs =
     let b = c .before in
     let s = b .before .before .before .before .before in
     let a = s .args in
-    lent-fit (a .image .now) (a .t2) (a .rx .now) (a .connection) (a .segment .now) (s .pre) (b .body-of .result .now) (b .body-of .ensures)
+    lent-fit (a .image .now) (a .t2) (a .rx .now) (a .connection) (a .segment .now) (s .pre) (b .body-of .result .now) (b .body-of .ensures .0)
 
 with-part-requires : tie.Need-with-part-requires
 with-part-requires c κs = search needs
@@ -59,9 +59,9 @@ returns c =
     let k = b .before .before in
     let s = k .before .before .before in
     let a = s .args in (
-      take-is (a .image .now) (a .t2) (a .rx .now) (a .connection) (a .segment .now) (s .pre) (b .body-of .result .now) (b .body-of .ensures)
+      take-is (a .image .now) (a .t2) (a .rx .now) (a .connection) (a .segment .now) (s .pre) (b .body-of .result .now) (b .body-of .ensures .0)
           (t .take .result) (w .with-part .result) (c .count-take .result) (t .take .ensures .0) (w .with-part .ensures) (c .count-take .ensures),
-      memory-is (a .image .now) (a .t2) (a .rx .now) (a .connection) (a .segment .now) (s .pre) (b .body-of .result .now) (b .body-of .ensures)
+      memory-is (a .image .now) (a .t2) (a .rx .now) (a .connection) (a .segment .now) (s .pre) (b .body-of .result .now) (b .body-of .ensures .0)
           (λ i. omega (arith, k .shared-slice-known2 .given i)) (t .take .last .1 .1 .1 .1 .0) (t .take .ensures .1),
     )
 

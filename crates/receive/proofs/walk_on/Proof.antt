@@ -23,7 +23,7 @@ returns : tie.Need-returns
 returns c =
     let w = c .before in
     let b = w .before in
-    walk-is _ _ _ _ _ (b .body-of .result .now) (b .body-of .ensures) (w .walk .result) (c .count-walk .result) (w .walk .ensures) (c .count-walk .ensures)
+    walk-is _ _ _ _ _ (b .body-of .result .now) (b .body-of .ensures .0) (w .walk .result) (c .count-walk .result) (w .walk .ensures) (c .count-walk .ensures)
 
 pub walk-on-spec : {M : Type 1} → statement M
 walk-on-spec =

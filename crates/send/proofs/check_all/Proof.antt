@@ -46,11 +46,11 @@ S c = L c .before .before .before
 
 -- row i of the image
 row : (c : tie.After-destination-in Inv-loop μ-loop) → c .destination-in .result ≡ destinationOf (now (S c .args .image)) (L c .loop .i)
-row c = c .destination-in .ensures ∙ ap (λ (b : List ℕ). destinationIn b (L c .loop .i)) (L c .before .body-of .ensures)
+row c = c .destination-in .ensures ∙ ap (λ (b : List ℕ). destinationIn b (L c .loop .i)) (L c .before .body-of .ensures .0)
 
 inside : (c : tie.After-destination-in Inv-loop μ-loop) → L c .loop .i < destinations (now (S c .args .image))
 inside c =
-    let e = ap (λ (b : List ℕ). length b / 16) (L c .before .body-of .ensures) in
+    let e = ap (λ (b : List ℕ). length b / 16) (L c .before .body-of .ensures .0) in
     rw e at (c .before .loop-test .taken)
 
 loop-again : tie.Need-loop-again Inv-loop μ-loop
@@ -111,7 +111,7 @@ returns-2 : tie.Need-returns-2 Inv-loop μ-loop
 unfolding checkOf
 returns-2 c =
     let l = c .before .before in
-    let e = ap (λ (b : List ℕ). length b / 16) (l .before .body-of .ensures) in
+    let e = ap (λ (b : List ℕ). length b / 16) (l .before .body-of .ensures .0) in
     c .outcome .ensures ∙ scan-ended _ _ (l .loop .i) _ (l .loop .inv) (rw e at (c .before .loop-test .left))
 
 pub check-all-spec : {M : Type 1} → statement M

@@ -53,11 +53,11 @@ S c = L c .before .before .before .before .before
 
 -- row i of the image
 row : (c : tie.After-destination-in Inv-loop μ-loop) → c .destination-in .result ≡ destinationOf (now (S c .args .image)) (L c .loop .i)
-row c = c .destination-in .ensures ∙ ap (λ (b : List ℕ). destinationIn b (L c .loop .i)) (L c .before .body-of .ensures)
+row c = c .destination-in .ensures ∙ ap (λ (b : List ℕ). destinationIn b (L c .loop .i)) (L c .before .body-of .ensures .0)
 
 inside : (c : tie.After-destination-in Inv-loop μ-loop) → L c .loop .i < destinations (now (S c .args .image))
 inside c =
-    let e = ap (λ (b : List ℕ). length b / 16) (L c .before .body-of .ensures) in
+    let e = ap (λ (b : List ℕ). length b / 16) (L c .before .body-of .ensures .0) in
     rw e at (c .before .loop-test .taken)
 
 small : (c : tie.After-destination-in Inv-loop μ-loop) → c .destination-in .result .connection < 16
@@ -157,7 +157,7 @@ same-length c = c .before .loop .inv .long
 returns : tie.Need-returns Inv-loop μ-loop
 returns c =
     let l = c .before in
-    let e = ap (λ (b : List ℕ). length b / 16) (l .before .body-of .ensures) in
+    let e = ap (λ (b : List ℕ). length b / 16) (l .before .body-of .ensures .0) in
     let w = store-end _ _ _ _ _ _ _ (l .loop .i) (l .loop .inv) (rw e at (c .loop-test .left)) in
     (ap (λ (x : Sending). x .state) w, ap (λ (x : Sending). x .memory) w)
 

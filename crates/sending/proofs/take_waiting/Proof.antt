@@ -63,7 +63,7 @@ returns-2 c =
     let a = e .before .before .before .before .before .before .before .args in (
       rw (← e .before .before .ask-at .ensures, e .enum-told .given .1) (taken-is _ (a .t2) _ _ _ _ (g .config-of .ensures) (t .take .ensures .0)),
       rw (← e .before .before .ask-at .ensures, e .enum-told .given .1)
-          (t .take .ensures .1 ∙ ap (λ (w : List ℕ). outOf (recordAt (a .t2) (a .connection)) w (now (a .out))) (t .before .before .waiting-of .ensures)),
+          (t .take .ensures .1 ∙ ap (λ (w : List ℕ). outOf (recordAt (a .t2) (a .connection)) w (now (a .out))) (t .before .before .waiting-of .ensures .0)),
     )
 
 pub take-waiting-spec : {M : Type 1} → statement M

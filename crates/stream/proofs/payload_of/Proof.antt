@@ -16,13 +16,13 @@ returns : tie.Need-returns
 returns c =
     let k = c .before in
     let a = k .before .before .before .args in
-    c .part-of .ensures ∙ sym (ap (λ (b : Bool). payloadAt (a .segment .now) (a .rx .now) b (a .at) (a .size)) (k .if1 .taken))
+    rw (k .if1 .taken) (c .part-of .ensures)
 
 returns-2 : tie.Need-returns-2
 returns-2 c =
     let k = c .before in
     let a = k .before .before .before .args in
-    c .part-of2 .ensures ∙ sym (ap (λ (b : Bool). payloadAt (a .segment .now) (a .rx .now) b (a .at) (a .size)) (k .if1 .left))
+    rw (k .if1 .left) (c .part-of2 .ensures)
 
 pub payload-of-spec : {M : Type 1} → statement M
 payload-of-spec = tie.close (tie.spec part-of-requires part-of-requires-2 returns returns-2)

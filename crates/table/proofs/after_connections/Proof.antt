@@ -44,7 +44,7 @@ returns c =
     let b = p .before .before .before .before .before in
     let s = b .args .image .now in
     then-refused (rowsPlace s Route) _ _
-    (sym (routes-place s (b .pre) _ _ _ _ (p .before .before .before .body-of .ensures) (p .before .before .rows-of .ensures .0) (p .before .first-bad-route .ensures) (p .place-of .ensures)) ∙ c .before .routes .given .1)
+    (sym (routes-place s (b .pre) _ _ _ _ (p .before .before .before .body-of .ensures .0) (p .before .before .rows-of .ensures .0) (p .before .first-bad-route .ensures) (p .place-of .ensures)) ∙ c .before .routes .given .1)
 
 returns-2 : tie.Need-returns-2
 returns-2 c =
@@ -53,8 +53,8 @@ returns-2 c =
     let b = p .before .before .before .before .before in
     let s = b .args .image .now in
     then-accepted (rowsPlace s Route) _ _
-    (sym (routes-place s (b .pre) _ _ _ _ (p .before .before .before .body-of .ensures) (p .before .before .rows-of .ensures .0) (p .before .first-bad-route .ensures) (p .place-of .ensures)) ∙ t .enum-told .given .1)
-    (destinations-place s (b .pre) _ _ _ _ (c .before .before .body-of3 .ensures) (c .before .before .before .body-of2 .ensures) (c .before .first-bad-destination .ensures) (c .place-of2 .ensures))
+    (sym (routes-place s (b .pre) _ _ _ _ (p .before .before .before .body-of .ensures .0) (p .before .before .rows-of .ensures .0) (p .before .first-bad-route .ensures) (p .place-of .ensures)) ∙ t .enum-told .given .1)
+    (destinations-place s (b .pre) _ _ _ _ (c .before .before .body-of3 .ensures .0) (c .before .before .before .body-of2 .ensures .0) (c .before .first-bad-destination .ensures) (c .place-of2 .ensures))
 
 pub after-connections-spec : {M : Type 1} → statement M
 after-connections-spec =

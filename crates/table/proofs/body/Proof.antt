@@ -1,6 +1,7 @@
 -- `table::body` meets its contract. Assumes nothing.
-use Rattle.table.specs.Table.{bodyAnswer}
-use mathlib.Core.Path.{sym, _∙_}
+use Rattle.table.specs.Table.{bodyAnswer, bodyAnswerAt}
+use mathlib.Core.Path.{refl, sym, _∙_}
+use Rattle.wire.proofs.Place.{at-front}
 use borrow.Author.Needs.{needs}
 use Rattle.table.proofs.body.Statement.{statement}
 use Rattle.table.proofs.body.Tie as tie
@@ -21,11 +22,11 @@ body-numbered-requires : tie.Need-body-numbered-requires
 body-numbered-requires c κs = search needs
 
 returns : tie.Need-returns
-unfolding bodyAnswer
-returns c = rw (sym (c .before .before .before .check-table .ensures) ∙ c .before .enum-told .given .1)
+unfolding bodyAnswer bodyAnswerAt
+returns c = rw (sym (c .before .before .before .check-table .ensures) ∙ c .before .enum-told .given .1) (refl, at-front _)
 
 returns-2 : tie.Need-returns-2
-unfolding bodyAnswer
+unfolding bodyAnswer bodyAnswerAt
 returns-2 c = rw (sym (c .before .before .before .check-table .ensures) ∙ c .before .enum-told2 .given .1) (c .body-numbered .ensures)
 
 pub body-spec : {M : Type 1} → statement M

@@ -1,5 +1,7 @@
 -- `table::body_numbered` meets its contract. Assumes nothing.
+use mathlib.Core.Path.{refl}
 use borrow.Author.Tests.{ne-eqb}
+use Rattle.wire.proofs.Place.{at-front}
 use borrow.Author.Needs.{needs}
 use Rattle.table.proofs.body_numbered.Statement.{statement}
 use Rattle.table.proofs.body_numbered.Tie as tie
@@ -32,7 +34,7 @@ returns-4 : tie.Need-returns-4
 returns-4 c = rw (c .before .match .keys4) (c .body-of4 .ensures)
 
 returns-5 : tie.Need-returns-5
-returns-5 c = rw (ne-eqb _ 1 (c .before .match .rest .0 .0 .0 .1), ne-eqb _ 2 (c .before .match .rest .0 .0 .1), ne-eqb _ 3 (c .before .match .rest .0 .1), ne-eqb _ 4 (c .before .match .rest .1))
+returns-5 c = rw (ne-eqb _ 1 (c .before .match .rest .0 .0 .0 .1), ne-eqb _ 2 (c .before .match .rest .0 .0 .1), ne-eqb _ 3 (c .before .match .rest .0 .1), ne-eqb _ 4 (c .before .match .rest .1)) (refl, at-front _)
 
 pub body-numbered-spec : {M : Type 1} → statement M
 body-numbered-spec =

@@ -48,7 +48,7 @@ returns-4 c =
     let t = b .before .before .before in
     let n = t .before .before in
     let a = n .before .before .before .args in
-    a-step (a .image .now) (a .connection) (a .switches) (a .datagram .now) (a .place) _ (n .rows-of .ensures .0) (t .before .if1 .left) _ (t .is-tcp .ensures) (b .before .before .if2 .left) (b .before .if3 .left) _ _ (b .body-of .ensures) (c .walk .ensures)
+    a-step (a .image .now) (a .connection) (a .switches) (a .datagram .now) (a .place) _ (n .rows-of .ensures .0) (t .before .if1 .left) _ (t .is-tcp .ensures) (b .before .before .if2 .left) (b .before .if3 .left) _ _ (b .body-of .ensures .0) (c .walk .ensures)
 
 pub walk-accepted-spec : {M : Type 1} → statement M
 walk-accepted-spec =

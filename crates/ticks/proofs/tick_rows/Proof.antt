@@ -54,7 +54,7 @@ loop-again c =
     let r = b .before in
     let a = r .before .before .before .args in
     let h : b .loop .i < length (a .state .connections) = omega arith in
-    (omega arith, b .loop .inv .1, b .loop .inv .2, tick-turn _ _ _ _ _ _ h (b .loop .inv .3) (config-bodies _ _ _ _ _ (r .before .body-of .ensures) (r .body-of2 .ensures) refl) (c .tick-one .ensures))
+    (omega arith, b .loop .inv .1, b .loop .inv .2, tick-turn _ _ _ _ _ _ h (b .loop .inv .3) (config-bodies _ _ _ _ _ (r .before .body-of .ensures .0) (r .body-of2 .ensures .0) refl) (c .tick-one .ensures))
 
 returns : tie.Need-returns Inv-loop μ-loop
 unfolding tickedTo

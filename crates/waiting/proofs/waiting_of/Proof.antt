@@ -1,5 +1,7 @@
 -- `waiting::waiting_of` meets its contract. Assumes nothing.
 use Rattle.waiting.proofs.Taken.{wait-past, wait-short, wait-whole}
+use native.Mathlib.Omega.{arith}
+use Rattle.wire.proofs.Place.{from-there, from-past}
 use borrow.Author.Needs.{needs}
 use Rattle.waiting.proofs.waiting_of.Statement.{statement}
 use Rattle.waiting.proofs.waiting_of.Tie as tie
@@ -11,7 +13,7 @@ slice-aggregate-result : tie.Need-slice-aggregate-result
 slice-aggregate-result c = search needs
 
 returns : tie.Need-returns
-returns c = wait-past _ _ _ (c .before .if1 .taken)
+returns c = (wait-past _ _ _ (c .before .if1 .taken), from-past _ _ _ (c .before .if1 .taken))
 
 sub-if2 : tie.Need-sub-if2
 sub-if2 c = search needs
@@ -26,7 +28,7 @@ part-result-end : tie.Need-part-result-end
 part-result-end c = search needs
 
 returns-2 : tie.Need-returns-2
-returns-2 c = wait-short _ _ _ (c .before .if2 .taken)
+returns-2 c = (wait-short _ _ _ (c .before .if2 .taken), from-there _ _ _ (omega arith))
 
 add-result : tie.Need-add-result
 add-result c = search needs
@@ -41,7 +43,7 @@ part-result-end-2 : tie.Need-part-result-end-2
 part-result-end-2 c = search needs
 
 returns-3 : tie.Need-returns-3
-returns-3 c = wait-whole _ _ _
+returns-3 c = (wait-whole _ _ _, from-there _ _ _ (omega arith))
 
 pub waiting-of-spec : {M : Type 1} → statement M
 waiting-of-spec =
