@@ -27,7 +27,7 @@ use Rattle.walk.specs.Walk.{wholeAt, stepOf, walkAt}
 use Rattle.part.specs.declared.Part.{Part}
 use Rattle.part.specs.declared.Part.the-variants.{Header, Payload, Skip}
 use Rattle.route.specs.Route.{rowsIn, lookupOf}
-use Rattle.route.proofs.Laws.{accepted}
+use Rattle.route.proofs.Decided.{accepted}
 use Rattle.state.specs.declared.State.{State}
 use Rattle.state.specs.State.{recordAt}
 use Rattle.state.specs.Fresh.{configOf}
@@ -78,7 +78,7 @@ few-rows routes = go (leb (length routes / 16) 64) refl
     go false e = omega arith
 
 accepted-row : (routes : List ℕ) (k switches i n r : ℕ) → lookupOf routes k switches i n ≡ Decided.Accept r → r < 64
-accepted-row routes k switches i n r e = omega (arith, accepted routes k switches i n r e .there, few-rows routes)
+accepted-row routes k switches i n r e = omega (arith, accepted routes k switches i n r e .bears .there, few-rows routes)
 
 owned-small : (routes : List ℕ) (k : ℕ) (p : Part) → Limits routes → PartHolds (Owns routes k) p → PartHolds Within p
 owned-small routes k (Header held value) limits o = tt
