@@ -1,14 +1,14 @@
 -- WHICH NUMBERS (document 01, "Answer numbers"): from any table, state and memory each event is answered one of the numbers listed for it.
 -- Assumes nothing.
-use Prim.Native.Nat.{ℕ, zero, suc, _+_, _<_}
+use Prim.Native.Nat.{ℕ, _+_}
 use mathlib.Core.Path.{_≡_, refl, sym, subst}
 use mathlib.Core.Bool.{Bool, true, false, cond, not, _||_, or-true}
 use mathlib.Core.List.{List, [], _∷_, _++_}
-use native.Mathlib.Omega.{arith}
 use lib.Dec.{eqb, leb, ltb}
 use lib.ListN.{length, replicate}
 use borrow.Author.Tests.{ltb-true}
-use Rattle.lists.specs.Search.{badFrom, firstBad, every}
+use Rattle.lists.specs.Search.{firstBad, every}
+use Rattle.lists.proofs.Search.{found-bad}
 use Rattle.lists.proofs.Both.{impossible}
 use Rattle.layout.specs.Layout.{rowsOf}
 use Rattle.layout.specs.declared.Kind.the-variants.{Connection as Connections, Group}
@@ -60,17 +60,6 @@ use Rattle.sending.specs.Sending.{notSent, sendOf, notTaken, takePast, takenOf}
 use Rattle.world.specs.Events.{change, segment, walk, take, datagram, accept, tick, transmit, switchAll, readCount, clearCount, Event, on, all}
 use Rattle.tie.specs.Machine.{Machine}
 use Rattle.demands.specs.Numbers.{numberOf, numbersFor, among}
-
--- the first bad one, where there is one, is bad
-bad-at : (good : ℕ → Bool) (n k : ℕ) → badFrom good n k < k + n → good (badFrom good n k) ≡ false
-unfolding badFrom
-bad-at good zero k h = absurd (omega arith)
-bad-at good (suc n) k h = go (good k) refl h (bad-at good n (suc k))
-  where
-    go : (b : Bool) → good k ≡ b → cond b (badFrom good n (suc k)) k < k + suc n → (badFrom good n (suc k) < suc k + n → good (badFrom good n (suc k)) ≡ false)
-        → good (cond b (badFrom good n (suc k)) k) ≡ false
-    go true e l rest = rest (omega arith)
-    go false e l rest = e
 
 -- a number among some is among more
 sooner : (n : ℕ) (xs ys : List ℕ) → among n xs ≡ true → among n (xs ++ ys) ≡ true
@@ -292,7 +281,7 @@ module _ (image : List ℕ) (m : Machine) where
         go : (x y z : Bool) → ltb k rows ≡ z → Checked (cond x Sent.NoDestination (cond y Sent.SwitchedOff (cond z (Sent.RefusedAt (look k) k) Sent.Stored)))
         go true y z p = tt
         go false true z p = tt
-        go false false true p = look-refuses k (bad-at (λ i. passes (look i)) rows 0 (omega (arith, ltb-true k rows p)))
+        go false false true p = look-refuses k (found-bad (λ i. passes (look i)) rows (ltb-true k rows p))
         go false false false p = tt
 
     -- "the first refusal deciding with its destination named": by 4, 7 or 8

@@ -2,7 +2,7 @@
 use Prim.Native.Nat.{ℕ, zero, suc, _+_, _-_, _<_, _≤_}
 use mathlib.Core.Path.{_≡_, refl, sym, ap, _∙_}
 use mathlib.Core.Logic.{⊎-elim}
-use mathlib.Core.Bool.{Bool, true, false}
+use mathlib.Core.Bool.{Bool, true, false, cond}
 use native.Mathlib.Nat.{eq-or-lt-of-le, le-of-suc-le-suc, not-suc-le-zero, sub-zero}
 use native.Mathlib.Numerals.{add-one}
 use native.Mathlib.Omega.{arith}
@@ -87,3 +87,17 @@ module _ (good : ℕ → Bool) where
 
   pub none-bad : (n : ℕ) → n ≤ firstBad good n → (i : ℕ) → i < n → good i ≡ true
   none-bad n h i l = from-none n 0 (omega arith) i (omega arith) (omega arith)
+
+  -- the first bad one, where there is one, is bad
+  from-some : (n k : ℕ) → badFrom good n k < k + n → good (badFrom good n k) ≡ false
+  unfolding badFrom
+  from-some zero k h = absurd (omega arith)
+  from-some (suc n) k h = go (good k) refl h (from-some n (suc k))
+    where
+      go : (b : Bool) → good k ≡ b → cond b (badFrom good n (suc k)) k < k + suc n
+          → (badFrom good n (suc k) < suc k + n → good (badFrom good n (suc k)) ≡ false) → good (cond b (badFrom good n (suc k)) k) ≡ false
+      go true p l rest = rest (omega arith)
+      go false p l rest = p
+
+  pub found-bad : (n : ℕ) → firstBad good n < n → good (firstBad good n) ≡ false
+  found-bad n h = from-some n 0 (omega arith)

@@ -20,7 +20,7 @@ use Rattle.reason.specs.Spots.{placeOf, rowSpot, spotOf}
 use Rattle.reason.specs.Good.{There, goodAt}
 use Rattle.reason.specs.declared.Spot.{Spot}
 use Rattle.reason.specs.declared.Spot.the-variants.{Head, Entry, Total, Row}
-use Rattle.reason.proofs.Shares.{found-bad}
+use Rattle.lists.proofs.Search.{found-bad}
 use Rattle.reason.proofs.Ways.{in-groups, in-connections, in-routes, in-destinations}
 
 -- what follows from a refusal of either follows from the refusal of the two

@@ -1,14 +1,14 @@
 -- A row shares what it may not with an earlier one exactly where the search for the first such row ends before it; and
 -- where it is told to share with a row, it does. Assumes nothing.
-use Prim.Native.Nat.{ℕ, zero, suc, _+_, _<_, _≤_}
+use Prim.Native.Nat.{ℕ, _<_, _≤_}
 use mathlib.Core.Path.{_≡_, refl, sym, ap, _∙_}
 use mathlib.Core.Bool.{Bool, true, false, cond, false≢true}
 use mathlib.Core.List.{List}
 use native.Mathlib.Decide.{decLe}
 use native.Mathlib.Omega.{arith}
 use borrow.Author.Tests.{not-false}
-use Rattle.lists.specs.Search.{badFrom, firstBad, every}
-use Rattle.lists.proofs.Search.{none-bad, every-all, pass-failed}
+use Rattle.lists.specs.Search.{firstBad, every}
+use Rattle.lists.proofs.Search.{none-bad, found-bad, every-all, pass-failed}
 use Rattle.wire.specs.Be.{be}
 use Rattle.layout.specs.Layout.{rowsOf, bodyOf, rowOf}
 use Rattle.layout.specs.declared.Kind.{Kind}
@@ -34,22 +34,9 @@ use Rattle.reason.specs.declared.Fault.the-variants.{
 use Rattle.reason.specs.declared.Told.{Told}
 
 module _ (good : ℕ → Bool) where
-  from-some : (n k : ℕ) → badFrom good n k < k + n → good (badFrom good n k) ≡ false
-  unfolding badFrom
-  from-some zero k h = absurd (omega arith)
-  from-some (suc n) k h = go (good k) refl (λ l. from-some n (suc k) l) h
-    where
-      go : (b : Bool) → good k ≡ b → (badFrom good n (suc k) < suc k + n → good (badFrom good n (suc k)) ≡ false)
-          → cond (good k) (badFrom good n (suc k)) k < k + suc n → good (cond (good k) (badFrom good n (suc k)) k) ≡ false
-      go true p rest l = let l′ : badFrom good n (suc k) < k + suc n = rw p at l in rw p (rest (omega arith))
-      go false p rest l = ap good (ap (λ (b : Bool). cond b (badFrom good n (suc k)) k) p) ∙ p
-
-  -- the first bad one is bad, and then not every one is good
-  pub found-bad : (n : ℕ) → firstBad good n < n → good (firstBad good n) ≡ false
-  found-bad n h = from-some n 0 (omega arith)
-
+  -- the first bad one is bad, so not every one is good
   some-bad : (n : ℕ) → firstBad good n < n → every good n ≡ false
-  some-bad n h = sym (pass-failed good n (firstBad good n) h (found-bad n h))
+  some-bad n h = sym (pass-failed good n (firstBad good n) h (found-bad good n h))
 
   all-good : (n : ℕ) → n ≤ firstBad good n → every good n ≡ true
   all-good n h = every-all good n (none-bad good n h)

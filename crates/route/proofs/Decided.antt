@@ -1,6 +1,6 @@
 -- WHY EACH DECISION ON A HEADER IS GIVEN (`lookup-decided`), and that it is given exactly then (`decided-lookup`, where no two routes
 -- share connection and id). Assumes nothing.
-use Prim.Native.Nat.{ℕ, zero, suc, _+_, _<_, _≤_}
+use Prim.Native.Nat.{ℕ, _<_, _≤_}
 use mathlib.Core.Path.{_≡_, refl, sym, ap, subst, _∙_}
 use mathlib.Core.Bool.{Bool, true, false, cond, not}
 use mathlib.Core.List.{List}
@@ -11,29 +11,17 @@ use lib.Dec.{ltb, eqb}
 use Rattle.feed.specs.declared.Decision.{Decision}
 use Rattle.feed.specs.declared.Decision.the-variants.{Accept}
 use Rattle.feed.specs.On.{isOn}
-use Rattle.lists.specs.Search.{badFrom}
 use Rattle.lists.proofs.Both.{and-left, and-right, and-both, impossible}
-use Rattle.lists.proofs.Search.{none-bad}
+use Rattle.lists.proofs.Search.{none-bad, found-bad}
 use Rattle.rows.specs.declared.RouteRow.{RouteRow}
 use Rattle.rows.specs.Rows.{routeIn}
 use Rattle.route.specs.Route.{rowsIn, counts, passed, rowFor, reasonIn, reasonOf, decisionOf, lookupOf}
 use Rattle.route.specs.Decided.{Bears, Allows, Decided, allowed, no-route, off, too-long, Alone}
 
--- the first bad one, where there is one, is bad
-bad-from : (good : ℕ → Bool) (n k : ℕ) → badFrom good n k < k + n → good (badFrom good n k) ≡ false
-unfolding badFrom
-bad-from good zero k h = absurd (omega arith)
-bad-from good (suc n) k h = go (good k) refl h (bad-from good n (suc k))
-  where
-    go : (b : Bool) → good k ≡ b → cond b (badFrom good n (suc k)) k < k + suc n
-        → (badFrom good n (suc k) < suc k + n → good (badFrom good n (suc k)) ≡ false) → good (cond b (badFrom good n (suc k)) k) ≡ false
-    go true p l more = more (omega arith)
-    go false p l more = p
-
 -- the row that the search finds, where it finds one, counts
 row-counts : (routes : List ℕ) (connection id : ℕ) → rowFor routes connection id < rowsIn routes → counts (routeIn routes (rowFor routes connection id)) connection id ≡ true
 unfolding rowFor
-row-counts routes connection id h = not-false _ (bad-from (passed routes connection id) (rowsIn routes) 0 (omega arith))
+row-counts routes connection id h = not-false _ (found-bad (passed routes connection id) (rowsIn routes) h)
 
 row-named : (row : RouteRow) (connection id : ℕ) → counts row connection id ≡ true → (row .connection ≡ connection) × (row .id ≡ id)
 unfolding counts
