@@ -19,9 +19,8 @@ use Rattle.tie.specs.Run.{afterEvent, given, afterRun, givenIn, Good}
 use Rattle.demands.specs.Three.{Demand3}
 use Rattle.demands.proofs.Three.{demand-3}
 use Rattle.dispatched.specs.Spelt.{eventsOf, Spoken, speltBy, spelt, CallBytes, afterCall}
-use Rattle.dispatched.specs.Told.{tellsOf}
-use Rattle.dispatched.specs.Read.{readOf, toldBy, toldIn}
-use Rattle.dispatched.specs.Answer.{answerBy}
+use Rattle.dispatched.specs.Told.{tellsOf, tellsBy, tellsIn}
+use Rattle.dispatched.specs.Read.{toldBy, toldIn}
 use Rattle.dispatched.specs.Three.{CallsAlike}
 use Rattle.dispatched.proofs.Takes.{segment-told}
 use Rattle.dispatched.proofs.Fits.{answers-read}
@@ -56,16 +55,21 @@ module _ (image : List ℕ) (k : ℕ) where
   call-tells m body (ReadCount protocol) = refl
   call-tells m body (ClearCount protocol) = refl
 
-  -- ONE CALL
-  pub dispatched-tells : (m : Machine) (c : Spoken) → Bytes (c .body) → toldBy image k m c ≡ givenIn image k m (speltBy c)
-  unfolding toldBy speltBy givenIn
-  dispatched-tells m c bytes = go (ltb (length (c .out)) room)
+  -- ONE CALL, by the takes or the walk that it answers; and by the bytes of its answer
+  call-told : (m : Machine) (c : Spoken) → tellsBy image k m c ≡ givenIn image k m (speltBy c)
+  unfolding tellsBy speltBy givenIn
+  call-told m c = go (ltb (length (c .out)) room)
     where
-      go : (b : Bool)
-          → cond b [] (readOf k (c .body) (callOf (c .number) (c .body)) (answerBy image m c))
-          ≡ givenIn image k m (cond b [] (eventsOf (c .body) (callOf (c .number) (c .body))))
+      go : (b : Bool) → cond b [] (tellsOf image k m (c .body) (callOf (c .number) (c .body))) ≡ givenIn image k m (cond b [] (eventsOf (c .body) (callOf (c .number) (c .body))))
       go true = refl
-      go false = answers-read image k m c bytes ∙ call-tells m (c .body) (callOf (c .number) (c .body))
+      go false = call-tells m (c .body) (callOf (c .number) (c .body))
+
+  call-read : (m : Machine) (c : Spoken) → Bytes (c .body) → toldBy image k m c ≡ tellsBy image k m c
+  unfolding toldBy tellsBy
+  call-read m c bytes = ap (λ (l : List Pdu). cond (ltb (length (c .out)) room) [] l) (answers-read image k m c bytes)
+
+  pub dispatched-tells : (m : Machine) (c : Spoken) → Bytes (c .body) → toldBy image k m c ≡ givenIn image k m (speltBy c)
+  dispatched-tells m c bytes = call-read m c bytes ∙ call-told m c
 
   given-append : (m : Machine) (es fs : List Event) → givenIn image k m (es ++ fs) ≡ givenIn image k m es ++ givenIn image k (afterRun image m es) fs
   unfolding givenIn afterRun
@@ -75,22 +79,45 @@ module _ (image : List ℕ) (k : ℕ) where
       ∙ sym (append-assoc (given image k e m) (givenIn image k (afterEvent image e m) es) (givenIn image k (afterRun image (afterEvent image e m) es) fs))
 
   -- CALLS one after the other
-  pub calls-told : (m : Machine) (cs : List Spoken) → CallBytes cs → toldIn image k m cs ≡ givenIn image k m (spelt cs)
-  unfolding toldIn spelt givenIn
-  calls-told m [] bytes = refl
-  calls-told m (c ∷ cs) (bytes, later) =
-      ap₂ _++_ (dispatched-tells m c bytes)
-      (calls-told (afterCall image c m) cs later ∙ ap (λ (n : Machine). givenIn image k n (spelt cs)) (dispatched-events image m c))
+  pub calls-tell : (m : Machine) (cs : List Spoken) → tellsIn image k m cs ≡ givenIn image k m (spelt cs)
+  unfolding tellsIn spelt givenIn
+  calls-tell m [] = refl
+  calls-tell m (c ∷ cs) =
+      ap₂ _++_ (call-told m c)
+      (calls-tell (afterCall image c m) cs ∙ ap (λ (n : Machine). givenIn image k n (spelt cs)) (dispatched-events image m c))
       ∙ sym (given-append m (speltBy c) (spelt cs))
 
--- DEMAND 3, of the dispatcher: calls that spell same runs end in the same state, and their answers have told the same PDUs, exactly demand 2's
-pub calls-demand-3 : (image : List ℕ) (m : Machine) → Good image m → (cs ds : List Spoken) → CallBytes cs → CallBytes ds → Same (spelt cs) (spelt ds) → CallsAlike image m cs ds
-calls-demand-3 image m good cs ds bytes others alike = go (demand-3 image m good alike (spelt-bytes cs bytes))
+  calls-read : (m : Machine) (cs : List Spoken) → CallBytes cs → toldIn image k m cs ≡ tellsIn image k m cs
+  unfolding toldIn tellsIn
+  calls-read m [] bytes = refl
+  calls-read m (c ∷ cs) (bytes, later) = ap₂ _++_ (call-read m c bytes) (calls-read (afterCall image c m) cs later)
+
+  pub calls-told : (m : Machine) (cs : List Spoken) → CallBytes cs → toldIn image k m cs ≡ givenIn image k m (spelt cs)
+  calls-told m cs bytes = calls-read m cs bytes ∙ calls-tell m cs
+
+-- DEMAND 3, of the dispatcher: calls that spell same runs end in the same state, and have told the same PDUs, exactly demand 2's: by the takes
+-- and walks that they answer ..
+pub calls-alike : (image : List ℕ) (m : Machine) → Good image m → (cs ds : List Spoken) → CallBytes cs → Same (spelt cs) (spelt ds)
+    → CallsAlike (tellsIn image) image m cs ds
+calls-alike image m good cs ds bytes alike = go (demand-3 image m good alike (spelt-bytes cs bytes))
   where
-    go : Demand3 image m (spelt cs) (spelt ds) → CallsAlike image m cs ds
+    go : Demand3 image m (spelt cs) (spelt ds) → CallsAlike (tellsIn image) image m cs ds
     go d =
         record {
           state = ap seen (calls-run image m cs) ∙ d .state ∙ ap seen (sym (calls-run image m ds));
-          pdus = λ k. calls-told image k m cs bytes ∙ d .pdus k ∙ sym (calls-told image k m ds others);
-          list = λ k there tcp. calls-told image k m cs bytes ∙ d .list k there tcp;
+          pdus = λ k. calls-tell image k m cs ∙ d .pdus k ∙ sym (calls-tell image k m ds);
+          list = λ k there tcp. calls-tell image k m cs ∙ d .list k there tcp;
+        }
+
+-- .. and by the bytes of their answers
+pub calls-demand-3 : (image : List ℕ) (m : Machine) → Good image m → (cs ds : List Spoken) → CallBytes cs → CallBytes ds → Same (spelt cs) (spelt ds)
+    → CallsAlike (toldIn image) image m cs ds
+calls-demand-3 image m good cs ds bytes others alike = go (calls-alike image m good cs ds bytes alike)
+  where
+    go : CallsAlike (tellsIn image) image m cs ds → CallsAlike (toldIn image) image m cs ds
+    go d =
+        record {
+          state = d .state;
+          pdus = λ k. calls-read image k m cs bytes ∙ d .pdus k ∙ sym (calls-read image k m ds others);
+          list = λ k there tcp. calls-read image k m cs bytes ∙ d .list k there tcp;
         }

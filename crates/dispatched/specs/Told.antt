@@ -14,10 +14,12 @@ use Rattle.receive.specs.Segment.{payloadOf}
 use Rattle.receive.specs.Walk.{walkOf}
 use Rattle.calls.specs.declared.Call.{Call}
 use Rattle.calls.specs.declared.Call.the-variants.{Unknown, Unfit, Ticks, Open, Close, Connected, Lost, SetRemote, Switch, Segment, Walk, TakeWaiting, Datagram, Accept, Transmit, SwitchAll, ReadCount, ClearCount}
-use Rattle.calls.specs.Calls.{bytesFrom}
+use Rattle.calls.specs.Calls.{callOf, bytesFrom}
 use Rattle.answer_receive.specs.Segment.{takeBytes, Run, begun, takeAt, memoryAt, step}
 use Rattle.tie.specs.Machine.{Machine}
 use Rattle.tie.specs.Run.{toldWalk}
+use Rattle.dispatch.specs.Dispatch.{room}
+use Rattle.dispatched.specs.Spelt.{Spoken, afterCall}
 
 -- ONE TAKE THAT IS NOT REFUSED: where in the segment it began, the bytes read, what it found, and the payload that it handed out
 pub record Take : Type 0 where
@@ -92,3 +94,12 @@ module _ (image : List ℕ) (k : ℕ) where
   tellsOf m body (SwitchAll number position) = []
   tellsOf m body (ReadCount protocol) = []
   tellsOf m body (ClearCount protocol) = []
+
+  -- an out buffer that is too short has no answer
+  unfoldable pub tellsBy : Machine → Spoken → List Pdu
+  tellsBy m c = cond (ltb (length (c .out)) room) [] (tellsOf m (c .body) (callOf (c .number) (c .body)))
+
+  -- .. and calls one after the other
+  unfoldable pub tellsIn : Machine → List Spoken → List Pdu
+  tellsIn m [] = []
+  tellsIn m (c ∷ cs) = tellsBy m c ++ tellsIn (afterCall image c m) cs
