@@ -24,6 +24,7 @@ use Rattle.state.specs.declared.State.{State}
 use Rattle.state.specs.State.{recordAt, withRecord}
 use Rattle.state.specs.Fresh.{configOf}
 use Rattle.route.specs.Route.{lookupOf}
+use Rattle.gate.specs.Lent.{lent}
 use Rattle.gate.proofs.Pass.{passed-gate-at}
 use Rattle.stream.specs.Stream.{cellOf, idOf, tookOf, takenOf}
 use Rattle.state.specs.Memory.{stretch}
@@ -45,7 +46,7 @@ use Rattle.answer_receive.proofs.Size.{most, most-all, most-least, take
 -- what nothing refuses is done
 clear-done : (image : List ℕ) (s : State) (rx tx k : ℕ) (allowed : Bool) → Clear image s rx tx k allowed → isDone (answerOf image s rx tx k allowed) ≡ true
 unfolding answerOf judgedOf
-clear-done image s rx tx k allowed c = rw (passed-gate-at image s rx tx k (c .passed) (c .there), c .allows, c .receives) refl
+clear-done image s rx tx k allowed c = rw (passed-gate-at (lent image s rx tx) k (c .passed) (c .there), c .allows, c .receives) refl
 
 bytes-of-within : (a : Answer) (x : List ℕ) → length (bytesOf a x) ≤ length x
 bytes-of-within Done x = omega arith

@@ -14,6 +14,7 @@ use Rattle.send.specs.declared.Transmission.the-variants.{Stored, Refused as No
 use Rattle.waiting.specs.declared.Taking.{Taking}
 use Rattle.waiting.specs.declared.Taking.the-variants.{Bytes, Refused as NotTaken, Short}
 use Rattle.sending.specs.Sending.{sendOf, sentMemory, takenOf, takenOut}
+use Rattle.gate.specs.Lent.{lent}
 use Rattle.answering.specs.Answers.{Effect, answers, refused, refusal, done, doneWith, waiting}
 
 -- "datagram, accept: connection (1)"
@@ -45,10 +46,10 @@ arrived a rx tx out = answers (arrivalBytes (a .answer)) (a .state) rx tx out
 
 module _ (image : List ℕ) (s : State) (rx tx out : List ℕ) where
   unfoldable pub datagramEffect : ℕ → Remote → Effect
-  datagramEffect group source = arrived (datagramOf image s (length rx) (length tx) group source) rx tx out
+  datagramEffect group source = arrived (datagramOf (lent image s (length rx) (length tx)) group source) rx tx out
 
   unfoldable pub acceptEffect : ℕ → Remote → Effect
-  acceptEffect group source = arrived (acceptOf image s (length rx) (length tx) group source) rx tx out
+  acceptEffect group source = arrived (acceptOf (lent image s (length rx) (length tx)) group source) rx tx out
 
   unfoldable pub transmitEffect : ℕ → List ℕ → Effect
   transmitEffect pdu payload =

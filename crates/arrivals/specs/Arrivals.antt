@@ -2,21 +2,19 @@
 -- carries its number, and the state stays. Assumes nothing.
 use Prim.Native.Nat.{ℕ}
 use mathlib.Core.Bool.{Bool, true, false}
-use mathlib.Core.List.{List}
 use Rattle.connection.specs.declared.Remote.{Remote}
-use Rattle.state.specs.declared.State.{State}
+use Rattle.gate.specs.Lent.{Lent}
 use Rattle.gate.specs.Gate.{gateOf, through}
 use Rattle.choose.specs.declared.Arrived.{Arrived}
 use Rattle.choose.specs.Choose.{refusedBy, arriveOf}
 
--- lent rx bytes of receive memory and tx bytes of send memory
-unfoldable pub arrivalOf : List ℕ → State → ℕ → ℕ → Bool → ℕ → Remote → Arrived
-arrivalOf image s rx tx accept group source = through (gateOf image s rx tx) (refusedBy s) (arriveOf image s accept group source)
+unfoldable pub arrivalOf : Lent → Bool → ℕ → Remote → Arrived
+arrivalOf l accept group source = through (gateOf l) (refusedBy (l .state)) (arriveOf (l .image) (l .state) accept group source)
 
 -- "A datagram event names a UDP group and a source"
-abbrev pub datagramOf : List ℕ → State → ℕ → ℕ → ℕ → Remote → Arrived
-datagramOf image s rx tx group source = arrivalOf image s rx tx false group source
+abbrev pub datagramOf : Lent → ℕ → Remote → Arrived
+datagramOf l group source = arrivalOf l false group source
 
 -- "An accept event does the same for a TCP group"
-abbrev pub acceptOf : List ℕ → State → ℕ → ℕ → ℕ → Remote → Arrived
-acceptOf image s rx tx group source = arrivalOf image s rx tx true group source
+abbrev pub acceptOf : Lent → ℕ → Remote → Arrived
+acceptOf l group source = arrivalOf l true group source

@@ -1,8 +1,8 @@
 // The entry points of selection: a datagram for a UDP group, an accept for a TCP group. Each is lent image, state and both
 // memories, and answers any of them. Assumes nothing: no entry relies on its caller.
 ghost use mathlib.Core.Path.{_≡_};
-ghost use lib.ListN.{length};
 ghost use Rattle.arrivals.specs.Arrivals.{arrivalOf, datagramOf, acceptOf};
+ghost use Rattle.gate.specs.Lent.{lent, lentBy};
 use choose::Arrival;
 use choose::Arrived;
 use connection::Remote;
@@ -18,7 +18,7 @@ fn arrive(
     group: u8,
     source: Remote,
 ) -> Arrived
-    ensures { λ r. ⌜ r ≡ arrivalOf (now (image .entry)) state rx tx accept group source ⌝ }
+    ensures { λ r. ⌜ r ≡ arrivalOf (lent (now (image .entry)) state rx tx) accept group source ⌝ }
 {
     let asked = gate::ask(image, state, rx, tx);
     match asked {
@@ -38,7 +38,7 @@ pub fn datagram(
     group: u8,
     source: Remote,
 ) -> Arrived
-    ensures { λ r. ⌜ r ≡ datagramOf (now (image .entry)) state (length (now (rx .entry))) (length (now (tx .entry))) group source ⌝ }
+    ensures { λ r. ⌜ r ≡ datagramOf (lentBy (now (image .entry)) state (now (rx .entry)) (now (tx .entry))) group source ⌝ }
 {
     arrive(image, state, rx.len(), tx.len(), false, group, source)
 }
@@ -51,7 +51,7 @@ pub fn accept(
     group: u8,
     source: Remote,
 ) -> Arrived
-    ensures { λ r. ⌜ r ≡ acceptOf (now (image .entry)) state (length (now (rx .entry))) (length (now (tx .entry))) group source ⌝ }
+    ensures { λ r. ⌜ r ≡ acceptOf (lentBy (now (image .entry)) state (now (rx .entry)) (now (tx .entry))) group source ⌝ }
 {
     arrive(image, state, rx.len(), tx.len(), true, group, source)
 }

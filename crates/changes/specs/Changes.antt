@@ -19,6 +19,7 @@ use Rattle.connection.specs.declared.Event.the-variants.{Open, Close, Connected
 use Rattle.connection.specs.Connection.{withMode, withRemote, withSwitches, withSend, become}
 use Rattle.state.specs.declared.State.{State}
 use Rattle.state.specs.State.{recordAt, withRecord, withCount}
+use Rattle.gate.specs.Lent.{lent}
 use Rattle.gate.specs.Sound.{soundState}
 use Rattle.events.specs.Change.{eventOf, lossOf}
 use Rattle.events.specs.Module.{switchAllOf}
@@ -127,10 +128,10 @@ abbrev pub ticks : ℕ → State → State
 ticks count s = ticksEvent image s 23424 23552 count .state
 
 abbrev pub datagram : ℕ → Remote → State → State
-datagram group source s = datagramOf image s 23424 23552 group source .state
+datagram group source s = datagramOf (lent image s 23424 23552) group source .state
 
 abbrev pub accept : ℕ → Remote → State → State
-accept group source s = acceptOf image s 23424 23552 group source .state
+accept group source s = acceptOf (lent image s 23424 23552) group source .state
 
 abbrev pub segment : ℕ → List ℕ → State → State
 segment k bytes s = segmentOf image s receiveMemory 23552 k bytes .state

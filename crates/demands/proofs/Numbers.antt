@@ -28,6 +28,7 @@ use Rattle.connection.specs.Event.{answerNumber, receiving, known, allowed, aft
 use Rattle.state.specs.declared.State.{State}
 use Rattle.state.specs.State.{recordAt}
 use Rattle.state.specs.Fresh.{configOf}
+use Rattle.gate.specs.Lent.{lent}
 use Rattle.gate.specs.declared.Gate.{Gate}
 use Rattle.gate.specs.declared.Gate.the-variants.{Pass, Refused}
 use Rattle.gate.specs.Gate.{gateOf, gateAt, thenThere, through}
@@ -87,7 +88,7 @@ module _ (image : List ℕ) (m : Machine) where
   tx = length (m .tx)
 
   -- the gate refuses by 11 or 12, at a connection's number by 2 as well
-  gate-is : (P : Gate → Type 0) → P Pass → P (Refused Memory) → P (Refused Unsound) → P (gateOf image s rx tx)
+  gate-is : (P : Gate → Type 0) → P Pass → P (Refused Memory) → P (Refused Unsound) → P (gateOf (lent image s rx tx))
   unfolding gateOf
   gate-is P pass memory unsound = go (not (eqb rx 23424) || not (eqb tx 23552)) (soundState image s)
     where
@@ -96,7 +97,7 @@ module _ (image : List ℕ) (m : Machine) where
       go false true = pass
       go false false = unsound
 
-  gate-at : (k : ℕ) (P : Gate → Type 0) → P Pass → P (Refused Memory) → P (Refused Unsound) → P (Refused Missing) → P (gateAt image s rx tx k)
+  gate-at : (k : ℕ) (P : Gate → Type 0) → P Pass → P (Refused Memory) → P (Refused Unsound) → P (Refused Missing) → P (gateAt (lent image s rx tx) k)
   unfolding gateAt
   gate-at k P pass memory unsound missing =
       gate-is (λ g. P (thenThere (ltb k (rowsOf image Connections)) g)) (go (ltb k (rowsOf image Connections))) memory unsound
@@ -191,7 +192,7 @@ module _ (image : List ℕ) (m : Machine) where
       past false = refl
 
   -- a datagram, an accept: 2, 3, then 10
-  arrival-listed : (a : Bool) (group : ℕ) (source : Remote) → among (arrivalNumber (arrivalOf image s rx tx a group source .answer)) (11 ∷ 12 ∷ 2 ∷ 3 ∷ 10 ∷ 0 ∷ []) ≡ true
+  arrival-listed : (a : Bool) (group : ℕ) (source : Remote) → among (arrivalNumber (arrivalOf (lent image s rx tx) a group source .answer)) (11 ∷ 12 ∷ 2 ∷ 3 ∷ 10 ∷ 0 ∷ []) ≡ true
   unfolding arrivalOf arriveOf among
   arrival-listed a group source =
       gate-is (λ g. Met (through g (notMet s) (arriveOf image s a group source)))
@@ -220,7 +221,7 @@ module _ (image : List ℕ) (m : Machine) where
       past false = refl
 
   count-listed : (f : Bool → Counted) → ((b : Bool) → countNumber (f b .answer) ≡ 0) → (p : ℕ)
-      → among (countNumber (through (gateOf image s rx tx) (uncounted s) (ofProtocol f (uncounted s Denied) p) .answer)) (11 ∷ 12 ∷ 3 ∷ 0 ∷ []) ≡ true
+      → among (countNumber (through (gateOf (lent image s rx tx)) (uncounted s) (ofProtocol f (uncounted s Denied) p) .answer)) (11 ∷ 12 ∷ 3 ∷ 0 ∷ []) ≡ true
   unfolding ofProtocol among
   count-listed f is p = gate-is (λ g. Counts (through g (uncounted s) (ofProtocol f (uncounted s Denied) p))) (past (eqb p 1) (eqb p 2)) refl refl
     where

@@ -18,6 +18,7 @@ use Rattle.connection.specs.Event.{answerNumber, stepOf}
 use Rattle.state.specs.declared.State.{State}
 use Rattle.state.specs.State.{recordAt}
 use Rattle.state.specs.Fresh.{configOf}
+use Rattle.gate.specs.Lent.{lent}
 use Rattle.gate.specs.declared.Gate.{Gate}
 use Rattle.gate.specs.declared.Gate.the-variants as Gated
 use Rattle.gate.specs.Gate.{gateOf, gateAt, through}
@@ -90,7 +91,7 @@ module _ (image : List ℕ) (m : Machine) where
   change-stays : (k : ℕ) (e : Change) → StaysTold (eventOf image s rx tx k e)
   unfolding eventOf changeOf
   change-stays k e =
-      past-or StaysTold (gateAt image s rx tx k) (refusedBy s) (changeOf image s k e) (λ r no-zero. refl)
+      past-or StaysTold (gateAt (lent image s rx tx) k) (refusedBy s) (changeOf image s k e) (λ r no-zero. refl)
       (λ _ no-zero. told-stays k a c (λ z. no-zero (ap answerNumber (told-answer k a c) ∙ z)))
     where
       a : Answer
@@ -132,7 +133,7 @@ module _ (image : List ℕ) (m : Machine) where
   taken-stays : (k : ℕ) (out : List ℕ) → StaysTaken (takenOf image s rx (m .tx) k out)
   unfolding takenOf
   taken-stays k out =
-      past-or StaysTaken (gateAt image s rx tx k) (notTaken s) (takePast image s k (length out)) (λ r no-zero. refl)
+      past-or StaysTaken (gateAt (lent image s rx tx) k) (notTaken s) (takePast image s k (length out)) (λ r no-zero. refl)
       (λ _. take-stays k (length out))
 
   -- a datagram, an accept
@@ -146,15 +147,15 @@ module _ (image : List ℕ) (m : Machine) where
       go false false Nobody no-zero = refl
       go false false (At k) no-zero = absurd (no-zero refl)
 
-  arrival-stays : (a : Bool) (group : ℕ) (source : Remote) → StaysArrived (arrivalOf image s rx tx a group source)
+  arrival-stays : (a : Bool) (group : ℕ) (source : Remote) → StaysArrived (arrivalOf (lent image s rx tx) a group source)
   unfolding arrivalOf
   arrival-stays a group source =
-      past-or StaysArrived (gateOf image s rx tx) (notMet s) (arriveOf image s a group source) (λ r no-zero. refl) (λ _. arrive-stays a group source)
+      past-or StaysArrived (gateOf (lent image s rx tx)) (notMet s) (arriveOf image s a group source) (λ r no-zero. refl) (λ _. arrive-stays a group source)
 
   tick-stays : StaysTicked (tickEvent image s rx tx)
   unfolding tickEvent
   tick-stays =
-      past-or StaysTicked (gateOf image s rx tx) (unticked s) (record { answer = Done; state = tickedTo image (rowsOf image Connections) s })
+      past-or StaysTicked (gateOf (lent image s rx tx)) (unticked s) (record { answer = Done; state = tickedTo image (rowsOf image Connections) s })
       (λ r no-zero. refl) (λ _ no-zero. absurd (no-zero refl))
 
   -- many under one check, which are no event of a run: they write no lent memory
@@ -162,13 +163,13 @@ module _ (image : List ℕ) (m : Machine) where
       → ticksEvent image (m .state) (length (m .rx)) (length (m .tx)) count .state ≡ m .state
   unfolding ticksEvent
   ticks-stays count =
-      past-or StaysTicked (gateOf image s rx tx) (unticked s) (record { answer = Done; state = ticksTo image (rowsOf image Connections) count s })
+      past-or StaysTicked (gateOf (lent image s rx tx)) (unticked s) (record { answer = Done; state = ticksTo image (rowsOf image Connections) count s })
       (λ r no-zero. refl) (λ _ no-zero. absurd (no-zero refl))
 
   switches-stay : (n : ℕ) (b : Bool) → StaysTold (switchAllOf image s rx tx n b)
   unfolding switchAllOf
   switches-stay n b =
-      past-or StaysTold (gateOf image s rx tx) (refusedBy s)
+      past-or StaysTold (gateOf (lent image s rx tx)) (refusedBy s)
       (cond (ltb n 32) (record { answer = Done; state = switchedAll (rowsOf image Connections) n b s }) (refusedBy s Missing)) (λ r no-zero. refl) (λ _. go (ltb n 32))
     where
       go : (x : Bool) → StaysTold (cond x (record { answer = Done; state = switchedAll (rowsOf image Connections) n b s }) (refusedBy s Missing))
@@ -176,10 +177,10 @@ module _ (image : List ℕ) (m : Machine) where
       go false no-zero = refl
 
   -- a count: read it never changes the state; cleared it does, where it is not refused
-  count-stays : (f : Bool → Counted) → ((b : Bool) → countNumber (f b .answer) ≡ 0) → (p : ℕ) → StaysCounted (through (gateOf image s rx tx) (uncounted s) (ofProtocol f (uncounted s Denied) p))
+  count-stays : (f : Bool → Counted) → ((b : Bool) → countNumber (f b .answer) ≡ 0) → (p : ℕ) → StaysCounted (through (gateOf (lent image s rx tx)) (uncounted s) (ofProtocol f (uncounted s Denied) p))
   unfolding ofProtocol
   count-stays f zero p =
-      past-or StaysCounted (gateOf image s rx tx) (uncounted s) (ofProtocol f (uncounted s Denied) p) (λ r no-zero. refl) (λ _. go (eqb p 1) (eqb p 2))
+      past-or StaysCounted (gateOf (lent image s rx tx)) (uncounted s) (ofProtocol f (uncounted s Denied) p) (λ r no-zero. refl) (λ _. go (eqb p 1) (eqb p 2))
     where
       go : (x y : Bool) → StaysCounted (cond x (f false) (cond y (f true) (uncounted s Denied)))
       go true y no-zero = absurd (no-zero (zero false))
@@ -209,7 +210,7 @@ module _ (image : List ℕ) (m : Machine) where
   transmit-stays : (pdu : ℕ) (payload : List ℕ) → (transmissionNumber (sendOf image s rx (m .tx) pdu payload .answer) ≡ 0 → ⊥)
       → machine (sendOf image s rx (m .tx) pdu payload .state) (m .rx) (sentMemory image s rx (m .tx) pdu payload) ≡ m
   unfolding sendOf sentMemory
-  transmit-stays pdu payload = go (gateOf image s rx tx)
+  transmit-stays pdu payload = go (gateOf (lent image s rx tx))
     where
       go : (g : Gate) → (transmissionNumber (through g (notSent s) (transmittedOf image s pdu payload (m .tx)) .answer) ≡ 0 → ⊥)
           → machine (through g (notSent s) (transmittedOf image s pdu payload (m .tx)) .state) (m .rx) (through g (λ r. m .tx) (transmitOf image s pdu payload (m .tx) .memory)) ≡ m

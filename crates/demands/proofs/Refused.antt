@@ -14,6 +14,7 @@ use Rattle.connection.specs.declared.Refusal.the-variants.{Memory, Unsound}
 use Rattle.connection.specs.Event.{refusalNumber}
 use Rattle.state.specs.declared.State.{State}
 use Rattle.state.specs.Fresh.{configOf}
+use Rattle.gate.specs.Lent.{lent}
 use Rattle.gate.specs.declared.Gate.{Gate}
 use Rattle.gate.specs.declared.Gate.the-variants.{Pass, Refused}
 use Rattle.gate.specs.Gate.{gateOf, gateAt}
@@ -48,7 +49,7 @@ module _ (image : List ℕ) (m : Machine) (r : Refusal) (shut : gateHere image m
   tx = length (m .tx)
 
   -- at the gate with a connection's number
-  shut-at : (k : ℕ) → gateAt image s rx tx k ≡ Refused r
+  shut-at : (k : ℕ) → gateAt (lent image s rx tx) k ≡ Refused r
   unfolding gateAt
   shut-at k = rw shut
 
@@ -138,5 +139,5 @@ pub any-run : (image : List ℕ) (m : Machine) (es : List Event) → RunBytes es
 any-run image m es b n = go (gateHere image m) refl
   where
     go : (g : Gate) → gateHere image m ≡ g → Run image m es
-    go Pass e = keeps-good e (run-good image m es b (record { passed = gate-passed image (m .state) (length (m .rx)) (length (m .tx)) e; sixteen = n }))
+    go Pass e = keeps-good e (run-good image m es b (record { passed = gate-passed (lent image (m .state) (length (m .rx)) (length (m .tx))) e; sixteen = n }))
     go (Refused r) e = leaves-all r e (run-refused image m r e es) (run-stays image m r e es)

@@ -23,6 +23,7 @@ use Rattle.walk.proofs.Trip.{round-trip as walk-trip, then-the-end}
 use Rattle.route.specs.Route.{lookupOf}
 use Rattle.receive.specs.Routes.{routesIn}
 use Rattle.table.proofs.Facts.{accepted-facts}
+use Rattle.gate.specs.Lent.{lent}
 use Rattle.gate.proofs.Pass.{passed-gate-at}
 use Rattle.keeps.proofs.Transmitted.{all-fit}
 use Rattle.turns.proofs.Entries.{waits-length, taken-bytes}
@@ -60,7 +61,7 @@ module _ (image : List ℕ) (m : Machine) (good : Good image m) (j : ℕ) (there
   out-waits room =
       let small : j < 16 = omega (arith, accepted-facts image (good .passed .table) .most Connections) in
       ap (take n)
-      (taken-bytes image (m .state) (length (m .rx)) (m .tx) j out (good .passed .sound) (passed-gate-at image (m .state) (length (m .rx)) (length (m .tx)) j (good .passed) there) room)
+      (taken-bytes image (m .state) (length (m .rx)) (m .tx) j out (good .passed .sound) (passed-gate-at (lent image (m .state) (length (m .rx)) (length (m .tx))) j (good .passed) there) room)
       ∙ take-at (waitingOf (m .tx) j n) (drop n out) n (waits-length (m .tx) j n small (good .passed .send) fits)
 
   pub given-out : recordAt (m .state) j .used ≤ length out → outgoing image m j out ≡ heldAt (seen m) j .waiting

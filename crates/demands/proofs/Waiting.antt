@@ -17,6 +17,7 @@ use Rattle.connection.specs.declared.Answer.the-variants.{Done}
 use Rattle.state.specs.declared.State.{State}
 use Rattle.state.specs.State.{recordAt}
 use Rattle.state.specs.Fresh.{configOf}
+use Rattle.gate.specs.Lent.{lent}
 use Rattle.gate.specs.declared.Gate.{Gate}
 use Rattle.gate.specs.Gate.{through}
 use Rattle.gate.proofs.Pass.{passed-gate}
@@ -145,7 +146,7 @@ module _ (image : List ℕ) (j : ℕ) (m : Machine) (good : Good image m) where
   unfolding afterEvent afterWhole
   transmit-waits pdu payload =
       transmit-turn image (m .state) (length (m .rx)) (m .tx) pdu payload (good .sixteen) (good .passed .sound) j
-      ∙ ap (λ (g : Gate). waits (m .state) (m .tx) j ++ through g (λ r. []) (addedTo image (m .state) pdu payload j)) (passed-gate image (m .state) (length (m .rx)) (length (m .tx)) (good .passed))
+      ∙ ap (λ (g : Gate). waits (m .state) (m .tx) j ++ through g (λ r. []) (addedTo image (m .state) pdu payload j)) (passed-gate (lent image (m .state) (length (m .rx)) (length (m .tx))) (good .passed))
       ∙ ap (λ (l : List ℕ). waits (m .state) (m .tx) j ++ l) (added-sent image (m .state) pdu payload j)
 
   -- ANY EVENT

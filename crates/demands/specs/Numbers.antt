@@ -20,7 +20,7 @@ use Rattle.send.specs.Verdict.{transmissionNumber}
 use Rattle.waiting.specs.Waiting.{takingNumber}
 use Rattle.sending.specs.Sending.{sendOf, takenOf}
 use Rattle.world.specs.Events.{change, segment, walk, take, datagram, accept, tick, transmit, switchAll, readCount, clearCount, Event, on, all}
-use Rattle.tie.specs.Machine.{Machine, taken}
+use Rattle.tie.specs.Machine.{Machine, lentTo, taken}
 use Rattle.tie.specs.Run.{afterEvent}
 
 module _ (image : List ℕ) (m : Machine) where
@@ -29,8 +29,8 @@ module _ (image : List ℕ) (m : Machine) where
   numberOf (on k (segment bytes)) = receiveNumber (taken image k m bytes .answer)
   numberOf (on k (walk d place)) = receiveNumber (walkOf image (m .state) (length (m .rx)) (length (m .tx)) k d place .answer)
   numberOf (on k (take room)) = takingNumber (takenOf image (m .state) (length (m .rx)) (m .tx) k (replicate room 0) .answer)
-  numberOf (all (datagram group source)) = arrivalNumber (arrivalOf image (m .state) (length (m .rx)) (length (m .tx)) false group source .answer)
-  numberOf (all (accept group source)) = arrivalNumber (arrivalOf image (m .state) (length (m .rx)) (length (m .tx)) true group source .answer)
+  numberOf (all (datagram group source)) = arrivalNumber (arrivalOf (lentTo image m) false group source .answer)
+  numberOf (all (accept group source)) = arrivalNumber (arrivalOf (lentTo image m) true group source .answer)
   numberOf (all tick) = answerNumber (tickEvent image (m .state) (length (m .rx)) (length (m .tx)) .answer)
   numberOf (all (transmit pdu payload)) = transmissionNumber (sendOf image (m .state) (length (m .rx)) (m .tx) pdu payload .answer)
   numberOf (all (switchAll number position)) = answerNumber (switchAllOf image (m .state) (length (m .rx)) (length (m .tx)) number position .answer)

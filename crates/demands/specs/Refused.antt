@@ -13,13 +13,13 @@ use Rattle.gate.specs.declared.Gate.the-variants.{Pass, Refused}
 use Rattle.gate.specs.Gate.{gateOf}
 use Rattle.gate.specs.Sound.{soundState}
 use Rattle.world.specs.Events.{Event}
-use Rattle.tie.specs.Machine.{Machine}
+use Rattle.tie.specs.Machine.{Machine, lentTo}
 use Rattle.tie.specs.Run.{afterRun, Good}
 use Rattle.demands.specs.Numbers.{numbersIn}
 
 -- what the gate says of a machine
 abbrev pub gateHere : List ℕ → Machine → Gate
-gateHere image m = gateOf image (m .state) (length (m .rx)) (length (m .tx))
+gateHere image m = gateOf (lentTo image m)
 
 -- which number it refuses with, and why: "lent receive or send memory has another length" 11; "state or table not sound" 12
 pub data Shut (image : List ℕ) (m : Machine) : ℕ → Type 0 where

@@ -16,6 +16,7 @@ use Rattle.connection.specs.declared.Answer.the-variants.{Done, Refused}
 use Rattle.connection.specs.Event.{refusalNumber}
 use Rattle.state.specs.declared.State.{State}
 use Rattle.state.specs.State.{recordAt}
+use Rattle.gate.specs.Lent.{lent}
 use Rattle.gate.specs.declared.Gate.{Gate}
 use Rattle.gate.specs.declared.Gate.the-variants as Gated
 use Rattle.gate.specs.Gate.{gateAt, through}
@@ -100,7 +101,7 @@ out-size c bytes out = go (ltb (length out) (c .used))
 
 pub taken-size : (image : List ℕ) (s : State) (rx : ℕ) (tx : List ℕ) (n : ℕ) (out : List ℕ) → length (takenOut image s rx tx n out) ≡ length out
 unfolding takenOut
-taken-size image s rx tx n out = go (gateAt image s rx (length tx) n)
+taken-size image s rx tx n out = go (gateAt (lent image s rx (length tx)) n)
   where
     go : (g : Gate) → length (through g (λ r. out) (outOf (recordAt s n) (waitingOf tx n (recordAt s n .used)) out)) ≡ length out
     go Gated.Pass = out-size (recordAt s n) (waitingOf tx n (recordAt s n .used)) out

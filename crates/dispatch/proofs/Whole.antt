@@ -34,6 +34,7 @@ use Rattle.answer_send.specs.Send.{roomOf, datagramEffect, acceptEffect, transm
 use Rattle.dispatch.specs.Dispatch.{room, effectOf, dispatchOf}
 use Rattle.dispatch.specs.Whole.{Whole, answer, unknown, unfit, small}
 use Rattle.dispatch.proofs.Calls.{Short, call-short, segment-fits, walk-fits, call-room}
+use Rattle.gate.specs.Lent.{lent}
 use Rattle.dispatch.proofs.Sizes.{told-size, loss-size, ticks-size, count-size, arrival-size, transmission-size, walked-size, taking-size, taken-size, buffer-size}
 
 module _ (image : List ℕ) (s : State) (rx tx out : List ℕ) (long : room ≤ length out) where
@@ -87,11 +88,11 @@ module _ (image : List ℕ) (s : State) (rx tx out : List ℕ) (long : room ≤ 
 
   datagram-whole : (group : ℕ) (source : Remote) → Told (datagramEffect image s rx tx out group source)
   unfolding datagramEffect
-  datagram-whole group source = laid _ (omega (arith, arrival-size (datagramOf image s (length rx) (length tx) group source .answer)))
+  datagram-whole group source = laid _ (omega (arith, arrival-size (datagramOf (lent image s (length rx) (length tx)) group source .answer)))
 
   accept-whole : (group : ℕ) (source : Remote) → Told (acceptEffect image s rx tx out group source)
   unfolding acceptEffect
-  accept-whole group source = laid _ (omega (arith, arrival-size (acceptOf image s (length rx) (length tx) group source .answer)))
+  accept-whole group source = laid _ (omega (arith, arrival-size (acceptOf (lent image s (length rx) (length tx)) group source .answer)))
 
   transmit-whole : (pdu : ℕ) (payload : List ℕ) → Told (transmitEffect image s rx tx out pdu payload)
   unfolding transmitEffect

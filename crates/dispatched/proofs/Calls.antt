@@ -9,6 +9,7 @@ use lib.ListN.{length, replicate}
 use Rattle.lengths.specs.Listed.{Bytes}
 use Rattle.lengths.proofs.Bytes.{bytes-drop}
 use Rattle.connection.specs.declared.Refusal.{Refusal}
+use Rattle.gate.specs.Lent.{lent}
 use Rattle.gate.specs.declared.Gate.the-variants.{Refused}
 use Rattle.gate.specs.Gate.{gateOf}
 use Rattle.calls.specs.declared.Call.{Call}
@@ -86,6 +87,6 @@ pub calls-good : (image : List ℕ) (m : Machine) (cs : List Spoken) → CallByt
 calls-good image m cs b g = subst (Good image) (sym (calls-run image m cs)) (run-good image m (spelt cs) (spelt-bytes cs b) g)
 
 -- .. and where the gate refuses (11, 12), calls leave state and lent memory as they were
-pub calls-stay : (image : List ℕ) (m : Machine) (r : Refusal) → gateOf image (m .state) (length (m .rx)) (length (m .tx)) ≡ Refused r → (cs : List Spoken)
+pub calls-stay : (image : List ℕ) (m : Machine) (r : Refusal) → gateOf (lent image (m .state) (length (m .rx)) (length (m .tx))) ≡ Refused r → (cs : List Spoken)
     → afterCalls image m cs ≡ m
 calls-stay image m r shut cs = calls-run image m cs ∙ run-stays image m r shut (spelt cs)

@@ -9,6 +9,7 @@ use borrow.Author.Tests.{ltb-false}
 use lib.Dec.{ltb}
 use lib.ListN.{length, take as front, replicate, length-take, length-replicate}
 use Rattle.state.specs.declared.State.{State}
+use Rattle.gate.specs.Lent.{lent}
 use Rattle.gate.specs.Gate.{gateAt, through}
 use Rattle.events.specs.Change.{lossOf}
 use Rattle.sending.specs.declared.Taken.{Taken}
@@ -37,7 +38,7 @@ buffer-room n =
 -- of an out buffer only its room matters to the state
 take-room : (image : List ℕ) (s : State) (rx : ℕ) (tx : List ℕ) (c : ℕ) (a b : List ℕ) → length a ≡ length b → takenOf image s rx tx c a ≡ takenOf image s rx tx c b
 unfolding takenOf
-take-room image s rx tx c a b e = ap (λ (n : ℕ). through (gateAt image s rx (length tx) c) (notTaken s) (takePast image s c n)) e
+take-room image s rx tx c a b e = ap (λ (n : ℕ). through (gateAt (lent image s rx (length tx)) c) (notTaken s) (takePast image s c n)) e
 
 module _ (image : List ℕ) (s : State) (rx tx out body : List ℕ) (long : room ≤ length out) where
   -- the step of a call whose segment or datagram, where it has one, is short enough

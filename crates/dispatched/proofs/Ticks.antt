@@ -5,6 +5,7 @@ use mathlib.Core.List.{List}
 use lib.ListN.{length, replicate}
 use Rattle.connection.specs.declared.Refusal.{Refusal}
 use Rattle.state.specs.declared.State.{State}
+use Rattle.gate.specs.Lent.{lent}
 use Rattle.gate.specs.declared.Gate.{Gate}
 use Rattle.gate.specs.declared.Gate.the-variants.{Pass, Refused}
 use Rattle.gate.specs.Gate.{gateOf}
@@ -28,7 +29,7 @@ module _ (image rx tx : List ℕ) where
   ticked-run (suc n) s = ticked-run n (tickEvent image s (length rx) (length tx) .state)
 
   -- where the gate refuses, no tick changes anything
-  module _ (s : State) (r : Refusal) (shut : gateOf image s (length rx) (length tx) ≡ Refused r) where
+  module _ (s : State) (r : Refusal) (shut : gateOf (lent image s (length rx) (length tx)) ≡ Refused r) where
     no-tick : tickEvent image s (length rx) (length tx) .state ≡ s
     unfolding tickEvent
     no-tick = rw shut
@@ -43,11 +44,11 @@ module _ (image rx tx : List ℕ) where
     still (suc n) = ap (λ (t : State). afterRun image (machine t rx tx) (ticksOf n)) no-tick ∙ still n
 
   pub ticks-run : (s : State) (n : ℕ) → machine (ticksEvent image s (length rx) (length tx) n .state) rx tx ≡ afterRun image (machine s rx tx) (ticksOf n)
-  ticks-run s n = go (gateOf image s (length rx) (length tx)) refl
+  ticks-run s n = go (gateOf (lent image s (length rx) (length tx))) refl
     where
-      go : (g : Gate) → gateOf image s (length rx) (length tx) ≡ g
+      go : (g : Gate) → gateOf (lent image s (length rx) (length tx)) ≡ g
           → machine (ticksEvent image s (length rx) (length tx) n .state) rx tx ≡ afterRun image (machine s rx tx) (ticksOf n)
       go Pass e =
-          ap (λ (t : Ticked). machine (t .state) rx tx) (ticks-single image s (length rx) (length tx) n (gate-passed image s (length rx) (length tx) e))
+          ap (λ (t : Ticked). machine (t .state) rx tx) (ticks-single image s (length rx) (length tx) n (gate-passed (lent image s (length rx) (length tx)) e))
           ∙ ticked-run n s
       go (Refused r) e = ap (λ (t : State). machine t rx tx) (no-ticks s r e n) ∙ sym (still s r e n)

@@ -22,6 +22,7 @@ use Rattle.answer_receive.specs.Segment.{begun, allTakes, eventBytes}
 use Rattle.answer_send.specs.Send.{arrivalBytes, transmissionBytes, takingBytes, roomOf}
 use Rattle.tie.specs.Machine.{Machine}
 use Rattle.dispatched.specs.Spelt.{Spoken}
+use Rattle.gate.specs.Lent.{lent}
 use Rattle.dispatched.specs.Told.{Take, bytesIn, takesFrom}
 
 module _ (image : List ℕ) (s : State) (rx tx : List ℕ) where
@@ -55,8 +56,8 @@ module _ (image : List ℕ) (s : State) (rx tx : List ℕ) where
   answerOf body (Segment c at) = segmentAnswer c (bytesFrom body at)
   answerOf body (Walk c place at) = walkedBytes (walkOf image s (length rx) (length tx) c (bytesFrom body at) place)
   answerOf body (TakeWaiting c n) = takeAnswer c (take (roomOf n) (replicate 1472 0))
-  answerOf body (Datagram group source) = arrivalBytes (datagramOf image s (length rx) (length tx) group source .answer)
-  answerOf body (Accept group source) = arrivalBytes (acceptOf image s (length rx) (length tx) group source .answer)
+  answerOf body (Datagram group source) = arrivalBytes (datagramOf (lent image s (length rx) (length tx)) group source .answer)
+  answerOf body (Accept group source) = arrivalBytes (acceptOf (lent image s (length rx) (length tx)) group source .answer)
   answerOf body (Transmit pdu at) = transmissionBytes (sendOf image s (length rx) tx pdu (bytesFrom body at) .answer)
   answerOf body (SwitchAll number position) = toldBytes (switchAllOf image s (length rx) (length tx) number position .answer)
   answerOf body (ReadCount protocol) = countBytes (readOf image s (length rx) (length tx) protocol .answer)

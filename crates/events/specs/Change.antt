@@ -12,6 +12,7 @@ use Rattle.connection.specs.Event.{stepOf}
 use Rattle.state.specs.declared.State.{State}
 use Rattle.state.specs.State.{recordAt, withRecord}
 use Rattle.state.specs.Fresh.{configOf}
+use Rattle.gate.specs.Lent.{lent}
 use Rattle.gate.specs.Gate.{gateAt, through}
 use Rattle.events.specs.declared.Told.{Told}
 use Rattle.events.specs.declared.Loss.{Loss}
@@ -32,7 +33,7 @@ changeOf image s n e =
 
 -- an event of connection n, lent rx bytes of receive memory and tx bytes of send memory
 unfoldable pub eventOf : List ℕ → State → ℕ → ℕ → ℕ → Event → Told
-eventOf image s rx tx n e = through (gateAt image s rx tx n) (refusedBy s) (changeOf image s n e)
+eventOf image s rx tx n e = through (gateAt (lent image s rx tx) n) (refusedBy s) (changeOf image s n e)
 
 -- a loss
 unfoldable pub lossOf : List ℕ → State → ℕ → ℕ → ℕ → Loss

@@ -8,6 +8,7 @@ use Rattle.connection.specs.declared.Refusal.the-variants.{Denied}
 use Rattle.connection.specs.Event.{refusalNumber}
 use Rattle.state.specs.declared.State.{State}
 use Rattle.state.specs.State.{countOf, withCount}
+use Rattle.gate.specs.Lent.{lent}
 use Rattle.gate.specs.Gate.{gateOf, through}
 use Rattle.events.specs.declared.CountAnswer.{CountAnswer}
 use Rattle.events.specs.declared.CountAnswer.the-variants.{Count, Refused}
@@ -41,7 +42,7 @@ clearPast s p = ofProtocol (clearFrom s) (uncounted s Denied) p
 
 -- "reading or reading and clearing a count": 11, 12, then 3
 unfoldable pub readOf : List ℕ → State → ℕ → ℕ → ℕ → Counted
-readOf image s rx tx p = through (gateOf image s rx tx) (uncounted s) (readPast s p)
+readOf image s rx tx p = through (gateOf (lent image s rx tx)) (uncounted s) (readPast s p)
 
 unfoldable pub clearOf : List ℕ → State → ℕ → ℕ → ℕ → Counted
-clearOf image s rx tx p = through (gateOf image s rx tx) (uncounted s) (clearPast s p)
+clearOf image s rx tx p = through (gateOf (lent image s rx tx)) (uncounted s) (clearPast s p)

@@ -12,6 +12,7 @@ use Rattle.connection.specs.Connection.{switchedOf}
 use Rattle.lists.specs.Each.{eachTo}
 use Rattle.state.specs.declared.State.{State}
 use Rattle.state.specs.State.{withRecords}
+use Rattle.gate.specs.Lent.{lent}
 use Rattle.gate.specs.Gate.{gateOf, through}
 use Rattle.events.specs.declared.Told.{Told}
 use Rattle.events.specs.Change.{refusedBy}
@@ -26,5 +27,5 @@ switchedAll rows number on s = withRecords (eachTo (switchAt number on) 0 rows (
 -- "switching a group on all connections": 11, 12, then 2 for a switch number above 31
 unfoldable pub switchAllOf : List ℕ → State → ℕ → ℕ → ℕ → Bool → Told
 switchAllOf image s rx tx number on =
-    through (gateOf image s rx tx) (refusedBy s)
+    through (gateOf (lent image s rx tx)) (refusedBy s)
     (cond (ltb number 32) (record { answer = Done; state = switchedAll (rowsOf image Connections) number on s }) (refusedBy s Missing))

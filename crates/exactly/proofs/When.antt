@@ -26,6 +26,7 @@ use Rattle.connection.specs.declared.Event.the-variants.{Open, Close, Connected
 use Rattle.connection.specs.Connection.{isOnline}
 use Rattle.connection.specs.Event.{refusalNumber, answerNumber, known, allowed, after, refusedBy as notStepped, stepOf}
 use Rattle.state.specs.declared.State.{State}
+use Rattle.gate.specs.Lent.{lent}
 use Rattle.gate.specs.declared.Gate.the-variants.{Pass, Refused}
 use Rattle.gate.specs.Gate.{gateOf, gateAt, thenThere, through}
 use Rattle.gate.specs.Sound.{soundState}
@@ -104,7 +105,7 @@ module _ (image : List ℕ) (m : Machine) where
   -- THE GATE: 11, 12, then the event's own; of a connection event 11, 12, 2
   module _ {A : Type 0} (number : A → ℕ) (refused : Refusal → A) (event : A) (own : List Check) (by : (r : Refusal) → number (refused r) ≡ refusalNumber r)
       (is : number event ≡ firstFailing own) where
-    gate-first : number (through (gateOf image s rx tx) refused event) ≡ firstFailing (first image m own)
+    gate-first : number (through (gateOf (lent image s rx tx)) refused event) ≡ firstFailing (first image m own)
     unfolding gateOf firstFailing
     gate-first = go (not (eqb rx 23424) || not (eqb tx 23552)) (soundState image s)
       where
@@ -113,7 +114,7 @@ module _ (image : List ℕ) (m : Machine) where
         go false true = is
         go false false = by Unsound
 
-    gate-firstOf : (k : ℕ) → number (through (gateAt image s rx tx k) refused event) ≡ firstFailing (firstOf image m k own)
+    gate-firstOf : (k : ℕ) → number (through (gateAt (lent image s rx tx) k) refused event) ≡ firstFailing (firstOf image m k own)
     unfolding gateOf gateAt firstFailing
     gate-firstOf k = go (not (eqb rx 23424) || not (eqb tx 23552)) (soundState image s) (ltb k (rowsOf image Connections)) (leb (rowsOf image Connections) k) (not-below k (rowsOf image Connections))
       where
@@ -229,7 +230,7 @@ module _ (image : List ℕ) (m : Machine) where
       past false = refl
 
   count-number : (f : Bool → Counted) → ((b : Bool) → countNumber (f b .answer) ≡ 0) → (p : ℕ)
-      → countNumber (through (gateOf image s rx tx) (uncounted s) (ofProtocol f (uncounted s Denied) p) .answer) ≡ firstFailing (first image m (noProtocol image m p ∷ []))
+      → countNumber (through (gateOf (lent image s rx tx)) (uncounted s) (ofProtocol f (uncounted s Denied) p) .answer) ≡ firstFailing (first image m (noProtocol image m p ∷ []))
   unfolding ofProtocol firstFailing
   count-number f is p =
       gate-first (λ (t : Counted). countNumber (t .answer)) (uncounted s) (ofProtocol f (uncounted s Denied) p) (noProtocol image m p ∷ []) (λ r. refl) (past (eqb p 1) (eqb p 2))
@@ -271,7 +272,7 @@ module _ (image : List ℕ) (m : Machine) where
         go false false Nobody h = rw (every-all (λ i. not (match i)) 16 (λ i l. score-none i (h i l)))
         go false false (At k) h = rw (← pass-failed (λ i. not (match i)) 16 k (h .inside) (score-some k (h .counts)))
 
-    arrival-number : arrivalNumber (arrivalOf image s rx tx a group source .answer) ≡ firstFailing (first image m (arrives image m a group source))
+    arrival-number : arrivalNumber (arrivalOf (lent image s rx tx) a group source .answer) ≡ firstFailing (first image m (arrives image m a group source))
     unfolding arrivalOf
     arrival-number =
         gate-first (λ (t : Arrived). arrivalNumber (t .answer)) (notMet s) (arriveOf image s a group source) (arrives image m a group source) (λ r. refl) arrival-own

@@ -2,7 +2,6 @@
 use Prim.Native.Nat.{ℕ}
 use mathlib.Core.Path.{_≡_}
 use mathlib.Core.Bool.{Bool, true, cond, not, _||_}
-use mathlib.Core.List.{List}
 use lib.Dec.{eqb, ltb}
 use Rattle.layout.specs.Layout.{rowsOf}
 use Rattle.layout.specs.declared.Kind.the-variants.{Connection as Connections}
@@ -10,24 +9,24 @@ use Rattle.table.specs.declared.TableAnswer.the-variants.{Accepted}
 use Rattle.table.specs.Table.{checkTable}
 use Rattle.connection.specs.declared.Refusal.{Refusal}
 use Rattle.connection.specs.declared.Refusal.the-variants.{Memory, Unsound, Missing}
-use Rattle.state.specs.declared.State.{State}
 use Rattle.gate.specs.declared.Gate.{Gate}
 use Rattle.gate.specs.declared.Gate.the-variants.{Pass, Refused}
+use Rattle.gate.specs.Lent.{Lent}
 use Rattle.gate.specs.Sound.{recordsSound, soundState}
 
 -- "lent receive or send memory has another length": 11; "state or table not sound": 12
-unfoldable pub gateOf : List ℕ → State → ℕ → ℕ → Gate
-gateOf image s rx tx =
-    cond (not (eqb rx 23424) || not (eqb tx 23552)) (Refused Memory)
-    (cond (soundState image s) Pass (Refused Unsound))
+unfoldable pub gateOf : Lent → Gate
+gateOf l =
+    cond (not (eqb (l .rx) 23424) || not (eqb (l .tx) 23552)) (Refused Memory)
+    (cond (soundState (l .image) (l .state)) Pass (Refused Unsound))
 
 -- then "connection, group or switch number not there": 2
 abbrev pub thenThere : Bool → Gate → Gate
 thenThere there Pass = cond there Pass (Refused Missing)
 thenThere there (Refused r) = Refused r
 
-unfoldable pub gateAt : List ℕ → State → ℕ → ℕ → ℕ → Gate
-gateAt image s rx tx n = thenThere (ltb n (rowsOf image Connections)) (gateOf image s rx tx)
+unfoldable pub gateAt : Lent → ℕ → Gate
+gateAt l n = thenThere (ltb n (rowsOf (l .image) Connections)) (gateOf l)
 
 -- what follows a gate: the refusal, or the event
 abbrev pub through : {A : Type 0} → Gate → (Refusal → A) → A → A
@@ -35,8 +34,8 @@ through Pass refused event = event
 through (Refused r) refused event = refused r
 
 -- what is known past the gate
-pub record Passed (image : List ℕ) (s : State) (rx tx : ℕ) : Type 0 where
-  pub receive : rx ≡ 23424
-  pub send : tx ≡ 23552
-  pub table : checkTable image ≡ Accepted
-  pub sound : recordsSound image (s .connections) ≡ true
+pub record Passed (l : Lent) : Type 0 where
+  pub receive : l .rx ≡ 23424
+  pub send : l .tx ≡ 23552
+  pub table : checkTable (l .image) ≡ Accepted
+  pub sound : recordsSound (l .image) (l .state .connections) ≡ true

@@ -5,6 +5,7 @@ ghost use Rattle.lists.specs.Each.{all};
 ghost use Rattle.connection.specs.Sound.{onlineRemote};
 ghost use Rattle.gate.specs.Sound.{routed, recordsSound};
 ghost use Rattle.gate.specs.Inner.{rulesFrom, rulesIn, soundIn, quiet};
+ghost use Rattle.gate.specs.Lent.{lent};
 ghost use Rattle.gate.specs.Gate.{gateOf, gateAt};
 use connection::Config;
 use connection::Connection;
@@ -154,7 +155,7 @@ pub fn are_sound(image: &[u8], state: State) -> bool
 
 // 11, then 12: before every event.
 pub fn ask(image: &[u8], state: State, rx: usize, tx: usize) -> Gate
-    ensures { λ r. ⌜ r ≡ gateOf (now (image .entry)) state rx tx ⌝ }
+    ensures { λ r. ⌜ r ≡ gateOf (lent (now (image .entry)) state rx tx) ⌝ }
 {
     if (rx != 23424) | (tx != 23552) {
         return Gate::Refused(Refusal::Memory);
@@ -173,7 +174,7 @@ pub fn ask(image: &[u8], state: State, rx: usize, tx: usize) -> Gate
 
 // 11, 12, then 2: before an event of connection n.
 pub fn ask_at(image: &[u8], state: State, rx: usize, tx: usize, n: usize) -> Gate
-    ensures { λ r. ⌜ r ≡ gateAt (now (image .entry)) state rx tx n ⌝ }
+    ensures { λ r. ⌜ r ≡ gateAt (lent (now (image .entry)) state rx tx) n ⌝ }
 {
     let first = ask(image, state, rx, tx);
     match first {

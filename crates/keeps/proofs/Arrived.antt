@@ -17,6 +17,7 @@ use Rattle.connection.proofs.Keeps.{met-keeps}
 use Rattle.state.specs.declared.State.{State}
 use Rattle.state.specs.State.{recordAt}
 use Rattle.state.specs.Fresh.{configOf}
+use Rattle.gate.specs.Lent.{Lent, next}
 use Rattle.gate.specs.Gate.{gateOf, Passed}
 use Rattle.gate.specs.Sound.{recordsSound}
 use Rattle.choose.specs.declared.Chosen.{Chosen}
@@ -66,8 +67,8 @@ arrive-keeps image s accept group source h = go (leb (rowsOf image Group) group)
     go false false e = chosen-keeps image s accept group source h (neither (not (eqb (groupOf image group .protocol) (protocolOf accept))) (wildcard source) e .1)
 
 -- the entry points
-pub arrival-passed : (image : List ℕ) (s : State) (rx tx : ℕ) (accept : Bool) (group : ℕ) (source : Remote) → Passed image s rx tx → Passed image (arrivalOf image s rx tx accept group source .state) rx tx
+pub arrival-passed : (l : Lent) (accept : Bool) (group : ℕ) (source : Remote) → Passed l → Passed (next l (arrivalOf l accept group source .state))
 unfolding arrivalOf
-arrival-passed image s rx tx accept group source p =
-    past-or (λ (a : Arrived). Passed image (a .state) rx tx) (gateOf image s rx tx) (refusedBy s) (arriveOf image s accept group source) (λ r. p)
-    (λ _. from-sound image s _ rx tx p (arrive-keeps image s accept group source (p .sound)))
+arrival-passed l accept group source p =
+    past-or (λ (a : Arrived). Passed (next l (a .state))) (gateOf l) (refusedBy (l .state)) (arriveOf (l .image) (l .state) accept group source) (λ r. p)
+    (λ _. from-sound l _ p (arrive-keeps (l .image) (l .state) accept group source (p .sound)))

@@ -22,6 +22,7 @@ use Rattle.lists.specs.Each.{each}
 use Rattle.lists.proofs.Each.{all-changed}
 use Rattle.state.specs.Fresh.{configOf, freshAt, freshState, emptyState}
 use Rattle.state.specs.State.{withRecords}
+use Rattle.gate.specs.Lent.{lent}
 use Rattle.gate.specs.Sound.{soundAt, recordsSound}
 use Rattle.gate.specs.Gate.{Passed}
 use Rattle.gate.proofs.Records.{sound-row, zero-past}
@@ -42,7 +43,7 @@ module _ (image : List ℕ) (accepted : checkTable image ≡ Accepted) where
       go true e = sound-row image i (freshOf (configOf image i)) (ltb-true _ _ e) (fresh-sound (configOf image i)) refl
       go false e = rw (fresh-past i (ltb-false _ _ e)) (zero-past image i (ltb-false _ _ e))
 
-  pub fresh-passed : Passed image (freshState image) 23424 23552
+  pub fresh-passed : Passed (lent image (freshState image) 23424 23552)
   unfolding freshState recordsSound
   fresh-passed = record { receive = refl; send = refl; table = accepted; sound = all-changed (soundAt image) (freshAt image) fresh-at 0 (replicate 16 zeroRecord) }
 

@@ -9,6 +9,7 @@ use lib.ListN.{length, List·getD-eq-default}
 use borrow.Author.Tests.{leb-true}
 use Rattle.connection.specs.declared.Connection.{Connection}
 use Rattle.connection.specs.Connection.{zeroRecord}
+use Rattle.gate.specs.Lent.{lent}
 use Rattle.gate.specs.declared.Gate.{Gate}
 use Rattle.gate.specs.declared.Gate.the-variants.{Pass, Refused}
 use Rattle.gate.specs.Gate.{gateOf, through}
@@ -83,13 +84,13 @@ module _ (image : List ℕ) (ready : Ready image) (there : (i : ℕ) → i < des
 pub transmit-keeps : (image : List ℕ) (s : State) (rx : ℕ) (tx : List ℕ) (pdu : ℕ) (payload : List ℕ) → length (s .connections) ≡ 16 → recordsSound image (s .connections) ≡ true
     → recordsSound image (sendOf image s rx tx pdu payload .state .connections) ≡ true
 unfolding sendOf transmitOf
-transmit-keeps image s rx tx pdu payload sixteen h = go (gateOf image s rx (length tx)) refl
+transmit-keeps image s rx tx pdu payload sixteen h = go (gateOf (lent image s rx (length tx))) refl
   where
     inner : Accepts image → length tx ≡ 23552 → (b : Bool) → isStored (checkOf image s pdu (length payload)) ≡ b
         → recordsSound image (cond b (storeAll image s pdu payload tx) (sending s tx) .state .connections) ≡ true
     inner a long false e = h
     inner a long true e = store-keeps image (ready-from image a) (row-there image a) s pdu payload e tx sixteen long (all-fit image a s h) h
 
-    go : (q : Gate) → gateOf image s rx (length tx) ≡ q → recordsSound image (through q (notSent s) (transmittedOf image s pdu payload tx) .state .connections) ≡ true
+    go : (q : Gate) → gateOf (lent image s rx (length tx)) ≡ q → recordsSound image (through q (notSent s) (transmittedOf image s pdu payload tx) .state .connections) ≡ true
     go (Refused r) e = h
-    go Pass e = let p = gate-passed image s rx (length tx) e in inner (accepted-facts image (p .table)) (p .send) (isStored (checkOf image s pdu (length payload))) refl
+    go Pass e = let p = gate-passed (lent image s rx (length tx)) e in inner (accepted-facts image (p .table)) (p .send) (isStored (checkOf image s pdu (length payload))) refl

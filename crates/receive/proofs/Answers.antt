@@ -13,6 +13,7 @@ use Rattle.connection.specs.declared.Refusal.the-variants.{Denied}
 use Rattle.connection.specs.Connection.{isOnline}
 use Rattle.state.specs.declared.State.{State}
 use Rattle.state.specs.State.{recordAt}
+use Rattle.gate.specs.Lent.{lent}
 use Rattle.gate.specs.declared.Gate.{Gate}
 use Rattle.gate.specs.declared.Gate.the-variants as Gated
 use Rattle.gate.specs.Gate.{gateAt, through, Passed}
@@ -24,7 +25,7 @@ use Rattle.receive.specs.Answer.{isDone, judgedOf, answerOf}
 
 -- WHAT IS KNOWN WHEN NOTHING REFUSES
 pub record Clear (image : List ℕ) (s : State) (rx tx n : ℕ) (allowed : Bool) : Type 0 where
-  pub passed : Passed image s rx tx
+  pub passed : Passed (lent image s rx tx)
   pub there : n < rowsOf image Connections
   pub allows : allowed ≡ true
   pub receives : receiving (recordAt s n) ≡ true
@@ -40,11 +41,11 @@ judged-clear allowed c p = go allowed (receiving c) refl refl p
 
 pub done-clear : (image : List ℕ) (s : State) (rx tx n : ℕ) (allowed : Bool) → isDone (answerOf image s rx tx n allowed) ≡ true → Clear image s rx tx n allowed
 unfolding answerOf
-done-clear image s rx tx n allowed p = go (gateAt image s rx tx n) refl p
+done-clear image s rx tx n allowed p = go (gateAt (lent image s rx tx) n) refl p
   where
-    go : (g : Gate) → gateAt image s rx tx n ≡ g → isDone (through g Refused (judgedOf allowed (recordAt s n))) ≡ true → Clear image s rx tx n allowed
+    go : (g : Gate) → gateAt (lent image s rx tx) n ≡ g → isDone (through g Refused (judgedOf allowed (recordAt s n))) ≡ true → Clear image s rx tx n allowed
     go Gated.Pass e q =
-        let g : Passed image s rx tx × (n < rowsOf image Connections) = gate-at-passed image s rx tx n e in
+        let g : Passed (lent image s rx tx) × (n < rowsOf image Connections) = gate-at-passed (lent image s rx tx) n e in
         let j : (allowed ≡ true) × (receiving (recordAt s n) ≡ true) = judged-clear allowed (recordAt s n) q in
         record { passed = g .0; there = g .1; allows = j .0; receives = j .1 }
     go (Gated.Refused r) e q = impossible q
@@ -68,7 +69,7 @@ module _ (allowed : Bool) (c : Connection) where
       rw (not-false allowed p, r)
 
 -- the gate refuses, or passes
-module _ (image : List ℕ) (s : State) (rx tx n : ℕ) (allowed : Bool) (asked : Gate) (ea : asked ≡ gateAt image s rx tx n) where
+module _ (image : List ℕ) (s : State) (rx tx n : ℕ) (allowed : Bool) (asked : Gate) (ea : asked ≡ gateAt (lent image s rx tx) n) where
   pub answer-refused : (r : Refusal) → asked ≡ Gated.Refused r → Refused r ≡ answerOf image s rx tx n allowed
   unfolding answerOf
   answer-refused r e = ap (λ (g : Gate). through g Refused (judgedOf allowed (recordAt s n))) (sym e ∙ ea)
@@ -77,5 +78,5 @@ module _ (image : List ℕ) (s : State) (rx tx n : ℕ) (allowed : Bool) (asked 
   unfolding answerOf
   answer-judged a e j = j ∙ ap (λ (g : Gate). through g Refused (judgedOf allowed (recordAt s n))) (sym e ∙ ea)
 
-  pub asked-there : asked ≡ Gated.Pass → Passed image s rx tx × (n < rowsOf image Connections)
-  asked-there e = gate-at-passed image s rx tx n (sym ea ∙ e)
+  pub asked-there : asked ≡ Gated.Pass → Passed (lent image s rx tx) × (n < rowsOf image Connections)
+  asked-there e = gate-at-passed (lent image s rx tx) n (sym ea ∙ e)

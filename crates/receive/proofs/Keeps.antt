@@ -25,6 +25,7 @@ use Rattle.stream.specs.declared.Outcome.the-variants.{More, Pdu, Drop}
 use Rattle.stream.proofs.Leaves.{PartHolds, Owns, leaves-fit, leaves-owned}
 use Rattle.datagram.specs.declared.Outcome.{Outcome as Found}
 use Rattle.datagram.specs.declared.Outcome.the-variants as Met
+use Rattle.gate.specs.Lent.{lent}
 use Rattle.gate.specs.Sound.{soundAt, recordsSound}
 use Rattle.gate.specs.Gate.{Passed}
 use Rattle.gate.proofs.Records.{row-sound, row-routed, sound-row, record-at, record-set}
@@ -46,7 +47,7 @@ in-range s k h = go (decLt k (length (s .connections)))
     go (no ge) = absurd (false≢true (sym (ap receiving (List·getD-eq-default (s .connections) zeroRecord (omega arith))) ∙ h))
 
 -- an accepted table has 64 routes at most
-few-routes : (image : List ℕ) (s : State) (rx tx : ℕ) → Passed image s rx tx → length (bodyOf image Routes) / 16 ≤ 64
+few-routes : (image : List ℕ) (s : State) (rx tx : ℕ) → Passed (lent image s rx tx) → length (bodyOf image Routes) / 16 ≤ 64
 few-routes image s rx tx passed =
     let facts : Accepts image = accepted-facts image (passed .table) in
     omega (arith, body-rows image (facts .laid) Routes, facts .most Routes)
@@ -98,7 +99,7 @@ module _ (image : List ℕ) (s : State) (rx : List ℕ) (tx k : ℕ) (segment : 
       ap (λ (cs : List Connection). getD cs k zeroRecord) records-after
       ∙ getD-set-same (s .connections) k after zeroRecord (in-range s k (clear .receives))
 
-  pub take-passed : Passed image (takeOn image s rx k segment .state) (length (memoryOn image s rx k segment)) tx
+  pub take-passed : Passed (lent image (takeOn image s rx k segment .state) (length (memoryOn image s rx k segment)) tx)
   unfolding memoryOn
   take-passed =
       record {
@@ -114,13 +115,13 @@ module _ (image : List ℕ) (s : State) (rx : List ℕ) (tx k : ℕ) (segment : 
       record { passed = take-passed; there = clear .there; allows = clear .allows; receives = ap receiving record-after ∙ clear .receives }
 
 -- THE SEGMENT ENTRY, whatever it answers
-pub segment-passed : (image : List ℕ) (s : State) (rx : List ℕ) (tx k : ℕ) (segment : List ℕ) → ((i : ℕ) → getD segment i 0 < 256) → Passed image s (length rx) tx
-    → Passed image (segmentOf image s rx tx k segment .state) (length (memoryOf image s rx tx k segment)) tx
+pub segment-passed : (image : List ℕ) (s : State) (rx : List ℕ) (tx k : ℕ) (segment : List ℕ) → ((i : ℕ) → getD segment i 0 < 256) → Passed (lent image s (length rx) tx)
+    → Passed (lent image (segmentOf image s rx tx k segment .state) (length (memoryOf image s rx tx k segment)) tx)
 unfolding segmentOf memoryOf
 segment-passed image s rx tx k segment bytes passed = go (isDone (segmentAnswer image s (length rx) tx k)) refl
   where
     go : (b : Bool) → isDone (segmentAnswer image s (length rx) tx k) ≡ b
-        → Passed image (cond b (takeOn image s rx k segment) (noneTaken s (segmentAnswer image s (length rx) tx k)) .state) (length (cond b (memoryOn image s rx k segment) rx)) tx
+        → Passed (lent image (cond b (takeOn image s rx k segment) (noneTaken s (segmentAnswer image s (length rx) tx k)) .state) (length (cond b (memoryOn image s rx k segment) rx)) tx)
     go true e = take-passed image s rx tx k segment bytes (done-clear image s (length rx) tx k (configOf image k .tcp) e)
     go false e = passed
 
@@ -133,7 +134,7 @@ walk-records image s rx tx k datagram place = go (isDone (walkAnswer image s rx 
     go true = walk-count-records (walkedAt image s k datagram place .outcome) s
     go false = refl
 
-pub walk-passed : (image : List ℕ) (s : State) (rx tx k : ℕ) (datagram : List ℕ) (place : ℕ) → Passed image s rx tx → Passed image (walkOf image s rx tx k datagram place .state) rx tx
+pub walk-passed : (image : List ℕ) (s : State) (rx tx k : ℕ) (datagram : List ℕ) (place : ℕ) → Passed (lent image s rx tx) → Passed (lent image (walkOf image s rx tx k datagram place .state) rx tx)
 walk-passed image s rx tx k datagram place p =
     record {
       receive = p .receive;

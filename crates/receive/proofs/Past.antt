@@ -27,6 +27,7 @@ use Rattle.connection.specs.Connection.{zeroRecord}
 use Rattle.state.specs.declared.State.{State}
 use Rattle.state.specs.State.{recordAt}
 use Rattle.stream.specs.Stream.{lengthOf, Limits}
+use Rattle.gate.specs.Lent.{lent}
 use Rattle.gate.specs.Sound.{routed, soundAt}
 use Rattle.gate.specs.Gate.{Passed}
 use Rattle.gate.proofs.Records.{row-sound, row-routed, record-at}
@@ -68,7 +69,7 @@ pub record Whole (part : Part) : Type 0 where
   pub shape : shaped part ≡ true
   pub fits : lengthOf part ≤ 1464
 
-module _ (image : List ℕ) (s : State) (rx tx : ℕ) (passed : Passed image s rx tx) (n : ℕ) (there : n < rowsOf image Connections) where
+module _ (image : List ℕ) (s : State) (rx tx : ℕ) (passed : Passed (lent image s rx tx)) (n : ℕ) (there : n < rowsOf image Connections) where
   pub part-whole : Whole (recordAt s n .part)
   part-whole = go (decLt n (length (s .connections)))
     where
@@ -88,7 +89,7 @@ pub stretch-length : (n : ℕ) (rx : List ℕ) → n < 16 → length rx ≡ 2342
 stretch-length n rx h e = length-take-le 1464 (drop (n * 1464) rx) (omega (arith, length-drop (n * 1464) rx))
 
 -- SO A TAKE MAY BE MADE
-pub passed-takes : (image : List ℕ) (s : State) (rx : List ℕ) (tx n : ℕ) → Passed image s (length rx) tx → n < rowsOf image Connections → Takes image s rx n
+pub passed-takes : (image : List ℕ) (s : State) (rx : List ℕ) (tx n : ℕ) → Passed (lent image s (length rx) tx) → n < rowsOf image Connections → Takes image s rx n
 passed-takes image s rx tx n passed there =
     let w : Whole (recordAt s n .part) = part-whole image s (length rx) tx passed n there in
     let h : n < 16 = below-sixteen image (passed .table) n there in

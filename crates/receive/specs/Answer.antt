@@ -7,6 +7,7 @@ use Rattle.connection.specs.declared.Refusal.the-variants.{Denied}
 use Rattle.connection.specs.Event.{receiving, refusalNumber}
 use Rattle.state.specs.declared.State.{State}
 use Rattle.state.specs.State.{recordAt}
+use Rattle.gate.specs.Lent.{lent}
 use Rattle.gate.specs.Gate.{gateAt, through}
 use Rattle.receive.specs.declared.Answer.{Answer}
 use Rattle.receive.specs.declared.Answer.the-variants.{Done, Refused, NotReceiving}
@@ -29,4 +30,4 @@ judgedOf allowed c = cond allowed (cond (receiving c) Done NotReceiving) (Refuse
 -- "Checks run 11, 12, 2, 3, then the event's own order": lent rx and tx bytes of memory
 unfoldable pub answerOf : List ℕ → State → ℕ → ℕ → ℕ → Bool → Answer
 answerOf image s rx tx connection allowed =
-    through (gateAt image s rx tx connection) Refused (judgedOf allowed (recordAt s connection))
+    through (gateAt (lent image s rx tx) connection) Refused (judgedOf allowed (recordAt s connection))

@@ -24,6 +24,7 @@ use Rattle.state.specs.State.{recordAt}
 use Rattle.state.specs.Fresh.{configOf}
 use Rattle.feed.specs.Frame.{frame}
 use Rattle.feed.specs.On.{isOn}
+use Rattle.gate.specs.Lent.{lent}
 use Rattle.gate.specs.declared.Gate.{Gate}
 use Rattle.gate.specs.declared.Gate.the-variants.{Pass}
 use Rattle.gate.specs.Gate.{gateOf, through}
@@ -80,8 +81,8 @@ first-says look a = rw a (ap (λ (n : ℕ). RefusedAt n 0) a)
 
 -- ---- past the gate
 module _ (s : State) (rx : ℕ) (tx payload : List ℕ) (v : TwoValves s rx tx payload) where
-  gate : gateOf valves s rx (length tx) ≡ Pass
-  gate = passed-gate valves s rx (length tx) (v .passed)
+  gate : gateOf (lent valves s rx (length tx)) ≡ Pass
+  gate = passed-gate (lent valves s rx (length tx)) (v .passed)
 
   sent-is : sendOf valves s rx tx 9 payload ≡ transmittedOf valves s 9 payload tx
   unfolding sendOf
@@ -146,14 +147,14 @@ module _ (s : State) (rx : ℕ) (tx payload : List ℕ) (v : TwoValves s rx tx p
       full k h a = row s rx tx payload v k h true (lt-ltb _ _ a)
 
 -- SUCH STATES THERE ARE: the last byte that fits at the second valve; one more; and one more at the first
-passes : (gateOf valves (both 0 1462) 23424 23552 ≡ Pass) × (gateOf valves (both 0 1463) 23424 23552 ≡ Pass) × (gateOf valves (both 1463 0) 23424 23552 ≡ Pass)
+passes : (gateOf (lent valves (both 0 1462) 23424 23552) ≡ Pass) × (gateOf (lent valves (both 0 1463) 23424 23552) ≡ Pass) × (gateOf (lent valves (both 1463 0) 23424 23552) ≡ Pass)
 unfolding valves be badFrom every rowsOf bodyBytes startOf endOf rowAt partOf bodyOf rowIn groupRow connectionRow destinationRow groupGood connectionGood routeGood destinationGood sizeIn routesShare destinationsShare share clearIn goodIn headGood entryGood rule then entriesPlace headPlace allRowsPlace checkTable configOf soundOf zeroOf soundAt recordsSound soundState gateOf
 passes = (refl, refl, refl)
 
-stands : (a b : ℕ) → gateOf valves (both a b) 23424 23552 ≡ Pass → (tx : List ℕ) → length tx ≡ 23552 → TwoValves (both a b) 23424 tx setpoint
+stands : (a b : ℕ) → gateOf (lent valves (both a b) 23424 23552) ≡ Pass → (tx : List ℕ) → length tx ≡ 23552 → TwoValves (both a b) 23424 tx setpoint
 stands a b e tx long =
     record {
-      passed = gate-passed valves (both a b) 23424 (length tx) (ap (gateOf valves (both a b) 23424) long ∙ e);
+      passed = gate-passed (lent valves (both a b) 23424 (length tx)) (ap (λ (n : ℕ). gateOf (lent valves (both a b) 23424 n)) long ∙ e);
       sixteen = refl;
       online = λ k h. ups k h;
       stays = λ k h. rests k h;

@@ -9,6 +9,7 @@ use Rattle.connection.specs.declared.Mode.the-variants.{Online}
 use Rattle.state.specs.declared.State.{State}
 use Rattle.state.specs.State.{recordAt}
 use Rattle.feed.specs.Frame.{frame}
+use Rattle.gate.specs.Lent.{lent}
 use Rattle.gate.specs.Gate.{Passed}
 use Rattle.send.specs.declared.Transmission.{Transmission}
 use Rattle.send.specs.declared.Transmission.the-variants.{Stored, RefusedAt}
@@ -18,7 +19,7 @@ use Rattle.sending_edges.specs.Valves.{valves}
 
 -- a sound state over the valves' table, memory of the right lengths, both valves online and not closing, a payload of at most 2 bytes
 pub record TwoValves (s : State) (rx : ℕ) (tx payload : List ℕ) : Type 0 where
-  pub passed : Passed valves s rx (length tx)
+  pub passed : Passed (lent valves s rx (length tx))
   pub sixteen : length (s .connections) ≡ 16
   pub online : (k : ℕ) → k < 2 → recordAt s k .mode ≡ Online
   pub stays : (k : ℕ) → k < 2 → recordAt s k .«close_wanted» ≡ false

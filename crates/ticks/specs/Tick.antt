@@ -14,6 +14,7 @@ use Rattle.lists.specs.Fold.{foldFrom}
 use Rattle.state.specs.declared.State.{State}
 use Rattle.state.specs.State.{withRecords}
 use Rattle.state.specs.Fresh.{configOf}
+use Rattle.gate.specs.Lent.{lent}
 use Rattle.gate.specs.Gate.{gateOf, through}
 use Rattle.ticks.specs.declared.Ticked.{Ticked}
 
@@ -43,9 +44,9 @@ unticked s r = record { answer = Refused r; state = s }
 -- a tick: 11, 12, else done
 unfoldable pub tickEvent : List ℕ → State → ℕ → ℕ → Ticked
 tickEvent image s rx tx =
-    through (gateOf image s rx tx) (unticked s) (record { answer = Done; state = tickedTo image (rowsOf image Connections) s })
+    through (gateOf (lent image s rx tx)) (unticked s) (record { answer = Done; state = tickedTo image (rowsOf image Connections) s })
 
 -- `count` ticks under one check
 unfoldable pub ticksEvent : List ℕ → State → ℕ → ℕ → ℕ → Ticked
 ticksEvent image s rx tx count =
-    through (gateOf image s rx tx) (unticked s) (record { answer = Done; state = ticksTo image (rowsOf image Connections) count s })
+    through (gateOf (lent image s rx tx)) (unticked s) (record { answer = Done; state = ticksTo image (rowsOf image Connections) count s })

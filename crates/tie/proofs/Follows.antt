@@ -18,6 +18,7 @@ use Rattle.state.specs.declared.State.{State}
 use Rattle.state.specs.State.{recordAt, withRecord}
 use Rattle.state.specs.Fresh.{configOf}
 use Rattle.state.proofs.Records.{put-back}
+use Rattle.gate.specs.Lent.{lent}
 use Rattle.gate.specs.declared.Gate.{Gate}
 use Rattle.gate.specs.declared.Gate.the-variants.{Refused}
 use Rattle.gate.specs.Gate.{gateAt, through, Passed}
@@ -45,20 +46,20 @@ told-state image s n e = go (known e) (allowed e (configOf image n) (recordAt s 
     go true false p q = rw (p, q) (sym (put-back s n))
     go true true p q = rw (p, q)
 
-module _ (image : List ℕ) (s : State) (rx tx : List ℕ) (whole : Whole → World → World) (passed : Passed image s (length rx) (length tx)) where
+module _ (image : List ℕ) (s : State) (rx tx : List ℕ) (whole : Whole → World → World) (passed : Passed (lent image s (length rx) (length tx))) where
   abbrev w : World
   w = viewOf s rx tx
 
   -- past the gate, or not there
-  passes : {A : Type 0} (refused : Refusal → A) (event : A) (k : ℕ) → ltb k (rowsOf image Connections) ≡ true → through (gateAt image s (length rx) (length tx) k) refused event ≡ event
+  passes : {A : Type 0} (refused : Refusal → A) (event : A) (k : ℕ) → ltb k (rowsOf image Connections) ≡ true → through (gateAt (lent image s (length rx) (length tx)) k) refused event ≡ event
   passes refused event k h =
-      ap (λ (g : Gate). through g refused event) (passed-gate-at image s (length rx) (length tx) k passed (ltb-true k (rowsOf image Connections) h))
+      ap (λ (g : Gate). through g refused event) (passed-gate-at (lent image s (length rx) (length tx)) k passed (ltb-true k (rowsOf image Connections) h))
 
-  missing : (k : ℕ) → ltb k (rowsOf image Connections) ≡ false → gateAt image s (length rx) (length tx) k ≡ Refused Missing
+  missing : (k : ℕ) → ltb k (rowsOf image Connections) ≡ false → gateAt (lent image s (length rx) (length tx)) k ≡ Refused Missing
   unfolding gateAt
-  missing k h = rw (passed-gate image s (length rx) (length tx) passed, h)
+  missing k h = rw (passed-gate (lent image s (length rx) (length tx)) passed, h)
 
-  misses : {A : Type 0} (refused : Refusal → A) (event : A) (k : ℕ) → ltb k (rowsOf image Connections) ≡ false → through (gateAt image s (length rx) (length tx) k) refused event ≡ refused Missing
+  misses : {A : Type 0} (refused : Refusal → A) (event : A) (k : ℕ) → ltb k (rowsOf image Connections) ≡ false → through (gateAt (lent image s (length rx) (length tx)) k) refused event ≡ refused Missing
   misses refused event k h = ap (λ (g : Gate). through g refused event) (missing k h)
 
   -- the world's side

@@ -14,6 +14,7 @@ use Rattle.connection.specs.declared.Refusal.{Refusal}
 use Rattle.connection.specs.declared.Refusal.the-variants.{Missing}
 use Rattle.state.specs.declared.State.{State}
 use Rattle.state.specs.Fresh.{configOf}
+use Rattle.gate.specs.Lent.{lent}
 use Rattle.gate.specs.declared.Gate.{Gate}
 use Rattle.gate.specs.Gate.{gateOf, through, Passed}
 use Rattle.gate.proofs.Pass.{passed-gate}
@@ -50,11 +51,11 @@ module _ (image : List ℕ) (s : State) (rx tx : List ℕ) where
       (meeting-fewer s (arriveOf image s a group source .state) source (arrive-is image s a group source))
 
   -- past the gate
-  pub past : {A : Type 0} (refused : Refusal → A) (event : A) → Passed image s (length rx) (length tx) → through (gateOf image s (length rx) (length tx)) refused event ≡ event
-  past refused event p = ap (λ (g : Gate). through g refused event) (passed-gate image s (length rx) (length tx) p)
+  pub past : {A : Type 0} (refused : Refusal → A) (event : A) → Passed (lent image s (length rx) (length tx)) → through (gateOf (lent image s (length rx) (length tx))) refused event ≡ event
+  past refused event p = ap (λ (g : Gate). through g refused event) (passed-gate (lent image s (length rx) (length tx)) p)
 
   -- a tick
-  pub tick-view : Passed image s (length rx) (length tx)
+  pub tick-view : Passed (lent image s (length rx) (length tx))
       → viewOf (tickEvent image s (length rx) (length tx) .state) rx tx ≡ step (tableOf image) (wholeOf image) w (all tick)
   unfolding tickEvent step tickedTo
   tick-view p =
@@ -63,7 +64,7 @@ module _ (image : List ℕ) (s : State) (rx tx : List ℕ) where
       (fewer-each (tickAt image) (λ k c. tick-less (configOf image k) c) 0 (rowsOf image Connections) (s .connections))
 
   -- a switch on all connections
-  pub switch-all-view : (n : ℕ) (b : Bool) → Passed image s (length rx) (length tx)
+  pub switch-all-view : (n : ℕ) (b : Bool) → Passed (lent image s (length rx) (length tx))
       → viewOf (switchAllOf image s (length rx) (length tx) n b .state) rx tx ≡ step (tableOf image) (wholeOf image) w (all (switchAll n b))
   unfolding switchAllOf step switchedAll
   switch-all-view n b p =
@@ -79,12 +80,12 @@ module _ (image : List ℕ) (s : State) (rx tx : List ℕ) where
       go false = refl
 
   -- a count read, and read and cleared
-  pub read-view : (protocol : ℕ) → Passed image s (length rx) (length tx)
+  pub read-view : (protocol : ℕ) → Passed (lent image s (length rx) (length tx))
       → viewOf (readOf image s (length rx) (length tx) protocol .state) rx tx ≡ step (tableOf image) (wholeOf image) w (all (readCount protocol))
   unfolding readOf step
   read-view n p = ap (λ (t : Counted). viewOf (t .state) rx tx) (past (uncounted s) (readPast s n) p) ∙ ap (λ (t : State). viewOf t rx tx) (read-state s n)
 
-  pub clear-view : (protocol : ℕ) → Passed image s (length rx) (length tx)
+  pub clear-view : (protocol : ℕ) → Passed (lent image s (length rx) (length tx))
       → viewOf (clearOf image s (length rx) (length tx) protocol .state) rx tx ≡ step (tableOf image) (wholeOf image) w (all (clearCount protocol))
   unfolding clearOf step
   clear-view n p =

@@ -17,6 +17,7 @@ use Rattle.state.specs.Fresh.{configOf}
 use Rattle.feed.specs.Feed.{segment as segmentOf, pdus}
 use Rattle.lengths.specs.Listed.{Bytes}
 use Rattle.lengths.proofs.Bytes.{bytes-drop}
+use Rattle.gate.specs.Lent.{lent}
 use Rattle.gate.specs.Gate.{Passed}
 use Rattle.receive.specs.declared.Answer.{Answer}
 use Rattle.receive.specs.declared.SegmentTaken.{SegmentTaken}
@@ -78,7 +79,7 @@ module _ (image : List ℕ) (k : ℕ) where
       go true p = p
       go false p = open-after image k m bs o b
 
-  module _ (m : Machine) (bs : List ℕ) (passed : Passed image (m .state) (length (m .rx)) (length (m .tx))) (bytes : Bytes bs) (whole : Whole → World → World) where
+  module _ (m : Machine) (bs : List ℕ) (passed : Passed (lent image (m .state) (length (m .rx)) (length (m .tx)))) (bytes : Bytes bs) (whole : Whole → World → World) where
     abbrev c : Connection
     c = recordAt (m .state) k
 
@@ -140,9 +141,9 @@ module _ (image : List ℕ) (k : ℕ) where
         go false e = none-told image m k bs (refused e) ∙ ap (λ (a : Acted). pdus (a .list)) (sym (at-refused (ltb k (rowsOf image Connections)) refl e))
 
     -- SOUND STAYS SOUND
-    pub segment-passed : Passed image (afterSegment image k m bs .state) (length (afterSegment image k m bs .rx)) (length (afterSegment image k m bs .tx))
+    pub segment-passed : Passed (lent image (afterSegment image k m bs .state) (length (afterSegment image k m bs .rx)) (length (afterSegment image k m bs .tx)))
     segment-passed = go readable refl
       where
-        go : (b : Bool) → readable ≡ b → Passed image (afterSegment image k m bs .state) (length (afterSegment image k m bs .rx)) (length (afterSegment image k m bs .tx))
+        go : (b : Bool) → readable ≡ b → Passed (lent image (afterSegment image k m bs .state) (length (afterSegment image k m bs .rx)) (length (afterSegment image k m bs .tx)))
         go true e = takes-open (suc (length bs)) m bs (opened e) bytes .passed
-        go false e = subst (λ (n : Machine). Passed image (n .state) (length (n .rx)) (length (n .tx))) (sym (no-segment image m k bs (refused e))) passed
+        go false e = subst (λ (n : Machine). Passed (lent image (n .state) (length (n .rx)) (length (n .tx)))) (sym (no-segment image m k bs (refused e))) passed

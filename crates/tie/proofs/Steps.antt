@@ -25,7 +25,7 @@ use Rattle.runs.specs.Streams.{EventBytes}
 use Rattle.tie.specs.Table.{tableOf}
 use Rattle.tie.specs.Whole.{wholeOf}
 use Rattle.tie.specs.Send.{transmitIn}
-use Rattle.tie.specs.Machine.{Machine, seen}
+use Rattle.tie.specs.Machine.{Machine, lentTo, seen}
 use Rattle.tie.specs.Run.{afterOwn, afterWhole, afterEvent, given, Good}
 use Rattle.tie.proofs.Follows.{change-view, take-view}
 use Rattle.tie.proofs.Segments.{segment-view, segment-told}
@@ -46,7 +46,7 @@ module _ (image : List ℕ) (m : Machine) (good : Good image m) where
   abbrev W : Whole → World → World
   W = wholeOf image
 
-  arrival-view : (a : Bool) (group : ℕ) (source : Remote) → viewOf (arrivalOf image s (length rx) (length tx) a group source .state) rx tx ≡ leaves (arriveOf image (stateOf (seen m)) a group source .state) (seen m)
+  arrival-view : (a : Bool) (group : ℕ) (source : Remote) → viewOf (arrivalOf (lentTo image m) a group source .state) rx tx ≡ leaves (arriveOf image (stateOf (seen m)) a group source .state) (seen m)
   unfolding arrivalOf
   arrival-view a group source = ap (λ (t : Arrived). viewOf (t .state) rx tx) (past image s rx tx (refusedBy s) (arriveOf image s a group source) (good .passed)) ∙ arrive-view image s rx tx a group source
 

@@ -22,6 +22,7 @@ use Rattle.lengths.specs.Listed.{Bytes}
 use Rattle.stream.specs.Stream.{cellOf, partFrom, heldIn, inSegment, outcomeOf, tookOf, takenOf, payloadAt}
 use Rattle.stream.proofs.Leaves.{leaves-cell, leaves-length, handed}
 use Rattle.route.specs.Route.{lookupOf}
+use Rattle.gate.specs.Lent.{lent}
 use Rattle.gate.proofs.Pass.{passed-gate-at}
 use Rattle.receive.specs.declared.SegmentTaken.{SegmentTaken}
 use Rattle.receive.specs.Answer.{isDone, judgedOf, answerOf}
@@ -89,7 +90,7 @@ module _ (image : List ℕ) (k : ℕ) (m : Machine) (segment : List ℕ) (o : Op
   -- nothing refuses it
   done : isDone (segmentAnswer image s (length rx) (length tx) k) ≡ true
   unfolding answerOf judgedOf
-  done = rw (passed-gate-at image s (length rx) (length tx) k (o .passed) (o .there), o .allows, o .receives)
+  done = rw (passed-gate-at (lent image s (length rx) (length tx)) k (o .passed) (o .there), o .allows, o .receives)
 
   taken-is : taken image k m segment ≡ takeOn image s rx k segment
   unfolding segmentOf

@@ -19,6 +19,7 @@ use Rattle.feed.specs.Feed.{pdus, drops}
 use Rattle.walk.specs.Walk.{Found, the-end, a-pdu, a-drop, walkAt, told}
 use Rattle.route.specs.Route.{lookupOf}
 use Rattle.datagram.specs.Datagram.{outcomeOf, walkedOf}
+use Rattle.gate.specs.Lent.{lent}
 use Rattle.gate.specs.Gate.{Passed}
 use Rattle.receive.specs.Answer.{isDone}
 use Rattle.receive.specs.Walk.{countWalk, walkOn, walkAllowed, walkAnswer, walkOf}
@@ -40,7 +41,7 @@ count-is the-end d s = refl
 count-is (a-pdu r p n i) d s = refl
 count-is (a-drop k i n) d s = refl
 
-module _ (image : List ℕ) (s : State) (rx tx : List ℕ) (k : ℕ) (d : List ℕ) (place : ℕ) (passed : Passed image s (length rx) (length tx)) (whole : Whole → World → World) where
+module _ (image : List ℕ) (s : State) (rx tx : List ℕ) (k : ℕ) (d : List ℕ) (place : ℕ) (passed : Passed (lent image s (length rx) (length tx))) (whole : Whole → World → World) where
   abbrev w : World
   w = viewOf s rx tx
 

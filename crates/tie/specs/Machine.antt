@@ -7,6 +7,7 @@ use mathlib.Core.List.{List, [], _∷_, _++_}
 use lib.ListN.{length, drop}
 use Rattle.feed.specs.Feed.{Pdu, handed}
 use Rattle.state.specs.declared.State.{State}
+use Rattle.gate.specs.Lent.{Lent, lentBy}
 use Rattle.stream.specs.declared.Outcome.{Outcome}
 use Rattle.stream.specs.declared.Outcome.the-variants as Found
 use Rattle.receive.specs.declared.SegmentTaken.{SegmentTaken}
@@ -21,6 +22,10 @@ pub record Machine : Type 0 where
 
 abbrev pub machine : State → List ℕ → List ℕ → Machine
 machine s rx tx = record { state = s; rx = rx; tx = tx }
+
+-- what the next call is lent
+abbrev pub lentTo : List ℕ → Machine → Lent
+lentTo image m = lentBy image (m .state) (m .rx) (m .tx)
 
 -- what it holds
 abbrev pub seen : Machine → World

@@ -18,7 +18,7 @@ use Rattle.arrivals.specs.Arrivals.{datagramOf, acceptOf}
 use Rattle.receive.specs.Walk.{walkOf}
 use Rattle.sending.specs.Sending.{sendOf, sentMemory, takenOf}
 use Rattle.world.specs.Events.{Own, change, segment, walk, take, Whole, datagram, accept, tick, transmit, switchAll, readCount, clearCount, Event, on, all}
-use Rattle.tie.specs.Machine.{Machine, machine, afterSegment, toldSegment}
+use Rattle.tie.specs.Machine.{Machine, machine, lentTo, afterSegment, toldSegment}
 
 -- THE PDU OF A WALK, with the payload that stands at its place
 abbrev pub toldWalk : List ℕ → Step → List Pdu
@@ -37,8 +37,8 @@ module _ (image : List ℕ) where
 
   -- of a whole group or module
   unfoldable pub afterWhole : Whole → Machine → Machine
-  afterWhole (datagram group source) m = machine (datagramOf image (m .state) (length (m .rx)) (length (m .tx)) group source .state) (m .rx) (m .tx)
-  afterWhole (accept group source) m = machine (acceptOf image (m .state) (length (m .rx)) (length (m .tx)) group source .state) (m .rx) (m .tx)
+  afterWhole (datagram group source) m = machine (datagramOf (lentTo image m) group source .state) (m .rx) (m .tx)
+  afterWhole (accept group source) m = machine (acceptOf (lentTo image m) group source .state) (m .rx) (m .tx)
   afterWhole tick m = machine (tickEvent image (m .state) (length (m .rx)) (length (m .tx)) .state) (m .rx) (m .tx)
   afterWhole (transmit pdu payload) m =
       machine (sendOf image (m .state) (length (m .rx)) (m .tx) pdu payload .state) (m .rx) (sentMemory image (m .state) (length (m .rx)) (m .tx) pdu payload)
@@ -69,5 +69,5 @@ module _ (image : List ℕ) where
 
 -- ONE ACCEPTED TABLE, ONE SOUND STATE (of sixteen records) AND MEMORY OF THE RIGHT LENGTHS
 pub record Good (image : List ℕ) (m : Machine) : Type 0 where
-  pub passed : Passed image (m .state) (length (m .rx)) (length (m .tx))
+  pub passed : Passed (lentTo image m)
   pub sixteen : length (m .state .connections) ≡ 16

@@ -11,6 +11,7 @@ use borrow.Author.Tests.{le-ltb}
 use Rattle.connection.specs.declared.Refusal.{Refusal}
 use Rattle.table.specs.Accepts.{Accepts}
 use Rattle.table.proofs.Facts.{accepted-facts}
+use Rattle.gate.specs.Lent.{lent}
 use Rattle.gate.specs.declared.Gate.{Gate}
 use Rattle.gate.specs.declared.Gate.the-variants.{Pass, Refused}
 use Rattle.gate.specs.Gate.{gateOf, gateAt, through}
@@ -32,9 +33,9 @@ use Rattle.keeps.proofs.Transmitted.{all-fit}
 -- a transmit, seen from connection k
 pub transmit-turn : (image : List ℕ) (s : State) (rx : ℕ) (tx : List ℕ) (pdu : ℕ) (payload : List ℕ) → length (s .connections) ≡ 16 → recordsSound image (s .connections) ≡ true → (k : ℕ)
     → waits (sendOf image s rx tx pdu payload .state) (sentMemory image s rx tx pdu payload) k
-    ≡ turned (adds (through (gateOf image s rx (length tx)) (λ r. []) (addedTo image s pdu payload k))) (waits s tx k)
+    ≡ turned (adds (through (gateOf (lent image s rx (length tx))) (λ r. []) (addedTo image s pdu payload k))) (waits s tx k)
 unfolding sendOf sentMemory transmitOf addedTo
-transmit-turn image s rx tx pdu payload sixteen h k = go (gateOf image s rx (length tx)) refl
+transmit-turn image s rx tx pdu payload sixteen h k = go (gateOf (lent image s rx (length tx))) refl
   where
     inner : Accepts image → length tx ≡ 23552 → (b : Bool) → isStored (checkOf image s pdu (length payload)) ≡ b
         → waits (cond b (storeAll image s pdu payload tx) (sending s tx) .state) (cond b (storeAll image s pdu payload tx) (sending s tx) .memory) k
@@ -42,11 +43,11 @@ transmit-turn image s rx tx pdu payload sixteen h k = go (gateOf image s rx (len
     inner a long true e = waits-after image (ready-from image a) s pdu payload tx sixteen long (all-fit image a s h) e k
     inner a long false e = sym (append-nil (waits s tx k))
 
-    go : (q : Gate) → gateOf image s rx (length tx) ≡ q
+    go : (q : Gate) → gateOf (lent image s rx (length tx)) ≡ q
         → waits (through q (notSent s) (transmittedOf image s pdu payload tx) .state) (through q (λ (r : Refusal). tx) (transmitOf image s pdu payload tx .memory)) k
         ≡ waits s tx k ++ through q (λ (r : Refusal). []) (cond (isStored (checkOf image s pdu (length payload))) (framesFrom image s pdu payload k (destinations image) 0) [])
     go (Refused r) e = sym (append-nil (waits s tx k))
-    go Pass e = let p = gate-passed image s rx (length tx) e in inner (accepted-facts image (p .table)) (p .send) (isStored (checkOf image s pdu (length payload))) refl
+    go Pass e = let p = gate-passed (lent image s rx (length tx)) e in inner (accepted-facts image (p .table)) (p .send) (isStored (checkOf image s pdu (length payload))) refl
 
 -- so many bytes wait as are used
 pub waits-length : (tx : List ℕ) (n used : ℕ) → n < 16 → length tx ≡ 23552 → used ≤ 1472 → length (waitingOf tx n used) ≡ used
@@ -55,15 +56,15 @@ waits-length tx n used l long fits = length-take-le used (drop (n * 1472) tx) (o
 
 -- past the gate, where they fit: what waited stands at the front of the out buffer, and the bytes after it stay
 pub taken-bytes : (image : List ℕ) (s : State) (rx : ℕ) (tx : List ℕ) (n : ℕ) (out : List ℕ) → recordsSound image (s .connections) ≡ true
-    → gateAt image s rx (length tx) n ≡ Pass → recordAt s n .used ≤ length out
+    → gateAt (lent image s rx (length tx)) n ≡ Pass → recordAt s n .used ≤ length out
     → takenOut image s rx tx n out ≡ waits s tx n ++ drop (recordAt s n .used) out
 unfolding takenOut outOf
 taken-bytes image s rx tx n out h e room = rw (e, le-ltb _ _ room) fronted
   where
     m : length (waits s tx n) ≡ recordAt s n .used
     m =
-        let p = gate-at-passed image s rx (length tx) n e .0 in
-        waits-length tx n (recordAt s n .used) (in-sixteen image s rx (length tx) n e) (p .send) (all-fit image (accepted-facts image (p .table)) s h n)
+        let p = gate-at-passed (lent image s rx (length tx)) n e .0 in
+        waits-length tx n (recordAt s n .used) (in-sixteen (lent image s rx (length tx)) n e) (p .send) (all-fit image (accepted-facts image (p .table)) s h n)
 
     fronted : lay out 0 (waits s tx n) ≡ waits s tx n ++ drop (recordAt s n .used) out
     fronted =

@@ -25,6 +25,7 @@ use Rattle.stream.proofs.Takes.{payload-fit, accepted-short}
 use Rattle.stream.proofs.Leaves.{Sane, Told, PartHolds, part-sane, take-sane}
 use Rattle.receive.specs.Segment.{segmentOf}
 use Rattle.table.proofs.Facts.{accepted-facts}
+use Rattle.gate.specs.Lent.{lent}
 use Rattle.gate.specs.declared.Gate.{Gate}
 use Rattle.gate.specs.declared.Gate.the-variants.{Pass, Refused}
 use Rattle.gate.specs.Gate.{gateOf, through}
@@ -100,9 +101,9 @@ module _ (image : List ℕ) (k i : ℕ) where
 -- SEND MEMORY: the frame at destination row d of a stored transmit
 module _ (image : List ℕ) (m : Machine) (pdu : ℕ) (payload : List ℕ) where
   stored-past : isStored (sendOf image (m .state) (length (m .rx)) (m .tx) pdu payload .answer) ≡ true
-      → (gateOf image (m .state) (length (m .rx)) (length (m .tx)) ≡ Pass) × (isStored (checkOf image (m .state) pdu (length payload)) ≡ true)
+      → (gateOf (lent image (m .state) (length (m .rx)) (length (m .tx))) ≡ Pass) × (isStored (checkOf image (m .state) pdu (length payload)) ≡ true)
   unfolding sendOf
-  stored-past = go (gateOf image (m .state) (length (m .rx)) (length (m .tx)))
+  stored-past = go (gateOf (lent image (m .state) (length (m .rx)) (length (m .tx))))
     where
       go : (g : Gate) → isStored (through g (notSent (m .state)) (transmittedOf image (m .state) pdu payload (m .tx)) .answer) ≡ true
           → (g ≡ Pass) × (isStored (checkOf image (m .state) pdu (length payload)) ≡ true)
@@ -114,5 +115,5 @@ module _ (image : List ℕ) (m : Machine) (pdu : ℕ) (payload : List ℕ) where
       → Within (destinationOf image d .connection * 1472) 1472 i
   frame-inside d i stored l wanted w =
       let p = stored-past stored in
-      let ready : Ready image = ready-from image (accepted-facts image (gate-passed image (m .state) (length (m .rx)) (length (m .tx)) (p .0) .table)) in
+      let ready : Ready image = ready-from image (accepted-facts image (gate-passed (lent image (m .state) (length (m .rx)) (length (m .tx))) (p .0) .table)) in
       (omega (arith, w), omega (arith, w, clear-roomy image (m .state) pdu payload (p .1) ready d l wanted))

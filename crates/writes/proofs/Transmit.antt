@@ -14,6 +14,7 @@ use Rattle.rows.specs.Rows.{destinationOf}
 use Rattle.connection.specs.declared.Connection.{Connection}
 use Rattle.state.specs.declared.State.{State}
 use Rattle.state.specs.State.{recordAt}
+use Rattle.gate.specs.Lent.{lent}
 use Rattle.gate.specs.declared.Gate.{Gate}
 use Rattle.gate.specs.declared.Gate.the-variants.{Pass, Refused}
 use Rattle.gate.specs.Gate.{gateOf, through}
@@ -76,18 +77,18 @@ module _ (image : List ℕ) (m : Machine) (pdu : ℕ) (payload : List ℕ) where
   -- THE EVENT
   pub sent-stays : (i : ℕ) → (WritesTx image m (all (transmit pdu payload)) i → ⊥) → byteAt (sentMemory image s rx (m .tx) pdu payload) i ≡ byteAt (m .tx) i
   unfolding sentMemory transmitOf sendOf
-  sent-stays i not = gate (gateOf image s rx (length (m .tx))) refl
+  sent-stays i not = gate (gateOf (lent image s rx (length (m .tx)))) refl
     where
       check : Transmission
       check = checkOf image s pdu (length payload)
 
-      past : gateOf image s rx (length (m .tx)) ≡ Pass → (b : Bool) → isStored check ≡ b → byteAt (cond b (storeAll image s pdu payload (m .tx)) (sending s (m .tx)) .memory) i ≡ byteAt (m .tx) i
+      past : gateOf (lent image s rx (length (m .tx))) ≡ Pass → (b : Bool) → isStored check ≡ b → byteAt (cond b (storeAll image s pdu payload (m .tx)) (sending s (m .tx)) .memory) i ≡ byteAt (m .tx) i
       past g false e = refl
       past g true e =
-          stored-kept (ready-from image (accepted-facts image (gate-passed image s rx (length (m .tx)) g .table))) i
+          stored-kept (ready-from image (accepted-facts image (gate-passed (lent image s rx (length (m .tx))) g .table))) i
           (λ d l w at. not (appends pdu payload d i (rw g e) l w at))
 
-      gate : (g : Gate) → gateOf image s rx (length (m .tx)) ≡ g → byteAt (through g (λ r. m .tx) (cond (isStored check) (storeAll image s pdu payload (m .tx)) (sending s (m .tx)) .memory)) i ≡ byteAt (m .tx) i
+      gate : (g : Gate) → gateOf (lent image s rx (length (m .tx))) ≡ g → byteAt (through g (λ r. m .tx) (cond (isStored check) (storeAll image s pdu payload (m .tx)) (sending s (m .tx)) .memory)) i ≡ byteAt (m .tx) i
       gate Pass e = past e (isStored check) refl
       gate (Refused r) e = refl
 
@@ -102,7 +103,7 @@ module _ (image : List ℕ) (m : Machine) (pdu : ℕ) (payload : List ℕ) where
 
   pub sent-long : length (sentMemory image s rx (m .tx) pdu payload) ≡ length (m .tx)
   unfolding sentMemory transmitOf storeAll
-  sent-long = go (gateOf image s rx (length (m .tx))) (isStored (checkOf image s pdu (length payload)))
+  sent-long = go (gateOf (lent image s rx (length (m .tx)))) (isStored (checkOf image s pdu (length payload)))
     where
       go : (g : Gate) (b : Bool) → length (through g (λ r. m .tx) (cond b (storeAll image s pdu payload (m .tx)) (sending s (m .tx)) .memory)) ≡ length (m .tx)
       go Pass true =

@@ -16,7 +16,7 @@ enum-told : tie.Need-enum-told
 enum-told c = search needs
 
 change-requires : tie.Need-change-requires
-change-requires c κs = in-sixteen _ _ _ _ _ (sym (c .before .before .ask-at .ensures) ∙ c .enum-told .given .1)
+change-requires c κs = in-sixteen _ _ (sym (c .before .before .ask-at .ensures) ∙ c .enum-told .given .1)
 
 returns : tie.Need-returns
 unfolding eventOf

@@ -20,7 +20,7 @@ rows-of-requires : tie.Need-rows-of-requires
 rows-of-requires c κs = search needs
 
 switch-rows-requires : tie.Need-switch-rows-requires
-switch-rows-requires c κs = rw (c .rows-of .ensures .0) (rows-in-sixteen _ _ _ _ (sym (c .before .before .before .before .ask .ensures) ∙ c .before .before .enum-told .given .1))
+switch-rows-requires c κs = rw (c .rows-of .ensures .0) (rows-in-sixteen _ (sym (c .before .before .before .before .ask .ensures) ∙ c .before .before .enum-told .given .1))
 
 returns : tie.Need-returns
 unfolding switchAllOf

@@ -3,6 +3,7 @@ use Prim.Native.Nat.{_<_}
 use native.Mathlib.Omega.{arith}
 use Rattle.layout.specs.Layout.{rowsOf}
 use Rattle.layout.specs.declared.Kind.the-variants.{Connection as Connections}
+use Rattle.gate.specs.Lent.{lent}
 use Rattle.gate.specs.Gate.{Passed}
 use Rattle.receive.proofs.Past.{below-sixteen}
 use Rattle.receive.proofs.Answers.{answer-refused, answer-judged, asked-there}
@@ -24,7 +25,7 @@ small : (c : tie.After-enum-told) → c .before .before .before .before .args .n
 small c =
     let g = c .before .before in
     let a = g .before .before .args in
-    let p : Passed (a .image .now) (a .t2) (a .rx) (a .tx) × (a .n < rowsOf (a .image .now) Connections) =
+    let p : Passed (lent (a .image .now) (a .t2) (a .rx) (a .tx)) × (a .n < rowsOf (a .image .now) Connections) =
     asked-there (a .image .now) (a .t2) (a .rx) (a .tx) (a .n) (a .allowed) (g .ask-at .result) (g .ask-at .ensures) (c .enum-told .given .1) in
     below-sixteen (a .image .now) (p .0 .table) (a .n) (p .1)
 

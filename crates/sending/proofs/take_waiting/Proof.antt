@@ -24,7 +24,7 @@ enum-told c = search needs
 
 -- the number is one of the sixteen
 small : (c : tie.After-enum-told) → c .before .before .before .before .before .before .before .args .connection < 16
-small c = in-sixteen _ _ _ _ _ (sym (c .before .before .ask-at .ensures) ∙ c .enum-told .given .1)
+small c = in-sixteen _ _ (sym (c .before .before .ask-at .ensures) ∙ c .enum-told .given .1)
 
 mul-c : tie.Need-mul-c
 mul-c c = search needs

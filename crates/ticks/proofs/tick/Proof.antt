@@ -19,7 +19,7 @@ rows-of-requires : tie.Need-rows-of-requires
 rows-of-requires c κs = search needs
 
 tick-rows-requires : tie.Need-tick-rows-requires
-tick-rows-requires c κs = rw (c .rows-of .ensures .0) (rows-in-sixteen _ _ _ _ (sym (c .before .before .before .ask .ensures) ∙ c .before .enum-told .given .1))
+tick-rows-requires c κs = rw (c .rows-of .ensures .0) (rows-in-sixteen _ (sym (c .before .before .before .ask .ensures) ∙ c .before .enum-told .given .1))
 
 returns : tie.Need-returns
 unfolding tickEvent
