@@ -33,7 +33,7 @@ def forms():
     return [" ".join([form(f"{kind} <number>", row)] + [f'[{note} "<{note}>"]' for note in NOTES[kind]]) for kind, row in ROWS.items()]
 
 
-def notes(kind, words):
+def named(kind, words):
     """The name and the unit at the end of a row's line, in either order."""
     out = {"name": "", "unit": ""}
     while words.words and words.words[0] in NOTES[kind] and not out[words.words[0]]:
@@ -55,7 +55,7 @@ def rows(text):
         if number != len(out[kind]):
             raise words.wrong(f"number of the {kind}", f"{number} does not follow: the next {kind} is number {len(out[kind])}")
         data = read(ROWS[kind], words)
-        out[kind].append(Row(words.line, words.columns, data, **notes(kind, words)))
+        out[kind].append(Row(words.line, words.columns, data, **named(kind, words)))
         words.end()
     return out
 

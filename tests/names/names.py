@@ -255,7 +255,7 @@ def pipes():
             same((done.returncode, done.stdout), (status, text), f"text/dress of {text}")
         with open("/dev/full", "wb") as full:
             done = subprocess.run(words, input=b"OK\n", stdout=full, stderr=subprocess.PIPE, check=False)
-        same((done.returncode, done.stderr), (2, b"soad: the output cannot be written: No space left on device\n"), "a full disk")
+        same((done.returncode, done.stderr), (2, b"soad: the lines cannot be read or written: No space left on device\n"), "a full disk")
 
 
 for check in (texts, stored_lines, stored_run, values, readme, scripts, refusals, pipes):
