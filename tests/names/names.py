@@ -228,11 +228,12 @@ def refusals():
                 ("group 1 UDP  ", "\n".join(f"group {i} UDP" for i in range(1, 10)), 4, 14, 1,
                  "contents entry of kind 1, group: 10 rows are more than 8 rows")):
             path = file(folder, "a table.txt", good.replace(old, new))
-            place = f"refused 1 at byte {byte}, {path}, line {line}, column {column}"
-            same(soad("check", path), (1, f"{place}: {reason}\nREFUSED\n", ""), f"./soad check of {new!r}")
-            status, out, error = soad("run", path, "examples/shift.txt")
-            told = re.fullmatch(re.escape(place) + "(: " + re.escape(reason) + ")?\nREFUSED\n", out)
-            true(told and (status, error) == (1, ""), f"./soad run of {new!r}: {out}")
+            place = f"refused 1 at byte {byte}, {path}, line {line}, column"
+            want = (1, f"{place} {column}: {reason}\nREFUSED\n", "")
+            same(soad("check", path), want, f"./soad check of {new!r}")
+            got = soad("run", path, "examples/shift.txt")
+            alone = (1, f"{place} 1\nREFUSED\n", "")  # of a program that says the byte alone: the row's first column
+            same(got, alone if got == alone else want, f"./soad run of {new!r}")
 
 
 def pipes():
