@@ -15,6 +15,14 @@ macro_rules! faults {
             })*
             None
         }
+
+        /// The fault of this name.
+        pub fn named(name: &str) -> Option<Fault> {
+            $($(if name == stringify!($name) {
+                return Some(Fault::$name);
+            })*)*
+            None
+        }
     };
 }
 

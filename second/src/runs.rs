@@ -3,9 +3,11 @@
 use crate::event::{Answer, Done};
 use crate::fault::{self, Fault};
 use crate::lines::lines;
+use crate::shrink::script::Script;
+use crate::shrink::{shrink, Bound};
 use crate::state::{Mode, State};
-use crate::stored;
 use crate::stream::{Outcome, Part};
+use crate::tell;
 use crate::walk::Found;
 use std::collections::BTreeMap;
 use std::io::Write;
@@ -104,26 +106,36 @@ pub fn printed(program: &[String], input: &[u8]) -> Result<Vec<String>, String> 
     Ok(String::from_utf8_lossy(&output.stdout).lines().map(str::to_string).collect())
 }
 
-/// Compares what is printed for each script. The first line that differs is printed, and its script stored.
+/// Compares what is printed for each script. The first one that differs is made smaller, printed and stored; of a few others, the name.
 pub fn compare(program: &[String], scripts: &[(String, Vec<u8>)], store: Option<&Path>) -> Result<(usize, Met), String> {
     let mut met = Met::new();
     let mut different = 0;
     for (name, input) in scripts {
         let want = lines(input, |before, after, answer| note(&mut met, before, after, answer));
-        let got = printed(program, input)?;
-        if want != got {
+        if want != printed(program, input)? {
             different += 1;
-            tell(name, input, &want, &got, store);
+            match different {
+                1 => tell(program, name, input, store),
+                2..=4 => println!("different, too: {}", name),
+                _ => {}
+            }
         }
     }
     Ok((different, met))
 }
 
-fn tell(name: &str, input: &[u8], want: &[String], got: &[String], store: Option<&Path>) {
-    let place = want.iter().zip(got).position(|(one, other)| one != other).unwrap_or(want.len().min(got.len()));
-    let line = |of: &[String]| of.get(place).cloned().unwrap_or_else(|| "no line".into());
-    println!("different: {}, line {}\n  program: {}\n  second program: {}", name, place + 1, line(got), line(want));
-    stored::write(store, name, &format!("{}: line {} differed", name, place + 1), input);
+/// The most calls of the program for making a script smaller; each answers one.
+const BOUND: Bound = Bound { calls: 2000, cases: 1 };
+
+fn tell(program: &[String], name: &str, input: &[u8], store: Option<&Path>) {
+    let told = |input: &[u8]| (lines(input, |_, _, _| ()), printed(program, input).unwrap_or_default());
+    let differs = |script: &Script| {
+        let (want, got) = told(&script.bytes());
+        want != got
+    };
+    let (least, calls) = shrink(Script::read(input), BOUND, &mut |all| all.iter().position(differs));
+    let (want, got) = told(&least.bytes());
+    tell::script(name, &least.bytes(), want, got).print(calls, BOUND, store);
 }
 
 /// In how many scripts each fault changes what is printed.

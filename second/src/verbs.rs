@@ -7,8 +7,9 @@ use crate::generate::framing::framing;
 use crate::generate::image::{changes, image, single_changes};
 use crate::generate::script::{image_script, misfit_script, script, stream_script, unsound_script};
 use crate::random::Random;
+use crate::shrink::{shrink, Bound};
 use crate::vectors::Vector;
-use crate::{exchange, runs, stored, table, takes, vectors as lists, Words, USAGE};
+use crate::{exchange, runs, stored, table, takes, tell, vectors as lists, Words, USAGE};
 use std::io::Read;
 use std::path::Path;
 
@@ -202,14 +203,23 @@ pub fn replay_takes(folder: &Path, words: &Words) -> Outcome {
 fn compare_cases(cases: Vec<takes::Case>, words: &Words) -> Outcome {
     let all = printed_takes(cases, words)?;
     let different: Vec<usize> = (0..all.len()).filter(|&number| all[number].1 != all[number].2).collect();
-    if let Some((case, want, got)) = different.first().map(|&number| &all[number]) {
-        let name = format!("takes-{}-{}", words.seed, different[0]);
-        println!("different: {}\n  program: {}\n  second program: {}", name, got.join("; "), want.join("; "));
-        stored::write(words.store.as_deref(), &name, &name, &takes::input(case));
+    if let Some(&number) = different.first() {
+        tell_takes(&format!("takes-{}-{}", words.seed, number), all[number].0.clone(), words);
     }
     let lines: usize = all.iter().map(|(_, want, _)| want.len()).sum();
     println!("takes-{}: {} cases, {} lines, {} cases different", words.seed, all.len(), lines, different.len());
     none_different(different.len())
+}
+
+/// The most calls of the program takes for making a case smaller, and the most cases in one.
+const TAKES_BOUND: Bound = Bound { calls: 300, cases: 200 };
+
+fn tell_takes(name: &str, case: takes::Case, words: &Words) {
+    let told = |all: &[takes::Case]| printed_takes(all.to_vec(), words).unwrap_or_default();
+    let (least, calls) = shrink(case, TAKES_BOUND, &mut |all| told(all).iter().position(|(_, want, got)| want != got));
+    if let Some((case, want, got)) = told(&[least]).pop() {
+        tell::takes(name, &case, want, got).print(calls, TAKES_BOUND, words.store.as_deref());
+    }
 }
 
 pub fn fault_takes(words: &Words) -> Outcome {
@@ -254,4 +264,8 @@ pub fn simulate(lines: impl Fn(&[u8]) -> Vec<String>) -> Outcome {
         println!("{}", line);
     }
     Ok(())
+}
+
+pub fn simulate_driver() -> Outcome {
+    compare::serve(std::io::stdin().lock(), std::io::stdout().lock()).map_err(|e| e.to_string())
 }
