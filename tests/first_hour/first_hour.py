@@ -55,18 +55,18 @@ BENCH = ("bench-example", TABLE, "3", "0x3", DATAGRAM, "0x101", "180")
 # 1. README's commands
 
 def readme():
-    """The commands of README.md, in order, each with the indented lines that follow it before the next one: those of its code blocks, and
-    those within its sentences. `./soad test` runs this test, and is the one command that is not run here."""
-    commands, said = [], {}
+    """The commands of README.md, in order: those of its code blocks, and those within its sentences that are whole (a verb that takes files
+    stands there without them); and the indented lines that follow each of the former. `./soad test` runs this test, and is the one command
+    that is not run here."""
+    commands, said, last = [], {}, None
     for line in contents("README.md").decode().split("\n"):
         if re.match("    (\\./|[a-z]+/run|rt |cc |bash )", line):
-            commands.append(line.strip())
-            said[line.strip()] = []
-        elif line.startswith("    ") and commands:
-            said[commands[-1]].append(line[4:])
-        for command in re.findall("`(\\./soad [^`]+)`", line):
-            if command not in ("./soad test", "./soad script"):
-                commands.append(command)
+            last = line.strip()
+            commands.append(last)
+            said[last] = []
+        elif line.startswith("    ") and last:
+            said[last].append(line[4:])
+        commands += re.findall("`(\\./soad (?:help|--version|[^`]* examples/[^`]*))`", line)
     true("./soad test" in commands, "README names ./soad test")
     return [command for command in commands if command != "./soad test"], said
 
@@ -74,14 +74,14 @@ def readme():
 def readme_commands():
     """Each command as it stands, in the clone: it ends with status 0, and prints the lines that README shows."""
     commands, said = readme()
-    true(len(commands) >= 5, f"README has the commands {commands}")
+    true(len(commands) >= 6, f"README has the commands {commands}")
     for command in commands:
         status, out, error = shell(command)
         same(status, 0, f"README: {command}: {error}")
         true(out, f"README: {command} prints something")
         if command.startswith(("./soad check", "./soad run", "./soad bench-example")):
             same(out.split("\n")[-2:], ["OK", ""], f"README: the last line of {command}")
-    shift, example = f"./soad run {TABLE} {SHIFT}", "./soad " + " ".join(BENCH)
+    shift, example = (next((command for command in commands if command.startswith(f"./soad {verb} ")), "false") for verb in ("run", "bench-example"))
     shown = [line for line in contents("README.md").decode().split("\n") if line.startswith("    entry ")]
     true(len(shown) >= 5, "README shows lines of the shift")
     printed = shell(shift)[1].split("\n")
@@ -239,7 +239,8 @@ def tables():
         place = want[1].split(":")[0]
         same((want[0], place), (1, "refused 1 at byte " + ("0" if len(table) < 36 else "4" if "contents" in name else "2")), f"./soad check of a table {name}")
         for what, script in scripts.items():
-            same(soad("run", path, file("script", script)), want, f"./soad run of a table {name}, with {what}")
+            if "12 bytes" in name or "entry" in name or what == "the shift":
+                same(soad("run", path, file("script", script)), want, f"./soad run of a table {name}, with {what}")
     same(soad("run", file("table", image), file("script", data))[0], 0, "./soad run of the table as it is")
 
 
