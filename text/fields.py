@@ -1,5 +1,6 @@
-"""The fields of a line, each told once and used both ways: words to bytes and bytes to words. An error names the place (a line, or a
-byte), the field and the reason."""
+"""The fields of a line, each told once and used both ways: words to bytes and bytes to words. An error names the place (line and column, or
+a byte), the field and the reason."""
+import ipaddress
 import re
 
 
@@ -11,18 +12,39 @@ class Wrong(Exception):
 
 
 class Words:
-    """The words of one line, taken from the front."""
+    """The words of one line, taken from the front. A word begins and ends with a quotation mark, and then may hold spaces and `#`, or it ends
+    before a space or `#`, which starts a comment. `column` is where the word taken last begins; `columns` has it by the word's field."""
+    form = re.compile(r'\s*("[^"]*"?|[^\s#]+)')
 
     def __init__(self, line, text):
-        self.line, self.words = line, text.split()
+        self.line, self.words, self.places, self.columns = line, [], [], {}
+        self.column = self.end_column = 1
+        word = self.form.match(text)
+        while word:
+            self.words.append(word[1])
+            self.places.append(word.start(1) + 1)
+            self.end_column = word.end() + 1
+            word = self.form.match(text, word.end())
 
-    def wrong(self, field, reason):
-        return Wrong(f"line {self.line}", field, reason)
+    def wrong(self, field, reason, column=None):
+        return Wrong(f"line {self.line}, column {column or self.column}", field, reason)
 
     def next(self, field):
         if not self.words:
-            raise self.wrong(field, "is missing")
+            raise self.wrong(field, "is missing", self.end_column)
+        self.column = self.columns[field] = self.places.pop(0)
         return self.words.pop(0)
+
+    def quoted(self, field):
+        """What stands between quotation marks."""
+        got = self.next(field)
+        if not re.fullmatch('"[^"]*"', got):
+            raise self.wrong(field, f"`{got}` is not in quotation marks")
+        if not got[1:-1].isprintable() or "\ufffd" in got:
+            raise self.wrong(field, "has a character that cannot be printed")
+        if got[1:-1].strip() != got[1:-1] or got == '""':
+            raise self.wrong(field, f"`{got}` is empty, or begins or ends with a space")
+        return got[1:-1]
 
     def choice(self, field, choices):
         got = self.next(field)
@@ -53,15 +75,15 @@ class Words:
 
     def end(self):
         if self.words:
-            raise self.wrong("end of line", f"`{self.words[0]}` is left over")
+            raise self.wrong("end of line", f"`{self.words[0]}` is left over", self.places[0])
 
 
 def lines(text):
-    """The lines that say something, as Words: `#` starts a comment."""
+    """The lines that say something, as Words."""
     for number, line in enumerate(re.split("\r\n|\r|\n", text), 1):
         if "\0" in line:
-            raise Wrong(f"line {number}", "text", "has a zero byte, which only images and scripts of bytes have")
-        words = Words(number, line.split("#", 1)[0])
+            raise Wrong(f"line {number}, column {line.index(chr(0)) + 1}", "text", "has a zero byte, which only images and scripts of bytes have")
+        words = Words(number, line)
         if words.words:
             yield words
 
@@ -178,14 +200,18 @@ class Address:
         self.form = f"<{self.host}> port <{self.port}>"
 
     def read(self, words):
-        host = words.next(self.host)
-        parts = ["0"] * 4 if host == "any" else host.split(".")
-        if len(parts) != 4 or not all(re.fullmatch("[0-9]{1,3}", part) and int(part) < 256 for part in parts):
-            raise words.wrong(self.host, f"`{host}` is no IPv4 address (four numbers from 0 to 255) nor `any`")
+        got = words.next(self.host)
+        host = "0.0.0.0" if got == "any" else got
+        try:
+            address = ipaddress.IPv4Address(host)
+        except ValueError:
+            address = None
+        if not address or str(address) != host:
+            raise words.wrong(self.host, f"`{got}` is no IPv4 address (four numbers from 0 to 255, without leading zeros) nor `any`")
         Word("port").read(words)
         if words.words[:1] == ["any"]:
             words.words[0] = "0"
-        return bytes(map(int, parts)) + words.number(self.port, 65535).to_bytes(2, "big")
+        return address.packed + words.number(self.port, 65535).to_bytes(2, "big")
 
     def show(self, data):
         host, port = data.next(self.host, 4), data.number(self.port, 2, 65535)

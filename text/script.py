@@ -1,7 +1,9 @@
 """A script a person can write, to script bytes and back (docs/EVENTS.md lays out the bytes, and says what does not fit)."""
+import math
 import struct
 
 from fields import Address, Always, Bytes, Choice, Hex, Number, Word, form, lines, read, show
+from notes import NOTHING, size
 
 STATE, STATE_BODY, MOST_BODY = 65535, 47672, 4096
 RECORD, RX, TX = 43, 1464, 1472
@@ -71,7 +73,9 @@ EMPTY = (bytes([0, 0, 0, 4]) + bytes(39)) * 16 + bytes(8 + 16 * (RX + TX))
 
 
 def forms():
-    return [form(name, row) for name, (_, row) in EVENTS.items()] + [
+    events = [form(name, row) for name, (_, row) in EVENTS.items()]
+    events.insert(list(EVENTS).index("transmit") + 1, "transmit <PDU> <value> <unit>")
+    return events + [
         "state", form("record <connection>", RECORDS), form("drops", LINES["drops"][3]), "rx <connection> <bytes in hex>",
         "tx <connection> <bytes in hex>", "end"]
 
@@ -115,19 +119,43 @@ def entry(event, body):
     return struct.pack(">HHI", event, 0, len(body)) + body
 
 
-def to_bytes(text):
-    out, rest = [], lines(text)
+def value(words, units):
+    """The body of a transmit whose payload is a number with its unit: `units` (notes.py) knows the PDU's unit and how many bytes it has."""
+    pdu, number, place = words.number("PDU", 65535), words.number("value", math.inf), words.column
+    unit = words.next("unit")
+    try:
+        width = units.width(pdu, unit)
+    except ValueError as why:
+        raise words.wrong("unit", str(why)) from None
+    if number >= 256 ** width:
+        raise words.wrong("value", f"{number} {unit} is more than {256 ** width - 1} {unit}, the most that a payload of {size(width)} holds", place)
+    return bytes(1) + struct.pack(">HI", pdu, width) + number.to_bytes(width, "big")
+
+
+def event_body(name, words, units):
+    if name == "transmit" and len(words.words) == 3:
+        return value(words, units)
+    body = read(EVENTS[name][1], words)
+    words.end()
+    return body
+
+
+def entries(text, units):
+    """(line, bytes) of each entry."""
+    rest, first = lines(text), True
     for words in rest:
         name = words.choice("event", [*EVENTS, "state"])
-        if name == "state":
-            if out:
-                raise words.wrong("state", "is not the first entry")
-            out.append(entry(STATE, state(words, rest)))
-            continue
-        event, row = EVENTS[name]
-        out.append(entry(event, read(row, words)))
-        words.end()
-    return b"".join(out)
+        if name != "state":
+            yield words.line, entry(EVENTS[name][0], event_body(name, words, units))
+        elif first:
+            yield words.line, entry(STATE, state(words, rest))
+        else:
+            raise words.wrong("state", "is not the first entry")
+        first = False
+
+
+def to_bytes(text, units=NOTHING):
+    return b"".join(data for _, data in entries(text, units))
 
 
 def head(data):

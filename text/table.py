@@ -1,6 +1,8 @@
 """A table a person can read, to a table image and back. Whether the table keeps the rules is for the proved check to say;
-here a value only has to fit its field."""
+here a value only has to fit its field. Names and units stand in the text alone: notes.py keeps them for what is printed."""
+import re
 import struct
+from collections import namedtuple
 
 from fields import Address, Always, Bytes, Choice, Number, Word, Wrong, form, lines, read, show
 
@@ -22,29 +24,52 @@ ROWS = {
                     Word("timeout"), Number("timeout", 2), Word("ticks"), *GROUPS],
 }
 SIZES = {"group": 2, "connection": 16, "route": 16, "destination": 16}
+NOTES = {"group": (), "connection": ("name",), "route": ("name", "unit"), "destination": ("name", "unit")}
+# A row of a text: where it stands and each of its fields, its bytes, and its name and unit ("" where it has none).
+Row = namedtuple("Row", "line columns data name unit")
 
 
 def forms():
-    return [form(f"{kind} <number>", row) for kind, row in ROWS.items()]
+    return [" ".join([form(f"{kind} <number>", row)] + [f'[{note} "<{note}>"]' for note in NOTES[kind]]) for kind, row in ROWS.items()]
 
 
-def to_image(text):
-    """Rows in any order of kinds; each names its own number, counted from 0 within its kind."""
-    bodies = {kind: [] for kind in ROWS}
+def named(kind, words):
+    """The name and the unit at the end of a row's line, in either order."""
+    out = {"name": "", "unit": ""}
+    while words.words and words.words[0] in NOTES[kind] and not out[words.words[0]]:
+        note = words.next("name or unit")
+        out[note] = words.quoted(note)
+    if not re.fullmatch(r"[^\s#]*", out["unit"]):
+        raise words.wrong("unit", f"`{out['unit']}` has a space or a `#` in it", words.columns["unit"])
+    return out
+
+
+def rows(text):
+    """The rows of each kind. They stand in any order of kinds; each names its own number, counted from 0 within its kind."""
+    out = {kind: [] for kind in ROWS}
     if not text:
-        raise Wrong("line 1", "text", "is empty")
+        raise Wrong("line 1, column 1", "text", "is empty")
     for words in lines(text):
         kind = words.choice("kind of row", ROWS)
         number = words.number(f"number of the {kind}", 65534)
-        if number != len(bodies[kind]):
-            raise words.wrong(f"number of the {kind}", f"{number} does not follow: the next {kind} is number {len(bodies[kind])}")
-        bodies[kind].append(read(ROWS[kind], words))
+        if number != len(out[kind]):
+            raise words.wrong(f"number of the {kind}", f"{number} does not follow: the next {kind} is number {len(out[kind])}")
+        data = read(ROWS[kind], words)
+        out[kind].append(Row(words.line, words.columns, data, **named(kind, words)))
         words.end()
+    return out
+
+
+def image_of(bodies):
     image, at = struct.pack(">HH", 1, 4), 36
     for number, kind in enumerate(ROWS, 1):
         image += struct.pack(">HHI", number, len(bodies[kind]), at)
-        at += sum(map(len, bodies[kind]))
-    return image + b"".join(row for kind in ROWS for row in bodies[kind])
+        at += SIZES[kind] * len(bodies[kind])
+    return image + b"".join(row.data for kind in ROWS for row in bodies[kind])
+
+
+def to_image(text):
+    return image_of(rows(text))
 
 
 def to_text(image):

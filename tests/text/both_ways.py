@@ -64,8 +64,8 @@ def refusal(what, direction, data):
 
 
 def bare(text):
-    """A text without its notes, as the tools print it."""
-    lines = (" ".join(line.split("#")[0].split()) for line in text.decode().split("\n"))
+    """A text without its notes, names and units, as the tools print it. (No name of these texts has a `#` in it.)"""
+    lines = (" ".join(re.sub('(name|unit) "[^"]*"', "", line.split("#")[0]).split()) for line in text.decode().split("\n"))
     return "".join(line + "\n" for line in lines if line)
 
 
@@ -157,7 +157,7 @@ def random_scripts():
 
 # 3. and 4. What is refused
 
-PLACE = re.compile(r"(line \d+|([a-z][a-z0-9, ]*, )?byte \d+): [A-Za-z][^:]*: .")
+PLACE = re.compile(r"(line (\d+), column (\d+)|([a-z][a-z0-9, ]*, )?byte \d+): [A-Za-z][^:]*: .")
 
 
 def spelled(text):
@@ -192,11 +192,25 @@ def cases():
                 yield what, "bytes", spelled(text.replace("; ", "\n")).encode(), message
 
 
+def points_at(text, message):
+    """The column is that of the word, or number, that the message quotes; of a word that is missing, behind the last one."""
+    place = PLACE.match(message)
+    line, what = re.split("\r\n|\r|\n", text)[int(place[2]) - 1], message[place.end() - 1:]
+    there = line[int(place[3]) - 1:]
+    if what == "is missing":
+        true(not there.split("#")[0].strip() and not line[:int(place[3]) - 1].endswith(" "), f"the column of `{message}` in {line!r:.150}")
+    elif re.match("`|[0-9x]+ is more than", what):
+        word = what[1:].split("` ")[0] if what.startswith("`") else what.split()[0]
+        true(there.lstrip('"').startswith(word.lstrip('"')), f"the column of `{message:.150}` in {line!r:.150}")
+
+
 def stored_errors():
     inputs = {(what, data) for what, _, data, message in cases() if message}
     good = [(what, data.decode().removesuffix("\nend")) for what, _, data, message in cases() if not message]
     for what, direction, data, message in cases():
         same(refusal(what, direction, data), message, f"errors.txt: {what} {data!r:.150}")
+        if direction == "bytes" and message:
+            points_at(data.decode(), message)
     names = [text.split("\n")[-1].split()[0] for _, text in good]
     same(set(names), {*table.ROWS, *script.EVENTS, *script.LINES}, "lines of errors.txt that are good")
     for what, text in good:
@@ -209,7 +223,7 @@ def stored_errors():
 def many_rows():
     """65,535 rows of a kind are the most that an image can count."""
     rows = "".join(f"group {i} UDP\n" for i in range(65536))
-    same(refusal("table", "bytes", rows.encode()), "line 65536: number of the group: 65535 is more than 65534", "65,536 rows")
+    same(refusal("table", "bytes", rows.encode()), "line 65536, column 7: number of the group: 65535 is more than 65534", "65,536 rows")
     most = rows.rpartition("group")[0]
     same(table.to_text(table.to_image(most)), most, "65,535 rows")
 
@@ -225,19 +239,20 @@ def some_text():
 
 
 def random_texts():
-    """A text with a few characters changed is refused by line, field and reason, or means the bytes that print as what means them."""
+    """A text with a few characters changed is refused by line, column, field and reason, or means the bytes that print as what means them."""
     refused = 0
     for i in range(1500):
         what, text = some_text()
         for _ in range(rand.randrange(1, 3)):
             at = rand.randrange(len(text))
-            new = rand.choice(["", "", "0", "9", " ", "\n", "x", "-", "#", "f", "ff", "\0", "²", "any "])
+            new = rand.choice(["", "", "0", "9", " ", "\n", "x", "-", "#", "f", "ff", "\0", "²", "any ", '"', 'name "x" '])
             text = text[:at] + new + text[at + rand.randrange(3):]
         said = refusal(what, "bytes", text.encode())
         if said is not None:
             refused += 1
-            line = int(PLACE.match(said)[1].split()[1]) if said.startswith("line ") and PLACE.match(said) else 0
-            true(1 <= line <= text.count("\n") + text.count("\r") + 1, f"refused with `{said}`: {text!r}")
+            place, lines = PLACE.match(said), re.split("\r\n|\r|\n", text.removeprefix("\ufeff"))
+            line, column = (int(place[2]), int(place[3])) if place and place[2] else (0, 0)
+            true(1 <= line <= len(lines) and 1 <= column <= len(lines[line - 1]) + 1, f"refused with `{said}`: {text!r}")
             continue
         data = convert.converted(what, "bytes", text.encode())
         again = convert.converted(what, "text", data)
@@ -357,22 +372,25 @@ def file(folder, name, data):
 
 
 def runs():
-    """./soad run prints the same of texts and of bytes, and what the program run prints."""
+    """./soad run prints the same of texts without names and of bytes, and what the program run prints; of a script text, its lines, too."""
     image, shift = contents("examples", "debarker.table"), contents("examples", "shift.txt")
     rows, start = made.state(rand)
     with tempfile.TemporaryDirectory() as folder:
-        tables = file(folder, "table", image), file(folder, "table.txt", contents("examples", "debarker.txt"))
+        tables = file(folder, "table", image), file(folder, "table.txt", bare(contents("examples", "debarker.txt")).encode())
         for name, data, text in (("shift", script.to_bytes(shift.decode()), shift), ("start", start, made.text(rows, rand).encode())):
             scripts = file(folder, name, data), file(folder, name + ".txt", text)
             want = (0, "".join(line + "\n" for line in run(image + data)).encode(), "")
             true(want[1].startswith(b"entry 1: ") and want[1].endswith(b"\nOK\n"), f"{name} runs")
+            lines = [line for line, _ in script.entries(text.decode("utf-8-sig"), None)]
+            told = re.sub(rb"(?m)^entry (\d+)", lambda m: m[0] + b", line %d" % lines[int(m[1]) - 1], want[1])
             for one, other in ((0, 0), (0, 1), (1, 0), (1, 1)):
-                same(soad("run", tables[one], scripts[other]), want, f"./soad run {tables[one]} {scripts[other]}")
+                same(soad("run", tables[one], scripts[other]), (0, told, "") if other else want, f"./soad run {tables[one]} {scripts[other]}")
         same(soad("check", tables[1]), soad("check", tables[0]), "./soad check of a text and of its image")
 
 
 def verbs():
-    """./soad table and script: the other form; of what cannot be read the error, nothing on standard output, and the status."""
+    """./soad table and script: the other form; of what cannot be read the error, nothing on standard output, and the status. check and run
+    tell such an error where they tell everything."""
     image, text, shift = contents("examples", "debarker.table"), contents("examples", "debarker.txt"), contents("examples", "shift.txt")
     data = script.to_bytes(shift.decode())
     with tempfile.TemporaryDirectory() as folder:
@@ -386,17 +404,20 @@ def verbs():
         tried((0, data, ""), "script", "to-bytes", "FILE", data=shift)
         tried((0, bare(shift).encode(), ""), "script", "to-text", "FILE", data=data)
         tried((0, script.to_bytes("tick 1"), ""), "script", "to-bytes", "FILE", data=b"tick 1 # \xe4")
-        for message, input, *calls in (
-                ("table: line 2: protocol: `udp` is none of UDP, TCP", b"group 0 TCP\ngroup 1 udp\n",
+        for what, message, input, *calls in (
+                ("table", "line 2, column 9: protocol: `udp` is none of UDP, TCP", b"group 0 TCP\ngroup 1 udp\n",
                  "table to-image FILE", "check FILE", f"run FILE {good}"),
-                ("script: line 3: bytes: 3 hex digits are no whole bytes", b"tick 1\n\nsegment 0 00b\n", "script to-bytes FILE", f"run {good} FILE"),
-                ("table: byte 2: total length: the image has 40 bytes and its contents ask 264", image[:40], "table to-text FILE"),
-                ("script: entry 1, byte 8: body: is cut off: 1 of 4 bytes", data[:9], "script to-text FILE"),
-                ("table: line 1: text: has a zero byte, which only images and scripts of bytes have", image, "table to-image FILE"),
-                ("table: line 1: text: is empty", b"", "table to-image FILE"),
-                ("script: line 1: ticks: `\ufffd` is no number (decimal digits, or 0x and hex digits)", b"tick \xe4", "script to-bytes FILE")):
+                ("script", "line 3, column 11: bytes: 3 hex digits are no whole bytes", b"tick 1\n\nsegment 0 00b\n",
+                 "script to-bytes FILE", f"run {good} FILE"),
+                ("table", "byte 2: total length: the image has 40 bytes and its contents ask 264", image[:40], "table to-text FILE"),
+                ("script", "entry 1, byte 8: body: is cut off: 1 of 4 bytes", data[:9], "script to-text FILE"),
+                ("table", "line 1, column 1: text: has a zero byte, which only images and scripts of bytes have", image, "table to-image FILE"),
+                ("table", "line 1, column 1: text: is empty", b"", "table to-image FILE"),
+                ("script", "line 1, column 6: ticks: `\ufffd` is no number (decimal digits, or 0x and hex digits)", b"tick \xe4",
+                 "script to-bytes FILE")):
+            told = f"{what} {os.path.join(folder, 'file')}, {message}\nREFUSED\n"
             for call in calls:
-                tried((1, b"", message + "\n"), *call.split(), data=input)
+                tried((1, told.encode(), "") if call.split()[0] in ("check", "run") else (1, b"", told), *call.split(), data=input)
         for path in (os.path.join(folder, "not-there"), folder):
             for words in (("table", "to-image", path), ("table", "to-text", path), ("script", "to-bytes", path), ("script", "to-text", path),
                           ("check", path), ("run", path, good), ("run", good, path)):
@@ -432,7 +453,7 @@ def usage():
                            (("script", "to-image", "x"), "script: there is no direction to-image")):
         form = soad(words[0], "--help")[1].decode().split("\n")[0]
         same(soad(*words), (2, b"", f"soad: {message}\nusage: {form}\n"), f"./soad {words}")
-    for words in ((), ("table",), ("table", "up"), ("shelf", "text"), ("table", "text", "x")):
+    for words in ((), ("table",), ("table", "up"), ("shelf", "text"), ("table", "text", "x", "y", "z")):
         done = subprocess.run([os.path.join(ROOT, "text", "convert"), *words], stdin=subprocess.DEVNULL, capture_output=True, check=False)
         same((done.returncode, done.stdout, done.stderr.decode()), (1, b"", convert.__doc__ + "\n"), f"text/convert {words}")
 
