@@ -4,16 +4,19 @@
  *
  * TABLE and DATAGRAM are files; CONNECTION is the row the datagram came in on, SWITCHES its routing switches; a setpoint of VALUE is
  * framed with header id ID. The header's id is the unit: 0x101 is bar, 0x102 kilopascal, and a number without a unit is not printed.
- * The last line is OK or REFUSED; the status is 0 or 1, and 2 for a call that is not understood.
+ * Numbers are decimal without a leading zero, or 0x and hex digits. The last line is OK or REFUSED; the status is 0 or 1, and 2 for a
+ * call that is not understood, or a file that cannot be read or an output that cannot be written.
  *
- *   cc -I include -o bench examples/bench.c target/staticlib/libsoad.a
- *   ./bench examples/debarker.table 3 0x3 examples/scanner.datagram 0x101 180
+ *   ./soad bench-example examples/debarker.table 3 0x3 examples/scanner.datagram 0x101 180
+ *
+ * builds it, shows the commands that do, and runs it.
  */
 #include "soad.h"
 
 #include <inttypes.h>
 #include <stdio.h>
 #include <stdlib.h>
+#include <string.h>
 
 struct bytes {
     uint8_t at[65536];
@@ -26,8 +29,8 @@ static void misused(const char *field, const char *word, const char *why)
     exit(2);
 }
 
-/* All of a file. */
-static void read_file(const char *field, const char *name, struct bytes *bytes)
+/* All of a file, or its first 65,536 bytes: of a table they are enough, since no accepted one is that long. */
+static void read_file(const char *field, const char *name, int all, struct bytes *bytes)
 {
     FILE *file = fopen(name, "rb");
     if (file == NULL)
@@ -36,18 +39,22 @@ static void read_file(const char *field, const char *name, struct bytes *bytes)
     int more = fgetc(file);
     if (ferror(file))
         misused(field, name, "cannot be read");
-    if (more != EOF)
+    if (all && more != EOF)
         misused(field, name, "longer than 65536 bytes");
     fclose(file);
 }
 
-/* A number, decimal or 0x and hex digits, and nothing else. */
-static uint32_t read_number(const char *field, const char *word, unsigned long most)
+/* A number: decimal digits without a leading zero, or 0x and hex digits, and nothing else. */
+static uint32_t read_number(const char *field, const char *word, uint32_t most)
 {
-    char *end;
-    unsigned long number = strtoul(word, &end, 0);
-    if (word[0] < '0' || word[0] > '9' || *end != '\0' || number > most)
-        misused(field, word, most == 65535 ? "no number up to 65535" : "no number up to 4294967295");
+    int hex = strncmp(word, "0x", 2) == 0;
+    const char *from = hex ? word + 2 : word;
+    size_t length = strspn(from, hex ? "0123456789abcdefABCDEF" : "0123456789");
+    if (length == 0 || from[length] != '\0' || (!hex && from[0] == '0' && length > 1))
+        misused(field, word, "no number (decimal without a leading zero, or 0x and hex digits)");
+    unsigned long long number = strtoull(from, NULL, hex ? 16 : 10);
+    if (number > most)
+        misused(field, word, most == 65535 ? "more than 65535" : "more than 4294967295");
     return (uint32_t)number;
 }
 
@@ -142,17 +149,13 @@ static int frame(uint32_t id, uint32_t value)
     return 0;
 }
 
-int main(int count, char **words)
+static int bench(char **words)
 {
     static struct bytes table, datagram;
     size_t place = 0;
-    if (count != 7) {
-        fprintf(stderr, "usage: bench TABLE CONNECTION SWITCHES DATAGRAM ID VALUE\n");
-        return 2;
-    }
-    read_file("TABLE", words[1], &table);
+    read_file("TABLE", words[1], 0, &table);
     uint32_t connection = read_number("CONNECTION", words[2], UINT32_MAX), switches = read_number("SWITCHES", words[3], UINT32_MAX);
-    read_file("DATAGRAM", words[4], &datagram);
+    read_file("DATAGRAM", words[4], 1, &datagram);
     uint32_t id = read_number("ID", words[5], UINT32_MAX), value = read_number("VALUE", words[6], 65535);
     if (unit_of(id) == NULL)
         misused("ID", words[5], "no unit: 0x101 is bar, 0x102 kPa");
@@ -163,4 +166,18 @@ int main(int count, char **words)
     printf("table: accepted, %zu bytes\n", table.length);
     int status = walk(&table, connection, switches, &datagram);
     return status != 0 ? status : frame(id, value);
+}
+
+int main(int count, char **words)
+{
+    if (count != 7) {
+        fprintf(stderr, "usage: bench TABLE CONNECTION SWITCHES DATAGRAM ID VALUE\n");
+        return 2;
+    }
+    int status = bench(words);
+    if (fflush(stdout) != 0 || ferror(stdout)) {
+        fprintf(stderr, "bench: the output cannot be written\n");
+        return 2;
+    }
+    return status;
 }

@@ -4,7 +4,8 @@
 #   need COMMAND PACKAGE     installs a package where its command is missing
 #   proved_program NAME      proves and builds target/bin/NAME where it is missing or older than a source
 #   proved_library           the same for target/staticlib/libsoad.a
-#   compile OUT WORD ..      compiles and links C files (and archives, and flags) into the program OUT
+#   compile OUT WORD ..      compiles and links C files (and archives, and flags) into the program OUT; with SHOW set, prints each
+#                            command on standard error first
 #   hosted                   sets headers to the flags that give a C file the C library's headers, where it wants them
 #   ${start[@]} OUT WORD ..  runs such a program
 #   ${kit_start[@]} OUT ..   runs a program that rt has built
@@ -48,10 +49,16 @@ kit_tools() { echo "$(cd "$(dirname "$(rt doc)")/.." && pwd -P)/on/$(uname -m)/t
 
 c_flags=(-std=c11 -O2 -Wall -Wextra -Werror)
 
+# shown WORD ..: runs a command, and shows it first where SHOW is set.
+shown() {
+    [ -z "${SHOW:-}" ] || { printf '+' && printf ' %q' "$@" && echo; } >&2
+    "$@"
+}
+
 compile_native() {
     local out=$1
     shift
-    need cc gcc && cc "${c_flags[@]}" -o "$out" "$@"
+    need cc gcc && shown cc "${c_flags[@]}" -o "$out" "$@"
 }
 
 # Files that are C are compiled, one object each; archives and objects are linked; all else is a flag for the compiler.
@@ -70,10 +77,10 @@ compile_cross() {
     flags+=(-fPIE -nostdinc -isystem "$(gcc -print-file-name=include)")
     flags+=(-Wno-builtin-macro-redefined -U__STDC_HOSTED__ -D__STDC_HOSTED__=0) # gcc's stdint.h then asks for no other
     for word in "${sources[@]}"; do
-        "$tools/bin/clang" --target=x86_64-unknown-linux-gnu "${c_flags[@]}" "${flags[@]}" -c -o "$out-$(basename "$word").o" "$word" || return
+        shown "$tools/bin/clang" --target=x86_64-unknown-linux-gnu "${c_flags[@]}" "${flags[@]}" -c -o "$out-$(basename "$word").o" "$word" || return
         objects=("$out-$(basename "$word").o" "${objects[@]}")
     done
-    "$tools/bin/ld.lld" -m elf_x86_64 -pie -dynamic-linker /lib64/ld-linux-x86-64.so.2 -o "$out" \
+    shown "$tools/bin/ld.lld" -m elf_x86_64 -pie -dynamic-linker /lib64/ld-linux-x86-64.so.2 -o "$out" \
         "$lib/Scrt1.o" "$lib/crti.o" "$lib/crtbeginS.o" "${objects[@]}" "$lib/libc.so.6" "$lib/libc_nonshared.a" "$lib/libgcc.a" \
         "$lib/crtendS.o" "$lib/crtn.o"
 }

@@ -433,15 +433,13 @@ def usage():
     """Help goes to standard output with status 0, wrong usage to standard error with status 2."""
     status, help, error = soad("help")
     same((status, error), (0, ""), "./soad help")
-    for verb in ("check TABLE", "run TABLE SCRIPT", "table to-image FILE", "script to-bytes FILE", "test", "help"):
+    for verb in ("check TABLE", "run TABLE SCRIPT", "table to-image FILE", "script to-bytes FILE", "bench-example ..", "test", "--version", "help"):
         true(f"\n  ./soad {verb} ".encode() in help, f"./soad help names {verb}")
-    for words in ((), ("--help",), ("-h",)):
+    for words in (("--help",), ("-h",)):
         same(soad(*words), (0, help, ""), f"./soad {words}")
     for verb in ("check", "run", "table", "script", "test"):
         status, out, error = soad(verb, "--help")
         true(status == 0 and out.startswith(f"./soad {verb}".encode()) and out.count(b"\n") > 1 and not error, f"./soad {verb} --help")
-        if verb not in ("test", "check"):
-            same(soad(verb), (0, out, ""), f"./soad {verb} alone")
     forms = soad("table", "--help")[1] + soad("script", "--help")[1]
     for name in (*table.ROWS, *script.EVENTS, *script.LINES, "state", "end"):
         true(re.search(f"^    {name}( <|\n| [a-z])", forms.decode(), re.M), f"the help of texts shows {name}")
@@ -451,9 +449,10 @@ def usage():
                            (("run", "a", "b", "c"), "run takes a table and a script"), (("test", "x"), "test takes no argument but --help"),
                            (("table", "to-image"), "table takes a direction and a file"),
                            (("script", "to-text"), "script takes a direction and a file"),
-                           (("table", "to-bytes", "x"), "table: there is no direction to-bytes (to-image or to-text)"),
-                           (("script", "to-image", "x"), "script: there is no direction to-image (to-bytes or to-text)")):
-        same(soad(*words), (2, b"", f"soad: {message}\n"), f"./soad {words}")
+                           (("table", "to-bytes", "x"), "table: there is no direction to-bytes"),
+                           (("script", "to-image", "x"), "script: there is no direction to-image")):
+        form = soad(words[0], "--help")[1].decode().split("\n")[0]
+        same(soad(*words), (2, b"", f"soad: {message}\nusage: {form}\n"), f"./soad {words}")
     for words in ((), ("table",), ("table", "up"), ("shelf", "text"), ("table", "text", "x", "y", "z")):
         done = subprocess.run([os.path.join(ROOT, "text", "convert"), *words], stdin=subprocess.DEVNULL, capture_output=True, check=False)
         same((done.returncode, done.stdout, done.stderr.decode()), (1, b"", convert.__doc__ + "\n"), f"text/convert {words}")
