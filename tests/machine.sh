@@ -49,8 +49,8 @@ kit_tools() { echo "$(cd "$(dirname "$(rt doc)")/.." && pwd -P)/on/$(uname -m)/t
 
 c_flags=(-std=c11 -O2 -Wall -Wextra -Werror)
 
-# shown WORD ..: runs a command, and shows it first where SHOW is set.
-shown() {
+# echoed WORD ..: runs a command, and prints it first where SHOW is set.
+echoed() {
     [ -z "${SHOW:-}" ] || { printf '+' && printf ' %q' "$@" && echo; } >&2
     "$@"
 }
@@ -58,7 +58,7 @@ shown() {
 compile_native() {
     local out=$1
     shift
-    need cc gcc && shown cc "${c_flags[@]}" -o "$out" "$@"
+    need cc gcc && echoed cc "${c_flags[@]}" -o "$out" "$@"
 }
 
 # Files that are C are compiled, one object each; archives and objects are linked; all else is a flag for the compiler.
@@ -77,10 +77,10 @@ compile_cross() {
     flags+=(-fPIE -nostdinc -isystem "$(gcc -print-file-name=include)")
     flags+=(-Wno-builtin-macro-redefined -U__STDC_HOSTED__ -D__STDC_HOSTED__=0) # gcc's stdint.h then asks for no other
     for word in "${sources[@]}"; do
-        shown "$tools/bin/clang" --target=x86_64-unknown-linux-gnu "${c_flags[@]}" "${flags[@]}" -c -o "$out-$(basename "$word").o" "$word" || return
+        echoed "$tools/bin/clang" --target=x86_64-unknown-linux-gnu "${c_flags[@]}" "${flags[@]}" -c -o "$out-$(basename "$word").o" "$word" || return
         objects=("$out-$(basename "$word").o" "${objects[@]}")
     done
-    shown "$tools/bin/ld.lld" -m elf_x86_64 -pie -dynamic-linker /lib64/ld-linux-x86-64.so.2 -o "$out" \
+    echoed "$tools/bin/ld.lld" -m elf_x86_64 -pie -dynamic-linker /lib64/ld-linux-x86-64.so.2 -o "$out" \
         "$lib/Scrt1.o" "$lib/crti.o" "$lib/crtbeginS.o" "${objects[@]}" "$lib/libc.so.6" "$lib/libc_nonshared.a" "$lib/libgcc.a" \
         "$lib/crtendS.o" "$lib/crtn.o"
 }

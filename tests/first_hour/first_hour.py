@@ -128,7 +128,7 @@ def arguments():
         misuse(words, "bench-example takes two files and four numbers")
     help = soad("help")
     same((help[0], help[2]), (0, ""), "./soad help")
-    for words, why in (((), "a verb is missing"), (("",), "a verb is missing"), (("",) + BENCH[1:], "a verb is missing"), (("toast",), "there is no verb toast")):
+    for words, why in (((), "a verb is missing"), (("",), "a verb is missing"), (("", TABLE), "a verb is missing"), (("toast",), "there is no verb toast")):
         same(soad(*words), (2, "", help[1] + f"soad: {why}\n"), f"./soad {words}")
     for verb in ("check", "run", "table", "script", "bench-example", "test"):
         status, out, error = soad(verb, "--help")
@@ -237,7 +237,8 @@ def tables():
         path = file("table", table)
         want = soad("check", path)
         place = want[1].split(":")[0]
-        same((want[0], place), (1, "refused 1 at byte " + ("0" if len(table) < 36 else "4" if "contents" in name else "2")), f"./soad check of a table {name}")
+        first = 0 if len(table) < 36 else 4 if "contents" in name else 2
+        same((want[0], place), (1, f"refused 1 at byte {first}"), f"./soad check of a table {name}")
         for what, script in scripts.items():
             if "12 bytes" in name or "entry" in name or what == "the shift":
                 same(soad("run", path, file("script", script)), want, f"./soad run of a table {name}, with {what}")
@@ -260,7 +261,8 @@ def room():
     """A room above 1,472 answers as 1,472 and prints as it was given."""
     got = soad("run", TABLE, file("rooms.txt", b"take 0 1472\ntake 0 1473\ntake 0 4294967295\n"))[1].split("\n")
     for number, size in ((1, 1472), (2, 1473), (3, 4294967295)):
-        true(got[number - 1].startswith(f"entry {number}, line {number}: take waiting of connection 0 into {size} bytes: 0 done; 0 bytes"), f"a room of {size} bytes: {got}")
+        line = f"entry {number}, line {number}: take waiting of connection 0 into {size} bytes: 0 done; 0 bytes .*"
+        true(re.fullmatch(line, got[number - 1]), f"a room of {size} bytes: {got}")
 
 
 with tempfile.TemporaryDirectory() as FOLDER:
