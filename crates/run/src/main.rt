@@ -1,11 +1,7 @@
 // run: a table image and a script on standard input; what each entry is and answers, and the records at the end, on standard output
 // (docs/EVENTS.md). Assumes nothing.
-mod answer;
 mod end;
-mod event;
-mod words;
 
-use crate::words::said;
 use answering::Verdict;
 use calls::Call;
 use calls::call_of;
@@ -13,7 +9,6 @@ use given::given_state;
 use input::read_image;
 use input::read_part;
 use pieces::front;
-use pieces::put_piece;
 use state::State;
 use state::fresh_state;
 use table::TableAnswer;
@@ -21,6 +16,12 @@ use table::check_table;
 use wire::be16;
 use wire::be32;
 use wire::copy_in;
+use wire::put16;
+use words::lay;
+use words::phrase;
+use words_event::answer;
+use words_event::event;
+use words_refusal::refusal;
 
 // How an entry leaves the run: it goes on; the input ended; an entry was refused; an entry was cut off.
 enum Last {
@@ -74,30 +75,31 @@ fn head_fault(number: u16, zero: usize, long: usize, body: &[u8]) -> Fault {
     Fault::None
 }
 
-// `entry N: `
-fn entry_text(text: &mut [u8], n: u64) -> usize {
-    said(text, 0, b"entry ", n, b": ")
-}
-
-fn fault_text(text: &mut [u8], at: usize, number: u16, fault: Fault) -> usize {
+fn fault_number(fault: Fault) -> usize {
     match fault {
-        Fault::None => at,
-        Fault::Unknown => said(
-            text,
-            at,
-            b"refused: unknown event number ",
-            number as u64,
-            b"",
-        ),
-        Fault::Zero => put_piece(text, at, b"refused: zero field is not 0"),
-        Fault::Unfit => put_piece(text, at, b"refused: body does not fit"),
+        Fault::None => 0,
+        Fault::Unknown => 1,
+        Fault::Zero => 2,
+        Fault::Unfit => 3,
     }
 }
 
 fn tell_fault(text: &mut [u8], n: u64, number: u16, fault: Fault) {
-    let at = entry_text(text, n);
-    let told = fault_text(text, at, number, fault);
-    let end = put_piece(text, told, b"\n");
+    let patterns = b"\
+        /\
+        entry @: refused: unknown event number %h00\n/\
+        entry @: refused: zero field is not 0\n/\
+        entry @: refused: body does not fit\n/";
+    let mut row = [0u8; 2];
+    put16(&mut row, 0, number);
+    let end = lay(
+        text,
+        0,
+        phrase(patterns, fault_number(fault)),
+        n,
+        &row,
+        &row,
+    );
     io::write_all(1, front(text, end));
 }
 
@@ -121,18 +123,17 @@ fn start(
     }
     copy_in(rx, 0, layout::part_of(body, 696, 23424));
     copy_in(tx, 0, layout::part_of(body, 24120, 23552));
-    let at = entry_text(text, n);
-    let end = put_piece(text, at, b"start state: taken\n");
+    let end = lay(text, 0, b"entry @: start state: taken\n", n, body, body);
     io::write_all(1, front(text, end));
     ran_to(Last::GoesOn, state_given)
 }
 
 fn tell_answer(text: &mut [u8], n: u64, number: u16, body: &[u8], bytes: &[u8]) {
-    let at = entry_text(text, n);
-    let named = event::event(text, at, call_of(number, body), body);
-    let colon = put_piece(text, named, b": ");
-    let told = answer::answer(text, colon, number, bytes, body);
-    let end = put_piece(text, told, b"\n");
+    let at = lay(text, 0, b"entry @: ", n, body, body);
+    let named = event(text, at, number, body);
+    let colon = lay(text, named, b": ", n, body, body);
+    let told = answer(text, colon, number, bytes, body);
+    let end = lay(text, told, b"\n", n, body, body);
     io::write_all(1, front(text, end));
 }
 
@@ -272,16 +273,11 @@ fn run_script(table: &[u8]) {
     last_word(last);
 }
 
-fn refuse(place: usize) {
-    let mut text = [0u8; 64];
-    let end = said(
-        &mut text,
-        0,
-        b"refused 1 at byte ",
-        place as u64,
-        b"\nREFUSED\n",
-    );
+fn refuse(table: &[u8], place: usize) {
+    let mut text = [0u8; 512];
+    let end = refusal(&mut text, table, place);
     io::write_all(1, front(&text, end));
+    io::write_all(1, b"REFUSED\n");
 }
 
 fn main() {
@@ -290,6 +286,6 @@ fn main() {
     let table = front(&image, n);
     match check_table(table) {
         TableAnswer::Accepted => run_script(table),
-        TableAnswer::Refused(place) => refuse(place),
+        TableAnswer::Refused(place) => refuse(table, place),
     }
 }
