@@ -103,7 +103,19 @@ fn tell_fault(text: &mut [u8], n: u64, number: u16, fault: Fault) {
     io::write_all(1, front(text, end));
 }
 
-// The first entry may give a state to start from.
+// The first entry may give a state to start from: whether it is taken.
+fn taken(rx: &mut [u8], tx: &mut [u8], body: &[u8], fits: bool, text: &mut [u8], n: u64) -> Last {
+    if !fits {
+        tell_fault(text, n, 65535, Fault::Unfit);
+        return Last::Refused;
+    }
+    copy_in(rx, 0, layout::part_of(body, 696, 23424));
+    copy_in(tx, 0, layout::part_of(body, 24120, 23552));
+    let end = lay(text, 0, b"entry @: start state: taken\n", n, body, body);
+    io::write_all(1, front(text, end));
+    Last::GoesOn
+}
+
 fn start(
     state: State,
     rx: &mut [u8],
@@ -116,16 +128,11 @@ fn start(
     let body = front(entry, long);
     let given = given_state(body);
     let state_given = given.state;
-    let fits = given.fits & (n == 1);
-    if !fits {
-        tell_fault(text, n, 65535, Fault::Unfit);
-        return ran_to(Last::Refused, state);
+    let last = taken(rx, tx, body, given.fits & (n == 1), text, n);
+    if !goes_on(last) {
+        return ran_to(last, state);
     }
-    copy_in(rx, 0, layout::part_of(body, 696, 23424));
-    copy_in(tx, 0, layout::part_of(body, 24120, 23552));
-    let end = lay(text, 0, b"entry @: start state: taken\n", n, body, body);
-    io::write_all(1, front(text, end));
-    ran_to(Last::GoesOn, state_given)
+    ran_to(last, state_given)
 }
 
 fn tell_answer(text: &mut [u8], n: u64, number: u16, body: &[u8], bytes: &[u8]) {
@@ -137,7 +144,27 @@ fn tell_answer(text: &mut [u8], n: u64, number: u16, body: &[u8], bytes: &[u8]) 
     io::write_all(1, front(text, end));
 }
 
-// One event: through the dispatcher, and its line from the bytes of its answer.
+// The line of an event, from the bytes of its answer.
+fn told(verdict: Verdict, text: &mut [u8], n: u64, number: u16, body: &[u8], out: &[u8]) -> Last {
+    match verdict {
+        Verdict::Done(written) => {
+            tell_answer(text, n, number, body, front(out, written));
+            Last::GoesOn
+        }
+        Verdict::Unknown => {
+            tell_fault(text, n, number, Fault::Unknown);
+            Last::Refused
+        }
+        Verdict::Unfit => {
+            tell_fault(text, n, number, Fault::Unfit);
+            Last::Refused
+        }
+        // cannot come: the out buffer has the room that the dispatcher asks for
+        Verdict::Small => Last::Refused,
+    }
+}
+
+// One event, through the dispatcher.
 fn happen(
     table: &[u8],
     state: State,
@@ -154,26 +181,59 @@ fn happen(
     let done = dispatch::dispatch(table, state, rx, tx, number, body, out);
     let verdict = done.verdict;
     let after = done.state;
-    match verdict {
-        Verdict::Done(written) => {
-            tell_answer(text, n, number, body, front(out, written));
-            ran_to(Last::GoesOn, after)
-        }
-        Verdict::Unknown => {
-            tell_fault(text, n, number, Fault::Unknown);
-            ran_to(Last::Refused, after)
-        }
-        Verdict::Unfit => {
-            tell_fault(text, n, number, Fault::Unfit);
-            ran_to(Last::Refused, after)
-        }
-        // cannot come: the out buffer has the room that the dispatcher asks for
-        Verdict::Small => ran_to(Last::Refused, after),
-    }
+    let last = told(verdict, text, n, number, body, out);
+    ran_to(last, after)
 }
 
 fn is_fault(fault: Fault) -> bool {
     if let Fault::None = fault { false } else { true }
+}
+
+// An entry as it is read: its event number and the length of its body; it goes on where the body has been read.
+struct Read {
+    last: Last,
+    number: u16,
+    long: usize,
+}
+
+fn read_entry(body: &mut [u8], text: &mut [u8], n: u64) -> Read {
+    let mut head = [0u8; 8];
+    let got = io::read_full(0, &mut head);
+    let number = be16(&head, 0) as u16;
+    let long = be32(&head, 4);
+    if got < 8 {
+        return Read {
+            last: cut_after(got),
+            number: number,
+            long: 0,
+        };
+    }
+    let fault = head_fault(number, be16(&head, 2), long, body);
+    if is_fault(fault) {
+        tell_fault(text, n, number, fault);
+        return Read {
+            last: Last::Refused,
+            number: number,
+            long: 0,
+        };
+    }
+    Read {
+        last: body_read(body, long),
+        number: number,
+        long: long,
+    }
+}
+
+// An input that ends between entries ends well.
+fn cut_after(got: usize) -> Last {
+    if got == 0 { Last::Ended } else { Last::Cut }
+}
+
+fn body_read(body: &mut [u8], long: usize) -> Last {
+    if read_part(body, 0, long) < long {
+        return Last::Cut;
+    }
+    Last::GoesOn
 }
 
 // One entry of the script.
@@ -187,23 +247,12 @@ fn entry(
     out: &mut [u8],
     n: u64,
 ) -> Ran {
-    let mut head = [0u8; 8];
-    let got = io::read_full(0, &mut head);
-    if got == 0 {
-        return ran_to(Last::Ended, state);
-    }
-    if got < 8 {
-        return ran_to(Last::Cut, state);
-    }
-    let number = be16(&head, 0) as u16;
-    let long = be32(&head, 4);
-    let fault = head_fault(number, be16(&head, 2), long, body);
-    if is_fault(fault) {
-        tell_fault(text, n, number, fault);
-        return ran_to(Last::Refused, state);
-    }
-    if read_part(body, 0, long) < long {
-        return ran_to(Last::Cut, state);
+    let read = read_entry(body, text, n);
+    let last = read.last;
+    let number = read.number;
+    let long = read.long;
+    if !goes_on(last) {
+        return ran_to(last, state);
     }
     if number == 65535 {
         return start(state, rx, tx, body, long, text, n);
