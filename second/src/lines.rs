@@ -18,9 +18,23 @@ fn bytes(bytes: &[u8]) -> String {
     }
 }
 
+/// "An address prints as `192.168.10.11 port 30501`, and a wildcard (0) as `any`".
 fn remote(remote: Remote) -> String {
-    let [a, b, c, d] = remote.address.to_be_bytes();
-    format!("{}.{}.{}.{} port {}", a, b, c, d, remote.port)
+    let address = match remote.address.to_be_bytes() {
+        [0, 0, 0, 0] => "any".into(),
+        [a, b, c, d] => format!("{}.{}.{}.{}", a, b, c, d),
+    };
+    let port = if remote.port == 0 { "any".into() } else { remote.port.to_string() };
+    format!("{} port {}", address, port)
+}
+
+/// "A unit behind the number 1 is singular".
+fn count(number: u64, unit: &str) -> String {
+    format!("{} {}{}", number, unit, if number == 1 { "" } else { "s" })
+}
+
+fn length(bytes: &[u8]) -> String {
+    count(bytes.len() as u64, "byte")
 }
 
 fn position(on: bool) -> &'static str {
@@ -41,21 +55,21 @@ fn yes(wanted: bool) -> &'static str {
 
 fn event_words(event: &Event) -> String {
     match event {
-        Event::Ticks(times) => format!("tick {} times", times),
+        Event::Ticks(times) => format!("tick {}", count(u64::from(*times), "time")),
         Event::Open(connection) => format!("open connection {}", connection),
         Event::Close(connection) => format!("close connection {}", connection),
         Event::Connected(connection) => format!("connected connection {}", connection),
         Event::Lost(connection) => format!("lost connection {}", connection),
         Event::SetRemote(connection, to) => format!("set remote of connection {} to {}", connection, remote(*to)),
         Event::Switch(connection, number, on) => format!("switch {} of connection {} {}", number, connection, position(*on)),
-        Event::Segment(connection, segment) => format!("segment on connection {}, {} bytes", connection, segment.len()),
+        Event::Segment(connection, segment) => format!("segment on connection {}, {}", connection, length(segment)),
         Event::Walk(connection, place, datagram) => {
-            format!("walk on connection {} from byte {} of {} bytes", connection, place, datagram.len())
+            format!("walk on connection {} from byte {} of {}", connection, place, length(datagram))
         }
-        Event::TakeWaiting(connection, room) => format!("take waiting of connection {} into {} bytes", connection, room),
+        Event::TakeWaiting(connection, room) => format!("take waiting of connection {} into {}", connection, count(u64::from(*room), "byte")),
         Event::Datagram(group, source) => format!("datagram to group {} from {}", group, remote(*source)),
         Event::Accept(group, source) => format!("accept to group {} from {}", group, remote(*source)),
-        Event::Transmit(pdu, payload) => format!("transmit PDU 0x{:04x}, {} bytes", pdu, payload.len()),
+        Event::Transmit(pdu, payload) => format!("transmit PDU 0x{:04x}, {}: {}", pdu, length(payload), bytes(payload)),
         Event::SwitchAll(number, on) => format!("switch {} of all connections {}", number, position(*on)),
         Event::ReadCount(protocol) => format!("read count of protocol {}", protocol),
         Event::ReadAndClear(protocol) => format!("read and clear count of protocol {}", protocol),
@@ -78,14 +92,27 @@ fn meaning(number: u8) -> &'static str {
     }
 }
 
+fn reason_words(reason: u8) -> &'static str {
+    match reason {
+        20 => "no route for this id",
+        21 => "switched off",
+        22 => "longer than its route allows",
+        _ => "cut off: no whole header, or a length beyond the end",
+    }
+}
+
 fn header(header: Header) -> String {
-    format!("id 0x{:08x}, length {} bytes", header.id, header.length)
+    format!("id 0x{:08x}, length {}", header.id, count(u64::from(header.length), "byte"))
+}
+
+fn drop_words(reason: u8, of: Header) -> String {
+    format!("drop {}, {}, {}", reason, reason_words(reason), header(of))
 }
 
 fn take_words(take: &Take) -> String {
     match &take.outcome {
         Outcome::More => "more wanted".into(),
-        Outcome::Drop { reason, header: of } => format!("drop {}, {}", reason, header(*of)),
+        Outcome::Drop { reason, header: of } => drop_words(*reason, *of),
         Outcome::Pdu { route, header: of, stood, payload } => {
             let from = match stood {
                 Stood::Segment(at) => format!("the segment at byte {}", at),
@@ -99,7 +126,7 @@ fn take_words(take: &Take) -> String {
 fn walk_words(step: &Step, datagram: &[u8]) -> String {
     let found = match step.found {
         Found::End => "the end".into(),
-        Found::Drop { reason, header: of } => format!("drop {}, {}", reason, header(of)),
+        Found::Drop { reason, header: of } => drop_words(reason, of),
         Found::Pdu { route, header: of, at } => {
             let payload = datagram.get(at..at + of.length as usize).unwrap_or_default();
             format!("PDU of route {}, {}, at byte {}: {}", route, header(of), at, bytes(payload))
@@ -118,12 +145,12 @@ fn answer_words(event: &Event, answer: &Answer) -> String {
         (Done::Takes(takes), _) => takes
             .iter()
             .enumerate()
-            .map(|(i, take)| format!("; take {} read {} bytes: {}", i + 1, take.read, take_words(take)))
+            .map(|(i, take)| format!("; take {} read {}: {}", i + 1, count(take.read as u64, "byte"), take_words(take)))
             .collect(),
         (Done::Walked(step), Event::Walk(_, _, datagram)) => walk_words(step, datagram),
-        (Done::Waiting(to, waiting), _) => format!("; {} bytes for {}: {}", waiting.len(), remote(*to), bytes(waiting)),
+        (Done::Waiting(to, waiting), _) => format!("; {} for {}: {}", length(waiting), remote(*to), bytes(waiting)),
         (Done::Chosen(connection), _) => format!("; connection {}", connection),
-        (Done::Count(value), _) => format!("; {} drops", value),
+        (Done::Count(value), _) => format!("; {}", count(u64::from(*value), "drop")),
         _ => String::new(),
     };
     format!("0 done{}", values)
@@ -146,20 +173,20 @@ fn record_line(world: &World, connection: usize) -> String {
     };
     let part = match record.part {
         Part::Header { held: 0, .. } => "ready".into(),
-        Part::Header { held, value } => format!("header {} bytes: {}", held, hex(&spell(value, usize::from(held.min(8))))),
+        Part::Header { held, value } => format!("header {}: {}", count(u64::from(held), "byte"), hex(&spell(value, usize::from(held.min(8))))),
         Part::Payload { route, length, held } => {
             format!(
-                "payload of route {}, {} of {} bytes: {}",
+                "payload of route {}, {} of {}: {}",
                 route,
                 held,
-                length,
+                count(u64::from(length), "byte"),
                 bytes(world.received(connection, usize::from(held)))
             )
         }
-        Part::Skip(left) => format!("skip {} bytes", left),
+        Part::Skip(left) => format!("skip {}", count(u64::from(left), "byte")),
     };
-    let send = format!("send {} bytes: {}", record.used, bytes(world.waiting(connection)));
-    let timer = if record.timer == 0 { "timer stopped".into() } else { format!("timer {} ticks", record.timer) };
+    let send = format!("send {}: {}", count(u64::from(record.used), "byte"), bytes(world.waiting(connection)));
+    let timer = if record.timer == 0 { "timer stopped".into() } else { format!("timer {}", count(u64::from(record.timer), "tick")) };
     let wishes = format!("open wanted {}, close wanted {}", yes(record.open_wanted), yes(record.close_wanted));
     let (to, due) = (remote(record.remote), yes(record.due));
     format!(

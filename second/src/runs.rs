@@ -92,6 +92,12 @@ fn note(met: &mut Met, before: &State, after: &State, answer: &Answer) {
     }
 }
 
+/// A line of the program: of a refused image the byte is compared, and not the words behind it.
+fn compared(line: &str) -> String {
+    let byte = line.strip_prefix("refused 1 at byte ").and_then(|rest| rest.split_once(": "));
+    byte.map_or_else(|| line.to_string(), |(place, _)| format!("refused 1 at byte {}", place))
+}
+
 /// What the program prints for an input.
 pub fn printed(program: &[String], input: &[u8]) -> Result<Vec<String>, String> {
     let (name, words) = program.split_first().ok_or("no program was named")?;
@@ -103,7 +109,7 @@ pub fn printed(program: &[String], input: &[u8]) -> Result<Vec<String>, String> 
     let writer = std::thread::spawn(move || to.write_all(&input).is_ok());
     let output = child.wait_with_output().map_err(|e| e.to_string())?;
     writer.join().map_err(|_| "the writer did not end")?;
-    Ok(String::from_utf8_lossy(&output.stdout).lines().map(str::to_string).collect())
+    Ok(String::from_utf8_lossy(&output.stdout).lines().map(compared).collect())
 }
 
 /// Compares what is printed for each script. The first one that differs is made smaller, printed and stored; of a few others, the name.

@@ -92,7 +92,8 @@ fn take_lines(takes: &[Take]) -> Vec<String> {
                     Stood::Segment(at) => format!("segment {}", at - before),
                     Stood::Memory => "memory 0".into(),
                 };
-                format!("pdu {} {} {} {} x{}", route, header.id, header.length, stood, hex(payload))
+                let bytes = if payload.is_empty() { "-".into() } else { hex(payload) };
+                format!("pdu {} {} {} {} x{}", route, header.id, header.length, stood, bytes)
             }
         };
         before += take.read;

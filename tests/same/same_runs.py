@@ -78,7 +78,7 @@ def printed(command, image, run):
     end = [line for line in lines if not line.startswith("entry ")]
     pdus = {}
     for line in lines:
-        for route, body in re.findall(r"PDU of route (\d+), id \w+, length \d+ bytes, (?:from the segment at byte \d+|from receive memory): ([0-9a-f-]+)", line):
+        for route, body in re.findall(r"PDU of route (\d+), id \w+, length \d+ bytes?, (?:from the segment at byte \d+|from receive memory): ([0-9a-f-]+)", line):
             pdus.setdefault(re.search(r"connection (\d+)", line).group(1), []).append((route, body))
     return end, pdus
 

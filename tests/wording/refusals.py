@@ -1,4 +1,4 @@
-"""refusals.py COMMAND ..: runs the command on each damaged table of refusals.txt and compares what it prints."""
+"""refusals.py EDITS COMMAND ..: runs the command on each table of refusals.txt that such edits damage and compares what it prints."""
 import os
 import subprocess
 import sys
@@ -19,10 +19,10 @@ def damaged(table, edit):
 with open(os.path.join(HERE, "..", "..", "examples", "debarker.table"), "rb") as file:
     table = file.read()
 with open(os.path.join(HERE, "refusals.txt")) as file:
-    cases = [line.rstrip("\n").split(" | ", 1) for line in file if not line.startswith("#")]
+    cases = [line.rstrip("\n").split(" | ", 1) for line in file if line.split()[0] in sys.argv[1].split()]
 failed = 0
 for edit, line in cases:
-    printed = subprocess.run(sys.argv[1:], input=damaged(table, edit), stdout=subprocess.PIPE, check=False).stdout.decode()
+    printed = subprocess.run(sys.argv[2:], input=damaged(table, edit), stdout=subprocess.PIPE, check=False).stdout.decode()
     if printed != line + "\nREFUSED\n":
         failed += 1
         print(f"wording: after `{edit}` expected `{line}`, printed `{printed}`")

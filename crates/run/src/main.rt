@@ -1,11 +1,7 @@
 // run: a table image and a script on standard input; what each entry is and answers, and the records at the end, on standard output
 // (docs/EVENTS.md). Assumes nothing.
-mod answer;
 mod end;
-mod event;
-mod words;
 
-use crate::words::said;
 use answering::Verdict;
 use calls::Call;
 use calls::call_of;
@@ -13,7 +9,6 @@ use given::given_state;
 use input::read_image;
 use input::read_part;
 use pieces::front;
-use pieces::put_piece;
 use state::State;
 use state::fresh_state;
 use table::TableAnswer;
@@ -21,6 +16,12 @@ use table::check_table;
 use wire::be16;
 use wire::be32;
 use wire::copy_in;
+use wire::put16;
+use words::lay;
+use words::phrase;
+use words_event::answer;
+use words_event::event;
+use words_refusal::refusal;
 
 // How an entry leaves the run: it goes on; the input ended; an entry was refused; an entry was cut off.
 enum Last {
@@ -74,34 +75,47 @@ fn head_fault(number: u16, zero: usize, long: usize, body: &[u8]) -> Fault {
     Fault::None
 }
 
-// `entry N: `
-fn entry_text(text: &mut [u8], n: u64) -> usize {
-    said(text, 0, b"entry ", n, b": ")
-}
-
-fn fault_text(text: &mut [u8], at: usize, number: u16, fault: Fault) -> usize {
+fn fault_number(fault: Fault) -> usize {
     match fault {
-        Fault::None => at,
-        Fault::Unknown => said(
-            text,
-            at,
-            b"refused: unknown event number ",
-            number as u64,
-            b"",
-        ),
-        Fault::Zero => put_piece(text, at, b"refused: zero field is not 0"),
-        Fault::Unfit => put_piece(text, at, b"refused: body does not fit"),
+        Fault::None => 0,
+        Fault::Unknown => 1,
+        Fault::Zero => 2,
+        Fault::Unfit => 3,
     }
 }
 
 fn tell_fault(text: &mut [u8], n: u64, number: u16, fault: Fault) {
-    let at = entry_text(text, n);
-    let told = fault_text(text, at, number, fault);
-    let end = put_piece(text, told, b"\n");
+    let patterns = b"\
+        /\
+        entry @: refused: unknown event number %h00\n/\
+        entry @: refused: zero field is not 0\n/\
+        entry @: refused: body does not fit\n/";
+    let mut row = [0u8; 2];
+    put16(&mut row, 0, number);
+    let end = lay(
+        text,
+        0,
+        phrase(patterns, fault_number(fault)),
+        n,
+        &row,
+        &row,
+    );
     io::write_all(1, front(text, end));
 }
 
-// The first entry may give a state to start from.
+// The first entry may give a state to start from: whether it is taken.
+fn taken(rx: &mut [u8], tx: &mut [u8], body: &[u8], fits: bool, text: &mut [u8], n: u64) -> Last {
+    if !fits {
+        tell_fault(text, n, 65535, Fault::Unfit);
+        return Last::Refused;
+    }
+    copy_in(rx, 0, layout::part_of(body, 696, 23424));
+    copy_in(tx, 0, layout::part_of(body, 24120, 23552));
+    let end = lay(text, 0, b"entry @: start state: taken\n", n, body, body);
+    io::write_all(1, front(text, end));
+    Last::GoesOn
+}
+
 fn start(
     state: State,
     rx: &mut [u8],
@@ -114,29 +128,43 @@ fn start(
     let body = front(entry, long);
     let given = given_state(body);
     let state_given = given.state;
-    let fits = given.fits & (n == 1);
-    if !fits {
-        tell_fault(text, n, 65535, Fault::Unfit);
-        return ran_to(Last::Refused, state);
+    let last = taken(rx, tx, body, given.fits & (n == 1), text, n);
+    if !goes_on(last) {
+        return ran_to(last, state);
     }
-    copy_in(rx, 0, layout::part_of(body, 696, 23424));
-    copy_in(tx, 0, layout::part_of(body, 24120, 23552));
-    let at = entry_text(text, n);
-    let end = put_piece(text, at, b"start state: taken\n");
-    io::write_all(1, front(text, end));
-    ran_to(Last::GoesOn, state_given)
+    ran_to(last, state_given)
 }
 
 fn tell_answer(text: &mut [u8], n: u64, number: u16, body: &[u8], bytes: &[u8]) {
-    let at = entry_text(text, n);
-    let named = event::event(text, at, call_of(number, body), body);
-    let colon = put_piece(text, named, b": ");
-    let told = answer::answer(text, colon, number, bytes, body);
-    let end = put_piece(text, told, b"\n");
+    let at = lay(text, 0, b"entry @: ", n, body, body);
+    let named = event(text, at, number, body);
+    let colon = lay(text, named, b": ", n, body, body);
+    let told = answer(text, colon, number, bytes, body);
+    let end = lay(text, told, b"\n", n, body, body);
     io::write_all(1, front(text, end));
 }
 
-// One event: through the dispatcher, and its line from the bytes of its answer.
+// The line of an event, from the bytes of its answer.
+fn told(verdict: Verdict, text: &mut [u8], n: u64, number: u16, body: &[u8], out: &[u8]) -> Last {
+    match verdict {
+        Verdict::Done(written) => {
+            tell_answer(text, n, number, body, front(out, written));
+            Last::GoesOn
+        }
+        Verdict::Unknown => {
+            tell_fault(text, n, number, Fault::Unknown);
+            Last::Refused
+        }
+        Verdict::Unfit => {
+            tell_fault(text, n, number, Fault::Unfit);
+            Last::Refused
+        }
+        // cannot come: the out buffer has the room that the dispatcher asks for
+        Verdict::Small => Last::Refused,
+    }
+}
+
+// One event, through the dispatcher.
 fn happen(
     table: &[u8],
     state: State,
@@ -153,26 +181,59 @@ fn happen(
     let done = dispatch::dispatch(table, state, rx, tx, number, body, out);
     let verdict = done.verdict;
     let after = done.state;
-    match verdict {
-        Verdict::Done(written) => {
-            tell_answer(text, n, number, body, front(out, written));
-            ran_to(Last::GoesOn, after)
-        }
-        Verdict::Unknown => {
-            tell_fault(text, n, number, Fault::Unknown);
-            ran_to(Last::Refused, after)
-        }
-        Verdict::Unfit => {
-            tell_fault(text, n, number, Fault::Unfit);
-            ran_to(Last::Refused, after)
-        }
-        // cannot come: the out buffer has the room that the dispatcher asks for
-        Verdict::Small => ran_to(Last::Refused, after),
-    }
+    let last = told(verdict, text, n, number, body, out);
+    ran_to(last, after)
 }
 
 fn is_fault(fault: Fault) -> bool {
     if let Fault::None = fault { false } else { true }
+}
+
+// An entry as it is read: its event number and the length of its body; it goes on where the body has been read.
+struct Read {
+    last: Last,
+    number: u16,
+    long: usize,
+}
+
+fn read_entry(body: &mut [u8], text: &mut [u8], n: u64) -> Read {
+    let mut head = [0u8; 8];
+    let got = io::read_full(0, &mut head);
+    let number = be16(&head, 0) as u16;
+    let long = be32(&head, 4);
+    if got < 8 {
+        return Read {
+            last: cut_after(got),
+            number: number,
+            long: 0,
+        };
+    }
+    let fault = head_fault(number, be16(&head, 2), long, body);
+    if is_fault(fault) {
+        tell_fault(text, n, number, fault);
+        return Read {
+            last: Last::Refused,
+            number: number,
+            long: 0,
+        };
+    }
+    Read {
+        last: body_read(body, long),
+        number: number,
+        long: long,
+    }
+}
+
+// An input that ends between entries ends well.
+fn cut_after(got: usize) -> Last {
+    if got == 0 { Last::Ended } else { Last::Cut }
+}
+
+fn body_read(body: &mut [u8], long: usize) -> Last {
+    if read_part(body, 0, long) < long {
+        return Last::Cut;
+    }
+    Last::GoesOn
 }
 
 // One entry of the script.
@@ -186,23 +247,12 @@ fn entry(
     out: &mut [u8],
     n: u64,
 ) -> Ran {
-    let mut head = [0u8; 8];
-    let got = io::read_full(0, &mut head);
-    if got == 0 {
-        return ran_to(Last::Ended, state);
-    }
-    if got < 8 {
-        return ran_to(Last::Cut, state);
-    }
-    let number = be16(&head, 0) as u16;
-    let long = be32(&head, 4);
-    let fault = head_fault(number, be16(&head, 2), long, body);
-    if is_fault(fault) {
-        tell_fault(text, n, number, fault);
-        return ran_to(Last::Refused, state);
-    }
-    if read_part(body, 0, long) < long {
-        return ran_to(Last::Cut, state);
+    let read = read_entry(body, text, n);
+    let last = read.last;
+    let number = read.number;
+    let long = read.long;
+    if !goes_on(last) {
+        return ran_to(last, state);
     }
     if number == 65535 {
         return start(state, rx, tx, body, long, text, n);
@@ -272,16 +322,11 @@ fn run_script(table: &[u8]) {
     last_word(last);
 }
 
-fn refuse(place: usize) {
-    let mut text = [0u8; 64];
-    let end = said(
-        &mut text,
-        0,
-        b"refused 1 at byte ",
-        place as u64,
-        b"\nREFUSED\n",
-    );
+fn refuse(table: &[u8], place: usize) {
+    let mut text = [0u8; 512];
+    let end = refusal(&mut text, table, place);
     io::write_all(1, front(&text, end));
+    io::write_all(1, b"REFUSED\n");
 }
 
 fn main() {
@@ -290,6 +335,6 @@ fn main() {
     let table = front(&image, n);
     match check_table(table) {
         TableAnswer::Accepted => run_script(table),
-        TableAnswer::Refused(place) => refuse(place),
+        TableAnswer::Refused(place) => refuse(table, place),
     }
 }

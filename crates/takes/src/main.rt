@@ -11,7 +11,7 @@
 //       READ pdu ROUTE ID LENGTH memory AT xHEX
 //       READ drop REASON ID LENGTH
 //       refused NUMBER
-//     AT counts from the take's first byte; HEX is the payload in lower case.
+//     AT counts from the take's first byte; HEX is the payload in lower case, or `-` where it is empty.
 //   Another kind, too long an image, or a record that is cut off ends the program.
 // Assumes nothing.
 use connection::Connection;
@@ -23,7 +23,6 @@ use layout::Kind;
 use layout::rows_of;
 use libc::STDOUT_FILENO;
 use pieces::front;
-use pieces::put_piece;
 use receive::Answer;
 use receive::segment_payload;
 use receive::segment_take;
@@ -33,11 +32,13 @@ use state::fresh_state;
 use stream::Outcome;
 use table::TableAnswer;
 use table::check_table;
-use text::decimal;
-use text::hex;
 use wire::be8;
 use wire::be16;
 use wire::be32;
+use wire::put8;
+use wire::put32;
+use words::lay;
+use words::phrase;
 
 // What a case stands on between records: so many bytes of image, the state, and whether to go on.
 struct Held {
@@ -46,11 +47,11 @@ struct Held {
     going: bool,
 }
 
-// A line so far is written out, where it fits its buffer.
-fn write_line(line: &[u8], n: usize) {
-    if n <= line.len() {
-        io::write_all(STDOUT_FILENO, &line[..n]);
-    }
+// A line with a number in it.
+fn say(pattern: &[u8], number: u64) {
+    let mut line = [0u8; 64];
+    let n = lay(&mut line, 0, pattern, number, pattern, pattern);
+    io::write_all(STDOUT_FILENO, front(&line, n));
 }
 
 // The record of a connection that the table has, online and with these switches.
@@ -96,19 +97,14 @@ fn switched(image: &[u8], state: State, connection: u8, switches: u32) -> State 
 
 // A new case.
 fn begin(image: &[u8], connection: u8, switches: u32) -> State {
-    let mut line = [0u8; 64];
     let answer = check_table(image);
     match answer {
         TableAnswer::Accepted => {
-            let n = put_piece(&mut line, 0, b"table 0\n");
-            write_line(&line, n);
+            say(b"table 0\n", 0);
             online(image, fresh_state(image), connection, switches)
         }
         TableAnswer::Refused(place) => {
-            let a = put_piece(&mut line, 0, b"table 1 ");
-            let b = decimal(&mut line, a, place as u64);
-            let n = put_piece(&mut line, b, b"\n");
-            write_line(&line, n);
+            say(b"table 1 @\n", place as u64);
             empty_state()
         }
     }
@@ -127,84 +123,56 @@ fn refusal_number(answer: Answer) -> u64 {
     }
 }
 
-// The place of a payload, and the payload.
-fn tell_payload(
-    line: &mut [u8],
-    from: usize,
-    in_segment: bool,
-    at: usize,
-    payload: &[u8],
-) -> usize {
-    let a = tell_where(line, from, in_segment);
-    let b = decimal(line, a, at as u64);
-    let c = put_piece(line, b, b" x");
-    let d = hex(line, c, payload);
-    put_piece(line, d, b"\n")
+// What the line of a take speaks of: bytes read (4), route or reason (1), id (4), length (4), place (4).
+fn found(row: &mut [u8], which: u8, id: u32, length: u32, at: usize) {
+    put8(row, 4, which);
+    put32(row, 5, id);
+    put32(row, 9, length);
+    put32(row, 13, (at % 4294967296) as u32);
 }
 
-fn tell_where(line: &mut [u8], from: usize, in_segment: bool) -> usize {
-    if in_segment {
-        put_piece(line, from, b" segment ")
-    } else {
-        put_piece(line, from, b" memory ")
-    }
-}
-
-fn tell_pdu(
-    line: &mut [u8],
-    from: usize,
-    route: u8,
-    id: u32,
-    in_segment: bool,
-    at: usize,
-    payload: &[u8],
-) -> usize {
-    let a = put_piece(line, from, b" pdu ");
-    let b = decimal(line, a, route as u64);
-    let c = put_piece(line, b, b" ");
-    let d = decimal(line, c, id as u64);
-    let e = put_piece(line, d, b" ");
-    let f = decimal(line, e, payload.len() as u64);
-    tell_payload(line, f, in_segment, at, payload)
-}
-
-fn tell_drop(line: &mut [u8], from: usize, reason: u8, id: u32, length: u32) -> usize {
-    let a = put_piece(line, from, b" drop ");
-    let b = decimal(line, a, reason as u64);
-    let c = put_piece(line, b, b" ");
-    let d = decimal(line, c, id as u64);
-    let e = put_piece(line, d, b" ");
-    let f = decimal(line, e, length as u64);
-    put_piece(line, f, b"\n")
-}
-
-fn tell_outcome(line: &mut [u8], from: usize, outcome: Outcome, payload: &[u8]) -> usize {
+// 0 more wanted, 1 a PDU in the segment, 2 a PDU in receive memory, 3 a drop.
+fn shape_of(row: &mut [u8], outcome: Outcome) -> usize {
     match outcome {
-        Outcome::More => put_piece(line, from, b" more\n"),
+        Outcome::More => 0,
         Outcome::Pdu {
             route,
             id,
             in_segment,
             at,
             length: _,
-        } => tell_pdu(line, from, route, id, in_segment, at, payload),
-        Outcome::Drop { reason, id, length } => tell_drop(line, from, reason, id, length),
+        } => {
+            found(row, route, id, 0, at);
+            if in_segment { 1 } else { 2 }
+        }
+        Outcome::Drop { reason, id, length } => {
+            found(row, reason, id, length, 0);
+            3
+        }
     }
 }
 
 // One take as a line.
-fn tell(number: u64, read: usize, outcome: Outcome, payload: &[u8]) {
+fn tell(read: usize, outcome: Outcome, payload: &[u8]) {
+    let patterns = b"\
+        %w00 more\n/\
+        %w00 pdu %b04 %w05 # segment %w13 x*\n/\
+        %w00 pdu %b04 %w05 # memory %w13 x*\n/\
+        %w00 drop %b04 %w05 %w09\n/";
+    let mut row = [0u8; 17];
     let mut line = io::buffer();
+    put32(&mut row, 0, (read % 4294967296) as u32);
+    let shape = shape_of(&mut row, outcome);
+    let n = lay(&mut line, 0, phrase(patterns, shape), 0, &row, payload);
+    io::write_all(STDOUT_FILENO, front(&line, n));
+}
+
+fn tell_take(number: u64, read: usize, outcome: Outcome, payload: &[u8]) {
     if number == 0 {
-        let a = decimal(&mut line, 0, read as u64);
-        let n = tell_outcome(&mut line, a, outcome, payload);
-        write_line(&line, n);
+        tell(read, outcome, payload);
         return;
     }
-    let a = put_piece(&mut line, 0, b"refused ");
-    let b = decimal(&mut line, a, number);
-    let n = put_piece(&mut line, b, b"\n");
-    write_line(&line, n);
+    say(b"refused @\n", number);
 }
 
 // The takes over a segment until all is read, one at least.
@@ -226,7 +194,7 @@ fn takes_over(
         let outcome = taken.outcome;
         let read = taken.read;
         next = taken.state;
-        tell(
+        tell_take(
             refusal_number(answer),
             read,
             outcome,

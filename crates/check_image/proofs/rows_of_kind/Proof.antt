@@ -14,6 +14,9 @@ abbrev μ-loop : tie.MeasureT-loop
 rows-of-requires : tie.Need-rows-of-requires Inv-loop μ-loop
 rows-of-requires c κs = search needs
 
+heading-requires : tie.Need-heading-requires Inv-loop μ-loop
+heading-requires c κs = search needs
+
 loop-holds : tie.Need-loop-holds Inv-loop μ-loop
 loop-holds c = omega arith
 
@@ -39,6 +42,7 @@ rows-of-kind-spec =
     Inv-loop
     μ-loop
     rows-of-requires
+    heading-requires
     loop-holds
     row-of-kind-requires
     add-i

@@ -34,8 +34,8 @@ refusal-number-requires c κs = search needs
 segment-payload-requires : tie.Need-segment-payload-requires Inv-loop μ-loop
 segment-payload-requires c κs = search needs
 
-tell-requires : tie.Need-tell-requires Inv-loop μ-loop
-tell-requires c κs = search needs
+tell-take-requires : tie.Need-tell-take-requires Inv-loop μ-loop
+tell-take-requires c κs = search needs
 
 same-length : tie.Need-same-length Inv-loop μ-loop
 same-length c = search needs
@@ -77,7 +77,7 @@ takes-over-spec =
     segment-take-requires
     refusal-number-requires
     segment-payload-requires
-    tell-requires
+    tell-take-requires
     same-length
     returns
     same-length-2

@@ -1,11 +1,11 @@
--- `run::answer::takes` meets its contract. Assumes nothing.
+-- `words_event::takes` meets its contract. Assumes nothing.
 use Prim.Native.Nat.{_≤_, _<_, _-_}
 use mathlib.Core.Path.{_≡_, refl}
 use lib.ListN.{length}
 use native.Mathlib.Omega.{arith}
 use borrow.Author.Needs.{needs}
-use Rattle.run.proofs.answer.takes.Statement.{statement}
-use Rattle.run.proofs.answer.takes.Tie as tie
+use Rattle.words_event.proofs.takes.Statement.{statement}
+use Rattle.words_event.proofs.takes.Tie as tie
 
 abbrev Inv-loop : tie.InvT-loop
 Inv-loop text₀ at answer segment count place₀ next₀ i₀ text place next i = (i ≤ count) × ((count < 65536) × (length text ≡ length text₀))
@@ -19,8 +19,8 @@ be16-requires c κs = search needs
 loop-holds : tie.Need-loop-holds Inv-loop μ-loop
 loop-holds c = (omega arith, (omega arith, refl))
 
-bytes-from-requires : tie.Need-bytes-from-requires Inv-loop μ-loop
-bytes-from-requires c κs = search needs
+from-place-requires : tie.Need-from-place-requires Inv-loop μ-loop
+from-place-requires c κs = search needs
 
 add-take : tie.Need-add-take Inv-loop μ-loop
 add-take c = omega arith
@@ -57,7 +57,7 @@ takes-spec =
     μ-loop
     be16-requires
     loop-holds
-    bytes-from-requires
+    from-place-requires
     add-take
     take-requires
     take-bytes-requires

@@ -1,0 +1,151 @@
+// A record and both drop counts as lines of text (docs/EVENTS.md, "What `./soad run` prints"; the patterns are those of crate words). A record is spelt
+// first as a start state spells it. Proved to be safe and to return; the words are tried by stored output. Assumes nothing.
+use connection::Connection;
+use connection::Mode;
+use layout::part_of;
+use part::Part;
+use pieces::front;
+use wire::be8;
+use wire::be16;
+use wire::put8;
+use wire::put16;
+use wire::put32;
+use words::lay;
+use words::phrase;
+
+fn mode_number(mode: Mode) -> u8 {
+    match mode {
+        Mode::Offline => 0,
+        Mode::Reconnect => 1,
+        Mode::Online => 2,
+    }
+}
+
+fn flag(is: bool) -> u8 {
+    if is { 1 } else { 0 }
+}
+
+// ---- the 43 bytes of a record
+
+fn spell_front(row: &mut [u8], mode: Mode, open: bool, close: bool) {
+    put8(row, 0, mode_number(mode));
+    put8(row, 1, flag(open));
+    put8(row, 2, flag(close));
+}
+
+fn spell_header(row: &mut [u8], held: u8, value: u64) {
+    put16(row, 28, held as u16);
+    put32(row, 30, (value / 4294967296) as u32);
+    put32(row, 34, (value % 4294967296) as u32);
+}
+
+fn spell_payload(row: &mut [u8], route: u8, length: u16, held: u16) {
+    put16(row, 26, 256 + route as u16);
+    put16(row, 28, held);
+    put32(row, 34, length as u32);
+}
+
+fn spell_skip(row: &mut [u8], n: u32) {
+    put8(row, 26, 2);
+    put32(row, 34, n);
+}
+
+fn spell_part(row: &mut [u8], part: Part) {
+    match part {
+        Part::Header { held, value } => spell_header(row, held, value),
+        Part::Payload {
+            route,
+            length,
+            held,
+        } => spell_payload(row, route, length, held),
+        Part::Skip(n) => spell_skip(row, n),
+    }
+}
+
+fn spell(row: &mut [u8], c: Connection) {
+    let mode = c.mode;
+    let remote = c.remote;
+    let part = c.part;
+    spell_front(row, mode, c.open_wanted, c.close_wanted);
+    put32(row, 16, remote.address);
+    put16(row, 20, remote.port);
+    put32(row, 22, c.switches);
+    spell_part(row, part);
+    put16(row, 38, c.used);
+    put16(row, 40, c.timer);
+    put8(row, 42, flag(c.due));
+}
+
+// ---- its line
+
+// 0 ready, 1 header bytes held, 2 a payload, 3 a skip.
+fn part_shape(row: &[u8]) -> usize {
+    let kind = be8(row, 26);
+    if (kind == 0) & (be16(row, 28) == 0) {
+        return 0;
+    }
+    kind + 1
+}
+
+// The header bytes held: the last of the number's eight.
+fn header_held(row: &[u8]) -> &[u8] {
+    let n = be16(row, 28);
+    if n < 8 {
+        return part_of(row, 38 - n, n);
+    }
+    part_of(row, 30, 8)
+}
+
+// The receive part; its stretch of memory holds a payload's bytes.
+fn received(text: &mut [u8], at: usize, row: &[u8], stretch: &[u8]) -> usize {
+    let patterns = b"\
+        ready/\
+        header %h28 byte^: */\
+        payload of route %b27, %h28 of %w34 byte^: */\
+        skip %w34 byte^/";
+    let pattern = phrase(patterns, part_shape(row));
+    if be8(row, 26) == 0 {
+        return lay(text, at, pattern, 0, row, header_held(row));
+    }
+    lay(text, at, pattern, 0, row, front(stretch, be16(row, 28)))
+}
+
+fn timer_shape(row: &[u8]) -> usize {
+    if be16(row, 40) == 0 { 0 } else { 1 }
+}
+
+// The timer and the due mark.
+fn timed(text: &mut [u8], at: usize, row: &[u8]) -> usize {
+    let patterns = b", timer stopped, due %y42\n/, timer %h40 tick^, due %y42\n/";
+    lay(text, at, phrase(patterns, timer_shape(row)), 0, row, row)
+}
+
+fn line(text: &mut [u8], number: u64, row: &[u8], rx: &[u8], tx: &[u8]) -> usize {
+    let pattern =
+        b"connection @: %m00, open wanted %y01, close wanted %y02, remote %q16 port %r20, switches 0x%i22, receive part ";
+    let named = lay(text, 0, pattern, number, row, row);
+    let told = received(text, named, row, rx);
+    let sent = lay(
+        text,
+        told,
+        b", send %h38 byte^: *",
+        0,
+        row,
+        front(tx, be16(row, 38)),
+    );
+    timed(text, sent, row)
+}
+
+// The record number so many, with its stretches of receive and send memory.
+pub fn record(text: &mut [u8], number: u64, c: Connection, rx: &[u8], tx: &[u8]) -> usize {
+    let mut row = [0u8; 43];
+    spell(&mut row, c);
+    line(text, number, &row, rx, tx)
+}
+
+pub fn counts(text: &mut [u8], udp: u32, tcp: u32) -> usize {
+    let mut row = [0u8; 8];
+    put32(&mut row, 0, udp);
+    put32(&mut row, 4, tcp);
+    lay(text, 0, b"drops: UDP %w00, TCP %w04\n", 0, &row, &row)
+}
