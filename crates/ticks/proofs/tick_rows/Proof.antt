@@ -1,22 +1,22 @@
 -- `ticks::tick_rows` meets its contract. The invariant: the records below i have ticked. Assumes nothing.
 use Prim.Native.Nat.{_<_, _≤_, _-_}
-use mathlib.Core.Path.{_≡_, refl}
+use mathlib.Core.Path.{_≡_, refl, sym, _∙_}
 use lib.ListN.{length}
 use native.Mathlib.Omega.{arith}
 use borrow.Author.Needs.{needs}
 use Rattle.lists.proofs.Each.{long}
 use Rattle.state.proofs.Config.{config-bodies}
 use Rattle.state.proofs.Upto.{Upto}
-use Rattle.ticks.specs.Tick.{tickAt, tickedTo}
-use Rattle.ticks.proofs.Turns.{tick-turn}
+use Rattle.ticks.proofs.Many.{manyAt, ticks-each}
+use Rattle.ticks.proofs.Turns.{many-turn}
 use Rattle.ticks.proofs.tick_rows.Statement.{statement}
 use Rattle.ticks.proofs.tick_rows.Tie as tie
 
 abbrev Inv-loop : tie.InvT-loop
-Inv-loop image rows connections groups after₀ i₀ after i = (i ≤ rows) × (rows ≤ 16) × (length (after₀ .connections) ≡ 16) × Upto (tickAt image) after₀ after i
+Inv-loop image rows count connections groups after₀ i₀ after i = (i ≤ rows) × (rows ≤ 16) × (length (after₀ .connections) ≡ 16) × Upto (manyAt image count) after₀ after i
 
 abbrev μ-loop : tie.MeasureT-loop
-μ-loop image rows connections groups after₀ i₀ after i = rows - i
+μ-loop image rows count connections groups after₀ i₀ after i = rows - i
 
 body-of-requires : tie.Need-body-of-requires Inv-loop μ-loop
 body-of-requires c κs = search needs
@@ -54,14 +54,14 @@ loop-again c =
     let r = b .before in
     let a = r .before .before .before .args in
     let h : b .loop .i < length (a .state .connections) = omega arith in
-    (omega arith, b .loop .inv .1, b .loop .inv .2, tick-turn _ _ _ _ _ _ h (b .loop .inv .3) (config-bodies _ _ _ _ _ (r .before .body-of .ensures .0) (r .body-of2 .ensures .0) refl) (c .tick-one .ensures))
+    (omega arith, b .loop .inv .1, b .loop .inv .2, many-turn _ _ _ _ _ _ _ h (b .loop .inv .3) (config-bodies _ _ _ _ _ (r .before .body-of .ensures .0) (r .body-of2 .ensures .0) refl) (c .tick-one .ensures))
 
 returns : tie.Need-returns Inv-loop μ-loop
-unfolding tickedTo
 returns c =
     let l = c .before in
-    let e : l .loop .i ≡ l .before .before .before .before .args .rows = omega arith in
-    rw e at (l .loop .inv .3)
+    let a = l .before .before .before .before .args in
+    let e : l .loop .i ≡ a .rows = omega arith in
+    (rw e at (l .loop .inv .3)) ∙ sym (ticks-each (a .image .now) (a .rows) (a .count) (a .state))
 
 pub tick-rows-spec : {M : Type 1} → statement M
 tick-rows-spec =
