@@ -117,7 +117,7 @@ pub fn drops_after(outcome: Outcome, drops: u32) -> u32
 // Past all refusals: the take over the record's part and its stretch of receive memory.
 fn take_on(
     image: &[u8],
-    state: State,
+    mut state: State,
     rx: &mut [u8],
     connection: u8,
     segment: &[u8],
@@ -142,14 +142,13 @@ fn take_on(
     );
     let left = taken.part;
     let outcome = taken.outcome;
-    let mut next = state;
-    next.connections[n] = c.with_part(left);
-    next.tcp_drops = drops_after(outcome, state.tcp_drops);
+    state.connections[n] = c.with_part(left);
+    state.tcp_drops = drops_after(outcome, state.tcp_drops);
     SegmentTaken {
         answer: Answer::Done,
         read: taken.read,
         outcome: outcome,
-        state: next,
+        state: state,
     }
 }
 

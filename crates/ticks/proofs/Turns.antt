@@ -1,6 +1,6 @@
 -- Ticks of a connection that rests, and one turn of the loop over the records. Assumes nothing.
 use Prim.Native.Nat.{ℕ, zero, suc, _+_, _<_}
-use mathlib.Core.Path.{_≡_, refl, sym, ap, _∙_}
+use mathlib.Core.Path.{_≡_, refl, sym, ap, _∙_, subst}
 use mathlib.Core.Bool.{true, false, not, _&&_, _||_}
 use mathlib.Core.List.{List}
 use lib.Dec.{eqb}
@@ -16,6 +16,7 @@ use Rattle.lists.proofs.Both.{and-left, and-right, impossible}
 use Rattle.state.specs.declared.State.{State}
 use Rattle.state.specs.State.{recordAt, withRecord}
 use Rattle.state.specs.Fresh.{configOf}
+use Rattle.state.proofs.Records.{put-back}
 use Rattle.state.proofs.Upto.{Upto, still, turn}
 use Rattle.ticks.specs.Many.{manyOf, turnsNext}
 use Rattle.ticks.specs.Tick.{restsOf}
@@ -45,10 +46,17 @@ module _ (g : Config) (c : Connection) where
   rests-many zero p = refl
   rests-many (suc n) p = rests-many n p ∙ ap (manyOf g n) (sym (rests-tick p))
 
-pub many-turn : (image : List ℕ) (count : ℕ) (s n : State) (i : ℕ) (g : Config) (d : Connection) → i < length (s .connections)
-    → Upto (manyAt image count) s n i → g ≡ configOf image i → d ≡ manyOf g count (recordAt n i) → Upto (manyAt image count) s (withRecord i d n) (i + 1)
-many-turn image count s n i g d h e config ticked =
-    turn (manyAt image count) s n i d h e
-    (ticked
-    ∙ ap (λ (x : Config). manyOf x count (recordAt n i)) config
-    ∙ ap (manyAt image count i) (still (manyAt image count) s n i e))
+-- one turn of the loop over the records: of one that has ticked, and of one that rests
+module _ (image : List ℕ) (count : ℕ) (s n : State) (i : ℕ) (there : i < length (s .connections)) (upto : Upto (manyAt image count) s n i) where
+  pub many-turn : (g : Config) (d : Connection) → g ≡ configOf image i → d ≡ manyOf g count (recordAt n i)
+      → Upto (manyAt image count) s (withRecord i d n) (i + 1)
+  many-turn g d config ticked =
+      turn (manyAt image count) s n i d there upto
+      (ticked
+      ∙ ap (λ (x : Config). manyOf x count (recordAt n i)) config
+      ∙ ap (manyAt image count i) (still (manyAt image count) s n i upto))
+
+  pub rest-turn : restsOf (recordAt n i) ≡ true → Upto (manyAt image count) s n (i + 1)
+  rest-turn p =
+      subst (λ (m : State). Upto (manyAt image count) s m (i + 1)) (put-back n i)
+      (many-turn (configOf image i) (recordAt n i) refl (rests-many (configOf image i) (recordAt n i) count p))

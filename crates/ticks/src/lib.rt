@@ -2,7 +2,6 @@
 ghost use mathlib.Core.Path.{_≡_};
 ghost use Prim.Native.Nat.{_-_, _≤_};
 ghost use lib.ListN.{length};
-ghost use Rattle.state.specs.Fresh.{configIn};
 ghost use Rattle.ticks.specs.Many.{manyOf, beforeEnd, quietFor, agedBy};
 ghost use Rattle.ticks.specs.Tick.{restsOf, ticksTo, tickEvent, ticksEvent};
 use connection::Answer;
@@ -102,17 +101,7 @@ fn tick_many(config: Config, c: Connection, count: u32) -> Connection
     }
 }
 
-// The same of connection i; its rows are asked for only where there is something to do.
-fn tick_one(connections: &[u8], groups: &[u8], i: usize, c: Connection, count: u32) -> Connection
-    ensures { λ r. ⌜ r ≡ manyOf (configIn (now (connections .entry)) (now (groups .entry)) i) count c ⌝ }
-{
-    if rests(c) {
-        return c;
-    }
-    tick_many(config_in(connections, groups, i), c, count)
-}
-
-// `count` ticks of the first `rows` connections, in order.
+// `count` ticks of the first `rows` connections, in order; the rows of one that rests are not asked for.
 fn tick_rows(image: &[u8], rows: usize, state: State, count: u32) -> State
     requires { ⌜ rows ≤ 16 ⌝ }
     ensures { λ r. ⌜ r ≡ ticksTo (now (image .entry)) rows count state ⌝ }
@@ -123,7 +112,11 @@ fn tick_rows(image: &[u8], rows: usize, state: State, count: u32) -> State
     let mut i: usize = 0;
     while i < rows {
         let connection = after.connections[i];
-        let next = tick_one(connections, groups, i, connection, count);
+        if rests(connection) {
+            i += 1;
+            continue;
+        }
+        let next = tick_many(config_in(connections, groups, i), connection, count);
         after.connections[i] = next;
         i += 1;
     }

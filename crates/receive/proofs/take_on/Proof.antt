@@ -39,11 +39,11 @@ take-requires c κs =
 with-part-requires : tie.Need-with-part-requires
 with-part-requires c κs = search needs
 
-mul-t17 : tie.Need-mul-t17
-mul-t17 c = search needs
+mul-t16 : tie.Need-mul-t16
+mul-t16 c = search needs
 
-element-set-from-next : tie.Need-element-set-from-next
-element-set-from-next c = search needs
+element-set-from-state : tie.Need-element-set-from-state
+element-set-from-state c = search needs
 
 drops-after-requires : tie.Need-drops-after-requires
 drops-after-requires c κs = search needs
@@ -79,8 +79,8 @@ take-on-spec =
     part-take-end
     take-requires
     with-part-requires
-    mul-t17
-    element-set-from-next
+    mul-t16
+    element-set-from-state
     drops-after-requires
     same-length
     returns)
