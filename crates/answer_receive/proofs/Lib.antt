@@ -4,3 +4,4 @@ pub mod Size
 pub mod Room
 pub mod Once
 pub mod Run
+pub mod Turned

@@ -1,32 +1,38 @@
--- One take and its bytes. Assumes nothing.
-use Prim.Native.Nat.{ℕ, _+_, _≤_, _<_}
+-- One take past the gate is the entry point's, on the state that part and drop count are put back into. Assumes nothing.
+use Prim.Native.Nat.{ℕ, _+_, _-_, _*_, _<_, _≤_}
 use mathlib.Core.Path.{_≡_, refl, sym, ap, ap₂, _∙_}
-use mathlib.Core.Bool.{Bool, true, false}
+use mathlib.Core.Bool.{true, false}
 use mathlib.Core.List.{List, []}
 use native.Mathlib.Omega.{arith}
-use native.Mathlib.Nat.{add-zero}
-use native.Mathlib.Decide.{decLe}
-use lib.ListN.{length, drop}
-use Rattle.wire.specs.Lay.{lay}
-use Rattle.wire.proofs.Lay.{lay-nothing}
-use Rattle.pieces.specs.Pieces.{afterOf, placeAfter}
-use Rattle.pieces.proofs.Pieces.{stays, moves}
+use borrow.Rule.Slice.PartMut.{putMid}
+use lib.ListN.{length, set, take, drop, length-drop}
+use lib.Seq.{set-set, set-getD, getD-set-same}
+use Rattle.layout.specs.Layout.{bodyOf}
+use Rattle.layout.specs.declared.Kind.the-variants.{Route as Routes}
+use Rattle.part.specs.declared.Part.{Part}
+use Rattle.connection.specs.declared.Connection.{Connection}
+use Rattle.connection.specs.Connection.{withPart, zeroRecord}
 use Rattle.state.specs.declared.State.{State}
+use Rattle.state.specs.State.{recordAt, withRecord}
+use Rattle.state.specs.Memory.{stretch}
+use Rattle.wire.specs.Lay.{lay}
+use Rattle.lengths.specs.Listed.{Bytes}
+use Rattle.lengths.proofs.Bytes.{bytes-drop}
+use Rattle.pieces.specs.Pieces.{placeAfter}
+use Rattle.stream.specs.declared.Outcome.{Outcome}
+use Rattle.stream.specs.declared.Taken.{Taken}
+use Rattle.stream.specs.Stream.{takenOf, rxAfter}
+use Rattle.stream.proofs.Leaves.{leaves-length}
+use Rattle.receive.proofs.Taking.{stretch-all, mid-laid}
 use Rattle.receive.specs.declared.Answer.{Answer}
 use Rattle.receive.specs.declared.Answer.the-variants.{Done, Refused, NotReceiving}
 use Rattle.receive.specs.declared.SegmentTaken.{SegmentTaken}
 use Rattle.receive.specs.Answer.{isDone}
-use Rattle.receive.specs.Segment.{segmentOf, memoryOf, payloadOf}
+use Rattle.receive.specs.Segment.{dropsAfter, countTake, takenAt, takeOn, memoryOn, segmentAnswer, payloadOf}
 use Rattle.answer_receive.specs.declared.Turn.{Turn}
 use Rattle.answer_receive.specs.Segment.{takeBytes, bytesOf, takeAt, memoryAt, bytesAt}
-use Rattle.answer_receive.specs.Turn.{turnOf}
-
-pub after-none : (long at : ℕ) → at ≡ afterOf long at 0
-after-none long at = go (decLe (at + 0) long)
-  where
-    go : Dec (at + 0 ≤ long) → at ≡ afterOf long at 0
-    go (yes h) = sym (add-zero at) ∙ moves long at 0 h
-    go (no h) = stays long at 0 (omega arith)
+use Rattle.answer_receive.specs.Turn.{takenFrom, memoryFrom, bytesFrom, turnOf, Goes, joined}
+use Rattle.answer_receive.proofs.Room.{taken-is, memory-is}
 
 -- a refused take has no bytes, another has them
 pub refused-none : (a : Answer) (x : List ℕ) → isDone a ≡ false → [] ≡ bytesOf a x
@@ -39,46 +45,104 @@ done-all Done x e = refl
 done-all (Refused r) x e = let z : _≡_ {A = ℕ} 0 1 = cc in absurd (omega arith)
 done-all NotReceiving x e = let z : _≡_ {A = ℕ} 0 1 = cc in absurd (omega arith)
 
-abbrev turned : SegmentTaken → ℕ → Turn
-turned t place = record { answer = t .answer; read = t .read; place = place; state = t .state }
+-- part and drop count put back
+module _ (s : State) (k : ℕ) where
+  -- as they were
+  pub joined-own : s ≡ joined s k (recordAt s k .part) (s .«tcp_drops»)
+  joined-own =
+      ap (λ (l : List Connection). record { connections = l; «udp_drops» = s .«udp_drops»; «tcp_drops» = s .«tcp_drops» })
+      (sym (set-getD (s .connections) k zeroRecord))
 
-module _ (image : List ℕ) (tx connection : ℕ) (segment : List ℕ) (s : State) (rx : List ℕ) (from : ℕ) (out : List ℕ) (place : ℕ)
-    {t : SegmentTaken} {m rest : List ℕ} (r : rest ≡ drop from segment)
-    (p : t ≡ segmentOf image s rx tx connection rest) (q : m ≡ memoryOf image s rx tx connection rest) where
-  taken : t ≡ takeAt image tx connection segment s rx from
-  taken = p ∙ ap (segmentOf image s rx tx connection) r
+  module _ (there : k < length (s .connections)) (p : Part) (drops : ℕ) where
+    -- the record has the part, and is else as it was
+    pub record-joined : recordAt (joined s k p drops) k ≡ withPart p (recordAt s k)
+    record-joined = getD-set-same (s .connections) k (withPart p (recordAt s k)) zeroRecord there
 
-  kept : m ≡ memoryAt image tx connection segment s rx from
-  kept = q ∙ ap (memoryOf image s rx tx connection) r
+    -- and once more
+    pub joined-again : (q : Part) (o : Outcome)
+        → countTake o (withRecord k (withPart q (recordAt (joined s k p drops) k)) (joined s k p drops)) ≡ joined s k q (dropsAfter o drops)
+    joined-again q o =
+        ap (λ (l : List Connection). record { connections = l; «udp_drops» = s .«udp_drops»; «tcp_drops» = dropsAfter o drops })
+        (set-set (s .connections) k (withPart p (recordAt s k)) (withPart q (recordAt (joined s k p drops) k))
+        ∙ ap (λ (c : Connection). set (s .connections) k (withPart q c)) record-joined)
 
-  told : (b : Bool) → isDone (t .answer) ≡ b → isDone (takeAt image tx connection segment s rx from .answer) ≡ b
-  told b e = sym (ap (λ (u : SegmentTaken). isDone (u .answer)) taken) ∙ e
+-- THE TAKE of a turn, by the routes and switches of its connection
+module _ (image : List ℕ) (tx k : ℕ) (segment : List ℕ) (s : State) (t : Turn) (rx : List ℕ) (there : k < length (s .connections))
+    (clear : isDone (segmentAnswer image (joined s k (t .part) (t .drops)) (length rx) tx k) ≡ true) where
+  abbrev at-turn : State
+  at-turn = joined s k (t .part) (t .drops)
 
-  -- with the take's bytes at the place
-  ends : {x : List ℕ} {next : ℕ} {out′ : List ℕ} → x ≡ bytesAt image tx connection segment s rx from → next ≡ placeAfter out place x → out′ ≡ lay out place x
-      → (turned t next ≡ turnOf image tx connection segment s rx from out place)
-      × ((m ≡ memoryAt image tx connection segment s rx from) × (out′ ≡ lay out place (bytesAt image tx connection segment s rx from)))
-  ends {x} {next} {out′} e f g = (
-    ap (λ (u : SegmentTaken). turned u next) taken
-        ∙ ap (turned (takeAt image tx connection segment s rx from)) (f ∙ ap (placeAfter out place) e),
-    (kept, g ∙ ap (lay out place) e),
-  )
+  abbrev taken : Taken
+  taken = takenFrom (bodyOf image Routes) (recordAt s k .switches) k segment t rx
 
-  pub once-refused : isDone (t .answer) ≡ false
-      → (turned t place ≡ turnOf image tx connection segment s rx from out place)
-      × ((m ≡ memoryAt image tx connection segment s rx from) × (out ≡ lay out place (bytesAt image tx connection segment s rx from)))
+  abbrev memory : List ℕ
+  memory = memoryFrom (bodyOf image Routes) (recordAt s k .switches) k segment t rx
+
+  abbrev pub turned : SegmentTaken
+  turned = record { answer = Done; read = taken .read; outcome = taken .outcome; state = joined s k (taken .part) (dropsAfter (taken .outcome) (t .drops)) }
+
+  same-taken : takenAt image at-turn rx k (drop (t .at) segment) ≡ taken
+  same-taken =
+      ap (λ (c : Connection). takenOf (bodyOf image Routes) k (c .switches) (c .part) (stretch 1464 k rx) (drop (t .at) segment)) (record-joined s k there (t .part) (t .drops))
+
+  pub turn-taken : takeAt image tx k segment at-turn rx (t .at) ≡ turned
+  unfolding takeOn
+  turn-taken =
+      taken-is image at-turn rx tx k (drop (t .at) segment) clear
+      ∙ ap (λ (x : State). record { answer = Done; read = takenAt image at-turn rx k (drop (t .at) segment) .read; outcome = takenAt image at-turn rx k (drop (t .at) segment) .outcome; state = x })
+      (joined-again s k there (t .part) (t .drops) (takenAt image at-turn rx k (drop (t .at) segment) .part) (takenAt image at-turn rx k (drop (t .at) segment) .outcome))
+      ∙ ap (λ (u : Taken). record { answer = Done; read = u .read; outcome = u .outcome; state = joined s k (u .part) (dropsAfter (u .outcome) (t .drops)) }) same-taken
+
+  pub turn-memory : memoryAt image tx k segment at-turn rx (t .at) ≡ memory
+  unfolding memoryOn
+  turn-memory =
+      memory-is image at-turn rx tx k (drop (t .at) segment) clear
+      ∙ ap (λ (c : Connection). lay rx (k * 1464) (rxAfter (bodyOf image Routes) k (c .switches) (c .part) (stretch 1464 k rx) (drop (t .at) segment))) (record-joined s k there (t .part) (t .drops))
+
+  pub turn-bytes : bytesAt image tx k segment at-turn rx (t .at) ≡ bytesFrom (bodyOf image Routes) (recordAt s k .switches) k segment t rx
   unfolding bytesAt
-  once-refused e =
-      ends {x = []} {next = place} {out′ = out} (refused-none (takeAt image tx connection segment s rx from .answer) _ (told false e)) (after-none (length out) place) (sym (lay-nothing out place))
+  turn-bytes =
+      ap₂ (λ (u : SegmentTaken) (m : List ℕ). bytesOf (u .answer) (takeBytes (t .at) (u .read) (u .outcome) (payloadOf (drop (t .at) segment) m k (u .outcome))))
+      turn-taken turn-memory
 
-  pub once-done : {payload : List ℕ} {next : ℕ} {out′ : List ℕ} → isDone (t .answer) ≡ true → payload ≡ payloadOf rest m connection (t .outcome)
-      → next ≡ placeAfter out place (takeBytes from (t .read) (t .outcome) payload) → out′ ≡ lay out place (takeBytes from (t .read) (t .outcome) payload)
-      → (turned t next ≡ turnOf image tx connection segment s rx from out place)
-      × ((m ≡ memoryAt image tx connection segment s rx from) × (out′ ≡ lay out place (bytesAt image tx connection segment s rx from)))
-  unfolding bytesAt
-  once-done {payload} {next} {out′} e l f g =
-      ends {x = takeBytes from (t .read) (t .outcome) payload} {next = next} {out′ = out′}
-      (ap (takeBytes from (t .read) (t .outcome)) (l ∙ ap (λ (z : List ℕ). payloadOf z m connection (t .outcome)) r ∙ ap (λ (z : List ℕ). payloadOf (drop from segment) z connection (t .outcome)) kept)
-      ∙ ap (λ (u : SegmentTaken). takeBytes from (u .read) (u .outcome) (payloadOf (drop from segment) (memoryAt image tx connection segment s rx from) connection (u .outcome))) taken
-      ∙ done-all (takeAt image tx connection segment s rx from .answer) _ (told true e))
-      f g
+-- ONE TURN, on the lent part of receive memory
+module _ (routes : List ℕ) (switches k : ℕ) (segment : List ℕ) (t : Turn) (rx out : List ℕ) (goes : Goes routes k segment t rx) (bytes : Bytes segment)
+    {rest : List ℕ} (left : rest ≡ drop (t .at) segment) where
+  abbrev lent : List ℕ
+  lent = take (k * 1464 + 1464 - k * 1464) (drop (k * 1464) rx)
+
+  module _ {u : Taken} (eu : u ≡ takenOf routes k switches (t .part) lent rest) where
+    same : u ≡ takenFrom routes switches k segment t rx
+    same = eu ∙ ap₂ (λ (l m : List ℕ). takenOf routes k switches (t .part) l m) (stretch-all k rx) left
+
+    -- no more is read than there is
+    pub turn-within : t .at + u .read ≤ length segment
+    unfolding takenOf
+    turn-within = omega (arith, ap (λ (v : Taken). v .read) same, goes .within, length-drop (t .at) segment)
+
+    module _ {m : List ℕ} (em : m ≡ rxAfter routes k switches (t .part) lent rest) where
+      laid : putMid (k * 1464) (k * 1464 + 1464 - k * 1464) rx m ≡ memoryFrom routes switches k segment t rx
+      laid =
+          ap (putMid (k * 1464) (k * 1464 + 1464 - k * 1464) rx) (em ∙ ap₂ (λ (l z : List ℕ). rxAfter routes k switches (t .part) l z) (stretch-all k rx) left)
+          ∙ mid-laid k rx _ (goes .small) (goes .room)
+          (leaves-length routes k switches (t .part) (stretch 1464 k rx) (drop (t .at) segment) (goes .fit) (bytes-drop (t .at) segment bytes) ∙ goes .fit .room)
+
+      pub turn-is : {payload : List ℕ} {place drops : ℕ} {out′ : List ℕ}
+          → payload ≡ payloadOf rest (putMid (k * 1464) (k * 1464 + 1464 - k * 1464) rx m) k (u .outcome)
+          → place ≡ placeAfter out (t .place) (takeBytes (t .at) (u .read) (u .outcome) payload)
+          → out′ ≡ lay out (t .place) (takeBytes (t .at) (u .read) (u .outcome) payload)
+          → drops ≡ dropsAfter (u .outcome) (t .drops)
+          → (record { part = u .part; drops = drops; at = t .at + u .read; place = place; count = t .count + 1 } ≡ turnOf routes switches k segment t rx out)
+          × ((putMid (k * 1464) (k * 1464 + 1464 - k * 1464) rx m ≡ memoryFrom routes switches k segment t rx)
+          × (out′ ≡ lay out (t .place) (bytesFrom routes switches k segment t rx)))
+      turn-is {payload} {place} {drops} {out′} ep el eo ed =
+          let told : takeBytes (t .at) (u .read) (u .outcome) payload ≡ bytesFrom routes switches k segment t rx =
+          ap (takeBytes (t .at) (u .read) (u .outcome)) (ep ∙ ap₂ (λ (z w : List ℕ). payloadOf z w k (u .outcome)) left laid)
+          ∙ ap (λ (v : Taken). takeBytes (t .at) (v .read) (v .outcome) (payloadOf (drop (t .at) segment) (memoryFrom routes switches k segment t rx) k (v .outcome))) same in (
+            ap₂ (turnWith u) ed (el ∙ ap (placeAfter out (t .place)) told)
+                ∙ ap (λ (v : Taken). turnWith v (dropsAfter (v .outcome) (t .drops)) (placeAfter out (t .place) (bytesFrom routes switches k segment t rx))) same,
+            (laid, eo ∙ ap (lay out (t .place)) told),
+          )
+        where
+          turnWith : Taken → ℕ → ℕ → Turn
+          turnWith v d p = record { part = v .part; drops = d; at = t .at + v .read; place = p; count = t .count + 1 }

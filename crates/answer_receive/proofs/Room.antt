@@ -61,17 +61,21 @@ module _ (image : List ℕ) (s : State) (rx : List ℕ) (tx k : ℕ) (seg : List
   abbrev bytesFrom : ℕ → List ℕ → SegmentTaken → List ℕ
   bytesFrom from m t = bytesOf (t .answer) (takeBytes from (t .read) (t .outcome) (payloadOf seg m k (t .outcome)))
 
-  taken-is : isDone answer ≡ true → segmentOf image s rx tx k seg ≡ takeOn image s rx k seg
+  pub taken-is : isDone answer ≡ true → segmentOf image s rx tx k seg ≡ takeOn image s rx k seg
   unfolding segmentOf
   taken-is e = rw e
 
-  memory-is : isDone answer ≡ true → memoryOf image s rx tx k seg ≡ memoryOn image s rx k seg
+  pub memory-is : isDone answer ≡ true → memoryOf image s rx tx k seg ≡ memoryOn image s rx k seg
   unfolding memoryOf
   memory-is e = rw e
 
-  none-is : isDone answer ≡ false → segmentOf image s rx tx k seg ≡ noneTaken s answer
+  pub none-is : isDone answer ≡ false → segmentOf image s rx tx k seg ≡ noneTaken s answer
   unfolding segmentOf
   none-is e = rw e
+
+  pub memory-stays : isDone answer ≡ false → rx ≡ memoryOf image s rx tx k seg
+  unfolding memoryOf
+  memory-stays e = rw e
 
   -- its answer is the gate's
   pub answer-is : isDone (segmentOf image s rx tx k seg .answer) ≡ isDone answer

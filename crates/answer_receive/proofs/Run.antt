@@ -7,14 +7,15 @@ use native.Mathlib.Omega.{arith}
 use lib.Dec.{ltb}
 use lib.ListN.{length, take, drop, length-append, length-drop}
 use lib.Seq.{drop-at, length-take-le}
-use borrow.Author.Tests.{ltb-true}
+use borrow.Author.Tests.{ltb-true, lt-ltb, le-ltb}
 use Rattle.feed.specs.Feed.{Routes, Cell, takeB}
 use Rattle.feed.proofs.Cut.{take-reads}
-use Rattle.lists.proofs.Both.{and-left, and-right, and-first}
+use Rattle.lists.proofs.Both.{and-left, and-right, and-first, and-second, and-both}
 use Rattle.lengths.specs.Listed.{Bytes}
 use Rattle.wire.specs.Lay.{lay}
 use Rattle.wire.proofs.Lay.{lay-fits, lay-length, lay-lay, lay-nothing}
 use Rattle.wire.proofs.Spell.{length-spell}
+use Rattle.pieces.specs.Pieces.{placeAfter}
 use Rattle.pieces.proofs.Pieces.{moves}
 use Rattle.state.specs.declared.State.{State}
 use Rattle.layout.specs.Layout.{bodyOf}
@@ -31,14 +32,13 @@ use Rattle.receive.specs.Segment.{segmentOf, segmentAnswer, takeOn, noneTaken}
 use Rattle.answering.specs.declared.Verdict.the-variants.{Done as Written}
 use Rattle.answering.specs.declared.Dispatched.{Dispatched}
 use Rattle.answering.specs.Answers.{dispatched, doneWith}
-use Rattle.answer_receive.specs.declared.Turn.{Turn}
 use Rattle.answer_receive.specs.declared.Takes.{Takes}
 use Rattle.answer_receive.specs.Long.{longest}
 use Rattle.answer_receive.specs.Segment.{bytesOf, Run, begun, takeAt, memoryAt, bytesAt, step, goesOn, runOf, allTakes, eventBytes, leaves, roomFor}
-use Rattle.answer_receive.specs.Turn.{turnOf, takenBytes, takesOf, frontOf, lengthOf}
+use Rattle.answer_receive.specs.Turn.{takenBytes, takesOf, frontOf, lengthOf}
 use Rattle.answer_receive.proofs.Once.{refused-none, done-all}
 use Rattle.answer_receive.proofs.Size.{most, most-all}
-use Rattle.answer_receive.proofs.Room.{answer-is, bytes-within, bytes-go, bytes-next}
+use Rattle.answer_receive.proofs.Room.{none-is, memory-stays, answer-is, bytes-within, bytes-go, bytes-next}
 
 -- a take reads no more than there is, and of what is not empty a byte at least
 rest-less : (R : Routes) (c : Cell) (seg : List ℕ) → 0 < length seg → length (takeB R c seg .rest) < length seg
@@ -64,7 +64,7 @@ module _ (image : List ℕ) (s : State) (rx : List ℕ) (tx connection : ℕ) (s
       go true e i = omega (arith, rest-less (lookupOf (bodyOf image RouteRows) connection (recordAt s connection .switches)) (cellOf (recordAt s connection .part) (stretch 1464 connection rx)) seg h)
       go false e i = let z : _≡_ {A = ℕ} 0 1 = cc in absurd (omega arith)
 
-is-done : (a : Answer) → isDone a ≡ true → a ≡ Done
+pub is-done : (a : Answer) → isDone a ≡ true → a ≡ Done
 is-done Done e = refl
 is-done (Refused r) e = absurd (false≢true e)
 is-done NotReceiving e = absurd (false≢true e)
@@ -135,7 +135,7 @@ module _ (image : List ℕ) (tx connection : ℕ) (segment : List ℕ) where
   blind (suc n) a s rx bytes count at = refl
 
   -- what is left to do from here on is what there was to do from the start on; all bytes so far stand behind the first four, there
-  -- is room for those to come, and where the next take is refused there are none
+  -- is room for those to come, and the next take is not refused
   pub record Going (s₀ : State) (rx₀ out₀ : List ℕ) (s : State) (rx out : List ℕ) (place count at : ℕ) : Type 0 where
     pub bytes : List ℕ
     pub same : runOf image tx connection segment (length segment - count) (runAt s rx bytes count at) ≡ allTakes image tx connection segment s₀ rx₀
@@ -144,10 +144,10 @@ module _ (image : List ℕ) (tx connection : ℕ) (segment : List ℕ) where
     pub wrote : out ≡ lay out₀ 4 bytes
     pub placed : place ≡ 4 + length bytes
     pub spare : place + most (recordAt s connection .part) + 3 * (length segment - at) ≤ length out₀
-    pub unread : isDone (segmentAnswer image s (length rx) tx connection) ≡ false → bytes ≡ []
+    pub clear : isDone (segmentAnswer image s (length rx) tx connection) ≡ true
 
-  pub going-start : (s : State) (rx out : List ℕ) → roomFor segment ≤ length out → Going s rx out s rx out 4 0 0
-  going-start s rx out h =
+  pub going-start : (s : State) (rx out : List ℕ) → roomFor segment ≤ length out → isDone (segmentAnswer image s (length rx) tx connection) ≡ true → Going s rx out s rx out 4 0 0
+  going-start s rx out h d =
       record {
         bytes = [];
         same = ap (λ (n : ℕ). runOf image tx connection segment n (begun s rx)) (omega arith);
@@ -156,121 +156,111 @@ module _ (image : List ℕ) (tx connection : ℕ) (segment : List ℕ) where
         wrote = sym (lay-nothing out 4);
         placed = refl;
         spare = omega (arith, most-all (recordAt s connection .part));
-        unread = λ _. refl;
+        clear = d;
       }
 
   -- one take more
-  abbrev after : Turn → List ℕ → List ℕ → ℕ → ℕ → Run
-  after t rx bytes count at = record { answer = t .answer; state = t .state; rx = rx; bytes = bytes; count = count + 1; at = at + t .read }
+  module _ (s : State) (rx out : List ℕ) (place count at : ℕ) where
+    abbrev pub taken : SegmentTaken
+    taken = takeAt image tx connection segment s rx at
 
-  module _ (s : State) (rx out : List ℕ) (place count at : ℕ) {t : Turn} {rx′ out′ : List ℕ}
-      (is : t ≡ turnOf image tx connection segment s rx at out place)
-      (memory : rx′ ≡ memoryAt image tx connection segment s rx at)
-      (wrote : out′ ≡ lay out place (bytesAt image tx connection segment s rx at)) where
-    abbrev more-bytes : List ℕ
+    abbrev pub more-bytes : List ℕ
     more-bytes = bytesAt image tx connection segment s rx at
 
-    stepped : (bytes : List ℕ) → after t rx′ (bytes ++ more-bytes) count at ≡ step image tx connection segment (runAt s rx bytes count at)
-    unfolding step
-    stepped bytes =
-        ap (λ (u : Turn). after u rx′ (bytes ++ more-bytes) count at) is
-        ∙ ap (λ (x : List ℕ). after (turnOf image tx connection segment s rx at out place) x (bytes ++ more-bytes) count at) memory
-
-    goes : (bytes : List ℕ) → goesOn image tx connection segment (after t rx′ (bytes ++ more-bytes) count at) ≡ goesOn image tx connection segment (step image tx connection segment (runAt s rx bytes count at))
-    goes bytes = ap (goesOn image tx connection segment) (stepped bytes)
-
-    pub inside : at ≤ length segment → at + t .read ≤ length segment
-    inside h =
-        let e = ap (λ (u : Turn). u .read) is in
-        omega (arith, read-within image s rx tx connection (drop at segment), length-drop at segment)
+    pub inside : at ≤ length segment → at + taken .read ≤ length segment
+    inside h = omega (arith, read-within image s rx tx connection (drop at segment), length-drop at segment)
 
     -- its bytes are written behind the others
     module _ {s₀ : State} {rx₀ out₀ : List ℕ} (g : Going s₀ rx₀ out₀ s rx out place count at) where
+      done : isDone (taken .answer) ≡ true
+      done = answer-is image s rx tx connection (drop at segment) ∙ g .clear
+
       room : place + length more-bytes ≤ length out₀
       room = omega (arith, g .spare, bytes-within image tx connection segment s rx at)
 
       long : length out ≡ length out₀
       long = ap length (g .wrote) ∙ lay-length out₀ 4 (g .bytes)
 
-      all-wrote : out′ ≡ lay out₀ 4 (g .bytes ++ more-bytes)
-      all-wrote = wrote ∙ ap (λ (o : List ℕ). lay o place more-bytes) (g .wrote) ∙ lay-lay out₀ 4 place (g .bytes) more-bytes (g .placed) room
+      all-wrote : lay out place more-bytes ≡ lay out₀ 4 (g .bytes ++ more-bytes)
+      all-wrote = ap (λ (o : List ℕ). lay o place more-bytes) (g .wrote) ∙ lay-lay out₀ 4 place (g .bytes) more-bytes (g .placed) room
 
-      all-placed : t .place ≡ 4 + length (g .bytes ++ more-bytes)
+      all-placed : placeAfter out place more-bytes ≡ 4 + length (g .bytes ++ more-bytes)
       all-placed =
-          ap (λ (u : Turn). u .place) is
-          ∙ sym (moves (length out) place (length more-bytes) (omega (arith, room, long)))
+          sym (moves (length out) place (length more-bytes) (omega (arith, room, long)))
           ∙ omega (arith, g .placed, length-append (g .bytes) more-bytes)
 
-    pub going-on : Bytes segment → {s₀ : State} {rx₀ out₀ : List ℕ} → Going s₀ rx₀ out₀ s rx out place count at
-        → (isDone (t .answer) && ltb (at + t .read) (length segment)) ≡ true → Going s₀ rx₀ out₀ (t .state) rx′ out′ (t .place) (count + 1) (at + t .read)
-    going-on small g e =
-        let e₁ : isDone (t .answer) ≡ true = and-left (isDone (t .answer)) _ e in
-        let e₂ : at + t .read < length segment = ltb-true _ _ (and-right (isDone (t .answer)) _ e) in
-        let d : isDone (segmentOf image s rx tx connection (drop at segment) .answer) ≡ true = sym (ap (λ (u : Turn). isDone (u .answer)) is) ∙ e₁ in
-        let f = ap (λ (u : Turn). u .read) is in
-        let l = length-drop at segment in
-        let some = read-some image s rx tx connection (drop at segment) d (omega arith) in
-        let n : length segment - count ≡ suc (length segment - (count + 1)) = omega (arith, g .low) in
-        let part = ap (λ (u : Turn). most (recordAt (u .state) connection .part)) is in
-        let next : isDone (segmentAnswer image (t .state) (length rx′) tx connection) ≡ true =
-        ap (λ (u : Turn). isDone (segmentAnswer image (u .state) (length rx′) tx connection)) is
-        ∙ ap (λ (m : List ℕ). isDone (segmentAnswer image (takeAt image tx connection segment s rx at .state) (length m) tx connection)) memory
-        ∙ bytes-next image tx connection segment small s rx at d in
-        record {
-          bytes = g .bytes ++ more-bytes;
-          same =
-              blind (length segment - (count + 1)) (t .answer) (t .state) rx′ (g .bytes ++ more-bytes) (count + 1) (at + t .read)
-              ∙ ap (runOf image tx connection segment (length segment - (count + 1))) (stepped (g .bytes))
-              ∙ sym (more (length segment - (count + 1)) (runAt s rx (g .bytes) count at) (sym (goes (g .bytes)) ∙ e))
-              ∙ ap (λ (k : ℕ). runOf image tx connection segment k (runAt s rx (g .bytes) count at)) (sym n)
-              ∙ g .same;
-          low = omega (arith, g .low);
-          within = omega arith;
-          wrote = all-wrote g;
-          placed = all-placed g;
-          spare =
-              omega (
-                arith,
-                g .spare,
-                g .placed,
-                all-placed g,
-                length-append (g .bytes) more-bytes,
-                part,
-                bytes-go image tx connection segment s rx at d (omega arith),
-              );
-          unread = λ (z : isDone (segmentAnswer image (t .state) (length rx′) tx connection) ≡ false). absurd (false≢true (sym z ∙ next));
-        }
+      -- where bytes are left
+      pub going-on : Bytes segment → at + taken .read < length segment
+          → Going s₀ rx₀ out₀ (taken .state) (memoryAt image tx connection segment s rx at) (lay out place more-bytes) (placeAfter out place more-bytes) (count + 1) (at + taken .read)
+      unfolding step
+      going-on small left =
+          let l = length-drop at segment in
+          let some = read-some image s rx tx connection (drop at segment) done (omega arith) in
+          let n : length segment - count ≡ suc (length segment - (count + 1)) = omega (arith, g .low) in
+          record {
+            bytes = g .bytes ++ more-bytes;
+            same =
+                blind (length segment - (count + 1)) (taken .answer) (taken .state) (memoryAt image tx connection segment s rx at) (g .bytes ++ more-bytes) (count + 1) (at + taken .read)
+                ∙ sym (more (length segment - (count + 1)) (runAt s rx (g .bytes) count at) (and-both done (lt-ltb _ _ left)))
+                ∙ ap (λ (k : ℕ). runOf image tx connection segment k (runAt s rx (g .bytes) count at)) (sym n)
+                ∙ g .same;
+            low = omega (arith, g .low);
+            within = omega arith;
+            wrote = all-wrote;
+            placed = all-placed;
+            spare =
+                omega (
+                  arith,
+                  g .spare,
+                  g .placed,
+                  all-placed,
+                  length-append (g .bytes) more-bytes,
+                  bytes-go image tx connection segment s rx at done left,
+                );
+            clear = bytes-next image tx connection segment small s rx at done;
+          }
 
-    ended : {s₀ : State} {rx₀ out₀ : List ℕ} (g : Going s₀ rx₀ out₀ s rx out place count at)
-        → (isDone (t .answer) && ltb (at + t .read) (length segment)) ≡ false → after t rx′ (g .bytes ++ more-bytes) count at ≡ allTakes image tx connection segment s₀ rx₀
-    ended g e = stepped (g .bytes) ∙ sym (stops (length segment - count) (runAt s rx (g .bytes) count at) (sym (goes (g .bytes)) ∙ e)) ∙ g .same
+      -- where all is read
+      pub going-end : length segment ≤ at + taken .read
+          → (record { answer = Done; count = count + 1; place = placeAfter out place more-bytes; state = taken .state } ≡ takesOf (allTakes image tx connection segment s₀ rx₀))
+          × ((memoryAt image tx connection segment s rx at ≡ allTakes image tx connection segment s₀ rx₀ .rx)
+          × (lay out place more-bytes ≡ lay out₀ 4 (takenBytes (allTakes image tx connection segment s₀ rx₀))))
+      unfolding step
+      going-end left =
+          let r : step image tx connection segment (runAt s rx (g .bytes) count at) ≡ allTakes image tx connection segment s₀ rx₀ =
+          sym (stops (length segment - count) (runAt s rx (g .bytes) count at) (and-second (isDone (taken .answer)) _ (le-ltb _ _ left))) ∙ g .same in
+          let b : g .bytes ++ more-bytes ≡ bytesOf (taken .answer) (g .bytes ++ more-bytes) = done-all (taken .answer) (g .bytes ++ more-bytes) done in (
+            ap₂ (λ (a : Answer) (p : ℕ). kept a (count + 1) p (taken .state)) (sym (is-done (taken .answer) done)) (all-placed ∙ ap (λ (x : List ℕ). 4 + length x) b) ∙ ap takesOf r,
+            (ap (λ (u : Run). u .rx) r, all-wrote ∙ ap (lay out₀ 4) b ∙ ap (λ (u : Run). lay out₀ 4 (takenBytes u)) r),
+          )
+        where
+          kept : Answer → ℕ → ℕ → State → Takes
+          kept a n p u = record { answer = a; count = n; place = p; state = u }
 
-    -- a refused take is the first, and so there are no bytes
-    all-taken : {s₀ : State} {rx₀ out₀ : List ℕ} (g : Going s₀ rx₀ out₀ s rx out place count at) → g .bytes ++ more-bytes ≡ bytesOf (t .answer) (g .bytes ++ more-bytes)
-    unfolding bytesAt
-    all-taken g = go (isDone (t .answer)) refl
-      where
-        go : (b : Bool) → isDone (t .answer) ≡ b → g .bytes ++ more-bytes ≡ bytesOf (t .answer) (g .bytes ++ more-bytes)
-        go true e = done-all (t .answer) (g .bytes ++ more-bytes) e
-        go false e =
-            let d : isDone (segmentOf image s rx tx connection (drop at segment) .answer) ≡ false = sym (ap (λ (u : Turn). isDone (u .answer)) is) ∙ e in
-            ap₂ (λ (x y : List ℕ). x ++ y) (g .unread (sym (answer-is image s rx tx connection (drop at segment)) ∙ d))
-            (sym (refused-none (takeAt image tx connection segment s rx at .answer) _ d))
-            ∙ refused-none (t .answer) (g .bytes ++ more-bytes) e
-
-    pub going-end : {s₀ : State} {rx₀ out₀ : List ℕ} → Going s₀ rx₀ out₀ s rx out place count at
-        → (isDone (t .answer) && ltb (at + t .read) (length segment)) ≡ false
-        → (record { answer = t .answer; count = count + 1; place = t .place; state = t .state } ≡ takesOf (allTakes image tx connection segment s₀ rx₀))
-        × ((rx′ ≡ allTakes image tx connection segment s₀ rx₀ .rx) × (out′ ≡ lay out₀ 4 (takenBytes (allTakes image tx connection segment s₀ rx₀))))
-    going-end {s₀} {rx₀} {out₀} g e =
-        let r : after t rx′ (g .bytes ++ more-bytes) count at ≡ allTakes image tx connection segment s₀ rx₀ = ended g e in
-        let b : g .bytes ++ more-bytes ≡ bytesOf (t .answer) (g .bytes ++ more-bytes) = all-taken g in (
-          ap (λ (p : ℕ). kept (t .answer) (count + 1) p (t .state)) (all-placed g ∙ ap (λ (x : List ℕ). 4 + length x) b) ∙ ap takesOf r,
-          (ap (λ (u : Run). u .rx) r, all-wrote g ∙ ap (lay out₀ 4) b ∙ ap (λ (u : Run). lay out₀ 4 (takenBytes u)) r),
-        )
-      where
-        kept : Answer → ℕ → ℕ → State → Takes
-        kept a n p u = record { answer = a; count = n; place = p; state = u }
+  -- THE FIRST TAKE IS REFUSED: it is the only one, and has no bytes
+  pub refused-first : (s : State) (rx out : List ℕ) (a : Answer) → a ≡ segmentAnswer image s (length rx) tx connection → isDone a ≡ false
+      → (record { answer = a; count = 1; place = 4; state = s } ≡ takesOf (allTakes image tx connection segment s rx))
+      × ((rx ≡ allTakes image tx connection segment s rx .rx) × (out ≡ lay out 4 (takenBytes (allTakes image tx connection segment s rx))))
+  unfolding step
+  refused-first s rx out a e no-take =
+      let f : isDone (segmentAnswer image s (length rx) tx connection) ≡ false = ap isDone (sym e) ∙ no-take in
+      let d : isDone (takeAt image tx connection segment s rx 0 .answer) ≡ false = answer-is image s rx tx connection (drop 0 segment) ∙ f in
+      let r : step image tx connection segment (begun s rx) ≡ allTakes image tx connection segment s rx =
+      sym (stops (length segment) (begun s rx) (and-first (isDone (takeAt image tx connection segment s rx 0 .answer)) _ d)) in
+      let n : [] ≡ bytesOf (takeAt image tx connection segment s rx 0 .answer) ([] ++ bytesAt image tx connection segment s rx 0) =
+      refused-none (takeAt image tx connection segment s rx 0 .answer) ([] ++ bytesAt image tx connection segment s rx 0) d in (
+        ap (λ (x : Answer). kept x [] s) e
+            ∙ ap (λ (t : SegmentTaken). kept (t .answer) [] (t .state)) (sym (none-is image s rx tx connection (drop 0 segment) f))
+            ∙ ap (λ (x : List ℕ). kept (takeAt image tx connection segment s rx 0 .answer) x (takeAt image tx connection segment s rx 0 .state)) n
+            ∙ ap takesOf r,
+        (
+          memory-stays image s rx tx connection (drop 0 segment) f ∙ ap (λ (u : Run). u .rx) r,
+          sym (lay-nothing out 4) ∙ ap (lay out 4) n ∙ ap (λ (u : Run). lay out 4 (takenBytes u)) r,
+        ),
+      )
+    where
+      kept : Answer → List ℕ → State → Takes
+      kept x bytes u = record { answer = x; count = 1; place = 4 + length bytes; state = u }
 
 -- THE NUMBER OF TAKES over a segment that is not too long: an empty one has one take. So two bytes spell it
 pub count-fits : (image : List ℕ) (tx connection : ℕ) (segment : List ℕ) (s : State) (rx : List ℕ) → length segment ≤ longest

@@ -19,10 +19,14 @@ use answering::put_number;
 use answering::put_refusal;
 use answering::put_refused;
 use calls::bytes_from;
+use layout::Kind;
+use layout::body_of;
+use part::Part;
 use pieces::after;
 use receive::Answer;
+use receive::drops_after;
+use receive::may_take;
 use receive::segment_payload;
-use receive::segment_take;
 use receive::walk_datagram;
 use state::State;
 use stream::Outcome;
@@ -234,51 +238,53 @@ fn is_done(answer: Answer) -> bool
     }
 }
 
-// One take and its bytes: its answer, the bytes read, the place for the next in the out buffer, and the state afterwards.
+// How far a segment event is, past the gate: the connection's receive part, the TCP drop count, the bytes read of the segment, the place
+// for the next take's bytes in the out buffer, and how many takes there were.
 struct Turn {
-    answer: Answer,
-    read: usize,
+    part: Part,
+    drops: u32,
+    at: usize,
     place: usize,
-    state: State,
+    count: usize,
 }
 
+// One take more, and its bytes.
 fn take_once(
-    image: &[u8],
-    state: State,
+    routes: &[u8],
+    switches: u32,
+    turn: Turn,
     rx: &mut [u8],
-    tx: &[u8],
     connection: u8,
     segment: &[u8],
-    from: usize,
     out: &mut [u8],
-    place: usize,
 ) -> Turn
-    ensures { λ r. ⌜ r ≡ Turning.turnOf (now (image .entry)) (length (now (tx .entry))) connection (now (segment .entry)) state (now (rx .entry)) from (now (out .entry)) place ⌝ }
-    ensures { λ _. ⌜ now (rx .exit) ≡ Seg.memoryAt (now (image .entry)) (length (now (tx .entry))) connection (now (segment .entry)) state (now (rx .entry)) from ⌝ }
-    ensures { λ _. ⌜ now (out .exit) ≡ lay (now (out .entry)) place (Seg.bytesAt (now (image .entry)) (length (now (tx .entry))) connection (now (segment .entry)) state (now (rx .entry)) from) ⌝ }
+    requires { ⌜ Turning.Goes (now routes) connection (now segment) turn (now rx) ⌝ }
+    ensures { λ r. ⌜ r ≡ Turning.turnOf (now (routes .entry)) switches connection (now (segment .entry)) turn (now (rx .entry)) (now (out .entry)) ⌝ }
+    ensures { λ _. ⌜ now (rx .exit) ≡ Turning.memoryFrom (now (routes .entry)) switches connection (now (segment .entry)) turn (now (rx .entry)) ⌝ }
+    ensures { λ _. ⌜ now (out .exit) ≡ lay (now (out .entry)) (turn .place) (Turning.bytesFrom (now (routes .entry)) switches connection (now (segment .entry)) turn (now (rx .entry))) ⌝ }
 {
-    let rest = bytes_from(segment, from);
-    let taken = segment_take(image, state, rx, tx, connection, rest);
-    let answer = taken.answer;
+    let rest = bytes_from(segment, turn.at);
+    let part = turn.part;
+    let start = connection as usize * 1464;
+    let end = start + 1464;
+    let taken = stream::take(
+        routes,
+        connection,
+        switches,
+        part,
+        &mut rx[start..end],
+        rest,
+    );
     let outcome = taken.outcome;
-    let state = taken.state;
-    let read = taken.read;
-    let done = is_done(answer);
-    if !done {
-        return Turn {
-            answer: answer,
-            read: read,
-            place: place,
-            state: state,
-        };
-    }
+    let left = taken.part;
     let payload = segment_payload(rest, rx, connection, outcome);
-    let next = put_take(out, place, from, read, outcome, payload);
+    let place = put_take(out, turn.place, turn.at, taken.read, outcome, payload);
     Turn {
-        answer: answer,
-        read: read,
-        place: next,
-        state: state,
+        part: left,
+        drops: drops_after(outcome, turn.drops),
+        at: turn.at + taken.read,
+        place: place,
+        count: turn.count + 1,
     }
 }
 
@@ -290,6 +296,8 @@ struct Takes {
     state: State,
 }
 
+// One gate for all of them: past it, the takes turn over the connection's part and the drop count alone, and the state is put together at
+// the end.
 fn take_all(
     image: &[u8],
     state: State,
@@ -304,28 +312,41 @@ fn take_all(
     ensures { λ _. ⌜ now (rx .exit) ≡ Seg.allTakes (now (image .entry)) (length (now (tx .entry))) connection (now (segment .entry)) state (now (rx .entry)) .rx ⌝ }
     ensures { λ _. ⌜ now (out .exit) ≡ lay (now (out .entry)) 4 (Turning.takenBytes (Seg.allTakes (now (image .entry)) (length (now (tx .entry))) connection (now (segment .entry)) state (now (rx .entry)))) ⌝ }
 {
-    let mut now = state;
-    let mut at: usize = 0;
-    let mut place: usize = 4;
-    let mut count: usize = 0;
+    let answer = may_take(image, state, rx.len(), tx.len(), connection);
+    let done = is_done(answer);
+    if !done {
+        return Takes {
+            answer: answer,
+            count: 1,
+            place: 4,
+            state: state,
+        };
+    }
+    let n = connection as usize;
+    let c = state.connections[n];
+    let part = c.part;
+    let routes = body_of(image, Kind::Route);
+    let mut turn = Turn {
+        part: part,
+        drops: state.tcp_drops,
+        at: 0,
+        place: 4,
+        count: 0,
+    };
     loop {
-        let t = take_once(image, now, rx, tx, connection, segment, at, out, place);
-        let answer = t.answer;
-        let state = t.state;
-        let done = is_done(answer);
-        at += t.read;
-        place = t.place;
-        count += 1;
-        let goes_on = done & (at < segment.len());
-        if !goes_on {
+        turn = take_once(routes, c.switches, turn, rx, connection, segment, out);
+        if segment.len() <= turn.at {
+            let left = turn.part;
+            let mut next = state;
+            next.connections[n] = c.with_part(left);
+            next.tcp_drops = turn.drops;
             return Takes {
                 answer: answer,
-                count: count,
-                place: place,
-                state: state,
+                count: turn.count,
+                place: turn.place,
+                state: next,
             };
         }
-        now = state;
     }
 }
 

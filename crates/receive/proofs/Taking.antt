@@ -9,14 +9,14 @@ use lib.ListN.{length, getD, take, drop, length-drop, drop-of-length-le}
 use lib.Seq.{take-all}
 use borrow.Rule.Slice.PartMut.{putMid, post-is}
 use Rattle.wire.specs.Place.{behind, fromAt}
+use Rattle.wire.specs.Lay.{lay}
 use Rattle.wire.proofs.Lay.{lay-fits}
 use Rattle.layout.specs.Layout.{bodyOf}
 use Rattle.layout.specs.declared.Kind.the-variants.{Route as Routes}
 use Rattle.connection.specs.declared.Connection.{Connection}
-use Rattle.connection.specs.declared.Config.{Config}
 use Rattle.connection.specs.Connection.{withPart}
 use Rattle.state.specs.declared.State.{State}
-use Rattle.state.specs.State.{recordAt, withRecord}
+use Rattle.state.specs.State.{recordAt, withRecord, countOf, withCount}
 use Rattle.state.specs.Fresh.{configOf}
 use Rattle.stream.specs.declared.Outcome.{Outcome}
 use Rattle.stream.specs.declared.Outcome.the-variants.{Pdu}
@@ -27,8 +27,8 @@ use Rattle.state.specs.Memory.{stretch}
 use Rattle.receive.specs.declared.Answer.{Answer}
 use Rattle.receive.specs.declared.Answer.the-variants.{Done}
 use Rattle.receive.specs.declared.SegmentTaken.{SegmentTaken}
-use Rattle.receive.specs.Answer.{isDone, answerOf}
-use Rattle.receive.specs.Segment.{countTake, takenAt, stretchAt, takeOn, memoryOn, Takes, noneTaken, segmentAnswer, segmentOf, memoryOf, payloadOf, payloadStands}
+use Rattle.receive.specs.Answer.{isDone}
+use Rattle.receive.specs.Segment.{dropsAfter, countTake, takenAt, stretchAt, takeOn, memoryOn, Takes, noneTaken, segmentAnswer, segmentOf, memoryOf, payloadOf, payloadStands}
 use Rattle.receive.proofs.Answers.{Clear, done-clear}
 use Rattle.receive.proofs.Past.{passed-takes}
 
@@ -44,6 +44,14 @@ module _ (n : ℕ) (rx : List ℕ) where
 
   pub stretch-all : take (n * 1464 + 1464 - n * 1464) (drop (n * 1464) rx) ≡ stretch 1464 n rx
   stretch-all = ap (λ (k : ℕ). take k (drop (n * 1464) rx)) (add-sub-cancel-left (n * 1464) 1464)
+
+-- a stretch put back in the middle of receive memory is laid there
+pub mid-laid : (n : ℕ) (rx m : List ℕ) → n < 16 → length rx ≡ 23424 → length m ≡ 1464 → putMid (n * 1464) (n * 1464 + 1464 - n * 1464) rx m ≡ lay rx (n * 1464) m
+mid-laid n rx m small room l =
+    ap (λ (z : List ℕ). take (n * 1464) rx ++ (m ++ z)) (post-is (n * 1464) (n * 1464 + 1464) rx (omega arith))
+    ∙ sym (append-assoc (take (n * 1464) rx) m (drop (n * 1464 + 1464) rx))
+    ∙ ap (λ (k : ℕ). take (n * 1464) rx ++ m ++ drop (n * 1464 + k) rx) (sym l)
+    ∙ sym (lay-fits rx (n * 1464) m (omega (arith, small, room)))
 
 -- the payload of a PDU
 pub payload-pdu : (segment rx : List ℕ) (n : ℕ) (outcome : Outcome) (route id : ℕ) (inside : Bool) (at size : ℕ) → outcome ≡ Pdu route id inside at size
@@ -70,13 +78,13 @@ module _ (image : List ℕ) (s : State) (rx : List ℕ) (n : ℕ) (segment : Lis
       subst (λ (l : List ℕ). Fit l (recordAt s n .part) lent) (sym er)
       (subst (Fit (bodyOf image Routes) (recordAt s n .part)) (sym (stretch-all n rx)) (takes .fit))
 
-  pub take-is : (t : Taken) (c : Connection) (after : State) → t ≡ takenOf routes n (recordAt s n .switches) (recordAt s n .part) lent segment
-      → c ≡ withPart (t .part) (recordAt s n) → after ≡ countTake (t .outcome) (withRecord n c s)
-      → record { answer = Done; read = t .read; outcome = t .outcome; state = after } ≡ takeOn image s rx n segment
+  pub take-is : (t : Taken) (c : Connection) (drops : ℕ) → t ≡ takenOf routes n (recordAt s n .switches) (recordAt s n .part) lent segment
+      → c ≡ withPart (t .part) (recordAt s n) → drops ≡ dropsAfter (t .outcome) (countOf true s)
+      → record { answer = Done; read = t .read; outcome = t .outcome; state = withCount true drops (withRecord n c s) } ≡ takeOn image s rx n segment
   unfolding takeOn
-  take-is t c after et ec ea =
+  take-is t c drops et ec ed =
       let same : t ≡ takenAt image s rx n segment = et ∙ ap₂ (λ (l m : List ℕ). takenOf l n (recordAt s n .switches) (recordAt s n .part) m segment) er (stretch-all n rx) in
-      ap (λ (a : State). record { answer = Done; read = t .read; outcome = t .outcome; state = a }) (ea ∙ ap (λ (d : Connection). countTake (t .outcome) (withRecord n d s)) ec)
+      ap₂ (λ (d : ℕ) (x : Connection). record { answer = Done; read = t .read; outcome = t .outcome; state = withCount true d (withRecord n x s) }) ed ec
       ∙ ap
       (λ (u : Taken).
       record { answer = Done; read = u .read; outcome = u .outcome; state = countTake (u .outcome) (withRecord n (withPart (u .part) (recordAt s n)) s) })
@@ -89,20 +97,13 @@ module _ (image : List ℕ) (s : State) (rx : List ℕ) (n : ℕ) (segment : Lis
       let same : m ≡ stretchAt image s rx n segment = em ∙ ap₂ (λ (l z : List ℕ). rxAfter l n (recordAt s n .switches) (recordAt s n .part) z segment) er (stretch-all n rx) in
       let l : length (stretchAt image s rx n segment) ≡ 1464 =
       leaves-length (bodyOf image Routes) n (recordAt s n .switches) (recordAt s n .part) (stretch 1464 n rx) segment (takes .fit) bytes ∙ takes .fit .room in
-      ap (λ (z : List ℕ). take (n * 1464) rx ++ (m ++ z)) (post-is (n * 1464) (n * 1464 + 1464) rx (omega arith))
-      ∙ ap (λ (z : List ℕ). take (n * 1464) rx ++ (z ++ drop (n * 1464 + 1464) rx)) same
-      ∙ sym (append-assoc (take (n * 1464) rx) (stretchAt image s rx n segment) (drop (n * 1464 + 1464) rx))
-      ∙ ap (λ (k : ℕ). take (n * 1464) rx ++ stretchAt image s rx n segment ++ drop (n * 1464 + k) rx) (sym l)
-      ∙ sym (lay-fits rx (n * 1464) (stretchAt image s rx n segment) (omega (arith, takes .small, takes .room)))
+      ap (putMid (n * 1464) (n * 1464 + 1464 - n * 1464) rx) same ∙ mid-laid n rx (stretchAt image s rx n segment) (takes .small) (takes .room) l
 
 -- THE ENTRY: done, or refused
-module _ (image : List ℕ) (s : State) (rx : List ℕ) (tx n : ℕ) (segment : List ℕ) (config : Config) (ec : config ≡ configOf image n)
-    (answer : Answer) (ea : answer ≡ answerOf image s (length rx) tx n (config .tcp)) (done : Bool) (ed : done ≡ isDone answer) where
-  same-answer : answer ≡ segmentAnswer image s (length rx) tx n
-  same-answer = ea ∙ ap (λ (g : Config). answerOf image s (length rx) tx n (g .tcp)) ec
-
+module _ (image : List ℕ) (s : State) (rx : List ℕ) (tx n : ℕ) (segment : List ℕ)
+    (answer : Answer) (ea : answer ≡ segmentAnswer image s (length rx) tx n) (done : Bool) (ed : done ≡ isDone answer) where
   same-done : {b : Bool} → done ≡ b → isDone (segmentAnswer image s (length rx) tx n) ≡ b
-  same-done p = ap isDone (sym same-answer) ∙ sym ed ∙ p
+  same-done p = ap isDone (sym ea) ∙ sym ed ∙ p
 
   pub may-take : done ≡ true → Takes image s rx n
   may-take p =
@@ -119,7 +120,7 @@ module _ (image : List ℕ) (s : State) (rx : List ℕ) (tx n : ℕ) (segment : 
 
   pub segment-none : done ≡ false → noneTaken s answer ≡ segmentOf image s rx tx n segment
   unfolding segmentOf
-  segment-none p = rw (same-done p) (ap (noneTaken s) same-answer)
+  segment-none p = rw (same-done p) (ap (noneTaken s) ea)
 
   pub memory-none : done ≡ false → rx ≡ memoryOf image s rx tx n segment
   unfolding memoryOf

@@ -11,7 +11,7 @@ use Rattle.layout.specs.Layout.{bodyOf}
 use Rattle.layout.specs.declared.Kind.the-variants.{Route as Routes}
 use Rattle.connection.specs.Connection.{withPart}
 use Rattle.state.specs.declared.State.{State}
-use Rattle.state.specs.State.{recordAt, withRecord, droppedOf}
+use Rattle.state.specs.State.{recordAt, withRecord, countOf, withCount, counted}
 use Rattle.state.specs.Fresh.{configOf}
 use Rattle.stream.specs.declared.Outcome.{Outcome}
 use Rattle.stream.specs.declared.Outcome.the-variants.{More, Pdu, Drop}
@@ -24,10 +24,13 @@ use Rattle.receive.specs.declared.SegmentTaken.{SegmentTaken}
 use Rattle.receive.specs.Answer.{isDone, answerOf}
 
 -- "A drop adds 1 to its protocol's count": TCP's
+abbrev pub dropsAfter : Outcome → ℕ → ℕ
+dropsAfter More drops = drops
+dropsAfter (Pdu route id inside at n) drops = drops
+dropsAfter (Drop reason id n) drops = counted drops
+
 abbrev pub countTake : Outcome → State → State
-countTake More s = s
-countTake (Pdu route id inside at n) s = s
-countTake (Drop reason id n) s = droppedOf true s
+countTake outcome s = withCount true (dropsAfter outcome (countOf true s)) s
 
 module _ (image : List ℕ) (s : State) (rx : List ℕ) (connection : ℕ) (segment : List ℕ) where
   -- the take over the record's part and switches, its stretch of receive memory, and the table's routes

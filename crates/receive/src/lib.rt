@@ -19,6 +19,7 @@ use layout::Kind;
 use layout::body_of;
 use state::State;
 use state::config_of;
+use state::counted_once;
 use stream::Outcome;
 
 // 0; 11, 12, 2, 3; 4.
@@ -83,31 +84,40 @@ fn answer_at(image: &[u8], state: State, rx: usize, tx: usize, n: usize, allowed
     }
 }
 
-// A drop adds to the TCP count.
-fn count_take(outcome: Outcome, state: State) -> State
-    ensures { λ r. ⌜ r ≡ Seg.countTake outcome state ⌝ }
+// What a take on a connection is answered.
+pub fn may_take(image: &[u8], state: State, rx: usize, tx: usize, connection: u8) -> Answer
+    ensures { λ r. ⌜ r ≡ Seg.segmentAnswer (now (image .entry)) state rx tx connection ⌝ }
+{
+    let n = connection as usize;
+    let config = config_of(image, n);
+    answer_at(image, state, rx, tx, n, config.tcp)
+}
+
+// The TCP count after a take: a drop adds to it.
+pub fn drops_after(outcome: Outcome, drops: u32) -> u32
+    ensures { λ r. ⌜ r ≡ Seg.dropsAfter outcome drops ⌝ }
 {
     match outcome {
-        Outcome::More => state,
+        Outcome::More => drops,
         Outcome::Pdu {
             route: _,
             id: _,
             in_segment: _,
             at: _,
             length: _,
-        } => state,
+        } => drops,
         Outcome::Drop {
             reason: _,
             id: _,
             length: _,
-        } => state.dropped(true),
+        } => counted_once(drops),
     }
 }
 
 // Past all refusals: the take over the record's part and its stretch of receive memory.
 fn take_on(
     image: &[u8],
-    state: State,
+    mut state: State,
     rx: &mut [u8],
     connection: u8,
     segment: &[u8],
@@ -132,14 +142,13 @@ fn take_on(
     );
     let left = taken.part;
     let outcome = taken.outcome;
-    let mut next = state;
-    next.connections[n] = c.with_part(left);
-    let after = count_take(outcome, next);
+    state.connections[n] = c.with_part(left);
+    state.tcp_drops = drops_after(outcome, state.tcp_drops);
     SegmentTaken {
         answer: Answer::Done,
         read: taken.read,
         outcome: outcome,
-        state: after,
+        state: state,
     }
 }
 
@@ -155,9 +164,7 @@ pub fn segment_take(
     ensures { λ r. ⌜ r ≡ Seg.segmentOf (now (image .entry)) state (now (rx .entry)) (length (now (tx .entry))) connection (now (segment .entry)) ⌝ }
     ensures { λ _. ⌜ now (rx .exit) ≡ Seg.memoryOf (now (image .entry)) state (now (rx .entry)) (length (now (tx .entry))) connection (now (segment .entry)) ⌝ }
 {
-    let n = connection as usize;
-    let config = config_of(image, n);
-    let answer = answer_at(image, state, rx.len(), tx.len(), n, config.tcp);
+    let answer = may_take(image, state, rx.len(), tx.len(), connection);
     let done = is_done(answer);
     if done {
         return take_on(image, state, rx, connection, segment);

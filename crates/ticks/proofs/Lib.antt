@@ -1,2 +1,3 @@
 -- The laws of the crate. Assumes nothing.
+pub mod Many
 pub mod Turns

@@ -1,13 +1,16 @@
-// A tick of the whole module, and many ticks under one check. Assumes nothing: no entry relies on its caller.
+// A tick of the whole module, and many ticks under one check, by jumps from change to change. Assumes nothing: no entry relies on its caller.
 ghost use mathlib.Core.Path.{_≡_};
-ghost use Prim.Native.Nat.{_≤_};
+ghost use Prim.Native.Nat.{_-_, _≤_};
 ghost use lib.ListN.{length};
-ghost use Rattle.connection.specs.Connection.{tickOf};
-ghost use Rattle.state.specs.Fresh.{configIn};
-ghost use Rattle.ticks.specs.Tick.{restsOf, tickedTo, ticksTo, tickEvent, ticksEvent};
+ghost use Rattle.ticks.specs.Many.{manyOf, beforeEnd, quietFor, agedBy};
+ghost use Rattle.ticks.specs.Tick.{restsOf, ticksTo, tickEvent, ticksEvent};
 use connection::Answer;
+use connection::Config;
 use connection::Connection;
+use connection::has_wildcard;
+use connection::is_offline;
 use connection::is_online;
+use connection::is_reconnect;
 use gate::Gate;
 use layout::Kind;
 use layout::body_of;
@@ -30,20 +33,78 @@ fn rests(c: Connection) -> bool
     !c.close_wanted & is_online(mode) & (c.timer == 0)
 }
 
-// One tick of connection i; its rows are asked for only where there is something to do.
-fn tick_one(connections: &[u8], groups: &[u8], i: usize, c: Connection) -> Connection
-    ensures { λ r. ⌜ r ≡ tickOf (configIn (now (connections .entry)) (now (groups .entry)) i) c ⌝ }
+// How many ticks lower a timer and do not end it; any number where it does not run.
+fn before_end(timer: u16) -> u32
+    ensures { λ r. ⌜ r ≡ beforeEnd timer ⌝ }
 {
-    if rests(c) {
-        return c;
+    if timer == 0 {
+        return 4294967295;
     }
-    c.tick(config_in(connections, groups, i))
+    timer as u32 - 1
 }
 
-// One tick of the first `rows` connections, in order.
-fn tick_rows(image: &[u8], rows: usize, state: State) -> State
+// The time to the next change: so many ticks from now on do no more than lower the timer.
+fn quiet_for(config: Config, c: Connection) -> u32
+    ensures { λ r. ⌜ r ≡ quietFor config c ⌝ }
+{
+    let mode = c.mode;
+    let remote = c.remote;
+    let starts = is_offline(mode) & (c.open_wanted | config.automatic);
+    let reaches = is_reconnect(mode) & !config.tcp & !has_wildcard(remote);
+    if c.close_wanted | starts | reaches {
+        return 0;
+    }
+    before_end(c.timer)
+}
+
+// A timer that falls by n, and not below 0.
+fn fallen(timer: u16, n: u32) -> u16
+    ensures { λ r. ⌜ r ≡ timer - n ⌝ }
+{
+    if timer as u32 <= n {
+        return 0;
+    }
+    timer - n as u16
+}
+
+// So many quiet ticks at once.
+fn aged(c: Connection, n: u32) -> Connection
+    ensures { λ r. ⌜ r ≡ agedBy n c ⌝ }
+{
+    c.with_send(c.used, fallen(c.timer, n), c.due)
+}
+
+fn smaller(a: u32, b: u32) -> u32
+    ensures { λ r. ⌜ (r ≤ a) × (r ≤ b) ⌝ }
+{
+    if a < b {
+        return a;
+    }
+    b
+}
+
+// `count` ticks of one record: it jumps to the next change, and ticks there.
+fn tick_many(config: Config, c: Connection, count: u32) -> Connection
+    ensures { λ r. ⌜ r ≡ manyOf config count c ⌝ }
+{
+    let mut next = c;
+    let mut left = count;
+    loop {
+        let jump = smaller(quiet_for(config, next), left);
+        next = aged(next, jump);
+        left -= jump;
+        if left == 0 {
+            return next;
+        }
+        next = next.tick(config);
+        left -= 1;
+    }
+}
+
+// `count` ticks of the first `rows` connections, in order; the rows of one that rests are not asked for.
+fn tick_rows(image: &[u8], rows: usize, state: State, count: u32) -> State
     requires { ⌜ rows ≤ 16 ⌝ }
-    ensures { λ r. ⌜ r ≡ tickedTo (now (image .entry)) rows state ⌝ }
+    ensures { λ r. ⌜ r ≡ ticksTo (now (image .entry)) rows count state ⌝ }
 {
     let connections = body_of(image, Kind::Connection);
     let groups = body_of(image, Kind::Group);
@@ -51,23 +112,13 @@ fn tick_rows(image: &[u8], rows: usize, state: State) -> State
     let mut i: usize = 0;
     while i < rows {
         let connection = after.connections[i];
-        let next = tick_one(connections, groups, i, connection);
+        if rests(connection) {
+            i += 1;
+            continue;
+        }
+        let next = tick_many(config_in(connections, groups, i), connection, count);
         after.connections[i] = next;
         i += 1;
-    }
-    after
-}
-
-// `count` ticks of the first `rows` connections.
-fn tick_many(image: &[u8], rows: usize, state: State, count: u32) -> State
-    requires { ⌜ rows ≤ 16 ⌝ }
-    ensures { λ r. ⌜ r ≡ ticksTo (now (image .entry)) rows count state ⌝ }
-{
-    let mut after = state;
-    let mut k: u32 = 0;
-    while k < count {
-        after = tick_rows(image, rows, after);
-        k += 1;
     }
     after
 }
@@ -82,7 +133,7 @@ pub fn tick(image: &[u8], state: State, rx: &[u8], tx: &[u8]) -> Ticked
             state: state,
         },
         Gate::Pass => {
-            let after = tick_rows(image, rows_of(image, Kind::Connection), state);
+            let after = tick_rows(image, rows_of(image, Kind::Connection), state, 1);
             Ticked {
                 answer: Answer::Done,
                 state: after,
@@ -102,7 +153,7 @@ pub fn ticks(image: &[u8], state: State, rx: &[u8], tx: &[u8], count: u32) -> Ti
             state: state,
         },
         Gate::Pass => {
-            let after = tick_many(image, rows_of(image, Kind::Connection), state, count);
+            let after = tick_rows(image, rows_of(image, Kind::Connection), state, count);
             Ticked {
                 answer: Answer::Done,
                 state: after,

@@ -1,39 +1,85 @@
--- `answer_receive::take_all` meets its contract. Assumes nothing.
-use Prim.Native.Nat.{ℕ, _+_, _-_}
-use mathlib.Core.Path.{_≡_, refl, sym, ap, _∙_}
-use mathlib.Core.Bool.{Bool, _&&_}
-use lib.Dec.{ltb}
+-- `answer_receive::take_all` meets its contract. The invariant: from this turn on the event ends as from its start on. Assumes nothing.
+use Prim.Native.Nat.{_-_}
+use mathlib.Core.Path.{_≡_, refl, sym, _∙_}
 use lib.ListN.{length}
 use native.Mathlib.Omega.{arith}
 use borrow.Author.Needs.{needs}
 use borrow.Author.Tests.{not-true, not-false}
-use Rattle.answer_receive.proofs.Run.{Going, going-start, inside, going-on, going-end}
+use Rattle.answer_receive.proofs.Run.{refused-first}
+use Rattle.answer_receive.proofs.Turned.{gate-open, AtTurn, turn-start, turn-goes, turn-on, turn-ends, turn-count, put-together}
 use Rattle.answer_receive.proofs.take_all.Statement.{statement}
 use Rattle.answer_receive.proofs.take_all.Tie as tie
+use Rattle.answer_receive.proofs.take_all.Reads as reads
+use Rattle.answer_receive.proofs.take_all.Lts as lts
 
 abbrev Inv-loop : tie.InvT-loop
-Inv-loop image rx₀ tx connection segment out₀ now₀ at₀ place₀ count₀ rx out now at place count = Going image (length tx) connection segment now₀ rx₀ out₀ now rx out place count at × ((length rx ≡ length rx₀) × (length out ≡ length out₀))
+Inv-loop image rx₀ tx connection segment out₀ state answer done n c routes turn₀ rx out turn =
+    AtTurn image (length tx) connection segment state rx₀ out₀ turn rx out × ((length rx ≡ length rx₀) × (length out ≡ length out₀))
 
 abbrev μ-loop : tie.MeasureT-loop
-μ-loop image rx₀ tx connection segment out₀ now₀ at₀ place₀ count₀ rx out now at place count = length segment - count
+μ-loop image rx₀ tx connection segment out₀ state answer done n c routes turn₀ rx out turn = length segment - turn .count
 
-loop-holds : tie.Need-loop-holds Inv-loop μ-loop
-loop-holds c =
-    let b = c .before .before .before .before .before in
-    let a = b .args in
-    (going-start (a .image .now) (length (a .tx .now)) (a .connection) (a .segment .now) (a .state) (a .rx .now) (a .out .now) (b .pre), (refl, refl))
-
-take-once-requires : tie.Need-take-once-requires Inv-loop μ-loop
-take-once-requires c κs = search needs
+may-take-requires : tie.Need-may-take-requires Inv-loop μ-loop
+may-take-requires c κs = search needs
 
 is-done-requires : tie.Need-is-done-requires Inv-loop μ-loop
 is-done-requires c κs = search needs
 
-add-at : tie.Need-add-at Inv-loop μ-loop
-add-at c = let a = c .before .before .before .before .before .before .before .before .before .before .before .before .before .before .before .before .args in let l = c .before .before .before .before .before .before .before .before .before .before .loop in let h = c .before .before .before .before .before .before .before .take-once .ensures in omega (arith, inside (a .image .now) (length (a .tx .now)) (a .connection) (a .segment .now) (l .now) (l .rx) (l .out) (l .place) (l .count) (l .at) (h .0) (h .1 .0) (h .1 .1) (l .inv .0 .within), c .before .before .before .before .before .before .before .before .before .before .before .before .before .before .before .before .good .1 .1 .1 .1 .1 .0 .0)
+returns : tie.Need-returns Inv-loop μ-loop
+returns c =
+    let b = c .before .before .before .before .before .before .before .before in
+    let a = b .args in
+    refused-first (a .image .now) (length (a .tx .now)) (a .connection) (a .segment .now) (a .t2) (a .rx .now) (a .out .now) (c .before .before .may-take .result) (c .before .before .may-take .ensures)
+    (sym (c .before .is-done .ensures) ∙ not-true _ (c .if1 .taken))
 
-add-count : tie.Need-add-count Inv-loop μ-loop
-add-count c = let l = c .before .before .before .before .before .before .before .before .before .before .loop in omega (arith, l .inv .0 .low, l .inv .0 .within, c .before .before .before .before .before .before .before .before .before .before .before .before .before .before .before .before .good .1 .1 .1 .1 .1 .0 .1)
+mul-c : tie.Need-mul-c Inv-loop μ-loop
+mul-c c =
+    let b = c .before .before .before .before .before .before .before .before in
+    let a = b .args in
+    let o = gate-open (a .image .now) (a .t2) (length (a .rx .now)) (length (a .tx .now)) (a .connection) (c .before .before .may-take .ensures) (sym (c .before .is-done .ensures) ∙ not-false _ (c .if1 .left)) in
+    omega (arith, o .small)
+
+element-copy-out-c : tie.Need-element-copy-out-c Inv-loop μ-loop
+element-copy-out-c c =
+    let b = c .before .before .before .before .before .before .before .before in
+    let a = b .args in
+    let o = gate-open (a .image .now) (a .t2) (length (a .rx .now)) (length (a .tx .now)) (a .connection) (c .before .before .may-take .ensures) (sym (c .before .is-done .ensures) ∙ not-false _ (c .if1 .left)) in
+    o .small
+
+body-of-requires : tie.Need-body-of-requires Inv-loop μ-loop
+body-of-requires c κs = search needs
+
+loop-holds : tie.Need-loop-holds Inv-loop μ-loop
+loop-holds c =
+    let b = c .before .before .before .before .before .before .before .before .before .before in
+    let a = b .args in
+    let o = gate-open (a .image .now) (a .t2) (length (a .rx .now)) (length (a .tx .now)) (a .connection) (c .before .before .before .before .may-take .ensures) (sym (c .before .before .before .is-done .ensures) ∙ not-false _ (c .before .before .if1 .left)) in
+    (turn-start (a .image .now) (length (a .tx .now)) (a .connection) (a .segment .now) (a .t2) (a .rx .now) (a .out .now) (b .pre) (o .clear), (refl, refl))
+
+take-once-requires : tie.Need-take-once-requires Inv-loop μ-loop
+take-once-requires c κs =
+    let b = c .before .before .before .before .before .before .before .before .before .before .before .before .before in
+    let a = b .args in
+    let l = c .before .before .loop in
+    let o = gate-open (a .image .now) (a .t2) (length (a .rx .now)) (length (a .tx .now)) (a .connection) (c .before .before .before .before .before .before .before .may-take .ensures) (sym (c .before .before .before .before .before .before .is-done .ensures) ∙ not-false _ (c .before .before .before .before .before .if1 .left)) in
+    turn-goes (a .image .now) (length (a .tx .now)) (a .connection) (a .segment .now) (a .t2) (a .rx .now) (a .out .now) (o .there) (l .turn) (l .rx) (l .out) (l .inv .0) (c .before .before .before .body-of .ensures .0)
+
+with-part-requires : tie.Need-with-part-requires Inv-loop μ-loop
+with-part-requires c κs = search needs
+
+mul-t36 : tie.Need-mul-t36 Inv-loop μ-loop
+mul-t36 c =
+    let b = c .before .before .before .before .before .before .before .before .before .before .before .before .before .before .before .before .before .before .before .before .before in
+    let a = b .args in
+    let o = gate-open (a .image .now) (a .t2) (length (a .rx .now)) (length (a .tx .now)) (a .connection) (c .before .before .before .before .before .before .before .before .before .before .before .before .before .before .before .may-take .ensures) (sym (c .before .before .before .before .before .before .before .before .before .before .before .before .before .before .is-done .ensures) ∙ not-false _ (c .before .before .before .before .before .before .before .before .before .before .before .before .before .if1 .left)) in
+    omega (arith, o .small)
+
+element-set-from-next : tie.Need-element-set-from-next Inv-loop μ-loop
+element-set-from-next c =
+    let b = c .before .before .before .before .before .before .before .before .before .before .before .before .before .before .before .before .before .before .before .before .before in
+    let a = b .args in
+    let o = gate-open (a .image .now) (a .t2) (length (a .rx .now)) (length (a .tx .now)) (a .connection) (c .before .before .before .before .before .before .before .before .before .before .before .before .before .before .before .may-take .ensures) (sym (c .before .before .before .before .before .before .before .before .before .before .before .before .before .before .is-done .ensures) ∙ not-false _ (c .before .before .before .before .before .before .before .before .before .before .before .before .before .if1 .left)) in
+    o .small
 
 same-length : tie.Need-same-length Inv-loop μ-loop
 same-length c = omega arith
@@ -41,14 +87,40 @@ same-length c = omega arith
 same-length-2 : tie.Need-same-length-2 Inv-loop μ-loop
 same-length-2 c = omega arith
 
-returns : tie.Need-returns Inv-loop μ-loop
-returns c = let a = c .before .before .before .before .before .before .before .before .before .before .before .before .before .before .before .before .before .args in let l = c .before .before .before .before .before .before .before .before .before .before .before .loop in let h = c .before .before .before .before .before .before .before .before .take-once .ensures in going-end (a .image .now) (length (a .tx .now)) (a .connection) (a .segment .now) (l .now) (l .rx) (l .out) (l .place) (l .count) (l .at) (h .0) (h .1 .0) (h .1 .1) (l .inv .0) (ap (λ (d : Bool). d && ltb (l .at + c .before .before .before .before .before .before .before .before .take-once .result .read) (length (a .segment .now))) (sym (c .before .before .is-done .ensures)) ∙ not-true _ (c .if1 .taken))
+returns-2 : tie.Need-returns-2 Inv-loop μ-loop
+returns-2 c =
+    let b = c .before .before .before .before .before .before .before .before .before .before .before .before .before .before .before .before .before .before .before .before .before in
+    let a = b .args in
+    let l = c .before .before .before .before .before .before .before .before .before .before .loop in
+    let h = c .before .before .before .before .before .before .before .take-once .ensures in
+    let o = gate-open (a .image .now) (a .t2) (length (a .rx .now)) (length (a .tx .now)) (a .connection) (c .before .before .before .before .before .before .before .before .before .before .before .before .before .before .before .may-take .ensures) (sym (c .before .before .before .before .before .before .before .before .before .before .before .before .before .before .is-done .ensures) ∙ not-false _ (c .before .before .before .before .before .before .before .before .before .before .before .before .before .if1 .left)) in
+    put-together (a .image .now) (length (a .tx .now)) (a .connection) (a .segment .now) (a .t2) (a .rx .now) (a .out .now) (c .before .before .before .before .before .before .before .take-once .result)
+    (turn-ends (a .image .now) (length (a .tx .now)) (a .connection) (a .segment .now) (a .t2) (a .rx .now) (a .out .now) (o .there) (l .turn) (l .rx) (l .out) (l .inv .0) (c .before .before .before .before .before .before .before .before .before .before .before .body-of .ensures .0)
+    (h .0) (h .1 .0) (h .1 .1) (c .before .if2 .taken))
+    (sym (c .before .before .before .before .before .before .before .before .before .before .before .before .before .before .is-done .ensures) ∙ not-false _ (c .before .before .before .before .before .before .before .before .before .before .before .before .before .if1 .left)) (c .with-part .ensures)
 
 loop-less : tie.Need-loop-less Inv-loop μ-loop
-loop-less c = let a = c .before .before .before .before .before .before .before .before .before .before .before .before .before .before .before .before .before .args in let l = c .before .before .before .before .before .before .before .before .before .before .before .loop in let h = c .before .before .before .before .before .before .before .before .take-once .ensures in let g = going-on (a .image .now) (length (a .tx .now)) (a .connection) (a .segment .now) (l .now) (l .rx) (l .out) (l .place) (l .count) (l .at) (h .0) (h .1 .0) (h .1 .1) (λ i. c .before .before .before .before .before .before .before .before .before .before .before .before .before .shared-slice-known3 .given i .fits) (l .inv .0) (ap (λ (d : Bool). d && ltb (l .at + c .before .before .before .before .before .before .before .before .take-once .result .read) (length (a .segment .now))) (sym (c .before .before .is-done .ensures)) ∙ not-false _ (c .if1 .left)) in omega (arith, l .inv .0 .low, g .low, g .within)
+loop-less c =
+    let b = c .before .before .before .before .before .before .before .before .before .before .before .before .before .before .before .before .before .before .before .before in
+    let a = b .args in
+    let l = c .before .before .before .before .before .before .before .before .before .loop in
+    let h = c .before .before .before .before .before .before .take-once .ensures in
+    let o = gate-open (a .image .now) (a .t2) (length (a .rx .now)) (length (a .tx .now)) (a .connection) (c .before .before .before .before .before .before .before .before .before .before .before .before .before .before .may-take .ensures) (sym (c .before .before .before .before .before .before .before .before .before .before .before .before .before .is-done .ensures) ∙ not-false _ (c .before .before .before .before .before .before .before .before .before .before .before .before .if1 .left)) in
+    let g = turn-on (a .image .now) (length (a .tx .now)) (a .connection) (a .segment .now) (a .t2) (a .rx .now) (a .out .now) (o .there) (l .turn) (l .rx) (l .out) (l .inv .0) (c .before .before .before .before .before .before .before .before .before .before .body-of .ensures .0)
+    (h .0) (h .1 .0) (h .1 .1) (λ i. c .before .before .before .before .before .before .before .before .before .before .before .before .before .before .before .before .shared-slice-known3 .given i .fits) (omega (arith, c .if2 .left)) in
+    omega (arith, l .inv .0 .low, g .low, c .if2 .left, turn-count (a .image .now) (length (a .tx .now)) (a .connection) (a .segment .now) (a .t2) (a .rx .now) (a .out .now) (o .there) (l .turn) (l .rx) (l .out) (l .inv .0) (c .before .before .before .before .before .before .before .before .before .before .body-of .ensures .0) (h .0) (h .1 .0) (h .1 .1))
 
 loop-again : tie.Need-loop-again Inv-loop μ-loop
-loop-again c = let a = c .before .before .before .before .before .before .before .before .before .before .before .before .before .before .before .before .before .args in let l = c .before .before .before .before .before .before .before .before .before .before .before .loop in let h = c .before .before .before .before .before .before .before .before .take-once .ensures in (going-on (a .image .now) (length (a .tx .now)) (a .connection) (a .segment .now) (l .now) (l .rx) (l .out) (l .place) (l .count) (l .at) (h .0) (h .1 .0) (h .1 .1) (λ i. c .before .before .before .before .before .before .before .before .before .before .before .before .before .shared-slice-known3 .given i .fits) (l .inv .0) (ap (λ (d : Bool). d && ltb (l .at + c .before .before .before .before .before .before .before .before .take-once .result .read) (length (a .segment .now))) (sym (c .before .before .is-done .ensures)) ∙ not-false _ (c .if1 .left)), (omega arith, omega arith))
+loop-again c =
+    let b = c .before .before .before .before .before .before .before .before .before .before .before .before .before .before .before .before .before .before .before .before in
+    let a = b .args in
+    let l = c .before .before .before .before .before .before .before .before .before .loop in
+    let h = c .before .before .before .before .before .before .take-once .ensures in
+    let o = gate-open (a .image .now) (a .t2) (length (a .rx .now)) (length (a .tx .now)) (a .connection) (c .before .before .before .before .before .before .before .before .before .before .before .before .before .before .may-take .ensures) (sym (c .before .before .before .before .before .before .before .before .before .before .before .before .before .is-done .ensures) ∙ not-false _ (c .before .before .before .before .before .before .before .before .before .before .before .before .if1 .left)) in (
+      turn-on (a .image .now) (length (a .tx .now)) (a .connection) (a .segment .now) (a .t2) (a .rx .now) (a .out .now) (o .there) (l .turn) (l .rx) (l .out) (l .inv .0) (c .before .before .before .before .before .before .before .before .before .before .body-of .ensures .0)
+          (h .0) (h .1 .0) (h .1 .1) (λ i. c .before .before .before .before .before .before .before .before .before .before .before .before .before .before .before .before .shared-slice-known3 .given i .fits) (omega (arith, c .if2 .left)),
+      (omega arith, omega arith),
+    )
 
 pub take-all-spec : {M : Type 1} → statement M
 take-all-spec =
@@ -56,13 +128,19 @@ take-all-spec =
     (tie.spec
     Inv-loop
     μ-loop
+    may-take-requires
+    is-done-requires
+    returns
+    mul-c
+    element-copy-out-c
+    body-of-requires
     loop-holds
     take-once-requires
-    is-done-requires
-    add-at
-    add-count
+    with-part-requires
+    mul-t36
+    element-set-from-next
     same-length
     same-length-2
-    returns
+    returns-2
     loop-less
     loop-again)

@@ -1,8 +1,6 @@
 -- `answer_receive::take_once` meets its contract. Assumes nothing.
-use mathlib.Core.Path.{sym, _∙_}
-use lib.ListN.{length}
-use borrow.Author.Tests.{not-false, not-true}
-use Rattle.answer_receive.proofs.Once.{once-refused, once-done}
+use native.Mathlib.Omega.{arith}
+use Rattle.answer_receive.proofs.Once.{turn-within, turn-is}
 use borrow.Author.Needs.{needs}
 use Rattle.answer_receive.proofs.take_once.Statement.{statement}
 use Rattle.answer_receive.proofs.take_once.Tie as tie
@@ -10,17 +8,23 @@ use Rattle.answer_receive.proofs.take_once.Tie as tie
 bytes-from-requires : tie.Need-bytes-from-requires
 bytes-from-requires c κs = search needs
 
-segment-take-requires : tie.Need-segment-take-requires
-segment-take-requires c κs = search needs
+mul-start : tie.Need-mul-start
+mul-start c = search needs
 
-is-done-requires : tie.Need-is-done-requires
-is-done-requires c κs = search needs
+add-end : tie.Need-add-end
+add-end c = search needs
 
-same-length : tie.Need-same-length
-same-length c = search needs
+sub-take : tie.Need-sub-take
+sub-take c = search needs
 
-returns : tie.Need-returns
-returns c = let a = c .before .before .before .before .before .before .before .before .before .before .before .before .before .args in let h = c .before .before .before .before .before .segment-take .ensures in once-refused (a .image .now) (length (a .tx .now)) (a .connection) (a .segment .now) (a .state) (a .rx .now) (a .from) (a .out .now) (a .place) (c .before .before .before .before .before .before .before .bytes-from .ensures .0) (h .0) (h .1) (sym (c .before .is-done .ensures) ∙ not-true _ (c .if1 .taken))
+part-take-start : tie.Need-part-take-start
+part-take-start c = search needs
+
+part-take-end : tie.Need-part-take-end
+part-take-end c = search needs
+
+take-requires : tie.Need-take-requires
+take-requires c κs = search needs
 
 segment-payload-requires : tie.Need-segment-payload-requires
 segment-payload-requires c κs = search needs
@@ -28,26 +32,54 @@ segment-payload-requires c κs = search needs
 put-take-requires : tie.Need-put-take-requires
 put-take-requires c κs = search needs
 
+drops-after-requires : tie.Need-drops-after-requires
+drops-after-requires c κs = search needs
+
+add-t17 : tie.Need-add-t17
+add-t17 c =
+    let k = c .before .before .before .before .before .before .before .before .before .before .before in
+    let f = k .before .before in
+    let b = f .before .before .before .before .before in
+    let a = b .args in
+    omega (arith, turn-within (a .routes .now) (a .switches) (a .connection) (a .segment .now) (a .turn) (a .rx .now) (a .out .now) (b .pre) (λ i. k .before .before .before .before .shared-slice-known2 .given i .fits) (f .bytes-from .ensures .0) (k .take .ensures .0), b .good .1 .1 .1 .1 .1 .0 .0)
+
+add-t26 : tie.Need-add-t26
+add-t26 c =
+    let b = c .before .before .before .before .before .before .before .before .before .before .before .before .before .before .before .before .before .before .before in
+    omega (arith, b .pre .low, b .pre .within, b .good .1 .1 .1 .1 .1 .0 .1)
+
+same-length : tie.Need-same-length
+same-length c = search needs
+
 same-length-2 : tie.Need-same-length-2
 same-length-2 c = search needs
 
-same-length-3 : tie.Need-same-length-3
-same-length-3 c = search needs
-
-returns-2 : tie.Need-returns-2
-returns-2 c = let a = c .before .before .before .before .before .before .before .before .before .before .before .before .before .before .before .before .before .before .before .args in let h = c .before .before .before .before .before .before .before .before .before .before .before .segment-take .ensures in let p = c .before .before .put-take .ensures in once-done (a .image .now) (length (a .tx .now)) (a .connection) (a .segment .now) (a .state) (a .rx .now) (a .from) (a .out .now) (a .place) (c .before .before .before .before .before .before .before .before .before .before .before .before .before .bytes-from .ensures .0) (h .0) (h .1) (sym (c .before .before .before .before .before .before .before .is-done .ensures) ∙ not-false _ (c .before .before .before .before .before .before .if1 .left)) (c .before .before .before .before .segment-payload .ensures .0) (p .0) (p .1)
+returns : tie.Need-returns
+returns c =
+    let q = c .before .before .before .before .before .before in
+    let k = c .before .before .before .before .before .before .before .before .before .before .before .before in
+    let f = k .before .before in
+    let b = f .before .before .before .before .before in
+    let a = b .args in
+    turn-is (a .routes .now) (a .switches) (a .connection) (a .segment .now) (a .turn) (a .rx .now) (a .out .now) (b .pre) (λ i. k .before .before .before .before .shared-slice-known2 .given i .fits) (f .bytes-from .ensures .0)
+    (k .take .ensures .0) (k .take .ensures .1) (q .before .before .segment-payload .ensures .0) (q .put-take .ensures .0) (q .put-take .ensures .1) (c .before .before .before .drops-after .ensures)
 
 pub take-once-spec : {M : Type 1} → statement M
 take-once-spec =
     tie.close
     (tie.spec
     bytes-from-requires
-    segment-take-requires
-    is-done-requires
-    same-length
-    returns
+    mul-start
+    add-end
+    sub-take
+    part-take-start
+    part-take-end
+    take-requires
     segment-payload-requires
     put-take-requires
+    drops-after-requires
+    add-t17
+    add-t26
+    same-length
     same-length-2
-    same-length-3
-    returns-2)
+    returns)

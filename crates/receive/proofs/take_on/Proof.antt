@@ -39,14 +39,14 @@ take-requires c κs =
 with-part-requires : tie.Need-with-part-requires
 with-part-requires c κs = search needs
 
-mul-t18 : tie.Need-mul-t18
-mul-t18 c = search needs
+mul-t16 : tie.Need-mul-t16
+mul-t16 c = search needs
 
-element-set-from-next : tie.Need-element-set-from-next
-element-set-from-next c = search needs
+element-set-from-state : tie.Need-element-set-from-state
+element-set-from-state c = search needs
 
-count-take-requires : tie.Need-count-take-requires
-count-take-requires c κs = search needs
+drops-after-requires : tie.Need-drops-after-requires
+drops-after-requires c κs = search needs
 
 same-length : tie.Need-same-length
 same-length c = search needs
@@ -60,7 +60,7 @@ returns c =
     let s = k .before .before .before in
     let a = s .args in (
       take-is (a .image .now) (a .t2) (a .rx .now) (a .connection) (a .segment .now) (s .pre) (b .body-of .result .now) (b .body-of .ensures .0)
-          (t .take .result) (w .with-part .result) (c .count-take .result) (t .take .ensures .0) (w .with-part .ensures) (c .count-take .ensures),
+          (t .take .result) (w .with-part .result) (c .drops-after .result) (t .take .ensures .0) (w .with-part .ensures) (c .drops-after .ensures),
       memory-is (a .image .now) (a .t2) (a .rx .now) (a .connection) (a .segment .now) (s .pre) (b .body-of .result .now) (b .body-of .ensures .0)
           (λ i. omega (arith, k .shared-slice-known2 .given i)) (t .take .last .1 .1 .1 .1 .0) (t .take .ensures .1),
     )
@@ -79,8 +79,8 @@ take-on-spec =
     part-take-end
     take-requires
     with-part-requires
-    mul-t18
-    element-set-from-next
-    count-take-requires
+    mul-t16
+    element-set-from-state
+    drops-after-requires
     same-length
     returns)

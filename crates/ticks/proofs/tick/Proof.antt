@@ -2,6 +2,7 @@
 use mathlib.Core.Path.{_≡_, sym, _∙_}
 use Rattle.gate.proofs.Pass.{rows-in-sixteen}
 use Rattle.ticks.specs.Tick.{tickEvent}
+use Rattle.ticks.proofs.Many.{ticks-one}
 use borrow.Author.Needs.{needs}
 use Rattle.ticks.proofs.tick.Statement.{statement}
 use Rattle.ticks.proofs.tick.Tie as tie
@@ -27,7 +28,7 @@ returns c = rw (← c .before .before .before .ask .ensures, c .before .asked .g
 
 returns-2 : tie.Need-returns-2
 unfolding tickEvent
-returns-2 c = rw (← c .before .before .before .before .ask .ensures, c .before .before .enum-told .given .1, ← c .before .rows-of .ensures .0, c .tick-rows .ensures)
+returns-2 c = rw (← c .before .before .before .before .ask .ensures, c .before .before .enum-told .given .1, ← c .before .rows-of .ensures .0, c .tick-rows .ensures, ticks-one _ _ _)
 
 pub tick-spec : {M : Type 1} → statement M
 tick-spec =

@@ -1,38 +1,73 @@
 -- `ticks::tick_many` meets its contract. The invariant: the ticks left lead to the whole run's end. Assumes nothing.
 use Prim.Native.Nat.{_-_}
+use mathlib.Core.Path.{_≡_, refl, sym, ap, _∙_}
 use native.Mathlib.Omega.{arith}
 use borrow.Author.Needs.{needs}
-use Rattle.lists.proofs.Fold.{Folded, fold-start, fold-on, fold-ended}
-use Rattle.ticks.specs.Tick.{tickOnce, ticksTo}
+use Rattle.ticks.specs.Many.{manyOf, quietFor}
+use Rattle.ticks.proofs.Many.{jumped, ticked, no-more}
 use Rattle.ticks.proofs.tick_many.Statement.{statement}
 use Rattle.ticks.proofs.tick_many.Tie as tie
 
 abbrev Inv-loop : tie.InvT-loop
-Inv-loop image rows count after₀ k₀ after k = Folded (tickOnce image rows) count after₀ k after
+Inv-loop config count next₀ left₀ next left = manyOf config left next ≡ manyOf config count next₀
 
 abbrev μ-loop : tie.MeasureT-loop
-μ-loop image rows count after₀ k₀ after k = count - k
+μ-loop config count next₀ left₀ next left = left
 
 loop-holds : tie.Need-loop-holds Inv-loop μ-loop
-loop-holds c = fold-start (tickOnce _ _) _ _
+loop-holds c = refl
 
-tick-rows-requires : tie.Need-tick-rows-requires Inv-loop μ-loop
-tick-rows-requires c κs = c .before .before .before .pre
+quiet-for-requires : tie.Need-quiet-for-requires Inv-loop μ-loop
+quiet-for-requires c κs = search needs
 
-add-k : tie.Need-add-k Inv-loop μ-loop
-add-k c = search needs
+smaller-requires : tie.Need-smaller-requires Inv-loop μ-loop
+smaller-requires c κs = search needs
 
-loop-less : tie.Need-loop-less Inv-loop μ-loop
-loop-less c = search needs
+aged-requires : tie.Need-aged-requires Inv-loop μ-loop
+aged-requires c κs = search needs
 
-loop-again : tie.Need-loop-again Inv-loop μ-loop
-loop-again c = fold-on (tickOnce _ _) _ _ _ _ _ (c .before .before .loop .inv) (omega arith) (c .tick-rows .ensures)
+sub-left : tie.Need-sub-left Inv-loop μ-loop
+sub-left c = c .before .smaller .ensures .1
 
 returns : tie.Need-returns Inv-loop μ-loop
-unfolding ticksTo
-returns c = fold-ended (tickOnce _ _) _ _ _ _ (c .before .loop .inv) (omega arith)
+returns c =
+    let b = c .before in
+    let q = b .before .before .quiet-for .ensures in
+    no-more _ _ _ (c .if1 .taken)
+    ∙ jumped _ _ _ _ _ (rw q at (b .before .smaller .ensures .0)) (b .before .smaller .ensures .1) (b .aged .ensures)
+    ∙ b .before .before .before .loop .inv
+
+tick-requires : tie.Need-tick-requires Inv-loop μ-loop
+tick-requires c κs = search needs
+
+sub-left-2 : tie.Need-sub-left-2 Inv-loop μ-loop
+sub-left-2 c = omega (arith, c .before .if1 .left)
+
+loop-less : tie.Need-loop-less Inv-loop μ-loop
+loop-less c = omega (arith, c .before .if1 .left)
+
+loop-again : tie.Need-loop-again Inv-loop μ-loop
+loop-again c =
+    let b = c .before .before in
+    let q = b .before .before .quiet-for .ensures in
+    ap (manyOf _ _) (c .tick .ensures)
+    ∙ ticked _ _ _ (c .before .if1 .left)
+    ∙ jumped _ _ _ _ _ (rw q at (b .before .smaller .ensures .0)) (b .before .smaller .ensures .1) (b .aged .ensures)
+    ∙ b .before .before .before .loop .inv
 
 pub tick-many-spec : {M : Type 1} → statement M
 tick-many-spec =
     tie.close
-    (tie.spec Inv-loop μ-loop loop-holds tick-rows-requires add-k loop-less loop-again returns)
+    (tie.spec
+    Inv-loop
+    μ-loop
+    loop-holds
+    quiet-for-requires
+    smaller-requires
+    aged-requires
+    sub-left
+    returns
+    tick-requires
+    sub-left-2
+    loop-less
+    loop-again)

@@ -1,22 +1,23 @@
 -- `ticks::tick_rows` meets its contract. The invariant: the records below i have ticked. Assumes nothing.
 use Prim.Native.Nat.{_<_, _≤_, _-_}
-use mathlib.Core.Path.{_≡_, refl}
+use mathlib.Core.Path.{_≡_, refl, sym, _∙_}
 use lib.ListN.{length}
 use native.Mathlib.Omega.{arith}
 use borrow.Author.Needs.{needs}
 use Rattle.lists.proofs.Each.{long}
 use Rattle.state.proofs.Config.{config-bodies}
 use Rattle.state.proofs.Upto.{Upto}
-use Rattle.ticks.specs.Tick.{tickAt, tickedTo}
-use Rattle.ticks.proofs.Turns.{tick-turn}
+use Rattle.ticks.proofs.Many.{manyAt, ticks-each}
+use Rattle.ticks.proofs.Turns.{many-turn, rest-turn}
 use Rattle.ticks.proofs.tick_rows.Statement.{statement}
 use Rattle.ticks.proofs.tick_rows.Tie as tie
 
 abbrev Inv-loop : tie.InvT-loop
-Inv-loop image rows connections groups after₀ i₀ after i = (i ≤ rows) × (rows ≤ 16) × (length (after₀ .connections) ≡ 16) × Upto (tickAt image) after₀ after i
+Inv-loop image rows count connections groups after₀ i₀ after i =
+    (i ≤ rows) × (rows ≤ 16) × (length (after₀ .connections) ≡ 16) × Upto (manyAt image count) after₀ after i
 
 abbrev μ-loop : tie.MeasureT-loop
-μ-loop image rows connections groups after₀ i₀ after i = rows - i
+μ-loop image rows count connections groups after₀ i₀ after i = rows - i
 
 body-of-requires : tie.Need-body-of-requires Inv-loop μ-loop
 body-of-requires c κs = search needs
@@ -33,14 +34,8 @@ mul-connection c = search needs
 element-copy-out-connection : tie.Need-element-copy-out-connection Inv-loop μ-loop
 element-copy-out-connection c = search needs
 
-tick-one-requires : tie.Need-tick-one-requires Inv-loop μ-loop
-tick-one-requires c κs = search needs
-
-mul-next : tie.Need-mul-next Inv-loop μ-loop
-mul-next c = search needs
-
-element-set-from-next : tie.Need-element-set-from-next Inv-loop μ-loop
-element-set-from-next c = search needs
+rests-requires : tie.Need-rests-requires Inv-loop μ-loop
+rests-requires c κs = search needs
 
 add-i : tie.Need-add-i Inv-loop μ-loop
 add-i c = search needs
@@ -50,18 +45,48 @@ loop-less c = search needs
 
 loop-again : tie.Need-loop-again Inv-loop μ-loop
 loop-again c =
-    let b = c .before .before .before in
+    let b = c .before .before .before .before in
+    let a = b .before .before .before .before .args in
+    let h : b .loop .i < length (a .state .connections) = omega arith in
+    (omega arith, b .loop .inv .1, b .loop .inv .2, rest-turn _ _ _ _ _ h (b .loop .inv .3) (sym (c .before .rests .ensures) ∙ c .if1 .taken))
+
+config-in-requires : tie.Need-config-in-requires Inv-loop μ-loop
+config-in-requires c κs = search needs
+
+tick-many-requires : tie.Need-tick-many-requires Inv-loop μ-loop
+tick-many-requires c κs = search needs
+
+mul-next : tie.Need-mul-next Inv-loop μ-loop
+mul-next c = search needs
+
+element-set-from-next : tie.Need-element-set-from-next Inv-loop μ-loop
+element-set-from-next c = search needs
+
+add-i-2 : tie.Need-add-i-2 Inv-loop μ-loop
+add-i-2 c = search needs
+
+loop-less-2 : tie.Need-loop-less-2 Inv-loop μ-loop
+loop-less-2 c = search needs
+
+loop-again-2 : tie.Need-loop-again-2 Inv-loop μ-loop
+loop-again-2 c =
+    let b = c .before .before .before .before .before .before in
     let r = b .before in
     let a = r .before .before .before .args in
-    let h : b .loop .i < length (a .state .connections) = omega arith in
-    (omega arith, b .loop .inv .1, b .loop .inv .2, tick-turn _ _ _ _ _ _ h (b .loop .inv .3) (config-bodies _ _ _ _ _ (r .before .body-of .ensures .0) (r .body-of2 .ensures .0) refl) (c .tick-one .ensures))
+    let h : b .loop .i < length (a .state .connections) = omega arith in (
+      omega arith,
+      b .loop .inv .1,
+      b .loop .inv .2,
+      many-turn _ _ _ _ _ h (b .loop .inv .3) _ _
+          (config-bodies _ _ _ _ _ (r .before .body-of .ensures .0) (r .body-of2 .ensures .0) (c .before .config-in .ensures)) (c .tick-many .ensures),
+    )
 
 returns : tie.Need-returns Inv-loop μ-loop
-unfolding tickedTo
 returns c =
     let l = c .before in
-    let e : l .loop .i ≡ l .before .before .before .before .args .rows = omega arith in
-    rw e at (l .loop .inv .3)
+    let a = l .before .before .before .before .args in
+    let e : l .loop .i ≡ a .rows = omega arith in
+    (rw e at (l .loop .inv .3)) ∙ sym (ticks-each (a .image .now) (a .rows) (a .count) (a .state))
 
 pub tick-rows-spec : {M : Type 1} → statement M
 tick-rows-spec =
@@ -74,10 +99,15 @@ tick-rows-spec =
     loop-holds
     mul-connection
     element-copy-out-connection
-    tick-one-requires
-    mul-next
-    element-set-from-next
+    rests-requires
     add-i
     loop-less
     loop-again
+    config-in-requires
+    tick-many-requires
+    mul-next
+    element-set-from-next
+    add-i-2
+    loop-less-2
+    loop-again-2
     returns)

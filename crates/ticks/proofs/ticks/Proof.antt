@@ -18,8 +18,8 @@ enum-told c = search needs
 rows-of-requires : tie.Need-rows-of-requires
 rows-of-requires c κs = search needs
 
-tick-many-requires : tie.Need-tick-many-requires
-tick-many-requires c κs = rw (c .rows-of .ensures .0) (rows-in-sixteen _ (sym (c .before .before .before .ask .ensures) ∙ c .before .enum-told .given .1))
+tick-rows-requires : tie.Need-tick-rows-requires
+tick-rows-requires c κs = rw (c .rows-of .ensures .0) (rows-in-sixteen _ (sym (c .before .before .before .ask .ensures) ∙ c .before .enum-told .given .1))
 
 returns : tie.Need-returns
 unfolding ticksEvent
@@ -27,7 +27,7 @@ returns c = rw (← c .before .before .before .ask .ensures, c .before .asked .g
 
 returns-2 : tie.Need-returns-2
 unfolding ticksEvent
-returns-2 c = rw (← c .before .before .before .before .ask .ensures, c .before .before .enum-told .given .1, ← c .before .rows-of .ensures .0, c .tick-many .ensures)
+returns-2 c = rw (← c .before .before .before .before .ask .ensures, c .before .before .enum-told .given .1, ← c .before .rows-of .ensures .0, c .tick-rows .ensures)
 
 pub ticks-spec : {M : Type 1} → statement M
 ticks-spec =
@@ -37,6 +37,6 @@ ticks-spec =
     enum-known-asked
     enum-told
     rows-of-requires
-    tick-many-requires
+    tick-rows-requires
     returns
     returns-2)

@@ -1,0 +1,21 @@
+-- `receive::may_take` meets its contract. Assumes nothing.
+use mathlib.Core.Path.{ap, _∙_}
+use Rattle.connection.specs.declared.Config.{Config}
+use Rattle.receive.specs.Answer.{answerOf}
+use borrow.Author.Needs.{needs}
+use Rattle.receive.proofs.may_take.Statement.{statement}
+use Rattle.receive.proofs.may_take.Tie as tie
+
+config-of-requires : tie.Need-config-of-requires
+config-of-requires c κs = search needs
+
+answer-at-requires : tie.Need-answer-at-requires
+answer-at-requires c κs = search needs
+
+returns : tie.Need-returns
+returns c =
+    let a = c .before .before .before .args in
+    c .answer-at .ensures ∙ ap (λ (g : Config). answerOf (a .image .now) (a .state) (a .rx) (a .tx) (a .connection) (g .tcp)) (c .before .config-of .ensures)
+
+pub may-take-spec : {M : Type 1} → statement M
+may-take-spec = tie.close (tie.spec config-of-requires answer-at-requires returns)
