@@ -4,9 +4,9 @@ use Prim.Native.Nat.{ℕ, zero, suc, _+_, _-_, _<_, _≤_}
 use mathlib.Core.Path.{_≡_, refl, sym, ap, _∙_}
 use mathlib.Core.Bool.{Bool, true, false, cond, not, _&&_, _||_}
 use mathlib.Core.List.{List, [], _∷_}
-use lib.Dec.{eqb}
+use lib.Dec.{eqb, ltb}
 use native.Mathlib.Omega.{arith}
-use borrow.Author.Tests.{eqb-true, eq-eqb, ne-eqb}
+use borrow.Author.Tests.{eqb-true, eq-eqb, ne-eqb, ltb-true, ltb-false}
 use Rattle.connection.specs.declared.Config.{Config}
 use Rattle.connection.specs.declared.Connection.{Connection}
 use Rattle.connection.specs.Connection.{isOffline, isReconnect, wildcard, withSend, startOf, reachOf, runOf, tickOf}
@@ -17,7 +17,7 @@ use Rattle.lists.proofs.Both.{neither}
 use Rattle.state.specs.declared.State.{State}
 use Rattle.state.specs.State.{withRecords}
 use Rattle.state.specs.Fresh.{configOf}
-use Rattle.ticks.specs.Many.{manyOf, turnsNext, beforeEnd, quietFor, agedBy}
+use Rattle.ticks.specs.Many.{manyOf, turnsNext, beforeEnd, quietFor, smallerOf, agedBy}
 use Rattle.ticks.specs.Tick.{tickAt, tickedTo, tickOnce, ticksTo}
 
 -- A QUIET TICK
@@ -86,6 +86,15 @@ quiet-ticks g n c h = go (turnsNext g c) refl h
         let z : n ≡ 0 = omega arith in
         rw z (timed c (omega arith))
 
+-- the smaller is at most either
+pub smaller-both : (m n : ℕ) → (smallerOf m n ≤ m) × (smallerOf m n ≤ n)
+unfolding smallerOf
+smaller-both m n = go (ltb m n) refl
+  where
+    go : (b : Bool) → ltb m n ≡ b → (cond b m n ≤ m) × (cond b m n ≤ n)
+    go true e = (omega arith, omega (arith, ltb-true m n e))
+    go false e = (omega (arith, ltb-false m n e), omega arith)
+
 -- THE LOOP that jumps to the next change and ticks there: the ticks that are left lead to the whole's end
 
 module _ (g : Config) where
@@ -95,10 +104,12 @@ module _ (g : Config) where
   in-two zero n c = let e : 0 + n ≡ n = omega arith in ap (λ (k : ℕ). manyOf g k c) e
   in-two (suc m) n c = let e : suc m + n ≡ suc (m + n) = omega arith in ap (λ (k : ℕ). manyOf g k c) e ∙ in-two m n (tickOf g c)
 
-  pub jumped : (m n : ℕ) (c d : Connection) → m ≤ quietFor g c → m ≤ n → d ≡ agedBy m c → manyOf g (n - m) d ≡ manyOf g n c
-  jumped m n c d h l e =
-      let w : m + (n - m) ≡ n = omega arith in
-      ap (manyOf g (n - m)) (e ∙ sym (quiet-ticks g m c h)) ∙ sym (in-two m (n - m) c) ∙ ap (λ (k : ℕ). manyOf g k c) w
+  pub jumped : (q m n : ℕ) (c d : Connection) → q ≡ quietFor g c → m ≡ smallerOf q n → d ≡ agedBy m c → manyOf g (n - m) d ≡ manyOf g n c
+  jumped q m n c d quiet e is =
+      let l = smaller-both q n in
+      let h : m ≤ quietFor g c = omega (arith, quiet, e, l .0) in
+      let w : m + (n - m) ≡ n = omega (arith, e, l .1) in
+      ap (manyOf g (n - m)) (is ∙ sym (quiet-ticks g m c h)) ∙ sym (in-two m (n - m) c) ∙ ap (λ (k : ℕ). manyOf g k c) w
 
   pub ticked : (n : ℕ) (c : Connection) → (n ≡ 0 → ⊥) → manyOf g (n - 1) (tickOf g c) ≡ manyOf g n c
   unfolding manyOf

@@ -2,7 +2,7 @@
 -- Assumes nothing: these are definitions.
 use Prim.Native.Nat.{ℕ, zero, suc, _-_}
 use mathlib.Core.Bool.{Bool, cond, not, _&&_, _||_}
-use lib.Dec.{eqb}
+use lib.Dec.{eqb, ltb}
 use Rattle.connection.specs.declared.Config.{Config}
 use Rattle.connection.specs.declared.Connection.{Connection}
 use Rattle.connection.specs.Connection.{isOffline, isReconnect, wildcard, withSend, tickOf}
@@ -26,6 +26,10 @@ beforeEnd timer = cond (eqb timer 0) 4294967295 (timer - 1)
 -- THE TIME TO THE NEXT CHANGE: a second timer would be one more term here, the smallest counting
 unfoldable pub quietFor : Config → Connection → ℕ
 quietFor g c = cond (turnsNext g c) 0 (beforeEnd (c .timer))
+
+-- of two numbers of ticks the smaller
+unfoldable pub smallerOf : ℕ → ℕ → ℕ
+smallerOf m n = cond (ltb m n) m n
 
 -- what so many quiet ticks leave: the timer has fallen by as many
 abbrev pub agedBy : ℕ → Connection → Connection

@@ -2,7 +2,7 @@
 ghost use mathlib.Core.Path.{_≡_};
 ghost use Prim.Native.Nat.{_-_, _≤_};
 ghost use lib.ListN.{length};
-ghost use Rattle.ticks.specs.Many.{manyOf, beforeEnd, quietFor, agedBy};
+ghost use Rattle.ticks.specs.Many.{manyOf, beforeEnd, quietFor, smallerOf, agedBy};
 ghost use Rattle.ticks.specs.Tick.{restsOf, ticksTo, tickEvent, ticksEvent};
 use connection::Answer;
 use connection::Config;
@@ -75,7 +75,7 @@ fn aged(c: Connection, n: u32) -> Connection
 }
 
 fn smaller(a: u32, b: u32) -> u32
-    ensures { λ r. ⌜ (r ≤ a) × (r ≤ b) ⌝ }
+    ensures { λ r. ⌜ r ≡ smallerOf a b ⌝ }
 {
     if a < b {
         return a;

@@ -1,10 +1,9 @@
 -- `ticks::tick_many` meets its contract. The invariant: the ticks left lead to the whole run's end. Assumes nothing.
-use Prim.Native.Nat.{_-_}
 use mathlib.Core.Path.{_≡_, refl, sym, ap, _∙_}
 use native.Mathlib.Omega.{arith}
 use borrow.Author.Needs.{needs}
-use Rattle.ticks.specs.Many.{manyOf, quietFor}
-use Rattle.ticks.proofs.Many.{jumped, ticked, no-more}
+use Rattle.ticks.specs.Many.{manyOf}
+use Rattle.ticks.proofs.Many.{smaller-both, jumped, ticked, no-more}
 use Rattle.ticks.proofs.tick_many.Statement.{statement}
 use Rattle.ticks.proofs.tick_many.Tie as tie
 
@@ -27,14 +26,13 @@ aged-requires : tie.Need-aged-requires Inv-loop μ-loop
 aged-requires c κs = search needs
 
 sub-left : tie.Need-sub-left Inv-loop μ-loop
-sub-left c = c .before .smaller .ensures .1
+sub-left c = omega (arith, c .before .smaller .ensures, smaller-both (c .before .before .quiet-for .result) (c .before .before .before .loop .left) .1)
 
 returns : tie.Need-returns Inv-loop μ-loop
 returns c =
     let b = c .before in
-    let q = b .before .before .quiet-for .ensures in
     no-more _ _ _ (c .if1 .taken)
-    ∙ jumped _ _ _ _ _ (rw q at (b .before .smaller .ensures .0)) (b .before .smaller .ensures .1) (b .aged .ensures)
+    ∙ jumped _ _ _ _ _ _ (b .before .before .quiet-for .ensures) (b .before .smaller .ensures) (b .aged .ensures)
     ∙ b .before .before .before .loop .inv
 
 tick-requires : tie.Need-tick-requires Inv-loop μ-loop
@@ -49,10 +47,9 @@ loop-less c = omega (arith, c .before .if1 .left)
 loop-again : tie.Need-loop-again Inv-loop μ-loop
 loop-again c =
     let b = c .before .before in
-    let q = b .before .before .quiet-for .ensures in
     ap (manyOf _ _) (c .tick .ensures)
     ∙ ticked _ _ _ (c .before .if1 .left)
-    ∙ jumped _ _ _ _ _ (rw q at (b .before .smaller .ensures .0)) (b .before .smaller .ensures .1) (b .aged .ensures)
+    ∙ jumped _ _ _ _ _ _ (b .before .before .quiet-for .ensures) (b .before .smaller .ensures) (b .aged .ensures)
     ∙ b .before .before .before .loop .inv
 
 pub tick-many-spec : {M : Type 1} → statement M
