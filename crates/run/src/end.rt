@@ -1,11 +1,11 @@
 // The end of a run: every record that the table has a row for, with its held bytes, and both counts (docs/EVENTS.md).
 // Assumes nothing.
+use calls::bytes_from;
 use connection::Connection;
 use layout::Kind;
 use layout::rows_of;
 use pieces::front;
 use state::State;
-use words::from_place;
 use words_record::counts;
 use words_record::record;
 
@@ -19,8 +19,8 @@ fn tell_record(table: &[u8], k: u8, c: Connection, rx: &[u8], tx: &[u8], text: &
         text,
         k as u64,
         c,
-        from_place(rx, i * 1464),
-        from_place(tx, i * 1472),
+        bytes_from(rx, i * 1464),
+        bytes_from(tx, i * 1472),
     );
     io::write_all(1, front(text, n));
 }

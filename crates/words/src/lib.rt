@@ -3,11 +3,12 @@
 //   %b12 %h12 %w12  the number of one, two or four bytes at place 12 of the row, in decimal
 //   %p12 %i12       the two (a PDU) or four (an id, switches) bytes there, in hex
 //   %q12 %r12       the IPv4 address and the port there, or `any` for 0
-//   %o12 %y12 ..    the word of a list (WORDS) that the byte there picks: first_word has the letters
+//   %o12 %y12 ..    the word that the byte there picks of the list in `word`; first_word has the letters
 //   @ # *           the number given, how many bytes are shown, and those bytes in hex (`-` where there are none)
 //   ^               an `s`, unless the last number was 1
 // Proved to be safe and to return; the words are tried by stored output. Assumes nothing.
 ghost use Prim.Native.Nat.{_-_, _≤_};
+ghost use lib.ListN.{length};
 use layout::part_of;
 use pieces::put_piece;
 use text::decimal;
@@ -17,7 +18,9 @@ use wire::be16;
 use wire::be32;
 
 // The place after the n-th `/` of a list; its end where it has fewer.
-fn phrase_at(list: &[u8], n: usize) -> usize {
+fn phrase_at(list: &[u8], n: usize) -> usize
+    ensures { λ r. ⌜ r ≤ length (now (list .entry)) ⌝ }
+{
     let mut left = n;
     let mut i: usize = 0;
     while i < list.len() {
@@ -35,7 +38,7 @@ fn phrase_at(list: &[u8], n: usize) -> usize {
 // The phrase number n of a list, counted from 0. Each phrase of a list ends with `/`.
 pub fn phrase(list: &[u8], n: usize) -> &[u8] {
     let from = phrase_at(list, n);
-    let tail = from_place(list, from);
+    let tail = part_of(list, from, list.len() - from);
     let next = phrase_at(tail, 1);
     if next == 0 {
         return tail;
@@ -43,15 +46,7 @@ pub fn phrase(list: &[u8], n: usize) -> &[u8] {
     part_of(tail, 0, next - 1)
 }
 
-// The bytes from a place on; none past the end.
-pub fn from_place(s: &[u8], at: usize) -> &[u8] {
-    if s.len() < at {
-        return &s[..0];
-    }
-    &s[at..]
-}
-
-// Where the words of a letter begin in WORDS: a byte v picks the one so many behind.
+// Where the words of a letter begin in the list of `word`: a byte v picks the one so many behind.
 fn first_word(letter: u8) -> usize
     ensures { λ r. ⌜ r ≤ 30 ⌝ }
 {
@@ -202,7 +197,7 @@ fn piece(
         b'b' | b'h' | b'w' | b'@' | b'#' => decimal(text, at, last),
         b'p' => hex(text, at, part_of(row, place, 2)),
         b'i' => hex(text, at, part_of(row, place, 4)),
-        b'q' => address(text, at, from_place(row, place)),
+        b'q' => address(text, at, part_of(row, place, 4)),
         b'r' => port(text, at, be16(row, place)),
         b'*' => bytes(text, at, shown),
         b'^' => plural(text, at, last),
@@ -232,7 +227,7 @@ pub fn lay(text: &mut [u8], at: usize, pattern: &[u8], n: u64, row: &[u8], shown
     let mut last: u64 = 0;
     let mut i: usize = 0;
     while i < pattern.len() {
-        let rest = from_place(pattern, i);
+        let rest = part_of(pattern, i, pattern.len() - i);
         let s = sign_of(rest);
         last = number(s.letter, s.place, last, n, row, shown);
         next = piece(

@@ -1,11 +1,11 @@
 // An event and its answer as words, from the event's number, the bytes of its body and those of its answer (docs/EVENTS.md; the patterns are
 // those of crate words). Proved to be safe and to return; the words are tried by stored output. Assumes nothing.
+use calls::bytes_from;
 use layout::part_of;
 use pieces::after;
 use wire::be8;
 use wire::be16;
 use wire::be32;
-use words::from_place;
 use words::lay;
 use words::phrase;
 
@@ -44,7 +44,7 @@ pub fn event(text: &mut [u8], at: usize, number: u16, body: &[u8]) -> usize {
         phrase(patterns, number as usize),
         0,
         body,
-        from_place(body, bytes_at(number)),
+        bytes_from(body, bytes_at(number)),
     )
 }
 
@@ -104,7 +104,7 @@ fn takes(text: &mut [u8], at: usize, answer: &[u8], segment: &[u8]) -> usize {
     let mut next = at;
     let mut i: usize = 0;
     while i < count {
-        let row = from_place(answer, place);
+        let row = bytes_from(answer, place);
         next = take(text, next, i as u64 + 1, row, segment);
         place = after(answer.len(), place, take_bytes(row));
         i += 1;
@@ -156,7 +156,7 @@ fn value(text: &mut [u8], at: usize, event: u16, number: usize, answer: &[u8]) -
         phrase(patterns, follows(event, number)),
         0,
         answer,
-        from_place(answer, 25),
+        bytes_from(answer, 25),
     )
 }
 
@@ -165,10 +165,10 @@ pub fn answer(text: &mut [u8], at: usize, event: u16, answer: &[u8], body: &[u8]
     let number = be16(answer, 0);
     let meant = lay(text, at, b"%h00 %n01", 0, answer, answer);
     if (number == 0) & (event == 7) {
-        return takes(text, meant, answer, from_place(body, 6));
+        return takes(text, meant, answer, bytes_from(body, 6));
     }
     if (number == 0) & (event == 8) {
-        return walk(text, meant, from_place(answer, 2), from_place(body, 10));
+        return walk(text, meant, bytes_from(answer, 2), bytes_from(body, 10));
     }
     value(text, meant, event, number, answer)
 }

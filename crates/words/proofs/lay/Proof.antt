@@ -16,8 +16,11 @@ abbrev μ-loop : tie.MeasureT-loop
 loop-holds : tie.Need-loop-holds Inv-loop μ-loop
 loop-holds c = (omega arith, refl)
 
-from-place-requires : tie.Need-from-place-requires Inv-loop μ-loop
-from-place-requires c κs = search needs
+sub-part-of : tie.Need-sub-part-of Inv-loop μ-loop
+sub-part-of c = omega arith
+
+part-of-requires : tie.Need-part-of-requires Inv-loop μ-loop
+part-of-requires c κs = search needs
 
 sign-of-requires : tie.Need-sign-of-requires Inv-loop μ-loop
 sign-of-requires c κs = search needs
@@ -25,8 +28,8 @@ sign-of-requires c κs = search needs
 number-requires : tie.Need-number-requires Inv-loop μ-loop
 number-requires c κs = search needs
 
-part-of-requires : tie.Need-part-of-requires Inv-loop μ-loop
-part-of-requires c κs = search needs
+part-of-requires-2 : tie.Need-part-of-requires-2 Inv-loop μ-loop
+part-of-requires-2 c κs = search needs
 
 piece-requires : tie.Need-piece-requires Inv-loop μ-loop
 piece-requires c κs = search needs
@@ -53,10 +56,11 @@ lay-spec =
     Inv-loop
     μ-loop
     loop-holds
-    from-place-requires
+    sub-part-of
+    part-of-requires
     sign-of-requires
     number-requires
-    part-of-requires
+    part-of-requires-2
     piece-requires
     moved-requires
     loop-less

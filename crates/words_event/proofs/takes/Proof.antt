@@ -19,8 +19,8 @@ be16-requires c κs = search needs
 loop-holds : tie.Need-loop-holds Inv-loop μ-loop
 loop-holds c = (omega arith, (omega arith, refl))
 
-from-place-requires : tie.Need-from-place-requires Inv-loop μ-loop
-from-place-requires c κs = search needs
+bytes-from-requires : tie.Need-bytes-from-requires Inv-loop μ-loop
+bytes-from-requires c κs = search needs
 
 add-take : tie.Need-add-take Inv-loop μ-loop
 add-take c = omega arith
@@ -57,7 +57,7 @@ takes-spec =
     μ-loop
     be16-requires
     loop-holds
-    from-place-requires
+    bytes-from-requires
     add-take
     take-requires
     take-bytes-requires
