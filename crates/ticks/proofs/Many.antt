@@ -86,6 +86,16 @@ quiet-ticks g n c h = go (turnsNext g c) refl h
         let z : n ≡ 0 = omega arith in
         rw z (timed c (omega arith))
 
+-- what a test of the next tick says of that time
+module _ (g : Config) (c : Connection) {t : Bool} where
+  pub quiet-none : t ≡ true → t ≡ turnsNext g c → 0 ≡ quietFor g c
+  unfolding quietFor
+  quiet-none p e = rw (sym e ∙ p)
+
+  pub quiet-until : t ≡ false → {n : ℕ} → n ≡ beforeEnd (c .timer) → t ≡ turnsNext g c → n ≡ quietFor g c
+  unfolding quietFor
+  quiet-until p q e = rw (sym e ∙ p) q
+
 -- the smaller is at most either
 pub smaller-both : (m n : ℕ) → (smallerOf m n ≤ m) × (smallerOf m n ≤ n)
 unfolding smallerOf

@@ -1,6 +1,6 @@
 -- `ticks::quiet_for` meets its contract. Assumes nothing.
 use borrow.Author.Needs.{needs}
-use Rattle.ticks.specs.Many.{quietFor}
+use Rattle.ticks.proofs.Many.{quiet-none, quiet-until}
 use Rattle.ticks.proofs.quiet_for.Statement.{statement}
 use Rattle.ticks.proofs.quiet_for.Tie as tie
 
@@ -14,21 +14,13 @@ has-wildcard-requires : tie.Need-has-wildcard-requires
 has-wildcard-requires c κs = search needs
 
 returns : tie.Need-returns
-unfolding quietFor
-returns c =
-    let h = c .before .before in
-    let r = h .before .before in
-    rw (← r .before .before .before .is-offline .ensures, ← r .is-reconnect .ensures, ← h .has-wildcard .ensures, c .if1 .taken)
+returns c = quiet-none _ _ (c .if1 .taken) cc
 
 before-end-requires : tie.Need-before-end-requires
 before-end-requires c κs = search needs
 
 returns-2 : tie.Need-returns-2
-unfolding quietFor
-returns-2 c =
-    let h = c .before .before .before in
-    let r = h .before .before in
-    rw (← r .before .before .before .is-offline .ensures, ← r .is-reconnect .ensures, ← h .has-wildcard .ensures, c .before .if1 .left) (c .before-end .ensures)
+returns-2 c = quiet-until _ _ (c .before .if1 .left) (c .before-end .ensures) cc
 
 pub quiet-for-spec : {M : Type 1} → statement M
 quiet-for-spec =
