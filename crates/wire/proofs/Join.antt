@@ -66,8 +66,8 @@ pub turned-number : {s : List ℕ} {at r x : ℕ} → Little s at r → x ≡ tu
 turned-number {s} {at} {r} {x} l e =
     let third : at + 2 + 1 ≡ at + 3 = omega arith in
     let four : Number 4 s at ((byteAt s at * 256 + byteAt s (at + 1)) * 65536 + (byteAt s (at + 2) * 256 + byteAt s (at + 3))) =
-        join 2 2 (join 1 1 (one s at _ refl (l .first)) (one s (at + 1) _ refl (l .second)))
-        (join 1 1 (one s (at + 2) _ refl (l .third)) (one s (at + 2 + 1) _ (ap (byteAt s) (sym third)) (l .fourth))) in
+    join 2 2 (join 1 1 (one s at _ refl (l .first)) (one s (at + 1) _ refl (l .second)))
+    (join 1 1 (one s (at + 2) _ refl (l .third)) (one s (at + 2 + 1) _ (ap (byteAt s) (sym third)) (l .fourth))) in
     let is : x ≡ (byteAt s at * 256 + byteAt s (at + 1)) * 65536 + (byteAt s (at + 2) * 256 + byteAt s (at + 3)) =
-        e ∙ ap turn (l .is) ∙ turned-is (byteAt s at) (byteAt s (at + 1)) (byteAt s (at + 2)) (byteAt s (at + 3)) (l .first) (l .second) (l .third) (l .fourth) in
+    e ∙ ap turn (l .is) ∙ turned-is (byteAt s at) (byteAt s (at + 1)) (byteAt s (at + 2)) (byteAt s (at + 3)) (l .first) (l .second) (l .third) (l .fourth) in
     record { is = is ∙ four .is; small = rw is (four .small) }

@@ -40,7 +40,10 @@ fn little(s: &[u8], at: usize) -> u32
     requires { ⌜ at + 4 ≤ length (now s) ⌝ }
     ensures { λ r. ⌜ Little (now (s .entry)) at r ⌝ }
 {
-    wide32(s[at]) + wide32(s[at + 1]) * 256 + wide32(s[at + 2]) * 65536 + wide32(s[at + 3]) * 16777216
+    wide32(s[at])
+        + wide32(s[at + 1]) * 256
+        + wide32(s[at + 2]) * 65536
+        + wide32(s[at + 3]) * 16777216
 }
 
 // The same four bytes, the first the highest.
