@@ -1,10 +1,11 @@
--- A record that holds nothing, wants nothing and waits for nothing is sound when its remote has no wildcard or it is not online.
+-- A record that holds nothing, wants nothing and waits for nothing is sound when its remote has no wildcard or it is not online; of one
+-- that has received nothing and wants nothing, the rules ask little more.
 -- Assumes nothing.
 use Prim.Native.Nat.{ℕ}
 use mathlib.Core.Path.{_≡_, refl}
 use mathlib.Core.Bool.{Bool, true, false, not, _&&_, _||_}
 use mathlib.Core.List.{List}
-use lib.Dec.{eqb}
+use lib.Dec.{eqb, leb}
 use native.Mathlib.Omega.{arith}
 use borrow.Author.Tests.{eqb-true, not-true, le-leb}
 use Rattle.part.specs.declared.Part.{Part}
@@ -14,11 +15,11 @@ use Rattle.connection.specs.declared.Connection.{Connection}
 use Rattle.connection.specs.declared.Mode.{Mode}
 use Rattle.connection.specs.declared.Remote.{Remote}
 use Rattle.connection.specs.Connection.{isOnline, wildcard}
-use Rattle.connection.specs.Sound.{onlineRemote, soundOf}
+use Rattle.connection.specs.Sound.{sends, timed, neverBoth, onlineRemote, soundOf}
 use Rattle.connection.proofs.Rules.{empty-is}
 use Rattle.lists.proofs.Both.{and-left, and-right}
 use Rattle.gate.specs.Sound.{routed}
-use Rattle.gate.specs.Inner.{quiet}
+use Rattle.gate.specs.Inner.{quiet, idle, idleSound}
 
 module _ (g : Config) (routes : List ℕ) (n : ℕ) (mode : Mode) (remote : Remote) (switches : ℕ) where
   abbrev holding : Part → ℕ → ℕ → Bool → Bool → Bool → Connection
@@ -46,6 +47,35 @@ module _ (g : Config) (routes : List ℕ) (n : ℕ) (mode : Mode) (remote : Remo
   quiet-plain : (part : Part) (used timer : ℕ) (due o c : Bool) → part ≡ ready → used ≡ 0 → timer ≡ 0 → due ≡ false → o ≡ false → c ≡ false
       → (soundOf g (holding part used timer due o c) && routed routes n part) ≡ onlineRemote (holding part used timer due o c)
   quiet-plain part used timer due o c p u t d a b = rw (p, u, t, d, a, b) nothing-held
+
+  last : (b : Bool) → (b && true && true && true) ≡ b
+  last true = refl
+  last false = refl
+
+  fewer : (u s t b o : Bool) → (u && true && true && s && t && b && o && true && true && true) ≡ (u && s && t && b && o)
+  fewer true s t b o = last (s && t && b && o)
+  fewer false s t b o = refl
+
+  nothing-received : (used timer : ℕ) (due : Bool)
+      → (soundOf g (holding ready used timer due false false) && routed routes n ready) ≡ idleSound (g .size) (holding ready used timer due false false)
+  unfolding soundOf
+  nothing-received used timer due =
+      let c = holding ready used timer due false false in
+      fewer (leb used (g .size)) (sends c) (timed c) (neverBoth c) (onlineRemote c)
+
+  idle-plain : (part : Part) (used timer : ℕ) (due o c : Bool) → part ≡ ready → o ≡ false → c ≡ false
+      → (soundOf g (holding part used timer due o c) && routed routes n part) ≡ idleSound (g .size) (holding part used timer due o c)
+  idle-plain part used timer due o c p a b = rw (p, a, b) (nothing-received used timer due)
+
+pub idle-sound : (g : Config) (routes : List ℕ) (n : ℕ) (c : Connection) → idle c ≡ true → (soundOf g c && routed routes n (c .part)) ≡ idleSound (g .size) c
+idle-sound g routes n c p =
+    let a = emptyPart (c .part) in
+    let b = a && not (c .«open_wanted») in
+    let pb : b ≡ true = and-left b _ p in
+    idle-plain g routes n (c .mode) (c .remote) (c .switches) (c .part) (c .used) (c .timer) (c .due) (c .«open_wanted») (c .«close_wanted»)
+    (empty-is (c .part) (and-left a _ pb))
+    (not-true _ (and-right a _ pb))
+    (not-true _ (and-right b _ p))
 
 pub quiet-sound : (g : Config) (routes : List ℕ) (n : ℕ) (c : Connection) → quiet c ≡ true → (soundOf g c && routed routes n (c .part)) ≡ onlineRemote c
 quiet-sound g routes n c p =

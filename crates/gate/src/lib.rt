@@ -4,7 +4,7 @@ ghost use mathlib.Core.Path.{_≡_};
 ghost use Rattle.lists.specs.Each.{all};
 ghost use Rattle.connection.specs.Sound.{onlineRemote};
 ghost use Rattle.gate.specs.Sound.{routed, recordsSound};
-ghost use Rattle.gate.specs.Inner.{rulesFrom, rulesIn, soundIn, quiet};
+ghost use Rattle.gate.specs.Inner.{rulesFrom, rulesIn, soundIn, quiet, idle, idleSound};
 ghost use Rattle.gate.specs.Gate.{gateOf, gateAt};
 use connection::Config;
 use connection::Connection;
@@ -21,6 +21,7 @@ use rows::GroupRow;
 use rows::brief_in;
 use rows::group_in;
 use rows::route_in;
+use rows::size_in;
 use state::State;
 use table::TableAnswer;
 use table::check_table;
@@ -98,6 +99,29 @@ fn is_reached(c: Connection) -> bool
     !is_online(mode) | !has_wildcard(remote)
 }
 
+// Whether a record has received nothing and wants nothing: then the rules ask of its row the send size alone.
+fn is_idle(c: Connection) -> bool
+    ensures { λ r. ⌜ r ≡ idle c ⌝ }
+{
+    let part = c.part;
+    part::is_empty(part) & !c.open_wanted & !c.close_wanted
+}
+
+// The rules that are left of such a record.
+fn is_idle_sound(c: Connection, size: usize) -> bool
+    ensures { λ r. ⌜ r ≡ idleSound size c ⌝ }
+{
+    let mode = c.mode;
+    let remote = c.remote;
+    let online = is_online(mode);
+    let wild = has_wildcard(remote);
+    (c.used as usize <= size)
+        & ((c.used == 0) | online)
+        & (((c.timer == 0) & !c.due) | (0 < c.used))
+        & ((c.timer == 0) | !c.due)
+        & (!online | !wild)
+}
+
 // One record against its row, by the number of rows and the bodies; past the rows, against zero.
 fn is_sound(
     rows: usize,
@@ -115,25 +139,28 @@ fn is_sound(
     if is_quiet(connection) {
         return is_reached(connection);
     }
+    if is_idle(connection) {
+        return is_idle_sound(connection, size_in(connections, n));
+    }
     let part = connection.part;
     let rules = rules_in(connections, groups, n);
     let has_route = is_routed(routes, n, part);
     connection.sound(rules) & has_route
 }
 
-// Each record of a state.
+// Each record of a state, up to the first that is not sound.
 fn each_sound(rows: usize, connections: &[u8], groups: &[u8], routes: &[u8], state: State) -> bool
     ensures { λ r. ⌜ r ≡ all (soundIn rows (now (connections .entry)) (now (groups .entry)) (now (routes .entry))) 0 (state .connections) ⌝ }
 {
-    let mut sound = true;
     let mut i: usize = 0;
     while i < 16 {
         let connection = state.connections[i];
-        let one = is_sound(rows, connections, groups, routes, i, connection);
-        sound = sound & one;
+        if !is_sound(rows, connections, groups, routes, i, connection) {
+            return false;
+        }
         i += 1;
     }
-    sound
+    true
 }
 
 // The same by the image, whose bodies are asked for once.

@@ -1,0 +1,47 @@
+-- `table::after_connections` meets its contract. Assumes nothing.
+use Rattle.table.proofs.Places.{last-places}
+use borrow.Author.Needs.{needs}
+use Rattle.table.proofs.after_connections.Statement.{statement}
+use Rattle.table.proofs.after_connections.Tie as tie
+
+body-of-requires : tie.Need-body-of-requires
+body-of-requires c κs = search needs
+
+body-of-requires-2 : tie.Need-body-of-requires-2
+body-of-requires-2 c κs = search needs
+
+body-of-requires-3 : tie.Need-body-of-requires-3
+body-of-requires-3 c κs = search needs
+
+first-bad-rows-requires : tie.Need-first-bad-rows-requires
+first-bad-rows-requires c κs = search needs
+
+place-of-requires : tie.Need-place-of-requires
+place-of-requires c κs = search needs
+
+place-of-requires-2 : tie.Need-place-of-requires-2
+place-of-requires-2 c κs = search needs
+
+first-refusal-requires : tie.Need-first-refusal-requires
+first-refusal-requires c κs = search needs
+
+returns : tie.Need-returns
+returns c =
+    let p = c .before in
+    let x = p .before .before in
+    let b = x .before .before .before .before .before in
+    last-places (b .args .image .now) (b .pre) _ _ _ _ _ _ _ (x .before .before .before .body-of .ensures .0) (x .before .before .body-of2 .ensures .0) (x .before .body-of3 .ensures .0)
+    (x .first-bad-rows .ensures) (p .before .place-of .ensures) (p .place-of2 .ensures) (c .first-refusal .ensures)
+
+pub after-connections-spec : {M : Type 1} → statement M
+after-connections-spec =
+    tie.close
+    (tie.spec
+    body-of-requires
+    body-of-requires-2
+    body-of-requires-3
+    first-bad-rows-requires
+    place-of-requires
+    place-of-requires-2
+    first-refusal-requires
+    returns)
