@@ -41,7 +41,7 @@ returns-3 c =
     let z = c .before in
     let i = z .before .before in
     let q = i .before .before in
-    let a = q .before .before .before .before .args in
+    let a = q .before .before .before .before .before .args in
     rw (lt-ltb _ _ (q .before .if1 .left))
     (c .is-idle-sound .ensures ∙ ap (λ (k : ℕ). idleSound k (a .connection)) (z .size-in .ensures ∙ size-is (now (a .connections)) (now (a .groups)) (a .n))
     ∙ sym (idle-sound _ _ _ _ (sym (i .is-idle .ensures) ∙ z .before .if3 .taken)))
