@@ -26,8 +26,7 @@ use input::read_part;
 use libc::STDOUT_FILENO;
 use once::once;
 use pieces::front;
-use up::busy;
-use up::online;
+use up::start;
 use wire::be8;
 use wire::be16;
 use wire::be32;
@@ -47,10 +46,7 @@ fn repeat(
     used: u16,
     bytes: &[u8],
 ) -> bool {
-    let mut state = online(image, rx, tx);
-    if 128 <= what {
-        state = busy(image, state);
-    }
+    let mut state = start(image, rx, tx, what);
     let mut all = true;
     let mut i: u32 = 0;
     while i < times {

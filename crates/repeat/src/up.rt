@@ -1,6 +1,5 @@
 // The state before the first call: each connection opened, a tick, each connected; where it is to be busy, each holds bytes to send.
 // Assumes nothing.
-use connection::Connection;
 use connection::Event;
 use layout::Kind;
 use layout::rows_of;
@@ -19,33 +18,46 @@ fn each(image: &[u8], state: State, rx: &[u8], tx: &[u8], event: Event) -> State
     next
 }
 
-pub fn online(image: &[u8], rx: &[u8], tx: &[u8]) -> State {
+fn online(image: &[u8], rx: &[u8], tx: &[u8]) -> State {
     let wanted = each(image, fresh_state(image), rx, tx, Event::Open);
     let ticked = ticks::tick(image, wanted, rx, tx);
     let reached = ticked.state;
     each(image, reached, rx, tx, Event::Connected)
 }
 
-// A record that holds ten bytes to send: the even ones are due, of the odd ones a timer runs.
-fn busied(c: Connection, i: usize) -> Connection {
-    if i % 2 == 0 {
-        return c.with_send(10, 0, true);
+// A state in which connection i, where the table has it, holds ten bytes to send: an even one is due, of an odd one a timer runs.
+fn busied(state: State, i: usize, rows: usize) -> State {
+    if rows <= i {
+        return state;
     }
-    c.with_send(10, 65535, false)
+    if 16 <= i {
+        return state;
+    }
+    let c = state.connections[i];
+    let mut next = state;
+    if i % 2 == 0 {
+        next.connections[i] = c.with_send(10, 0, true);
+        return next;
+    }
+    next.connections[i] = c.with_send(10, 65535, false);
+    next
 }
 
-// A state in which each connection of the table holds bytes to send.
-pub fn busy(image: &[u8], state: State) -> State {
-    let rows = rows_of(image, Kind::Connection);
+fn busy(rows: usize, state: State) -> State {
     let mut next = state;
     let mut i: usize = 0;
     while i < 16 {
-        let c = next.connections[i];
-        if i < rows {
-            let held = busied(c, i);
-            next.connections[i] = held;
-        }
+        next = busied(next, i, rows);
         i += 1;
     }
     next
+}
+
+// All online, and busy where `what` asks for it.
+pub fn start(image: &[u8], rx: &[u8], tx: &[u8], what: u8) -> State {
+    let state = online(image, rx, tx);
+    if what < 128 {
+        return state;
+    }
+    busy(rows_of(image, Kind::Connection), state)
 }
