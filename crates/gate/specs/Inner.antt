@@ -1,5 +1,5 @@
--- What the contracts of the inner functions cite: the same rules by the bodies, asked for once, and a quick way for records that hold
--- nothing. They say nothing that the rules of Gate and Sound do not say. Assumes nothing: these are definitions.
+-- What the contracts of the inner functions cite: the same rules by the bodies, asked for once, and a quick way for records that have
+-- received nothing and want nothing. They say nothing that the rules of Gate and Sound do not say. Assumes nothing: these are definitions.
 use Prim.Native.Nat.{ℕ}
 use mathlib.Core.Bool.{Bool, cond, not, _&&_}
 use mathlib.Core.List.{List}
@@ -33,11 +33,6 @@ rulesIn connections groups n = rulesFrom (briefIn connections n) (groupIn groups
 abbrev pub soundIn : ℕ → List ℕ → List ℕ → List ℕ → ℕ → Connection → Bool
 soundIn rows connections groups routes n c =
     cond (ltb n rows) (soundOf (configIn connections groups n) c && routed routes n (c .part)) (zeroOf c)
-
--- a record that holds nothing, wants nothing and waits for nothing: of the rules only "an online remote has no wildcard" is left
-abbrev pub quiet : Connection → Bool
-quiet c =
-    emptyPart (c .part) && eqb (c .used) 0 && eqb (c .timer) 0 && not (c .due) && not (c .«open_wanted») && not (c .«close_wanted»)
 
 -- a record that has received nothing and wants nothing: of the rules those on its send bytes are left, and "an online remote has no wildcard"
 abbrev pub idle : Connection → Bool

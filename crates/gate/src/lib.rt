@@ -4,7 +4,8 @@ ghost use mathlib.Core.Path.{_≡_};
 ghost use Rattle.lists.specs.Each.{all};
 ghost use Rattle.connection.specs.Sound.{onlineRemote};
 ghost use Rattle.gate.specs.Sound.{routed, recordsSound};
-ghost use Rattle.gate.specs.Inner.{rulesFrom, rulesIn, soundIn, quiet, idle, idleSound};
+ghost use Rattle.gate.specs.Inner.{rulesFrom, rulesIn, soundIn, idle, idleSound};
+ghost use Rattle.rows.specs.Rules.{sizeIn};
 ghost use Rattle.gate.specs.Gate.{gateOf, gateAt};
 use connection::Config;
 use connection::Connection;
@@ -77,20 +78,7 @@ fn rules_in(connections: &[u8], groups: &[u8], n: usize) -> Config
     rules_from(row, group)
 }
 
-// Whether a record holds nothing, wants nothing and waits for nothing: most do, and then one rule is left.
-fn is_quiet(c: Connection) -> bool
-    ensures { λ r. ⌜ r ≡ quiet c ⌝ }
-{
-    let part = c.part;
-    part::is_empty(part)
-        & (c.used == 0)
-        & (c.timer == 0)
-        & !c.due
-        & !c.open_wanted
-        & !c.close_wanted
-}
-
-// The rule that is left: an online remote has no wildcard.
+// An online remote has no wildcard.
 fn is_reached(c: Connection) -> bool
     ensures { λ r. ⌜ r ≡ onlineRemote c ⌝ }
 {
@@ -107,19 +95,18 @@ fn is_idle(c: Connection) -> bool
     part::is_empty(part) & !c.open_wanted & !c.close_wanted
 }
 
-// The rules that are left of such a record.
-fn is_idle_sound(c: Connection, size: usize) -> bool
-    ensures { λ r. ⌜ r ≡ idleSound size c ⌝ }
+// The rules that are left of such a record: without send bytes no timer and no due mark; with them online, not both, and within the size.
+fn is_idle_sound(connections: &[u8], n: usize, c: Connection) -> bool
+    ensures { λ r. ⌜ r ≡ idleSound (sizeIn (now (connections .entry)) n) c ⌝ }
 {
+    let reached = is_reached(c);
+    if c.used == 0 {
+        return (c.timer == 0) & !c.due & reached;
+    }
     let mode = c.mode;
-    let remote = c.remote;
     let online = is_online(mode);
-    let wild = has_wildcard(remote);
-    (c.used as usize <= size)
-        & ((c.used == 0) | online)
-        & (((c.timer == 0) & !c.due) | (0 < c.used))
-        & ((c.timer == 0) | !c.due)
-        & (!online | !wild)
+    let size = size_in(connections, n);
+    (c.used as usize <= size) & online & ((c.timer == 0) | !c.due) & reached
 }
 
 // One record against its row, by the number of rows and the bodies; past the rows, against zero.
@@ -136,11 +123,8 @@ fn is_sound(
     if rows <= n {
         return connection.is_zero();
     }
-    if is_quiet(connection) {
-        return is_reached(connection);
-    }
     if is_idle(connection) {
-        return is_idle_sound(connection, size_in(connections, n));
+        return is_idle_sound(connections, n, connection);
     }
     let part = connection.part;
     let rules = rules_in(connections, groups, n);

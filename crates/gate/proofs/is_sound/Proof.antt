@@ -6,7 +6,7 @@ use borrow.Author.Tests.{lt-ltb, le-ltb}
 use borrow.Author.Needs.{needs}
 use Rattle.gate.specs.Inner.{idleSound}
 use Rattle.gate.proofs.Records.{rules-enough, size-is}
-use Rattle.gate.proofs.Quiet.{quiet-sound, idle-sound}
+use Rattle.gate.proofs.Idle.{idle-sound}
 use Rattle.gate.proofs.is_sound.Statement.{statement}
 use Rattle.gate.proofs.is_sound.Tie as tie
 
@@ -16,35 +16,19 @@ is-zero-requires c κs = search needs
 returns : tie.Need-returns
 returns c = rw (le-ltb _ _ (c .before .if1 .taken)) (c .is-zero .ensures)
 
-is-quiet-requires : tie.Need-is-quiet-requires
-is-quiet-requires c κs = search needs
-
-is-reached-requires : tie.Need-is-reached-requires
-is-reached-requires c κs = search needs
-
-returns-2 : tie.Need-returns-2
-returns-2 c =
-    let q = c .before .before in
-    rw (lt-ltb _ _ (q .before .if1 .left)) (c .is-reached .ensures ∙ sym (quiet-sound _ _ _ _ (sym (q .is-quiet .ensures) ∙ c .before .if2 .taken)))
-
 is-idle-requires : tie.Need-is-idle-requires
 is-idle-requires c κs = search needs
-
-size-in-requires : tie.Need-size-in-requires
-size-in-requires c κs = search needs
 
 is-idle-sound-requires : tie.Need-is-idle-sound-requires
 is-idle-sound-requires c κs = search needs
 
-returns-3 : tie.Need-returns-3
-returns-3 c =
-    let z = c .before in
-    let i = z .before .before in
-    let q = i .before .before in
-    let a = q .before .before .before .before .before .args in
-    rw (lt-ltb _ _ (q .before .if1 .left))
-    (c .is-idle-sound .ensures ∙ ap (λ (k : ℕ). idleSound k (a .connection)) (z .size-in .ensures ∙ size-is (now (a .connections)) (now (a .groups)) (a .n))
-    ∙ sym (idle-sound _ _ _ _ (sym (i .is-idle .ensures) ∙ z .before .if3 .taken)))
+returns-2 : tie.Need-returns-2
+returns-2 c =
+    let i = c .before .before in
+    let a = i .before .before .before .before .before .args in
+    rw (lt-ltb _ _ (i .before .if1 .left))
+    (c .is-idle-sound .ensures ∙ ap (λ (k : ℕ). idleSound k (a .connection)) (size-is (now (a .connections)) (now (a .groups)) (a .n))
+    ∙ sym (idle-sound _ _ _ _ (sym (i .is-idle .ensures) ∙ c .before .if2 .taken)))
 
 rules-in-requires : tie.Need-rules-in-requires
 rules-in-requires c κs = search needs
@@ -55,9 +39,9 @@ is-routed-requires c κs = search needs
 sound-requires : tie.Need-sound-requires
 sound-requires c κs = search needs
 
-returns-4 : tie.Need-returns-4
-returns-4 c =
-    let r = c .before .before .before .before .before .before .before in
+returns-3 : tie.Need-returns-3
+returns-3 c =
+    let r = c .before .before .before .before .before in
     let a = r .before .before .before .before .args in
     rw (
       lt-ltb _ _ (r .if1 .left),
@@ -73,14 +57,10 @@ is-sound-spec =
     (tie.spec
     is-zero-requires
     returns
-    is-quiet-requires
-    is-reached-requires
-    returns-2
     is-idle-requires
-    size-in-requires
     is-idle-sound-requires
-    returns-3
+    returns-2
     rules-in-requires
     is-routed-requires
     sound-requires
-    returns-4)
+    returns-3)

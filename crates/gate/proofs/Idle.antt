@@ -1,25 +1,24 @@
--- A record that holds nothing, wants nothing and waits for nothing is sound when its remote has no wildcard or it is not online; of one
--- that has received nothing and wants nothing, the rules ask little more.
+-- Of a record that has received nothing and wants nothing, the rules ask little: its send bytes, and an online remote without wildcard.
 -- Assumes nothing.
-use Prim.Native.Nat.{ℕ}
-use mathlib.Core.Path.{_≡_, refl}
+use Prim.Native.Nat.{ℕ, _<_}
+use mathlib.Core.Path.{_≡_, refl, ap, _∙_}
 use mathlib.Core.Bool.{Bool, true, false, not, _&&_, _||_}
 use mathlib.Core.List.{List}
-use lib.Dec.{eqb, leb}
+use lib.Dec.{eqb, leb, ltb}
 use native.Mathlib.Omega.{arith}
-use borrow.Author.Tests.{eqb-true, not-true, le-leb}
+use borrow.Author.Tests.{not-true, le-leb, ne-eqb, lt-ltb}
 use Rattle.part.specs.declared.Part.{Part}
 use Rattle.part.specs.Part.{emptyPart, ready}
 use Rattle.connection.specs.declared.Config.{Config}
 use Rattle.connection.specs.declared.Connection.{Connection}
 use Rattle.connection.specs.declared.Mode.{Mode}
 use Rattle.connection.specs.declared.Remote.{Remote}
-use Rattle.connection.specs.Connection.{isOnline, wildcard}
+use Rattle.connection.specs.Connection.{isOnline}
 use Rattle.connection.specs.Sound.{sends, timed, neverBoth, onlineRemote, soundOf}
 use Rattle.connection.proofs.Rules.{empty-is}
 use Rattle.lists.proofs.Both.{and-left, and-right}
 use Rattle.gate.specs.Sound.{routed}
-use Rattle.gate.specs.Inner.{quiet, idle, idleSound}
+use Rattle.gate.specs.Inner.{idle, idleSound}
 
 module _ (g : Config) (routes : List ℕ) (n : ℕ) (mode : Mode) (remote : Remote) (switches : ℕ) where
   abbrev holding : Part → ℕ → ℕ → Bool → Bool → Bool → Connection
@@ -35,18 +34,6 @@ module _ (g : Config) (routes : List ℕ) (n : ℕ) (mode : Mode) (remote : Remo
         timer = timer;
         due = due;
       }
-
-  nothing-held : (soundOf g (holding ready 0 0 false false false) && routed routes n ready) ≡ onlineRemote (holding ready 0 0 false false false)
-  unfolding soundOf
-  nothing-held = rw (le-leb 0 (g .size) (omega arith)) (go (not (isOnline mode) || not (wildcard remote)))
-    where
-      go : (b : Bool) → (b && true && true && true) ≡ b
-      go true = refl
-      go false = refl
-
-  quiet-plain : (part : Part) (used timer : ℕ) (due o c : Bool) → part ≡ ready → used ≡ 0 → timer ≡ 0 → due ≡ false → o ≡ false → c ≡ false
-      → (soundOf g (holding part used timer due o c) && routed routes n part) ≡ onlineRemote (holding part used timer due o c)
-  quiet-plain part used timer due o c p u t d a b = rw (p, u, t, d, a, b) nothing-held
 
   last : (b : Bool) → (b && true && true && true) ≡ b
   last true = refl
@@ -77,20 +64,39 @@ idle-sound g routes n c p =
     (not-true _ (and-right a _ pb))
     (not-true _ (and-right b _ p))
 
-pub quiet-sound : (g : Config) (routes : List ℕ) (n : ℕ) (c : Connection) → quiet c ≡ true → (soundOf g c && routed routes n (c .part)) ≡ onlineRemote c
-quiet-sound g routes n c p =
-    let a = emptyPart (c .part) && eqb (c .used) 0 in
-    let b = a && eqb (c .timer) 0 in
-    let d = b && not (c .due) in
-    let e = d && not (c .«open_wanted») in
-    let pe : e ≡ true = and-left e _ p in
-    let pd : d ≡ true = and-left d _ pe in
-    let pb : b ≡ true = and-left b _ pd in
-    let pa : a ≡ true = and-left a _ pb in
-    quiet-plain g routes n (c .mode) (c .remote) (c .switches) (c .part) (c .used) (c .timer) (c .due) (c .«open_wanted») (c .«close_wanted»)
-    (empty-is (c .part) (and-left (emptyPart (c .part)) _ pa))
-    (eqb-true _ _ (and-right (emptyPart (c .part)) _ pa))
-    (eqb-true _ _ (and-right a _ pb))
-    (not-true _ (and-right b _ pd))
-    (not-true _ (and-right d _ pe))
-    (not-true _ (and-right e _ p))
+-- without send bytes, and with some
+module _ (size used timer : ℕ) (due online reached : Bool) where
+  none : used ≡ 0
+      → (eqb timer 0 && not due && reached) ≡ (leb used size && (eqb used 0 || online) && ((eqb timer 0 && not due) || ltb 0 used) && (eqb timer 0 || not due) && reached)
+  none e = rw (e, le-leb 0 size (omega arith)) (go (eqb timer 0) (not due))
+    where
+      go : (t d : Bool) → (t && d && reached) ≡ (true && (true || online) && ((t && d) || false) && (t || d) && reached)
+      go true true = refl
+      go true false = refl
+      go false d = refl
+
+  some : (used ≡ 0 → ⊥)
+      → (leb used size && online && (eqb timer 0 || not due) && reached)
+      ≡ (leb used size && (eqb used 0 || online) && ((eqb timer 0 && not due) || ltb 0 used) && (eqb timer 0 || not due) && reached)
+  some n =
+      let h : 0 < used = omega arith in
+      rw (ne-eqb used 0 n, lt-ltb 0 used h) (go (leb used size) online (eqb timer 0 && not due) (eqb timer 0 || not due))
+    where
+      go : (u o x y : Bool) → (u && o && y && reached) ≡ (u && (false || o) && (x || true) && y && reached)
+      go true true true y = refl
+      go true true false y = refl
+      go true false x y = refl
+      go false o x y = refl
+
+pub idle-without : (size : ℕ) (c : Connection) (reached : Bool) → reached ≡ onlineRemote c → c .used ≡ 0
+    → (eqb (c .timer) 0 && not (c .due) && reached) ≡ idleSound size c
+idle-without size c reached e z =
+    ap (λ (r : Bool). eqb (c .timer) 0 && not (c .due) && r) e ∙ none size (c .used) (c .timer) (c .due) (isOnline (c .mode)) (onlineRemote c) z
+
+pub idle-with : (size k : ℕ) (c : Connection) (reached online : Bool) → reached ≡ onlineRemote c → online ≡ isOnline (c .mode) → k ≡ size → (c .used ≡ 0 → ⊥)
+    → (leb (c .used) k && online && (eqb (c .timer) 0 || not (c .due)) && reached) ≡ idleSound size c
+idle-with size k c reached online er eo ek n =
+    ap (λ (m : ℕ). leb (c .used) m && online && (eqb (c .timer) 0 || not (c .due)) && reached) ek
+    ∙ ap (λ (o : Bool). leb (c .used) size && o && (eqb (c .timer) 0 || not (c .due)) && reached) eo
+    ∙ ap (λ (r : Bool). leb (c .used) size && isOnline (c .mode) && (eqb (c .timer) 0 || not (c .due)) && r) er
+    ∙ some size (c .used) (c .timer) (c .due) (isOnline (c .mode)) (onlineRemote c) n
