@@ -174,17 +174,23 @@ static void take_payload(const struct layout *table, struct record *c, uint8_t *
     ready(c);
 }
 
-uint32_t twin_take(const struct lent *lent, uint8_t connection, const uint8_t *segment, size_t length, struct outcome *outcome)
+/* 11, 12, 2, 3, 4. */
+static uint32_t ask_take(const struct lent *lent, uint8_t connection, struct layout *table)
 {
-    struct layout table;
-    uint32_t answer = ask_at(lent, connection, &table);
+    uint32_t answer = ask_at(lent, connection, table);
     if (answer != 0)
         return answer;
-    struct record *c = &lent->state->connections[connection];
-    if (!config_of(&table, connection).tcp)
+    const struct record *c = &lent->state->connections[connection];
+    if (!config_of(table, connection).tcp)
         return 3;
-    if (c->mode != ONLINE || c->close_wanted)
-        return 4;
+    return c->mode != ONLINE || c->close_wanted ? 4 : 0;
+}
+
+/* A take past all refusals. */
+static void take(const struct lent *lent, const struct layout *table, uint8_t connection, const uint8_t *segment, size_t length,
+                 struct outcome *outcome)
+{
+    struct record *c = &lent->state->connections[connection];
     size_t at = 0;
     if (c->part == SKIP_BYTES) {
         at = c->value < length ? c->value : length;
@@ -196,25 +202,83 @@ uint32_t twin_take(const struct lent *lent, uint8_t connection, const uint8_t *s
         at += take_header(c, segment + at, length - at);
         if (c->held < HEADER) {
             *outcome = (struct outcome){.kind = MORE, .read = length};
-            return 0;
+            return;
         }
         uint32_t id = (uint32_t)(c->value >> 32), size = (uint32_t)c->value;
         bool dropped;
-        uint32_t number = look_up(&table, connection, c->switches, id, size, &dropped);
+        uint32_t number = look_up(table, connection, c->switches, id, size, &dropped);
         ready(c);
         if (dropped) {
             c->part = size == 0 ? HEADER_BYTES : SKIP_BYTES;
             c->value = size;
             count_drop(lent->state, true);
             *outcome = (struct outcome){.kind = DROP, .number = number, .id = id, .length = size, .read = at};
-            return 0;
+            return;
         }
         c->part = PAYLOAD_BYTES;
         c->route = (uint8_t)number;
         c->length = (uint16_t)size;
     }
-    take_payload(&table, c, lent->rx + connection * RX, segment, length, at, outcome);
-    return 0;
+    take_payload(table, c, lent->rx + connection * RX, segment, length, at, outcome);
+}
+
+uint32_t twin_take(const struct lent *lent, uint8_t connection, const uint8_t *segment, size_t length, struct outcome *outcome)
+{
+    struct layout table;
+    uint32_t answer = ask_take(lent, connection, &table);
+    if (answer == 0)
+        take(lent, &table, connection, segment, length, outcome);
+    return answer;
+}
+
+static uint8_t *put(uint8_t *to, uint32_t value, unsigned width)
+{
+    for (unsigned i = width; i-- > 0; value >>= 8)
+        to[i] = (uint8_t)value;
+    return to + width;
+}
+
+static size_t put_refusal(uint8_t *out, uint32_t answer)
+{
+    return (size_t)(put(put(out, answer, 2), 0, 4) - out);
+}
+
+/* One take: what it read and met, and a PDU's place in the segment, or its bytes. */
+static uint8_t *put_take(uint8_t *to, const struct outcome *met, const uint8_t *segment, size_t length)
+{
+    to = put(to, (uint32_t)met->read, 4);
+    *to++ = (uint8_t)met->kind;
+    *to++ = (uint8_t)met->number;
+    put_be32(to, met->id);
+    put_be32(to + 4, met->length);
+    to += 8;
+    if (met->kind != PDU)
+        return to;
+    size_t place = (size_t)(met->payload - segment);
+    *to++ = place > length;
+    if (place <= length)
+        return put(to, (uint32_t)place, 4);
+    memcpy(to, met->payload, met->length);
+    return to + met->length;
+}
+
+size_t twin_segment(const struct lent *lent, uint8_t connection, const uint8_t *segment, size_t length, uint8_t *out)
+{
+    struct layout table;
+    uint32_t answer = ask_take(lent, connection, &table), takes = 0;
+    uint8_t *to = out + 4;
+    size_t at = 0;
+    if (answer != 0)
+        return put_refusal(out, answer);
+    do {
+        struct outcome met = {0};
+        take(lent, &table, connection, segment + at, length - at, &met);
+        to = put_take(to, &met, segment, length);
+        at += met.read;
+        takes++;
+    } while (at < length);
+    put(put(out, 0, 2), takes, 2);
+    return (size_t)(to - out);
 }
 
 uint32_t twin_walk_event(const struct lent *lent, uint8_t connection, const uint8_t *datagram, size_t length, size_t place,
@@ -369,6 +433,28 @@ uint32_t twin_tick(const struct lent *lent)
     for (size_t i = 0; i < table.rows[CONNECTION]; i++)
         tick_record(&lent->state->connections[i], config_of(&table, i));
     return 0;
+}
+
+/* Two ticks settle a record; after them only its timer moves. */
+static void tick_many(struct record *c, struct config config, uint32_t count)
+{
+    for (unsigned i = 0; i < 2 && count > 0; i++, count--)
+        tick_record(c, config);
+    if (c->timer == 0 || count == 0)
+        return;
+    c->due = c->timer <= count;
+    c->timer = c->due ? 0 : (uint16_t)(c->timer - count);
+}
+
+size_t twin_ticks(const struct lent *lent, uint32_t count, uint8_t *out)
+{
+    struct layout table;
+    uint32_t answer = ask(lent, &table);
+    if (answer != 0)
+        return put_refusal(out, answer);
+    for (size_t i = 0; i < table.rows[CONNECTION]; i++)
+        tick_many(&lent->state->connections[i], config_of(&table, i), count);
+    return (size_t)(put(out, 0, 4) - out);
 }
 
 uint32_t twin_datagram(const struct lent *lent, uint8_t group, struct remote source, uint8_t *met)

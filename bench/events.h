@@ -62,6 +62,9 @@ uint32_t twin_transmit(const struct lent *lent, uint16_t pdu, const uint8_t *pay
 uint32_t twin_take_waiting(const struct lent *lent, uint8_t connection, uint8_t *out, size_t room, size_t *count,
                            struct remote *remote);
 uint32_t twin_tick(const struct lent *lent);
+/* Events with their answers written as docs/EVENTS.md has them; each gives the length of the answer. An out buffer has 16,384 bytes. */
+size_t twin_segment(const struct lent *lent, uint8_t connection, const uint8_t *segment, size_t length, uint8_t *out);
+size_t twin_ticks(const struct lent *lent, uint32_t count, uint8_t *out);
 uint32_t twin_datagram(const struct lent *lent, uint8_t group, struct remote source, uint8_t *met);
 
 #endif

@@ -2,7 +2,9 @@
  *
  *   input WHAT QUARTERS LENGTH TIMES     a table with QUARTERS/4 of the most rows, a payload of LENGTH bytes, TIMES calls of WHAT
  *
- * WHAT: nothing, gate, take, cut, walk, transmit, waiting, tick, datagram.
+ * WHAT: nothing, gate, take, cut, walk, transmit, waiting, tick, datagram; segment: an event of LENGTH PDUs of 10 bytes in all;
+ * ticks: an event of LENGTH ticks; emptied, holding: what transmit and waiting do besides the call. With a `+` before it: under a
+ * state in which each connection holds bytes to send.
  */
 #include "image.h"
 #include "system.h"
@@ -10,10 +12,13 @@
 extern int atoi(const char *text);
 extern int strcmp(const char *one, const char *other);
 
-static const char *const names[] = {"nothing", "gate", "take", "cut", "walk", "transmit", "waiting", "tick", "datagram"};
-enum { NOTHING, GATE, TAKE, CUT, WALK, TRANSMIT, WAITING, TICK, DATAGRAM, WHATS };
+static const char *const names[] = {"nothing", "gate",     "take",    "cut",   "walk",    "transmit", "waiting",
+                                    "tick",    "datagram", "segment", "ticks", "emptied", "holding"};
+enum { NOTHING, GATE, TAKE, CUT, WALK, TRANSMIT, WAITING, TICK, DATAGRAM, SEGMENT, TICKS, EMPTIED, HOLDING, WHATS };
+static const uint8_t numbers[] = {0, 1, 2, 3, 4, 5, 6, 7, 8, 9, 9, 69, 70};
+enum { EVENT_TICKS = 0, EVENT_SEGMENT = 7, PDU_BYTES = 10, BUSY = 128 };
 
-static uint8_t head[16], bytes[8 + 1464];
+static uint8_t head[16], bytes[2944];
 
 static void set(uint8_t *at, uint64_t value, unsigned width)
 {
@@ -26,29 +31,42 @@ int main(int count, char **words)
     unsigned what = 0;
     if (count != 5)
         die("usage: input WHAT QUARTERS LENGTH TIMES");
-    while (what < WHATS && strcmp(words[1], names[what]) != 0)
+    const char *name = words[1][0] == '+' ? words[1] + 1 : words[1];
+    while (what < WHATS && strcmp(name, names[what]) != 0)
         what++;
     if (what == WHATS)
         die("input: there is no such call");
     unsigned quarters = (unsigned)atoi(words[2]), length = (unsigned)atoi(words[3]);
     make_image(quarters, 1);
     /* the last connection of the protocol asked for, its last route, and the last PDU */
-    unsigned connection = 4 * quarters - (what == TAKE || what == CUT ? 1 : 2);
-    unsigned route = 16 * quarters - (what == TAKE || what == CUT ? 1 : 2);
-    int framed = what == TAKE || what == CUT || what == WALK;
-    set(bytes, id_of(route, 1), 4);
-    set(bytes + 4, length, 4);
-    set(head, what, 1);
+    int tcp = what == TAKE || what == CUT || what == SEGMENT, framed = tcp || what == WALK;
+    unsigned connection = 4 * quarters - (tcp ? 1 : 2), route = 16 * quarters - (tcp ? 1 : 2);
+    unsigned pdus = what == SEGMENT ? length : 1, size = what == SEGMENT ? 2 : length;
+    unsigned front = what == SEGMENT ? 6 : 0, given = what == TRANSMIT ? length : 0;
+    if (framed)
+        given = front + pdus * (8 + size);
+    if (given > sizeof bytes)
+        die("input: too long");
+    for (unsigned i = 0; framed && i < pdus; i++) {
+        set(bytes + front + i * PDU_BYTES, id_of(route, 1), 4);
+        set(bytes + front + i * PDU_BYTES + 4, size, 4);
+    }
+    if (what == SEGMENT) { /* party, connection, length */
+        set(bytes + 1, connection, 1);
+        set(bytes + 2, pdus * PDU_BYTES, 4);
+    }
+    if (what == TICKS)
+        set(bytes, length, given = 4);
+    set(head, numbers[what] + (name != words[1] ? BUSY : 0), 1);
     set(head + 1, connection, 1);
-    set(head + 2, 8 * quarters - 1, 2);
+    set(head + 2, what == SEGMENT ? EVENT_SEGMENT : what == TICKS ? EVENT_TICKS : 8 * quarters - 1, 2);
     set(head + 4, (uint64_t)atoi(words[4]), 4);
     set(head + 8, 36 + 2 * (2 * quarters) + 16 * (4 * quarters) + 9, 2); /* the first route's upper PDU */
     set(head + 10, length, 2);
     set(head + 12, image_length, 2);
-    unsigned given = framed ? 8 + length : what == TRANSMIT ? length : 0;
     set(head + 14, given, 2);
     long told = write(1, head, sizeof head);
     told += write(1, image, image_length);
-    told += write(1, framed ? bytes : bytes + 8, given);
+    told += write(1, bytes, given);
     return told < 0;
 }

@@ -2,7 +2,7 @@
 #include "events.h"
 #include "system.h"
 
-static uint8_t head[16], image[2356], bytes[2944], rx[16 * 1464], tx[16 * 1472], out[1472];
+static uint8_t head[16], image[2356], bytes[2944], rx[16 * 1464], tx[16 * 1472], out[16384];
 static struct state state;
 static struct lent lent = {.image = image, .state = &state, .rx = rx, .rx_length = sizeof rx, .tx = tx, .tx_length = sizeof tx};
 static size_t length;
@@ -49,7 +49,7 @@ static bool take_waiting(uint8_t connection, uint16_t used)
     size_t count;
     struct remote remote;
     hold(connection, used);
-    return twin_take_waiting(&lent, connection, out, sizeof out, &count, &remote) == 0 && count == used &&
+    return twin_take_waiting(&lent, connection, out, 1472, &count, &remote) == 0 && count == used &&
            (used == 0 || out[used - 1u] == tx[connection * 1472u + used - 1]);
 }
 
@@ -59,6 +59,17 @@ static bool arrive(uint8_t connection)
     uint8_t met;
     struct remote source = state.connections[connection].remote;
     return twin_datagram(&lent, row[0], source, &met) == 0 && met == connection;
+}
+
+/* An event by its number, with its body in the bytes: a segment, or many ticks. */
+static bool dispatched(uint16_t event)
+{
+    size_t n = length < 6 ? 0 : (size_t)bytes[2] << 24 | (size_t)bytes[3] << 16 | (size_t)bytes[4] << 8 | bytes[5];
+    if (event == 7 && length >= 6 && bytes[0] == 0 && n == length - 6)
+        return twin_segment(&lent, bytes[1], bytes + 6, n, out) > 4 && out[0] == 0 && out[1] == 0;
+    if (event == 0 && length == 4)
+        return twin_ticks(&lent, (uint32_t)bytes[0] << 24 | (uint32_t)bytes[1] << 16 | (uint32_t)bytes[2] << 8 | bytes[3], out) == 4;
+    return false;
 }
 
 /* The call that a number names. */
@@ -84,6 +95,15 @@ static bool once(size_t what, uint8_t connection, uint16_t pdu, uint16_t used)
         return twin_tick(&lent) == 0;
     case 8:
         return arrive(connection);
+    case 9:
+        return dispatched(pdu);
+    case 69:
+        hold(connection, 0);
+        hold(connection + 1u, 0);
+        return true;
+    case 70:
+        hold(connection, used);
+        return true;
     default:
         return false;
     }
@@ -112,12 +132,19 @@ int main(void)
     lent.image_length = number(12, 2);
     length = number(14, 2);
     twin_fresh(image, lent.image_length, &state);
-    for (size_t i = 0; i < image[15]; i++) /* the number of connections */
-        state.connections[i].mode = ONLINE;
     size_t what = number(0, 1), times = number(4, 4), place = number(8, 2);
+    for (size_t i = 0; i < image[15]; i++) { /* the number of connections */
+        struct record *c = &state.connections[i];
+        c->mode = ONLINE;
+        if (what < 128)
+            continue;
+        c->used = 10;
+        c->due = i % 2 == 0;
+        c->timer = c->due ? 0 : 65535;
+    }
     for (size_t i = 0; i < times; i++) {
         image[place] = (uint8_t)i;
-        all &= once(what, (uint8_t)number(1, 1), (uint16_t)number(2, 2), (uint16_t)number(10, 2));
+        all &= once(what % 128, (uint8_t)number(1, 1), (uint16_t)number(2, 2), (uint16_t)number(10, 2));
     }
     printf(all ? "OK\n" : "REFUSED\n");
     return 0;

@@ -14,7 +14,8 @@ struct met {
 
 static bool good_group(const uint8_t *row)
 {
-    return (row[0] == 1 || row[0] == 2) && row[1] == 0;
+    uint16_t both = be16(row);
+    return both == 0x0100 || both == 0x0200;
 }
 
 static bool good_connection(const uint8_t *row, size_t groups)
@@ -23,17 +24,20 @@ static bool good_connection(const uint8_t *row, size_t groups)
     return row[0] < groups && row[1] <= 1 && send_size >= 8 && send_size <= 1472 && be16(row + 10) == 0;
 }
 
+/* Connection, zero byte and longest payload as one word. */
 static bool good_route(const uint8_t *row, size_t connections)
 {
-    return row[0] < connections && row[1] == 0 && be16(row + 2) <= LONGEST && be16(row + 10) == 0;
+    uint32_t head = be32(row);
+    return head >> 24 < connections && (head & 0xFFFFFF) <= LONGEST && be16(row + 10) == 0;
 }
 
-/* A send size is at most 1,472, so what fits it with 8 more is at most LONGEST. */
+/* The same with the trigger. A send size is at most 1,472, so what fits it with 8 more is at most LONGEST. */
 static bool good_destination(const uint8_t *row, const struct layout *table)
 {
-    size_t connection = row[0];
-    return connection < table->rows[CONNECTION] && row[1] <= 1 &&
-           be16(row + 2) + 8u <= be16(table->body[CONNECTION] + connection * ROW + 8);
+    uint32_t head = be32(row);
+    size_t connection = head >> 24;
+    return connection < table->rows[CONNECTION] && (head & 0xFE0000) == 0 &&
+           (head & 0xFFFF) + 8 <= be16(table->body[CONNECTION] + connection * ROW + 8);
 }
 
 /* Adds row i of a body, unless an earlier row has the same connection and the same width bytes at a place of the row. */

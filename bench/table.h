@@ -24,14 +24,19 @@ bool check(const uint8_t *image, size_t image_length, struct layout *table, size
 /* The row number of the route for a header, or the reason of its drop. */
 uint32_t look_up(const struct layout *table, size_t connection, uint32_t switches, uint32_t id, uint32_t length, bool *dropped);
 
+/* One load and a swap each: the twins are for x86-64, as the library is. */
 static inline uint16_t be16(const uint8_t *p)
 {
-    return (uint16_t)(p[0] << 8 | p[1]);
+    uint16_t value;
+    __builtin_memcpy(&value, p, sizeof value);
+    return __builtin_bswap16(value);
 }
 
 static inline uint32_t be32(const uint8_t *p)
 {
-    return (uint32_t)p[0] << 24 | (uint32_t)p[1] << 16 | (uint32_t)p[2] << 8 | p[3];
+    uint32_t value;
+    __builtin_memcpy(&value, p, sizeof value);
+    return __builtin_bswap32(value);
 }
 
 static inline void put_be32(uint8_t *p, uint32_t value)

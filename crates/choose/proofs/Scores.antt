@@ -1,6 +1,6 @@
 -- A member's score, as the code finds it. Assumes nothing.
 use Prim.Native.Nat.{ℕ, _+_}
-use mathlib.Core.Path.{_≡_, ap₂, _∙_}
+use mathlib.Core.Path.{_≡_, refl, ap₂, _∙_}
 use mathlib.Core.Bool.{Bool, true, false, not, _&&_, _||_}
 use mathlib.Core.List.{List}
 use lib.Dec.{eqb, ltb}
@@ -29,6 +29,10 @@ module _ (accept member : Bool) (source : Remote) (c : Connection) (waits up : B
   unfolding scoreOf
   score-no t = cc
 
+no-member : (accept : Bool) (source : Remote) (c : Connection) → 0 ≡ scoreOf accept source false c
+unfolding scoreOf
+no-member accept source c = refl
+
 -- the score of record i, as the loop finds it
 pub score-at : (image : List ℕ) (s : State) (accept : Bool) (group : ℕ) (source : Remote) (rows : ℕ) (row : ConnectionBrief) (i found : ℕ)
     → rows ≡ rowsOf image KConnection → row ≡ briefIn (bodyOf image KConnection) i → found ≡ scoreOf accept source (ltb i rows && eqb (row .group) group) (recordAt s i)
@@ -36,3 +40,12 @@ pub score-at : (image : List ℕ) (s : State) (accept : Bool) (group : ℕ) (sou
 unfolding scoreAt
 score-at image s accept group source rows row i found p q r =
     r ∙ ap₂ (λ (n : ℕ) (x : ConnectionBrief). scoreOf accept source (ltb i n && eqb (x .group) group) (recordAt s i)) p q
+
+-- a record that is no member scores nothing
+pub score-out : (image : List ℕ) (s : State) (accept : Bool) (group : ℕ) (source : Remote) (rows : ℕ) (row : ConnectionBrief) (i : ℕ)
+    → rows ≡ rowsOf image KConnection → row ≡ briefIn (bodyOf image KConnection) i → (ltb i rows && eqb (row .group) group) ≡ false
+    → 0 ≡ scoreAt image s accept group source i
+score-out image s accept group source rows row i p q f = score-at image s accept group source rows row i 0 p q (none (ltb i rows && eqb (row .group) group) f)
+  where
+    none : (b : Bool) → b ≡ false → 0 ≡ scoreOf accept source b (recordAt s i)
+    none b e = rw e (no-member accept source (recordAt s i))

@@ -74,6 +74,10 @@ fn choose(image: &[u8], s: State, accept: bool, group: u8, source: Remote) -> Ch
     while i < 16 {
         let row = rows::brief_in(body, i);
         let member = (i < rows) & (row.group == group);
+        if !member {
+            i += 1;
+            continue;
+        }
         let c = s.connections[i];
         let found = score(accept, source, member, c);
         if found <= best {
@@ -101,7 +105,7 @@ fn protocol_of(accept: bool) -> u8
 }
 
 // A datagram (accept false) or an accept (accept true) for a group, from a source.
-pub fn arrive(image: &[u8], s: State, accept: bool, group: u8, source: Remote) -> Arrived
+pub fn arrive(image: &[u8], mut s: State, accept: bool, group: u8, source: Remote) -> Arrived
     ensures { λ r. ⌜ r ≡ Is.arriveOf (now (image .entry)) s accept group source ⌝ }
 {
     let groups = layout::rows_of(image, Kind::Group);
@@ -128,11 +132,10 @@ pub fn arrive(image: &[u8], s: State, accept: bool, group: u8, source: Remote) -
         Chosen::At(k) => {
             let c = s.connections[k];
             let met = c.met(source);
-            let mut next = s;
-            next.connections[k] = met;
+            s.connections[k] = met;
             Arrived {
                 answer: Arrival::Met(k as u8),
-                state: next,
+                state: s,
             }
         }
     }

@@ -1,4 +1,4 @@
 -- The laws of the crate. Assumes nothing.
 pub mod Records
-pub mod Quiet
+pub mod Idle
 pub mod Pass

@@ -1,7 +1,7 @@
 -- The records of a sound state, one by one: from the test and back. Assumes nothing.
 use Prim.Native.Nat.{ℕ, _+_, _<_, _≤_}
-use mathlib.Core.Path.{_≡_, refl, ap, _∙_}
-use mathlib.Core.Bool.{true, _&&_}
+use mathlib.Core.Path.{_≡_, refl, sym, ap, _∙_}
+use mathlib.Core.Bool.{Bool, true, false, _&&_}
 use mathlib.Core.List.{List}
 use native.Mathlib.Omega.{arith}
 use lib.ListN.{length, set, getD}
@@ -12,8 +12,10 @@ use Rattle.connection.specs.declared.Connection.{Connection}
 use Rattle.connection.specs.Connection.{zeroRecord}
 use Rattle.connection.specs.Sound.{soundOf, zeroOf, Sound}
 use Rattle.connection.proofs.Rules.{sound-from, sound-to, zero-is, zero-zero}
-use Rattle.lists.proofs.Both.{and-left, and-right, and-both}
+use Rattle.lists.proofs.Both.{and-left, and-right, and-both, impossible}
 use Rattle.lists.proofs.Each.{all-at, all-set}
+use Rattle.rows.specs.Rows.{connectionRow}
+use Rattle.rows.specs.Rules.{sizeIn}
 use Rattle.state.specs.Fresh.{configIn, configOf}
 use Rattle.lists.specs.Each.{all}
 use Rattle.gate.specs.Sound.{routed, soundAt, recordsSound}
@@ -73,3 +75,18 @@ records-in image cs rows connections groups routes a b d e = rw (a, b, d, e) (al
 pub rules-enough : (connections groups : List ℕ) (n : ℕ) (c : Connection) → soundOf (rulesIn connections groups n) c ≡ soundOf (configIn connections groups n) c
 unfolding soundOf
 rules-enough connections groups n c = refl
+
+-- one element does not meet its test
+pub all-not : {A : Type 0} (f : ℕ → A → Bool) (i : ℕ) (xs : List A) (d : A) → i < length xs → f i (getD xs i d) ≡ false → false ≡ all f 0 xs
+all-not f i xs d h p = go (all f 0 xs) refl
+  where
+    go : (b : Bool) → all f 0 xs ≡ b → false ≡ all f 0 xs
+    go false q = sym q
+    go true q =
+        let z : 0 + i ≡ i = omega arith in
+        impossible (sym p ∙ (rw z at (all-at f 0 i xs d q h)))
+
+-- the size that a row says
+pub size-is : (connections groups : List ℕ) (n : ℕ) → sizeIn connections n ≡ configIn connections groups n .size
+unfolding sizeIn connectionRow
+size-is connections groups n = refl

@@ -1,16 +1,16 @@
--- What the contracts of the inner functions cite: the same rules by the bodies, asked for once, and a quick way for records that hold
--- nothing. They say nothing that the rules of Gate and Sound do not say. Assumes nothing: these are definitions.
+-- What the contracts of the inner functions cite: the same rules by the bodies, asked for once, and a quick way for records that have
+-- received nothing and want nothing. They say nothing that the rules of Gate and Sound do not say. Assumes nothing: these are definitions.
 use Prim.Native.Nat.{ℕ}
 use mathlib.Core.Bool.{Bool, cond, not, _&&_}
 use mathlib.Core.List.{List}
-use lib.Dec.{eqb, ltb}
+use lib.Dec.{eqb, leb, ltb}
 use Rattle.rows.specs.declared.ConnectionBrief.{ConnectionBrief}
 use Rattle.rows.specs.declared.GroupRow.{GroupRow}
 use Rattle.rows.specs.Rows.{groupIn, briefIn}
 use Rattle.part.specs.Part.{emptyPart}
 use Rattle.connection.specs.declared.Config.{Config}
 use Rattle.connection.specs.declared.Connection.{Connection}
-use Rattle.connection.specs.Sound.{soundOf, zeroOf}
+use Rattle.connection.specs.Sound.{soundOf, zeroOf, sends, timed, neverBoth, onlineRemote}
 use Rattle.state.specs.Fresh.{configIn}
 use Rattle.gate.specs.Sound.{routed}
 
@@ -34,7 +34,9 @@ abbrev pub soundIn : ℕ → List ℕ → List ℕ → List ℕ → ℕ → Conn
 soundIn rows connections groups routes n c =
     cond (ltb n rows) (soundOf (configIn connections groups n) c && routed routes n (c .part)) (zeroOf c)
 
--- a record that holds nothing, wants nothing and waits for nothing: of the rules only "an online remote has no wildcard" is left
-abbrev pub quiet : Connection → Bool
-quiet c =
-    emptyPart (c .part) && eqb (c .used) 0 && eqb (c .timer) 0 && not (c .due) && not (c .«open_wanted») && not (c .«close_wanted»)
+-- a record that has received nothing and wants nothing: of the rules those on its send bytes are left, and "an online remote has no wildcard"
+abbrev pub idle : Connection → Bool
+idle c = emptyPart (c .part) && not (c .«open_wanted») && not (c .«close_wanted»)
+
+abbrev pub idleSound : ℕ → Connection → Bool
+idleSound size c = leb (c .used) size && sends c && timed c && neverBoth c && onlineRemote c

@@ -4,8 +4,9 @@ ghost use mathlib.Core.Path.{_≡_};
 ghost use Rattle.lists.specs.Each.{all};
 ghost use Rattle.connection.specs.Sound.{onlineRemote};
 ghost use Rattle.gate.specs.Sound.{routed, recordsSound};
-ghost use Rattle.gate.specs.Inner.{rulesFrom, rulesIn, soundIn, quiet};
+ghost use Rattle.gate.specs.Inner.{rulesFrom, rulesIn, soundIn, idle, idleSound};
 ghost use Rattle.gate.specs.Lent.{lent};
+ghost use Rattle.rows.specs.Rules.{sizeIn};
 ghost use Rattle.gate.specs.Gate.{gateOf, gateAt};
 use connection::Config;
 use connection::Connection;
@@ -22,6 +23,7 @@ use rows::GroupRow;
 use rows::brief_in;
 use rows::group_in;
 use rows::route_in;
+use rows::size_in;
 use state::State;
 use table::TableAnswer;
 use table::check_table;
@@ -77,26 +79,35 @@ fn rules_in(connections: &[u8], groups: &[u8], n: usize) -> Config
     rules_from(row, group)
 }
 
-// Whether a record holds nothing, wants nothing and waits for nothing: most do, and then one rule is left.
-fn is_quiet(c: Connection) -> bool
-    ensures { λ r. ⌜ r ≡ quiet c ⌝ }
-{
-    let part = c.part;
-    part::is_empty(part)
-        & (c.used == 0)
-        & (c.timer == 0)
-        & !c.due
-        & !c.open_wanted
-        & !c.close_wanted
-}
-
-// The rule that is left: an online remote has no wildcard.
+// An online remote has no wildcard.
 fn is_reached(c: Connection) -> bool
     ensures { λ r. ⌜ r ≡ onlineRemote c ⌝ }
 {
     let mode = c.mode;
     let remote = c.remote;
     !is_online(mode) | !has_wildcard(remote)
+}
+
+// Whether a record has received nothing and wants nothing: then the rules ask of its row the send size alone.
+fn is_idle(c: Connection) -> bool
+    ensures { λ r. ⌜ r ≡ idle c ⌝ }
+{
+    let part = c.part;
+    part::is_empty(part) & !c.open_wanted & !c.close_wanted
+}
+
+// The rules that are left of such a record: without send bytes no timer and no due mark; with them online, not both, and within the size.
+fn is_idle_sound(connections: &[u8], n: usize, c: Connection) -> bool
+    ensures { λ r. ⌜ r ≡ idleSound (sizeIn (now (connections .entry)) n) c ⌝ }
+{
+    let reached = is_reached(c);
+    if c.used == 0 {
+        return (c.timer == 0) & !c.due & reached;
+    }
+    let mode = c.mode;
+    let online = is_online(mode);
+    let size = size_in(connections, n);
+    (c.used as usize <= size) & online & ((c.timer == 0) | !c.due) & reached
 }
 
 // One record against its row, by the number of rows and the bodies; past the rows, against zero.
@@ -113,8 +124,8 @@ fn is_sound(
     if rows <= n {
         return connection.is_zero();
     }
-    if is_quiet(connection) {
-        return is_reached(connection);
+    if is_idle(connection) {
+        return is_idle_sound(connections, n, connection);
     }
     let part = connection.part;
     let rules = rules_in(connections, groups, n);
@@ -122,19 +133,19 @@ fn is_sound(
     connection.sound(rules) & has_route
 }
 
-// Each record of a state.
+// Each record of a state, up to the first that is not sound.
 fn each_sound(rows: usize, connections: &[u8], groups: &[u8], routes: &[u8], state: State) -> bool
     ensures { λ r. ⌜ r ≡ all (soundIn rows (now (connections .entry)) (now (groups .entry)) (now (routes .entry))) 0 (state .connections) ⌝ }
 {
-    let mut sound = true;
     let mut i: usize = 0;
     while i < 16 {
         let connection = state.connections[i];
-        let one = is_sound(rows, connections, groups, routes, i, connection);
-        sound = sound & one;
+        if !is_sound(rows, connections, groups, routes, i, connection) {
+            return false;
+        }
         i += 1;
     }
-    sound
+    true
 }
 
 // The same by the image, whose bodies are asked for once.

@@ -14,6 +14,9 @@
 //   what 6  a take of what waits on the connection, `used` bytes each time
 //   what 7  a tick
 //   what 8  a datagram for the group of the connection, from its configured remote
+//   what 9  an event through the dispatcher: the PDU is its number, the bytes are its body
+//   what 69, 70  what 5 and 6 do besides the call
+// 128 more: under a state in which each connection holds ten bytes to send, half of them due, half with a timer that runs.
 // Last word: OK when every call did what it names, REFUSED when one did not, CUT when the input is not what it says.
 // Assumes nothing.
 mod once;
@@ -23,7 +26,7 @@ use input::read_part;
 use libc::STDOUT_FILENO;
 use once::once;
 use pieces::front;
-use up::online;
+use up::start;
 use wire::be8;
 use wire::be16;
 use wire::be32;
@@ -43,13 +46,13 @@ fn repeat(
     used: u16,
     bytes: &[u8],
 ) -> bool {
-    let mut state = online(image, rx, tx);
+    let mut state = start(image, rx, tx, what);
     let mut all = true;
     let mut i: u32 = 0;
     while i < times {
         put8(image, place, (i % 256) as u8);
         let turn = once(
-            what,
+            what % 128,
             image,
             state,
             rx,
@@ -71,7 +74,7 @@ fn repeat(
 fn run(head: &[u8], image: &mut [u8], bytes: &[u8]) -> bool {
     let mut rx = [0u8; 23424];
     let mut tx = [0u8; 23552];
-    let mut out = [0u8; 1472];
+    let mut out = [0u8; 16384];
     repeat(
         be32(head, 4) as u32,
         be16(head, 8),

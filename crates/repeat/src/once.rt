@@ -1,4 +1,5 @@
 // One call of an entry point, by what it is (main.rt lists them), with the state as the next call is to find it. Assumes nothing.
+use answering::Verdict;
 use calls::bytes_from;
 use choose::Arrival;
 use connection::Answer;
@@ -13,6 +14,7 @@ use stream::Outcome;
 use waiting::Taking;
 use waiting::waiting_of;
 use wire::be8;
+use wire::be16;
 
 // Whether the call did what it names, and the state for the next.
 pub struct Turn {
@@ -228,6 +230,30 @@ fn arrive(image: &[u8], state: State, rx: &[u8], tx: &[u8], connection: u8) -> T
     }
 }
 
+// An event through the dispatcher, which writes its answer to the out buffer.
+fn dispatched(
+    image: &[u8],
+    state: State,
+    rx: &mut [u8],
+    tx: &mut [u8],
+    out: &mut [u8],
+    number: u16,
+    body: &[u8],
+) -> Turn {
+    let got = dispatch::dispatch(image, state, rx, tx, number, body, out);
+    let verdict = got.verdict;
+    let after = got.state;
+    let whole = if let Verdict::Done(_) = verdict {
+        true
+    } else {
+        false
+    };
+    Turn {
+        done: whole & (be16(out, 0) == 0),
+        state: after,
+    }
+}
+
 // The call that a number names; an unknown one does nothing, and says so.
 pub fn once(
     what: u8,
@@ -254,6 +280,15 @@ pub fn once(
         6 => take_waiting(image, state, rx, tx, out, connection, used),
         7 => tick(image, state, rx, tx),
         8 => arrive(image, state, rx, tx, connection),
+        9 => dispatched(image, state, rx, tx, out, pdu, bytes),
+        69 => Turn {
+            done: true,
+            state: emptied(state, connection as usize),
+        },
+        70 => Turn {
+            done: true,
+            state: holding(state, connection as usize, used),
+        },
         _ => Turn {
             done: false,
             state: state,

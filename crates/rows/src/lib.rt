@@ -3,7 +3,7 @@
 ghost use mathlib.Core.Path.{_≡_};
 ghost use Prim.Native.Nat.{_/_};
 ghost use lib.ListN.{length};
-ghost use Rattle.wire.specs.Be.{be};
+ghost use Rattle.wire.specs.Be.{be, Number};
 ghost use Rattle.rows.specs.Rows.{
   groupRow,
   connectionRow,
@@ -237,10 +237,19 @@ pub fn connection_good(row: &[u8], groups: usize) -> bool
         & (be16(row, 10) == 0)
 }
 
+// The connection of a route or a destination: the rules read a row's first four bytes as one number.
+pub fn owner_of(row: &[u8]) -> usize
+    ensures { λ r. ⌜ Number 1 (now (row .entry)) 0 r ⌝ }
+{
+    be32(row, 0) / 16777216
+}
+
+// Zero byte and longest payload are one number as well.
 pub fn route_good(row: &[u8], connections: usize) -> bool
     ensures { λ r. ⌜ r ≡ routeGood connections (now (row .entry)) ⌝ }
 {
-    (be8(row, 0) < connections) & (be8(row, 1) == 0) & (be16(row, 2) <= 1464) & (be16(row, 10) == 0)
+    let head = be32(row, 0);
+    (head / 16777216 < connections) & (head % 16777216 <= 1464) & (be32(row, 8) % 65536 == 0)
 }
 
 // The send size of connection c, out of the body of connections.
@@ -250,15 +259,20 @@ pub fn size_in(connections: &[u8], c: usize) -> usize
     be16(row_in(connections, 16, c), 8)
 }
 
+// The same, with the trigger (65,536) in the place of the zero byte.
 pub fn destination_good(row: &[u8], connections: &[u8]) -> bool
     ensures { λ r. ⌜ r ≡ destinationGood (length (now (connections .entry)) / 16) (sizeIn (now (connections .entry))) (now (row .entry)) ⌝ }
 {
-    let connection = be8(row, 0);
-    let longest = be16(row, 2);
-    (connection < connections.len() / 16)
-        & (be8(row, 1) <= 1)
-        & (longest <= 1464)
-        & (longest + 8 <= size_in(connections, connection))
+    let head = be32(row, 0);
+    let connection = head / 16777216;
+    if connections.len() / 16 <= connection {
+        return false;
+    }
+    let at = connection * 16;
+    let owner = &connections[at..at + 16];
+    let low = head % 16777216;
+    let allowed = (low <= 1464) | ((65536 <= low) & (low <= 67000));
+    allowed & (head % 65536 + 8 <= be16(owner, 8))
 }
 
 // ---- rows two by two

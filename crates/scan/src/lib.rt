@@ -1,23 +1,29 @@
 // The first bad row of each kind's body. A row is tested by itself first; then, where its mark was met before, against
-// each earlier row. The marks make the search quick; no public contract shows them. Assumes nothing.
+// each earlier row, outside of the loop that most rows stay in. The marks make the search quick; no public contract shows them.
+// Assumes nothing.
 ghost use mathlib.Core.Path.{_≡_};
-ghost use mathlib.Core.Bool.{true};
-ghost use Prim.Native.Nat.{ℕ, _/_, _<_};
+ghost use Prim.Native.Nat.{ℕ, _/_, _<_, _≤_};
 ghost use lib.ListN.{length};
 ghost use Rattle.lists.specs.Search.{firstBad, every};
-ghost use Rattle.rows.specs.Rules.{sizeIn, groupGood, connectionGood, routeGood, destinationGood};
-ghost use Rattle.scan.specs.Scan.{share, clearIn, goodIn};
-ghost use Rattle.scan.specs.Marks.{markOf, routeMark, destinationMark};
+ghost use Rattle.rows.specs.Rules.{groupGood, connectionGood, routeGood};
+ghost use Rattle.scan.specs.Scan.{share, clearIn, goodIn, destinationRule, badRoute, badDestination, badRows};
+ghost use Rattle.scan.specs.Marks.{markOf, routeMark, destinationMark, Come, Struck};
 use layout::Kind;
 use rows::connection_good;
 use rows::destination_good;
 use rows::destinations_share;
 use rows::group_good;
+use rows::owner_of;
 use rows::route_good;
 use rows::routes_share;
-use wire::be8;
 use wire::be16;
 use wire::be32;
+
+// The first bad row of two kinds.
+pub struct BadRows {
+    pub route: usize,
+    pub destination: usize,
+}
 
 // The first bad group, or the row count where there is none.
 pub fn first_bad_group(body: &[u8]) -> usize
@@ -84,41 +90,33 @@ fn fresh(body: &[u8], k: Kind, i: usize) -> bool
     true
 }
 
-// The same; where the row's mark is new (`old` is not 1) no earlier row can share it.
-fn fresh_if(body: &[u8], k: Kind, i: usize, old: u8) -> bool
-    requires { ⌜ (i < length (now body) / 16) × ((old ≡ 1 → ⊥) → every (clearIn (share k) 16 (now body) i) i ≡ true) ⌝ }
-    ensures { λ r. ⌜ r ≡ every (clearIn (share k) 16 (now (body .entry)) i) i ⌝ }
-{
-    if old == 1 { fresh(body, k, i) } else { true }
-}
-
 // A number below 2,048 of what a row may share with no other.
 fn mark_of(connection: usize, key: usize) -> usize
     requires { ⌜ (connection < 256) × (key < 4294967296) ⌝ }
     ensures { λ r. ⌜ (r ≡ markOf connection key) × (r < 2048) ⌝ }
 {
-    (key * 2654435769 + connection * 3332197337) % 4294967296 / 2097152
+    (key + connection * 268435456) % 4294967296 * 2654435769 % 4294967296 / 2097152
 }
 
 fn route_mark(row: &[u8]) -> usize
     ensures { λ r. ⌜ (r ≡ routeMark (now (row .entry))) × (r < 2048) ⌝ }
 {
-    mark_of(be8(row, 0), be32(row, 4))
+    mark_of(owner_of(row), be32(row, 4))
 }
 
 fn destination_mark(row: &[u8]) -> usize
     ensures { λ r. ⌜ (r ≡ destinationMark (now (row .entry))) × (r < 2048) ⌝ }
 {
-    mark_of(be8(row, 0), be16(row, 8))
+    mark_of(owner_of(row), be16(row, 8))
 }
 
-// The first bad route, or the row count where there is none. `seen` holds 1 at each mark met.
-pub fn first_bad_route(body: &[u8], connections: usize) -> usize
-    ensures { λ r. ⌜ r ≡ firstBad (goodIn (routeGood connections) (share Kind.Route) 16 (now (body .entry))) (length (now (body .entry)) / 16) ⌝ }
+// From row `from` on, the first route that is bad by itself or whose mark was met. `seen` holds 1 at each mark met.
+fn next_route(body: &[u8], connections: usize, seen: &mut [u8; 2048], from: usize) -> usize
+    requires { ⌜ Come (routeGood connections) (share Kind.Route) routeMark 1 (now body) (now seen) from ⌝ }
+    ensures { λ r. ⌜ (from ≤ r) × Struck (routeGood connections) (share Kind.Route) routeMark 1 (now (body .entry)) (now (seen .exit)) r ⌝ }
 {
     let n = body.len() / 16;
-    let mut seen = [0u8; 2048];
-    let mut i = 0;
+    let mut i = from;
     while i < n {
         let at = i * 16;
         let row = &body[at..at + 16];
@@ -126,8 +124,7 @@ pub fn first_bad_route(body: &[u8], connections: usize) -> usize
             return i;
         }
         let mark = route_mark(row);
-        let old = seen[mark];
-        if !fresh_if(body, Kind::Route, i, old) {
+        if seen[mark] == 1 {
             return i;
         }
         seen[mark] = 1;
@@ -136,13 +133,43 @@ pub fn first_bad_route(body: &[u8], connections: usize) -> usize
     i
 }
 
-// The first bad destination, or the row count where there is none. `seen` holds 1 at each mark met.
-pub fn first_bad_destination<'a>(body: &'a [u8], connections: &'a [u8]) -> usize
-    ensures { λ r. ⌜ r ≡ firstBad (goodIn (destinationGood (length (now (connections .entry)) / 16) (sizeIn (now (connections .entry)))) (share Kind.Destination) 16 (now (body .entry))) (length (now (body .entry)) / 16) ⌝ }
+// The first bad route, or the row count where there is none.
+fn first_bad_route(body: &[u8], connections: usize, seen: &mut [u8; 2048]) -> usize
+    requires { ⌜ length (now seen) ≡ 2048 ⌝ }
+    ensures { λ r. ⌜ r ≡ badRoute connections (now (body .entry)) ⌝ }
+    ensures { λ _. ⌜ length (now (seen .exit)) ≡ 2048 ⌝ }
 {
     let n = body.len() / 16;
-    let mut seen = [0u8; 2048];
     let mut i = 0;
+    loop {
+        i = next_route(body, connections, seen, i);
+        if n <= i {
+            return i;
+        }
+        let at = i * 16;
+        let row = &body[at..at + 16];
+        if !route_good(row, connections) {
+            return i;
+        }
+        if !fresh(body, Kind::Route, i) {
+            return i;
+        }
+        i += 1;
+    }
+}
+
+// The same of destinations. `seen` holds 2 at each mark met.
+fn next_destination<'a>(
+    body: &'a [u8],
+    connections: &'a [u8],
+    seen: &mut [u8; 2048],
+    from: usize,
+) -> usize
+    requires { ⌜ Come (destinationRule (now connections)) (share Kind.Destination) destinationMark 2 (now body) (now seen) from ⌝ }
+    ensures { λ r. ⌜ (from ≤ r) × Struck (destinationRule (now (connections .entry))) (share Kind.Destination) destinationMark 2 (now (body .entry)) (now (seen .exit)) r ⌝ }
+{
+    let n = body.len() / 16;
+    let mut i = from;
     while i < n {
         let at = i * 16;
         let row = &body[at..at + 16];
@@ -150,12 +177,51 @@ pub fn first_bad_destination<'a>(body: &'a [u8], connections: &'a [u8]) -> usize
             return i;
         }
         let mark = destination_mark(row);
-        let old = seen[mark];
-        if !fresh_if(body, Kind::Destination, i, old) {
+        if seen[mark] == 2 {
             return i;
         }
-        seen[mark] = 1;
+        seen[mark] = 2;
         i += 1;
     }
     i
+}
+
+fn first_bad_destination<'a>(body: &'a [u8], connections: &'a [u8], seen: &mut [u8; 2048]) -> usize
+    requires { ⌜ length (now seen) ≡ 2048 ⌝ }
+    ensures { λ r. ⌜ r ≡ badDestination (now (connections .entry)) (now (body .entry)) ⌝ }
+{
+    let n = body.len() / 16;
+    let mut i = 0;
+    loop {
+        i = next_destination(body, connections, seen, i);
+        if n <= i {
+            return i;
+        }
+        let at = i * 16;
+        let row = &body[at..at + 16];
+        if !destination_good(row, connections) {
+            return i;
+        }
+        if !fresh(body, Kind::Destination, i) {
+            return i;
+        }
+        i += 1;
+    }
+}
+
+// The first bad route and the first bad destination, each the row count where there is none; one set of marks serves both.
+pub fn first_bad_rows<'a>(
+    routes: &'a [u8],
+    destinations: &'a [u8],
+    connections: &'a [u8],
+) -> BadRows
+    ensures { λ r. ⌜ r ≡ badRows (now (routes .entry)) (now (destinations .entry)) (now (connections .entry)) ⌝ }
+{
+    let mut seen = [0u8; 2048];
+    let route = first_bad_route(routes, connections.len() / 16, &mut seen);
+    let destination = first_bad_destination(destinations, connections, &mut seen);
+    BadRows {
+        route: route,
+        destination: destination,
+    }
 }

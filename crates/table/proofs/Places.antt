@@ -12,8 +12,9 @@ use Rattle.layout.proofs.Parts.{body-rows}
 use Rattle.layout.specs.declared.Kind.{Kind}
 use Rattle.layout.specs.declared.Kind.the-variants.{Group, Connection, Route, Destination}
 use Rattle.rows.specs.Rules.{groupGood, connectionGood, routeGood, destinationGood, sizeIn}
-use Rattle.scan.specs.Scan.{share, goodIn}
-use Rattle.table.specs.Table.{rule, demand, rowsPlace}
+use Rattle.scan.specs.declared.BadRows.{BadRows}
+use Rattle.scan.specs.Scan.{share, goodIn, badRows}
+use Rattle.table.specs.Table.{rule, demand, then, rowsPlace}
 use Rattle.table.specs.declared.TableAnswer.{TableAnswer}
 use Rattle.table.specs.declared.TableAnswer.the-variants.{Accepted, Refused}
 
@@ -69,3 +70,17 @@ module _ (s : List ℕ) (l : Laid s) (r : TableAnswer) (bad : ℕ) where
       ∙ ap (λ (x : List ℕ). firstBad (goodIn (destinationGood (length x / 16) (sizeIn x)) (share Destination) 16 (bodyOf s Destination)) (length (bodyOf s Destination) / 16)) c
       ∙ ap (λ (n : ℕ). firstBad (goodIn (destinationGood n (sizeIn (bodyOf s Connection))) (share Destination) 16 (bodyOf s Destination)) (length (bodyOf s Destination) / 16)) (body-rows s l Connection))
       f
+
+-- the last two kinds, by what one search gives
+pub last-places : (s : List ℕ) (l : Laid s) (routes destinations connections : List ℕ) (x : BadRows) (a b r : TableAnswer)
+    → routes ≡ bodyOf s Route → destinations ≡ bodyOf s Destination → connections ≡ bodyOf s Connection → x ≡ badRows routes destinations connections
+    → a ≡ demand (leb (rowsOf s Route) (x .route)) (rowAt s Route (x .route))
+    → b ≡ demand (leb (rowsOf s Destination) (x .destination)) (rowAt s Destination (x .destination))
+    → r ≡ then a b → r ≡ then (rowsPlace s Route) (rowsPlace s Destination)
+last-places s l routes destinations connections x a b r er ed ec ex ea eb e =
+    let p : a ≡ rowsPlace s Route =
+    routes-place s l a (x .route) routes (length connections / 16) er (ap (λ (y : List ℕ). length y / 16) ec ∙ body-rows s l Connection)
+    (ap (λ (y : BadRows). y .route) ex) ea in
+    let q : b ≡ rowsPlace s Destination =
+    destinations-place s l b (x .destination) destinations connections ed ec (ap (λ (y : BadRows). y .destination) ex) eb in
+    e ∙ ap (λ (y : TableAnswer). then y b) p ∙ ap (then (rowsPlace s Route)) q

@@ -30,9 +30,8 @@ use layout::row_bytes;
 use layout::rows_of;
 use layout::start_of;
 use scan::first_bad_connection;
-use scan::first_bad_destination;
 use scan::first_bad_group;
-use scan::first_bad_route;
+use scan::first_bad_rows;
 use wire::be16;
 use wire::be32;
 
@@ -113,23 +112,13 @@ fn after_connections(image: &[u8]) -> TableAnswer
     requires { ⌜ Laid (now image) ⌝ }
     ensures { λ r. ⌜ r ≡ then (rowsPlace (now (image .entry)) Kind.Route) (rowsPlace (now (image .entry)) Kind.Destination) ⌝ }
 {
-    let bad_route = first_bad_route(
-        body_of(image, Kind::Route),
-        rows_of(image, Kind::Connection),
-    );
-    let routes = place_of(image, Kind::Route, bad_route);
-    match routes {
-        TableAnswer::Refused(p) => TableAnswer::Refused(p),
-        TableAnswer::Accepted => {
-            let connections = body_of(image, Kind::Connection);
-            let destinations = body_of(image, Kind::Destination);
-            place_of(
-                image,
-                Kind::Destination,
-                first_bad_destination(destinations, connections),
-            )
-        }
-    }
+    let routes = body_of(image, Kind::Route);
+    let destinations = body_of(image, Kind::Destination);
+    let connections = body_of(image, Kind::Connection);
+    let bad = first_bad_rows(routes, destinations, connections);
+    let route = place_of(image, Kind::Route, bad.route);
+    let destination = place_of(image, Kind::Destination, bad.destination);
+    first_refusal(route, destination)
 }
 
 fn after_groups(image: &[u8]) -> TableAnswer

@@ -1,13 +1,13 @@
 -- Two numbers side by side are one number: the one law of the readers, over both widths. Assumes nothing.
-use Prim.Native.Nat.{ℕ, zero, suc, _+_, _*_, _^_, _<_, _≤_}
-use mathlib.Core.Path.{_≡_, refl, sym}
+use Prim.Native.Nat.{ℕ, zero, suc, _+_, _*_, _/_, _%_, _^_, _<_, _≤_}
+use mathlib.Core.Path.{_≡_, refl, sym, ap, _∙_}
 use mathlib.Core.List.{List}
 use native.Mathlib.Nat.{add-zero, add-suc, add-assoc, mul-one, pow-zero, pow-suc, add-mul, mul-assoc, zero-mul, zero-add}
 use native.Mathlib.Omega.{arith}
 use lib.Arith.{digits-lt}
 use lib.Pow.{pow-add}
 use lib.ListN.{length, List·getD-eq-default}
-use Rattle.wire.specs.Be.{be, byteAt, Number}
+use Rattle.wire.specs.Be.{be, byteAt, Number, Little, turn}
 
 -- m + n bytes are m bytes and, after them, n bytes
 pub be-add : (m n : ℕ) (s : List ℕ) (at : ℕ) → be (m + n) s at ≡ be m s at * 256 ^ n + be n s (at + m)
@@ -40,3 +40,34 @@ past (suc w) s at h = rw (past w s at h, beyond (at + w) (omega arith))
 
 pub none : (w : ℕ) (s : List ℕ) (at : ℕ) → length s ≤ at → 0 < 256 ^ w → Number w s at 0
 none w s at h p = record { is = sym (past w s at h); small = p }
+
+-- four bytes, the last the highest, turned round
+module _ (a b d e : ℕ) (ha : a < 256) (hb : b < 256) (hd : d < 256) (he : e < 256) where
+  abbrev little : ℕ
+  little = a + b * 256 + d * 65536 + e * 16777216
+
+  turn-first : little % 256 ≡ a
+  turn-first = omega arith
+
+  turn-second : little / 256 % 256 ≡ b
+  turn-second = omega arith
+
+  turn-third : little / 65536 % 256 ≡ d
+  turn-third = omega arith
+
+  turn-fourth : little / 16777216 ≡ e
+  turn-fourth = omega arith
+
+  turned-is : turn little ≡ (a * 256 + b) * 65536 + (d * 256 + e)
+  unfolding turn
+  turned-is = rw (turn-first, turn-second, turn-third, turn-fourth) (omega arith)
+
+pub turned-number : {s : List ℕ} {at r x : ℕ} → Little s at r → x ≡ turn r → Number 4 s at x
+turned-number {s} {at} {r} {x} l e =
+    let third : at + 2 + 1 ≡ at + 3 = omega arith in
+    let four : Number 4 s at ((byteAt s at * 256 + byteAt s (at + 1)) * 65536 + (byteAt s (at + 2) * 256 + byteAt s (at + 3))) =
+    join 2 2 (join 1 1 (one s at _ refl (l .first)) (one s (at + 1) _ refl (l .second)))
+    (join 1 1 (one s (at + 2) _ refl (l .third)) (one s (at + 2 + 1) _ (ap (byteAt s) (sym third)) (l .fourth))) in
+    let is : x ≡ (byteAt s at * 256 + byteAt s (at + 1)) * 65536 + (byteAt s (at + 2) * 256 + byteAt s (at + 3)) =
+    e ∙ ap turn (l .is) ∙ turned-is (byteAt s at) (byteAt s (at + 1)) (byteAt s (at + 2)) (byteAt s (at + 3)) (l .first) (l .second) (l .third) (l .fourth) in
+    record { is = is ∙ four .is; small = rw is (four .small) }

@@ -1,6 +1,6 @@
 -- Big-endian numbers: the number that w bytes from a position stand for.
 -- Assumes nothing.
-use Prim.Native.Nat.{ℕ, zero, suc, _+_, _*_, _<_, _^_}
+use Prim.Native.Nat.{ℕ, zero, suc, _+_, _*_, _/_, _%_, _<_, _^_}
 use mathlib.Core.Path.{_≡_}
 use mathlib.Core.List.{List}
 use lib.ListN.{getD}
@@ -18,3 +18,15 @@ be (suc w) s at = be w s at * 256 + byteAt s (at + w)
 pub record Number (w : ℕ) (s : List ℕ) (at r : ℕ) : Type 0 where
   pub is : r ≡ be w s at
   pub small : r < 256 ^ w
+
+-- r is what four bytes stand for when the last is the highest, and each is a byte
+pub record Little (s : List ℕ) (at r : ℕ) : Type 0 where
+  pub is : r ≡ byteAt s at + byteAt s (at + 1) * 256 + byteAt s (at + 2) * 65536 + byteAt s (at + 3) * 16777216
+  pub first : byteAt s at < 256
+  pub second : byteAt s (at + 1) < 256
+  pub third : byteAt s (at + 2) < 256
+  pub fourth : byteAt s (at + 3) < 256
+
+-- a number of four bytes with its bytes in the other order
+unfoldable pub turn : ℕ → ℕ
+turn x = x % 256 * 16777216 + x / 256 % 256 * 65536 + x / 65536 % 256 * 256 + x / 16777216

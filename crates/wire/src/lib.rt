@@ -4,7 +4,7 @@ ghost use mathlib.Core.Path.{_≡_};
 ghost use Prim.Native.Nat.{_+_, _≤_, _<_};
 ghost use lib.Dec.{leb};
 ghost use lib.ListN.{length};
-ghost use Rattle.wire.specs.Be.{Number};
+ghost use Rattle.wire.specs.Be.{Number, Little, turn};
 ghost use Rattle.wire.specs.Lay.{spell, lay};
 
 fn wide(x: u8) -> usize
@@ -29,14 +29,41 @@ pub fn be16(s: &[u8], at: usize) -> usize
     }
 }
 
+fn wide32(x: u8) -> u32
+    ensures { λ r. ⌜ (r ≡ x) × (r < 256) ⌝ }
+{
+    x as u32
+}
+
+// Four bytes that are there, the last the highest: of this form the compiler makes one load.
+fn little(s: &[u8], at: usize) -> u32
+    requires { ⌜ at + 4 ≤ length (now s) ⌝ }
+    ensures { λ r. ⌜ Little (now (s .entry)) at r ⌝ }
+{
+    wide32(s[at])
+        + wide32(s[at + 1]) * 256
+        + wide32(s[at + 2]) * 65536
+        + wide32(s[at + 3]) * 16777216
+}
+
+// The same four bytes, the first the highest.
+fn turned(x: u32) -> u32
+    ensures { λ r. ⌜ r ≡ turn x ⌝ }
+{
+    x % 256 * 16777216 + x / 256 % 256 * 65536 + x / 65536 % 256 * 256 + x / 16777216
+}
+
+// Four bytes by one load where all are there, two by two elsewhere.
 pub fn be32(s: &[u8], at: usize) -> usize
     ensures { λ r. ⌜ Number 4 (now (s .entry)) at r ⌝ }
 {
-    if at < s.len() {
-        be16(s, at) * 65536 + be16(s, at + 2)
-    } else {
-        0
+    if s.len() <= at {
+        return 0;
     }
+    if 4 <= s.len() - at {
+        return turned(little(s, at)) as usize;
+    }
+    be16(s, at) * 65536 + be16(s, at + 2)
 }
 
 // n bytes from `at` on stand within `long`.

@@ -57,8 +57,8 @@ mul-met c = omega (arith, small (c .before .before))
 element-set-from-met : tie.Need-element-set-from-met
 element-set-from-met c = small (c .before .before)
 
-cast-t38 : tie.Need-cast-t38
-cast-t38 c = omega (arith, small (c .before .before))
+cast-t36 : tie.Need-cast-t36
+cast-t36 c = omega (arith, small (c .before .before))
 
 returns-3 : tie.Need-returns-3
 returns-3 c =
@@ -93,6 +93,6 @@ arrive-spec =
     met-requires
     mul-met
     element-set-from-met
-    cast-t38
+    cast-t36
     returns-3
     returns-4)

@@ -4,11 +4,12 @@ use mathlib.Core.Path.{_≡_, ap, _∙_}
 use mathlib.Core.List.{List}
 use native.Mathlib.Omega.{arith}
 use denote.Ref.{now}
+use borrow.Author.Tests.{not-true}
 use borrow.Author.Needs.{needs}
 use Rattle.rows.specs.Rows.{briefIn}
 use Rattle.lists.proofs.Fold.{fold-start}
 use Rattle.choose.specs.Choose.{scoreAt}
-use Rattle.choose.proofs.Scores.{score-at}
+use Rattle.choose.proofs.Scores.{score-at, score-out}
 use Rattle.choose.proofs.Pass.{Passing, pass-no, pass-yes, pass-nobody, pass-somebody}
 use Rattle.choose.proofs.choose.Statement.{statement}
 use Rattle.choose.proofs.choose.Tie as tie
@@ -31,6 +32,21 @@ loop-holds c = fold-start _ _ _
 brief-in-requires : tie.Need-brief-in-requires Inv-loop μ-loop
 brief-in-requires c κs = search needs
 
+add-i : tie.Need-add-i Inv-loop μ-loop
+add-i c = omega arith
+
+loop-less : tie.Need-loop-less Inv-loop μ-loop
+loop-less c = omega arith
+
+loop-again : tie.Need-loop-again Inv-loop μ-loop
+loop-again c =
+    let l = c .before .before .before .before in
+    let a = l .before .before .before .before .args in
+    pass-no _ _ _ _ _ (l .loop .i) _ _ 0 (l .loop .inv) (omega arith)
+    (score-out (now (a .image)) (a .t2) (a .accept) (a .group) (a .source) _ _ (l .loop .i) (l .before .before .rows-of .ensures .0)
+    (c .before .before .brief-in .ensures ∙ ap (λ (b : List ℕ). briefIn b (l .loop .i)) (l .before .body-of .ensures .0)) (not-true _ (c .if1 .taken)))
+    (omega arith)
+
 mul-c : tie.Need-mul-c Inv-loop μ-loop
 mul-c c = search needs
 
@@ -40,39 +56,39 @@ element-copy-out-c c = omega arith
 score-requires : tie.Need-score-requires Inv-loop μ-loop
 score-requires c κs = search needs
 
-add-i : tie.Need-add-i Inv-loop μ-loop
-add-i c = omega arith
-
-loop-less : tie.Need-loop-less Inv-loop μ-loop
-loop-less c = omega arith
-
--- the score of record i, as the definition has it
-abbrev L : tie.After-score Inv-loop μ-loop → tie.At-loop Inv-loop μ-loop
-L c = c .before .before .before .before .before
-
-abbrev A : tie.After-score Inv-loop μ-loop → tie.Start Inv-loop μ-loop
-A c = L c .before .before .before .before
-
-scored : (c : tie.After-score Inv-loop μ-loop) → c .score .result ≡ scoreAt (now (A c .args .image)) (A c .args .t2) (A c .args .accept) (A c .args .group) (A c .args .source) (L c .loop .i)
-scored c = score-at _ (A c .args .t2) _ _ _ _ _ (L c .loop .i) _ (L c .before .before .rows-of .ensures .0) (c .before .before .before .brief-in .ensures ∙ ap (λ (b : List ℕ). briefIn b (L c .loop .i)) (L c .before .body-of .ensures .0)) (c .score .ensures)
-
-loop-again : tie.Need-loop-again Inv-loop μ-loop
-loop-again c = let l = L (c .before) in pass-no _ _ _ _ _ (l .loop .i) _ _ _ (l .loop .inv) (omega arith) (scored (c .before)) (c .if1 .taken)
-
 add-i-2 : tie.Need-add-i-2 Inv-loop μ-loop
 add-i-2 c = omega arith
 
 loop-less-2 : tie.Need-loop-less-2 Inv-loop μ-loop
 loop-less-2 c = omega arith
 
+-- the score of record i, as the definition has it
+abbrev L : tie.After-score Inv-loop μ-loop → tie.At-loop Inv-loop μ-loop
+L c = c .before .before .before .before .before .before
+
+abbrev A : tie.After-score Inv-loop μ-loop → tie.Start Inv-loop μ-loop
+A c = L c .before .before .before .before
+
+scored : (c : tie.After-score Inv-loop μ-loop) → c .score .result ≡ scoreAt (now (A c .args .image)) (A c .args .t2) (A c .args .accept) (A c .args .group) (A c .args .source) (L c .loop .i)
+scored c = score-at _ (A c .args .t2) _ _ _ _ _ (L c .loop .i) _ (L c .before .before .rows-of .ensures .0) (c .before .before .before .before .brief-in .ensures ∙ ap (λ (b : List ℕ). briefIn b (L c .loop .i)) (L c .before .body-of .ensures .0)) (c .score .ensures)
+
 loop-again-2 : tie.Need-loop-again-2 Inv-loop μ-loop
-loop-again-2 c = let l = L (c .before) in pass-yes _ _ _ _ _ (l .loop .i) _ _ _ (l .loop .inv) (omega arith) (scored (c .before)) (c .if1 .left)
+loop-again-2 c = let l = L (c .before) in pass-no _ _ _ _ _ (l .loop .i) _ _ _ (l .loop .inv) (omega arith) (scored (c .before)) (c .if2 .taken)
+
+add-i-3 : tie.Need-add-i-3 Inv-loop μ-loop
+add-i-3 c = omega arith
+
+loop-less-3 : tie.Need-loop-less-3 Inv-loop μ-loop
+loop-less-3 c = omega arith
+
+loop-again-3 : tie.Need-loop-again-3 Inv-loop μ-loop
+loop-again-3 c = let l = L (c .before) in pass-yes _ _ _ _ _ (l .loop .i) _ _ _ (l .loop .inv) (omega arith) (scored (c .before)) (c .if2 .left)
 
 returns : tie.Need-returns Inv-loop μ-loop
-returns c = let l = c .before .before in pass-nobody _ _ _ _ _ (l .loop .i) _ _ (l .loop .inv) (c .before .loop-test .left) (c .if2 .taken)
+returns c = let l = c .before .before in pass-nobody _ _ _ _ _ (l .loop .i) _ _ (l .loop .inv) (c .before .loop-test .left) (c .if3 .taken)
 
 returns-2 : tie.Need-returns-2 Inv-loop μ-loop
-returns-2 c = let l = c .before .before in pass-somebody _ _ _ _ _ (l .loop .i) _ _ (l .loop .inv) (c .before .loop-test .left) (c .if2 .left)
+returns-2 c = let l = c .before .before in pass-somebody _ _ _ _ _ (l .loop .i) _ _ (l .loop .inv) (c .before .loop-test .left) (c .if3 .left)
 
 pub choose-spec : {M : Type 1} → statement M
 choose-spec =
@@ -84,14 +100,17 @@ choose-spec =
     body-of-requires
     loop-holds
     brief-in-requires
-    mul-c
-    element-copy-out-c
-    score-requires
     add-i
     loop-less
     loop-again
+    mul-c
+    element-copy-out-c
+    score-requires
     add-i-2
     loop-less-2
     loop-again-2
+    add-i-3
+    loop-less-3
+    loop-again-3
     returns
     returns-2)

@@ -1,10 +1,12 @@
 -- `gate::is_sound` meets its contract. Assumes nothing.
-use mathlib.Core.Path.{sym, _∙_}
+use Prim.Native.Nat.{ℕ}
+use mathlib.Core.Path.{sym, ap, _∙_}
 use denote.Ref.{now}
 use borrow.Author.Tests.{lt-ltb, le-ltb}
 use borrow.Author.Needs.{needs}
-use Rattle.gate.proofs.Records.{rules-enough}
-use Rattle.gate.proofs.Quiet.{quiet-sound}
+use Rattle.gate.specs.Inner.{idleSound}
+use Rattle.gate.proofs.Records.{rules-enough, size-is}
+use Rattle.gate.proofs.Idle.{idle-sound}
 use Rattle.gate.proofs.is_sound.Statement.{statement}
 use Rattle.gate.proofs.is_sound.Tie as tie
 
@@ -14,16 +16,19 @@ is-zero-requires c κs = search needs
 returns : tie.Need-returns
 returns c = rw (le-ltb _ _ (c .before .if1 .taken)) (c .is-zero .ensures)
 
-is-quiet-requires : tie.Need-is-quiet-requires
-is-quiet-requires c κs = search needs
+is-idle-requires : tie.Need-is-idle-requires
+is-idle-requires c κs = search needs
 
-is-reached-requires : tie.Need-is-reached-requires
-is-reached-requires c κs = search needs
+is-idle-sound-requires : tie.Need-is-idle-sound-requires
+is-idle-sound-requires c κs = search needs
 
 returns-2 : tie.Need-returns-2
 returns-2 c =
-    let q = c .before .before in
-    rw (lt-ltb _ _ (q .before .if1 .left)) (c .is-reached .ensures ∙ sym (quiet-sound _ _ _ _ (sym (q .is-quiet .ensures) ∙ c .before .if2 .taken)))
+    let i = c .before .before in
+    let a = i .before .before .before .before .before .args in
+    rw (lt-ltb _ _ (i .before .if1 .left))
+    (c .is-idle-sound .ensures ∙ ap (λ (k : ℕ). idleSound k (a .connection)) (size-is (now (a .connections)) (now (a .groups)) (a .n))
+    ∙ sym (idle-sound _ _ _ _ (sym (i .is-idle .ensures) ∙ c .before .if2 .taken)))
 
 rules-in-requires : tie.Need-rules-in-requires
 rules-in-requires c κs = search needs
@@ -52,8 +57,8 @@ is-sound-spec =
     (tie.spec
     is-zero-requires
     returns
-    is-quiet-requires
-    is-reached-requires
+    is-idle-requires
+    is-idle-sound-requires
     returns-2
     rules-in-requires
     is-routed-requires

@@ -15,8 +15,8 @@ abbrev μ-loop : tie.MeasureT-loop
 μ-loop times place what image₀ rx₀ tx₀ out₀ connection pdu used bytes state₀ all₀ i₀ image rx tx out state all i =
     times - i
 
-online-requires : tie.Need-online-requires Inv-loop μ-loop
-online-requires c κs = search needs
+start-requires : tie.Need-start-requires Inv-loop μ-loop
+start-requires c κs = search needs
 
 loop-holds : tie.Need-loop-holds Inv-loop μ-loop
 loop-holds c = (omega arith, refl, refl, refl, refl)
@@ -60,7 +60,7 @@ repeat-spec =
     (tie.spec
     Inv-loop
     μ-loop
-    online-requires
+    start-requires
     loop-holds
     cast-put8
     put8-requires

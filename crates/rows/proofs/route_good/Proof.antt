@@ -1,25 +1,17 @@
 -- `rows::route_good` meets its contract. Assumes nothing.
-use Rattle.rows.specs.Rules.{routeGood}
+use Rattle.rows.proofs.Heads.{route-by-head}
 use borrow.Author.Needs.{needs}
 use Rattle.rows.proofs.route_good.Statement.{statement}
 use Rattle.rows.proofs.route_good.Tie as tie
 
-be8-requires : tie.Need-be8-requires
-be8-requires c κs = search needs
+be32-requires : tie.Need-be32-requires
+be32-requires c κs = search needs
 
-be8-requires-2 : tie.Need-be8-requires-2
-be8-requires-2 c κs = search needs
-
-be16-requires : tie.Need-be16-requires
-be16-requires c κs = search needs
-
-be16-requires-2 : tie.Need-be16-requires-2
-be16-requires-2 c κs = search needs
+be32-requires-2 : tie.Need-be32-requires-2
+be32-requires-2 c κs = search needs
 
 returns : tie.Need-returns
-unfolding routeGood
-returns c = cc
+returns c = route-by-head _ (λ i. c .before .before .shared-slice-known .given i .fits) _ (c .before .be32 .ensures .is) _ _ (c .be322 .ensures .is)
 
 pub route-good-spec : {M : Type 1} → statement M
-route-good-spec =
-    tie.close (tie.spec be8-requires be8-requires-2 be16-requires be16-requires-2 returns)
+route-good-spec = tie.close (tie.spec be32-requires be32-requires-2 returns)

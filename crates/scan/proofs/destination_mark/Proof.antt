@@ -4,8 +4,8 @@ use borrow.Author.Needs.{needs}
 use Rattle.scan.proofs.destination_mark.Statement.{statement}
 use Rattle.scan.proofs.destination_mark.Tie as tie
 
-be8-requires : tie.Need-be8-requires
-be8-requires c κs = search needs
+owner-of-requires : tie.Need-owner-of-requires
+owner-of-requires c κs = search needs
 
 be16-requires : tie.Need-be16-requires
 be16-requires c κs = search needs
@@ -18,4 +18,5 @@ unfolding destinationMark
 returns c = (cc, c .mark-of .ensures .1)
 
 pub destination-mark-spec : {M : Type 1} → statement M
-destination-mark-spec = tie.close (tie.spec be8-requires be16-requires mark-of-requires returns)
+destination-mark-spec =
+    tie.close (tie.spec owner-of-requires be16-requires mark-of-requires returns)

@@ -1,30 +1,33 @@
--- `scan::first_bad_route` meets its contract. The loop's invariant: what is left of the search has the whole one's answer, and
--- the marks of the rows passed are noted. Assumes nothing.
-use Rattle.scan.proofs.Marks.{Noted, noted-new, noted-more, routes-marked}
-use Rattle.scan.proofs.Rows.{At, bad-row, shared-row, good-row}
-use Rattle.scan.specs.Marks.{routeMark}
-use Rattle.scan.specs.Scan.{share}
+-- `scan::first_bad_route` meets its contract. The loop's invariant: what is left of the search has the whole one's answer, and the marks
+-- of the rows passed are noted. Assumes nothing.
+use Rattle.scan.proofs.Marks.{come-start, found-bad, found-shared, found-none, come-past}
+use Rattle.scan.specs.Marks.{routeMark, Come}
 use Rattle.rows.specs.Rules.{routeGood}
+use Rattle.scan.specs.Scan.{share}
 use Rattle.layout.proofs.Parts.{row-in, row-range}
 use Rattle.layout.specs.declared.Kind.the-variants.{Route}
-use Rattle.lists.proofs.Search.{search-start, search-ended}
 use lib.ListN.{length}
-use mathlib.Core.Path.{_≡_}
 use borrow.Author.Tests.{not-true, not-false}
 use borrow.Author.Needs.{needs}
 use native.Mathlib.Omega.{arith}
-use Prim.Native.Nat.{_-_, _/_, _<_}
+use Prim.Native.Nat.{_-_, _/_}
 use Rattle.scan.proofs.first_bad_route.Statement.{statement}
 use Rattle.scan.proofs.first_bad_route.Tie as tie
 
 abbrev Inv-loop : tie.InvT-loop
-Inv-loop body connections n seen₀ i₀ seen i = At (routeGood connections) (share Route) 16 body i × (length seen ≡ 2048) × Noted (share Route) routeMark 16 body seen i
+Inv-loop body connections seen₀ n i₀ seen i = Come (routeGood connections) (share Route) routeMark 1 body seen i
 
 abbrev μ-loop : tie.MeasureT-loop
-μ-loop body connections n seen₀ i₀ seen i = length body / 16 - i
+μ-loop body connections seen₀ n i₀ seen i = length body / 16 - i
 
 loop-holds : tie.Need-loop-holds Inv-loop μ-loop
-loop-holds c = (search-start _ _, search needs, λ j l. absurd (omega arith))
+loop-holds c = come-start _ _ _ _ _ _ (c .before .pre)
+
+next-route-requires : tie.Need-next-route-requires Inv-loop μ-loop
+next-route-requires c κs = search needs
+
+returns : tie.Need-returns Inv-loop μ-loop
+returns c = let k = c .before .next-route .ensures .1 in (found-none _ _ _ _ _ _ _ k (c .if1 .taken), k .come .size)
 
 mul-at : tie.Need-mul-at Inv-loop μ-loop
 mul-at c = omega arith
@@ -39,58 +42,42 @@ part-row-start : tie.Need-part-row-start Inv-loop μ-loop
 part-row-start c = omega arith
 
 part-row-end : tie.Need-part-row-end Inv-loop μ-loop
-part-row-end c = let b = c .before .before .before in omega (arith, row-in 16 (b .args .body .now) (c .before .loop .i) (c .loop-test .taken))
+part-row-end c = omega (arith, row-in 16 (c .before .before .before .before .before .args .body .now) (c .before .next-route .result) (c .if1 .left))
 
 route-good-requires : tie.Need-route-good-requires Inv-loop μ-loop
 route-good-requires c κs = search needs
 
-returns : tie.Need-returns Inv-loop μ-loop
-returns c =
-    let l = c .before .before .before in
-    let s = l .before .before .before .args .body .now in
-    bad-row _ _ 16 s (l .before .loop .i) _ (l .before .loop .inv .0) (l .loop-test .taken) (row-range 16 s (l .before .loop .i) (l .loop-test .taken)) (c .before .route-good .ensures) (not-true _ (c .if1 .taken))
-
-route-mark-requires : tie.Need-route-mark-requires Inv-loop μ-loop
-route-mark-requires c κs = search needs
-
-array-read-old : tie.Need-array-read-old Inv-loop μ-loop
-array-read-old c = search needs
-
-fresh-if-requires : tie.Need-fresh-if-requires Inv-loop μ-loop
-fresh-if-requires c κs =
-    let l = c .before .before .before .before in
-    let s = l .before .before .before .args .body .now in
-    (l .loop-test .taken, noted-new (share Route) routeMark 16 s routes-marked (l .before .loop .seen) (l .before .loop .i) _ _ (row-range 16 s (l .before .loop .i) (l .loop-test .taken)) (c .route-mark .ensures .0) (l .before .loop .inv .2))
-
 returns-2 : tie.Need-returns-2 Inv-loop μ-loop
 returns-2 c =
-    let l = c .before .before .before .before .before .before in
-    let s = l .before .before .before .args .body .now in
-    shared-row _ _ 16 s (l .before .loop .i) _ (l .before .loop .inv .0) (l .loop-test .taken) (row-range 16 s (l .before .loop .i) (l .loop-test .taken)) (c .before .fresh-if .ensures) (not-true _ (c .if2 .taken))
+    let t = c .before .before .before in
+    let s = t .before .before .before .before .before .args .body .now in
+    let k = t .before .next-route in
+    (found-bad _ _ _ _ s _ _ _ (row-range 16 s (k .result) (t .if1 .left)) (k .ensures .1) (t .if1 .left) (c .before .route-good .ensures) (not-true _ (c .if2 .taken)), k .ensures .1 .come .size)
 
-array-write-seen : tie.Need-array-write-seen Inv-loop μ-loop
-array-write-seen c = search needs
+fresh-requires : tie.Need-fresh-requires Inv-loop μ-loop
+fresh-requires c κs = search needs
+
+returns-3 : tie.Need-returns-3 Inv-loop μ-loop
+returns-3 c =
+    let t = c .before .before .before .before .before in
+    let s = t .before .before .before .before .before .args .body .now in
+    let k = t .before .next-route in
+    (found-shared _ _ _ _ s _ _ _ (row-range 16 s (k .result) (t .if1 .left)) (k .ensures .1) (t .if1 .left) (c .before .fresh .ensures) (not-true _ (c .if3 .taken)), k .ensures .1 .come .size)
 
 add-i : tie.Need-add-i Inv-loop μ-loop
 add-i c = omega arith
 
 loop-less : tie.Need-loop-less Inv-loop μ-loop
-loop-less c = omega arith
+loop-less c =
+    let k = c .before .before .before .before .before .before .next-route in
+    omega (arith, k .ensures .0, k .ensures .1 .come .low)
 
 loop-again : tie.Need-loop-again Inv-loop μ-loop
 loop-again c =
-    let l = c .before .before .before .before .before .before in
-    let s = l .before .before .before .args .body .now in
-    let i = l .before .loop .i in
-    let m = c .before .before in
-    let h : m .route-mark .result < length (l .before .loop .seen) = omega arith in (
-      good-row _ _ 16 s i _ (l .before .loop .inv .0) (l .loop-test .taken) (row-range 16 s i (l .loop-test .taken)) (m .before .before .route-good .ensures) (not-false _ (m .before .if1 .left)) (c .before .fresh-if .ensures) (not-false _ (c .if2 .left)),
-      search needs,
-      noted-more (share Route) routeMark 16 s (l .before .loop .seen) i _ _ (row-range 16 s i (l .loop-test .taken)) (m .route-mark .ensures .0) h (l .before .loop .inv .2),
-    )
-
-returns-3 : tie.Need-returns-3 Inv-loop μ-loop
-returns-3 c = search-ended _ _ _ (c .before .loop .inv .0) (c .loop-test .left)
+    let t = c .before .before .before .before .before in
+    let s = t .before .before .before .before .before .args .body .now in
+    let k = t .before .next-route in
+    come-past _ _ _ _ s _ _ _ (row-range 16 s (k .result) (t .if1 .left)) (k .ensures .1) (t .if1 .left) (c .before .before .before .route-good .ensures) (not-false _ (c .before .before .if2 .left)) (c .before .fresh .ensures) (not-false _ (c .if3 .left))
 
 pub first-bad-route-spec : {M : Type 1} → statement M
 first-bad-route-spec =
@@ -99,19 +86,17 @@ first-bad-route-spec =
     Inv-loop
     μ-loop
     loop-holds
+    next-route-requires
+    returns
     mul-at
     add-row
     sub-row
     part-row-start
     part-row-end
     route-good-requires
-    returns
-    route-mark-requires
-    array-read-old
-    fresh-if-requires
     returns-2
-    array-write-seen
+    fresh-requires
+    returns-3
     add-i
     loop-less
-    loop-again
-    returns-3)
+    loop-again)

@@ -4,8 +4,8 @@ use borrow.Author.Needs.{needs}
 use Rattle.scan.proofs.route_mark.Statement.{statement}
 use Rattle.scan.proofs.route_mark.Tie as tie
 
-be8-requires : tie.Need-be8-requires
-be8-requires c κs = search needs
+owner-of-requires : tie.Need-owner-of-requires
+owner-of-requires c κs = search needs
 
 be32-requires : tie.Need-be32-requires
 be32-requires c κs = search needs
@@ -18,4 +18,4 @@ unfolding routeMark
 returns c = (cc, c .mark-of .ensures .1)
 
 pub route-mark-spec : {M : Type 1} → statement M
-route-mark-spec = tie.close (tie.spec be8-requires be32-requires mark-of-requires returns)
+route-mark-spec = tie.close (tie.spec owner-of-requires be32-requires mark-of-requires returns)

@@ -1,9 +1,27 @@
 -- `wire::be32` meets its contract. Assumes nothing.
-use Rattle.wire.proofs.Join.{join, none}
+use Rattle.wire.proofs.Join.{join, none, turned-number}
 use native.Mathlib.Omega.{arith}
 use borrow.Author.Needs.{needs}
 use Rattle.wire.proofs.be32.Statement.{statement}
 use Rattle.wire.proofs.be32.Tie as tie
+
+returns : tie.Need-returns
+returns c = none 4 _ _ (search needs) (omega arith)
+
+sub-if2 : tie.Need-sub-if2
+sub-if2 c = search needs
+
+little-requires : tie.Need-little-requires
+little-requires c κs = search needs
+
+turned-requires : tie.Need-turned-requires
+turned-requires c κs = search needs
+
+cast-result : tie.Need-cast-result
+cast-result c = search needs
+
+returns-2 : tie.Need-returns-2
+returns-2 c = turned-number (c .before .little .ensures) (c .turned .ensures)
 
 be16-requires : tie.Need-be16-requires
 be16-requires c κs = search needs
@@ -20,13 +38,22 @@ be16-requires-2 c κs = search needs
 add-result : tie.Need-add-result
 add-result c = search needs
 
-returns : tie.Need-returns
-returns c = join 2 2 (search needs) (search needs)
-
-returns-2 : tie.Need-returns-2
-returns-2 c = none 4 _ _ (search needs) (omega arith)
+returns-3 : tie.Need-returns-3
+returns-3 c = join 2 2 (search needs) (search needs)
 
 pub be32-spec : {M : Type 1} → statement M
 be32-spec =
     tie.close
-    (tie.spec be16-requires mul-result add-be16 be16-requires-2 add-result returns returns-2)
+    (tie.spec
+    returns
+    sub-if2
+    little-requires
+    turned-requires
+    cast-result
+    returns-2
+    be16-requires
+    mul-result
+    add-be16
+    be16-requires-2
+    add-result
+    returns-3)

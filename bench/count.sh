@@ -1,0 +1,53 @@
+# shellcheck shell=bash disable=SC2034
+# count.sh, to be sourced after tests/machine.sh: executed instructions of one call (x86-64, counted under qemu-user, so that the
+# figure is the same on every machine and whatever else it does).
+#
+#   ready_ours, ready_twins    build what is counted: ours out of libsoad.a and the program repeat; the twins
+#   per_call SIDE WORD ..      of a function of libsoad.a (ours) or its twin, by bench.c's words
+#   per_event SIDE WHAT QUARTERS LENGTH    of an entry point, by input.c's words
+#
+# A cost is the difference between a short and a long run, per call. What the loop does besides the call is taken off on both sides:
+# `nothing`, or for a call that the loop makes ready or clears up after, the same without the call.
+# SOAD_LIB names another archive than the one of the crate soad, REPEAT another program than target/bin/repeat.
+work=$root/target/bench
+library=${SOAD_LIB:-$root/target/staticlib/libsoad.a}
+repeat=${REPEAT:-$root/target/bin/repeat}
+includes=("-I$root/include" "-I$root/tests" "-I$root/bench")
+
+ready_ours() {
+    mkdir -p "$work"
+    need qemu-x86_64 qemu-user && need cc gcc && cc -O2 -fPIC -shared -o "$work/insn.so" "$root/bench/insn.c" || return
+    [ -n "${SOAD_LIB:-}" ] || proved_library || return
+    [ -n "${REPEAT:-}" ] || proved_program repeat || return
+    compile_cross "$work/bench" "${includes[@]}" "$root/bench/bench.c" "$root/bench/twin.c" "$root/bench/table.c" "$library" &&
+        compile "$work/input" "${includes[@]}" "$root/bench/input.c"
+}
+
+ready_twins() { compile_cross "$work/twins" "${includes[@]}" "$root/bench/repeat.c" "$root/bench/events.c" "$root/bench/table.c"; }
+
+# count PROGRAM WORD ..: instructions of one run. A program that does not say OK ends the shell.
+count() {
+    # shellcheck disable=SC2046
+    qemu-x86_64 -plugin "$work/insn.so" $(loader) "$@" 2>"$work/counted" >"$work/said" </dev/stdin
+    grep -qx OK "$work/said" || { echo "$* did not do what it names" >&2; exit 1; }
+    sed -n 's/^instructions //p' "$work/counted"
+}
+
+per_call() { echo $((($(count "$work/bench" "$@" 70 </dev/null) - $(count "$work/bench" "$@" 20 </dev/null)) / 50)); }
+
+# repeated PROGRAM WHAT QUARTERS LENGTH: the calls of a short run, 20, and of a long one, 70; 1 and 3 of what is long by itself.
+repeated() {
+    local short=20 long=70 less more
+    case $2 in *segment | *ticks) short=1 long=3 ;; esac
+    less=$("${start[@]}" "$work/input" "${@:2}" "$short" | count "$1") || return
+    more=$("${start[@]}" "$work/input" "${@:2}" "$long" | count "$1") || return
+    echo $(((more - less) / (long - short)))
+}
+
+per_event() {
+    local program=$repeat busy='' besides
+    [ "$1" = ours ] || program=$work/twins
+    case $2 in +*) busy=+ ;; esac
+    case $2 in *transmit) besides=emptied ;; *waiting) besides=holding ;; *) besides=nothing ;; esac
+    echo $(($(repeated "$program" "${@:2}") - $(repeated "$program" "$busy$besides" "$3" "$4")))
+}

@@ -1,0 +1,102 @@
+-- Of a record that has received nothing and wants nothing, the rules ask little: its send bytes, and an online remote without wildcard.
+-- Assumes nothing.
+use Prim.Native.Nat.{ℕ, _<_}
+use mathlib.Core.Path.{_≡_, refl, ap, _∙_}
+use mathlib.Core.Bool.{Bool, true, false, not, _&&_, _||_}
+use mathlib.Core.List.{List}
+use lib.Dec.{eqb, leb, ltb}
+use native.Mathlib.Omega.{arith}
+use borrow.Author.Tests.{not-true, le-leb, ne-eqb, lt-ltb}
+use Rattle.part.specs.declared.Part.{Part}
+use Rattle.part.specs.Part.{emptyPart, ready}
+use Rattle.connection.specs.declared.Config.{Config}
+use Rattle.connection.specs.declared.Connection.{Connection}
+use Rattle.connection.specs.declared.Mode.{Mode}
+use Rattle.connection.specs.declared.Remote.{Remote}
+use Rattle.connection.specs.Connection.{isOnline}
+use Rattle.connection.specs.Sound.{sends, timed, neverBoth, onlineRemote, soundOf}
+use Rattle.connection.proofs.Rules.{empty-is}
+use Rattle.lists.proofs.Both.{and-left, and-right}
+use Rattle.gate.specs.Sound.{routed}
+use Rattle.gate.specs.Inner.{idle, idleSound}
+
+module _ (g : Config) (routes : List ℕ) (n : ℕ) (mode : Mode) (remote : Remote) (switches : ℕ) where
+  abbrev holding : Part → ℕ → ℕ → Bool → Bool → Bool → Connection
+  holding part used timer due open-wanted close-wanted =
+      record {
+        mode = mode;
+        «open_wanted» = open-wanted;
+        «close_wanted» = close-wanted;
+        remote = remote;
+        switches = switches;
+        part = part;
+        used = used;
+        timer = timer;
+        due = due;
+      }
+
+  last : (b : Bool) → (b && true && true && true) ≡ b
+  last true = refl
+  last false = refl
+
+  fewer : (u s t b o : Bool) → (u && true && true && s && t && b && o && true && true && true) ≡ (u && s && t && b && o)
+  fewer true s t b o = last (s && t && b && o)
+  fewer false s t b o = refl
+
+  nothing-received : (used timer : ℕ) (due : Bool)
+      → (soundOf g (holding ready used timer due false false) && routed routes n ready) ≡ idleSound (g .size) (holding ready used timer due false false)
+  unfolding soundOf
+  nothing-received used timer due =
+      let c = holding ready used timer due false false in
+      fewer (leb used (g .size)) (sends c) (timed c) (neverBoth c) (onlineRemote c)
+
+  idle-plain : (part : Part) (used timer : ℕ) (due o c : Bool) → part ≡ ready → o ≡ false → c ≡ false
+      → (soundOf g (holding part used timer due o c) && routed routes n part) ≡ idleSound (g .size) (holding part used timer due o c)
+  idle-plain part used timer due o c p a b = rw (p, a, b) (nothing-received used timer due)
+
+pub idle-sound : (g : Config) (routes : List ℕ) (n : ℕ) (c : Connection) → idle c ≡ true → (soundOf g c && routed routes n (c .part)) ≡ idleSound (g .size) c
+idle-sound g routes n c p =
+    let a = emptyPart (c .part) in
+    let b = a && not (c .«open_wanted») in
+    let pb : b ≡ true = and-left b _ p in
+    idle-plain g routes n (c .mode) (c .remote) (c .switches) (c .part) (c .used) (c .timer) (c .due) (c .«open_wanted») (c .«close_wanted»)
+    (empty-is (c .part) (and-left a _ pb))
+    (not-true _ (and-right a _ pb))
+    (not-true _ (and-right b _ p))
+
+-- without send bytes, and with some
+module _ (size used timer : ℕ) (due online reached : Bool) where
+  none : used ≡ 0
+      → (eqb timer 0 && not due && reached) ≡ (leb used size && (eqb used 0 || online) && ((eqb timer 0 && not due) || ltb 0 used) && (eqb timer 0 || not due) && reached)
+  none e = rw (e, le-leb 0 size (omega arith)) (go (eqb timer 0) (not due))
+    where
+      go : (t d : Bool) → (t && d && reached) ≡ (true && (true || online) && ((t && d) || false) && (t || d) && reached)
+      go true true = refl
+      go true false = refl
+      go false d = refl
+
+  some : (used ≡ 0 → ⊥)
+      → (leb used size && online && (eqb timer 0 || not due) && reached)
+      ≡ (leb used size && (eqb used 0 || online) && ((eqb timer 0 && not due) || ltb 0 used) && (eqb timer 0 || not due) && reached)
+  some n =
+      let h : 0 < used = omega arith in
+      rw (ne-eqb used 0 n, lt-ltb 0 used h) (go (leb used size) online (eqb timer 0 && not due) (eqb timer 0 || not due))
+    where
+      go : (u o x y : Bool) → (u && o && y && reached) ≡ (u && (false || o) && (x || true) && y && reached)
+      go true true true y = refl
+      go true true false y = refl
+      go true false x y = refl
+      go false o x y = refl
+
+pub idle-without : (size : ℕ) (c : Connection) (reached : Bool) → reached ≡ onlineRemote c → c .used ≡ 0
+    → (eqb (c .timer) 0 && not (c .due) && reached) ≡ idleSound size c
+idle-without size c reached e z =
+    ap (λ (r : Bool). eqb (c .timer) 0 && not (c .due) && r) e ∙ none size (c .used) (c .timer) (c .due) (isOnline (c .mode)) (onlineRemote c) z
+
+pub idle-with : (size k : ℕ) (c : Connection) (reached online : Bool) → reached ≡ onlineRemote c → online ≡ isOnline (c .mode) → k ≡ size → (c .used ≡ 0 → ⊥)
+    → (leb (c .used) k && online && (eqb (c .timer) 0 || not (c .due)) && reached) ≡ idleSound size c
+idle-with size k c reached online er eo ek n =
+    ap (λ (m : ℕ). leb (c .used) m && online && (eqb (c .timer) 0 || not (c .due)) && reached) ek
+    ∙ ap (λ (o : Bool). leb (c .used) size && o && (eqb (c .timer) 0 || not (c .due)) && reached) eo
+    ∙ ap (λ (r : Bool). leb (c .used) size && isOnline (c .mode) && (eqb (c .timer) 0 || not (c .due)) && r) er
+    ∙ some size (c .used) (c .timer) (c .due) (isOnline (c .mode)) (onlineRemote c) n

@@ -1,0 +1,2 @@
+-- Laws of the rules. Assumes nothing.
+pub mod Heads
