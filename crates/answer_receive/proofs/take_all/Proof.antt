@@ -27,23 +27,25 @@ is-done-requires c κs = search needs
 
 returns : tie.Need-returns Inv-loop μ-loop
 returns c =
-    let b = c .before .before .before .before .before .before .before .before in
-    let a = b .args in
-    refused-first (a .image .now) (length (a .tx .now)) (a .connection) (a .segment .now) (a .t2) (a .rx .now) (a .out .now) (c .before .before .may-take .result) (c .before .before .may-take .ensures)
-    (sym (c .before .is-done .ensures) ∙ not-true _ (c .if1 .taken))
+    let m = c .before .before in
+    let a = m .before .before .before .before .before .before .args in
+    refused-first (a .image .now) (length (a .tx .now)) (a .connection) (a .segment .now) (a .t2) (a .rx .now) (a .out .now)
+    (m .may-take .result) (m .may-take .ensures) (sym (c .before .is-done .ensures) ∙ not-true _ (c .if1 .taken))
 
 mul-c : tie.Need-mul-c Inv-loop μ-loop
 mul-c c =
     let b = c .before .before .before .before .before .before .before .before in
     let a = b .args in
-    let o = gate-open (a .image .now) (a .t2) (length (a .rx .now)) (length (a .tx .now)) (a .connection) (c .before .before .may-take .ensures) (sym (c .before .is-done .ensures) ∙ not-false _ (c .if1 .left)) in
+    let done = sym (c .before .is-done .ensures) ∙ not-false _ (c .if1 .left) in
+    let o = gate-open (a .image .now) (a .t2) (length (a .rx .now)) (length (a .tx .now)) (a .connection) (c .before .before .may-take .ensures) done in
     omega (arith, o .small)
 
 element-copy-out-c : tie.Need-element-copy-out-c Inv-loop μ-loop
 element-copy-out-c c =
     let b = c .before .before .before .before .before .before .before .before in
     let a = b .args in
-    let o = gate-open (a .image .now) (a .t2) (length (a .rx .now)) (length (a .tx .now)) (a .connection) (c .before .before .may-take .ensures) (sym (c .before .is-done .ensures) ∙ not-false _ (c .if1 .left)) in
+    let done = sym (c .before .is-done .ensures) ∙ not-false _ (c .if1 .left) in
+    let o = gate-open (a .image .now) (a .t2) (length (a .rx .now)) (length (a .tx .now)) (a .connection) (c .before .before .may-take .ensures) done in
     o .small
 
 body-of-requires : tie.Need-body-of-requires Inv-loop μ-loop
@@ -51,34 +53,43 @@ body-of-requires c κs = search needs
 
 loop-holds : tie.Need-loop-holds Inv-loop μ-loop
 loop-holds c =
-    let b = c .before .before .before .before .before .before .before .before .before .before in
+    let e = c .before .before in
+    let b = e .before .before .before .before .before .before .before .before in
     let a = b .args in
-    let o = gate-open (a .image .now) (a .t2) (length (a .rx .now)) (length (a .tx .now)) (a .connection) (c .before .before .before .before .may-take .ensures) (sym (c .before .before .before .is-done .ensures) ∙ not-false _ (c .before .before .if1 .left)) in
+    let done = sym (e .before .is-done .ensures) ∙ not-false _ (e .if1 .left) in
+    let o = gate-open (a .image .now) (a .t2) (length (a .rx .now)) (length (a .tx .now)) (a .connection) (e .before .before .may-take .ensures) done in
     (turn-start (a .image .now) (length (a .tx .now)) (a .connection) (a .segment .now) (a .t2) (a .rx .now) (a .out .now) (b .pre) (o .clear), (refl, refl))
 
 take-once-requires : tie.Need-take-once-requires Inv-loop μ-loop
 take-once-requires c κs =
-    let b = c .before .before .before .before .before .before .before .before .before .before .before .before .before in
+    let l = c .before .before in
+    let e = c .before .before .before .before .before in
+    let b = e .before .before .before .before .before .before .before .before in
     let a = b .args in
-    let l = c .before .before .loop in
-    let o = gate-open (a .image .now) (a .t2) (length (a .rx .now)) (length (a .tx .now)) (a .connection) (c .before .before .before .before .before .before .before .may-take .ensures) (sym (c .before .before .before .before .before .before .is-done .ensures) ∙ not-false _ (c .before .before .before .before .before .if1 .left)) in
-    turn-goes (a .image .now) (length (a .tx .now)) (a .connection) (a .segment .now) (a .t2) (a .rx .now) (a .out .now) (o .there) (l .turn) (l .rx) (l .out) (l .inv .0) (c .before .before .before .body-of .ensures .0)
+    let done = sym (e .before .is-done .ensures) ∙ not-false _ (e .if1 .left) in
+    let o = gate-open (a .image .now) (a .t2) (length (a .rx .now)) (length (a .tx .now)) (a .connection) (e .before .before .may-take .ensures) done in
+    turn-goes (a .image .now) (length (a .tx .now)) (a .connection) (a .segment .now) (a .t2) (a .rx .now) (a .out .now)
+    (o .there) (l .loop .turn) (l .loop .rx) (l .loop .out) (l .loop .inv .0) (l .before .body-of .ensures .0)
 
 with-part-requires : tie.Need-with-part-requires Inv-loop μ-loop
 with-part-requires c κs = search needs
 
 mul-t36 : tie.Need-mul-t36 Inv-loop μ-loop
 mul-t36 c =
-    let b = c .before .before .before .before .before .before .before .before .before .before .before .before .before .before .before .before .before .before .before .before .before in
+    let e = c .before .before .before .before .before .before .before .before .before .before .before .before .before in
+    let b = e .before .before .before .before .before .before .before .before in
     let a = b .args in
-    let o = gate-open (a .image .now) (a .t2) (length (a .rx .now)) (length (a .tx .now)) (a .connection) (c .before .before .before .before .before .before .before .before .before .before .before .before .before .before .before .may-take .ensures) (sym (c .before .before .before .before .before .before .before .before .before .before .before .before .before .before .is-done .ensures) ∙ not-false _ (c .before .before .before .before .before .before .before .before .before .before .before .before .before .if1 .left)) in
+    let done = sym (e .before .is-done .ensures) ∙ not-false _ (e .if1 .left) in
+    let o = gate-open (a .image .now) (a .t2) (length (a .rx .now)) (length (a .tx .now)) (a .connection) (e .before .before .may-take .ensures) done in
     omega (arith, o .small)
 
 element-set-from-next : tie.Need-element-set-from-next Inv-loop μ-loop
 element-set-from-next c =
-    let b = c .before .before .before .before .before .before .before .before .before .before .before .before .before .before .before .before .before .before .before .before .before in
+    let e = c .before .before .before .before .before .before .before .before .before .before .before .before .before in
+    let b = e .before .before .before .before .before .before .before .before in
     let a = b .args in
-    let o = gate-open (a .image .now) (a .t2) (length (a .rx .now)) (length (a .tx .now)) (a .connection) (c .before .before .before .before .before .before .before .before .before .before .before .before .before .before .before .may-take .ensures) (sym (c .before .before .before .before .before .before .before .before .before .before .before .before .before .before .is-done .ensures) ∙ not-false _ (c .before .before .before .before .before .before .before .before .before .before .before .before .before .if1 .left)) in
+    let done = sym (e .before .is-done .ensures) ∙ not-false _ (e .if1 .left) in
+    let o = gate-open (a .image .now) (a .t2) (length (a .rx .now)) (length (a .tx .now)) (a .connection) (e .before .before .may-take .ensures) done in
     o .small
 
 same-length : tie.Need-same-length Inv-loop μ-loop
@@ -89,38 +100,49 @@ same-length-2 c = omega arith
 
 returns-2 : tie.Need-returns-2 Inv-loop μ-loop
 returns-2 c =
-    let b = c .before .before .before .before .before .before .before .before .before .before .before .before .before .before .before .before .before .before .before .before .before in
+    let t = c .before .before .before .before .before .before .before in
+    let l = t .before .before .before in
+    let h = t .take-once .ensures in
+    let e = c .before .before .before .before .before .before .before .before .before .before .before .before .before in
+    let b = e .before .before .before .before .before .before .before .before in
     let a = b .args in
-    let l = c .before .before .before .before .before .before .before .before .before .before .loop in
-    let h = c .before .before .before .before .before .before .before .take-once .ensures in
-    let o = gate-open (a .image .now) (a .t2) (length (a .rx .now)) (length (a .tx .now)) (a .connection) (c .before .before .before .before .before .before .before .before .before .before .before .before .before .before .before .may-take .ensures) (sym (c .before .before .before .before .before .before .before .before .before .before .before .before .before .before .is-done .ensures) ∙ not-false _ (c .before .before .before .before .before .before .before .before .before .before .before .before .before .if1 .left)) in
-    put-together (a .image .now) (length (a .tx .now)) (a .connection) (a .segment .now) (a .t2) (a .rx .now) (a .out .now) (c .before .before .before .before .before .before .before .take-once .result)
-    (turn-ends (a .image .now) (length (a .tx .now)) (a .connection) (a .segment .now) (a .t2) (a .rx .now) (a .out .now) (o .there) (l .turn) (l .rx) (l .out) (l .inv .0) (c .before .before .before .before .before .before .before .before .before .before .before .body-of .ensures .0)
-    (h .0) (h .1 .0) (h .1 .1) (c .before .if2 .taken))
-    (sym (c .before .before .before .before .before .before .before .before .before .before .before .before .before .before .is-done .ensures) ∙ not-false _ (c .before .before .before .before .before .before .before .before .before .before .before .before .before .if1 .left)) (c .with-part .ensures)
+    let done = sym (e .before .is-done .ensures) ∙ not-false _ (e .if1 .left) in
+    let o = gate-open (a .image .now) (a .t2) (length (a .rx .now)) (length (a .tx .now)) (a .connection) (e .before .before .may-take .ensures) done in
+    put-together (a .image .now) (length (a .tx .now)) (a .connection) (a .segment .now) (a .t2) (a .rx .now) (a .out .now) (t .take-once .result)
+    (turn-ends (a .image .now) (length (a .tx .now)) (a .connection) (a .segment .now) (a .t2) (a .rx .now) (a .out .now)
+    (o .there) (l .loop .turn) (l .loop .rx) (l .loop .out) (l .loop .inv .0) (l .before .body-of .ensures .0) (h .0) (h .1 .0) (h .1 .1) (c .before .if2 .taken))
+    done (c .with-part .ensures)
 
 loop-less : tie.Need-loop-less Inv-loop μ-loop
 loop-less c =
-    let b = c .before .before .before .before .before .before .before .before .before .before .before .before .before .before .before .before .before .before .before .before in
+    let t = c .before .before .before .before .before .before in
+    let l = t .before .before .before in
+    let h = t .take-once .ensures in
+    let e = c .before .before .before .before .before .before .before .before .before .before .before .before in
+    let b = e .before .before .before .before .before .before .before .before in
     let a = b .args in
-    let l = c .before .before .before .before .before .before .before .before .before .loop in
-    let h = c .before .before .before .before .before .before .take-once .ensures in
-    let o = gate-open (a .image .now) (a .t2) (length (a .rx .now)) (length (a .tx .now)) (a .connection) (c .before .before .before .before .before .before .before .before .before .before .before .before .before .before .may-take .ensures) (sym (c .before .before .before .before .before .before .before .before .before .before .before .before .before .is-done .ensures) ∙ not-false _ (c .before .before .before .before .before .before .before .before .before .before .before .before .if1 .left)) in
-    let g = turn-on (a .image .now) (length (a .tx .now)) (a .connection) (a .segment .now) (a .t2) (a .rx .now) (a .out .now) (o .there) (l .turn) (l .rx) (l .out) (l .inv .0) (c .before .before .before .before .before .before .before .before .before .before .body-of .ensures .0)
-    (h .0) (h .1 .0) (h .1 .1) (λ i. c .before .before .before .before .before .before .before .before .before .before .before .before .before .before .before .before .shared-slice-known3 .given i .fits) (omega (arith, c .if2 .left)) in
-    omega (arith, l .inv .0 .low, g .low, c .if2 .left, turn-count (a .image .now) (length (a .tx .now)) (a .connection) (a .segment .now) (a .t2) (a .rx .now) (a .out .now) (o .there) (l .turn) (l .rx) (l .out) (l .inv .0) (c .before .before .before .before .before .before .before .before .before .before .body-of .ensures .0) (h .0) (h .1 .0) (h .1 .1))
+    let done = sym (e .before .is-done .ensures) ∙ not-false _ (e .if1 .left) in
+    let o = gate-open (a .image .now) (a .t2) (length (a .rx .now)) (length (a .tx .now)) (a .connection) (e .before .before .may-take .ensures) done in
+    let g = turn-on (a .image .now) (length (a .tx .now)) (a .connection) (a .segment .now) (a .t2) (a .rx .now) (a .out .now)
+    (o .there) (l .loop .turn) (l .loop .rx) (l .loop .out) (l .loop .inv .0) (l .before .body-of .ensures .0) (h .0) (h .1 .0) (h .1 .1) (λ i. e .before .before .before .before .shared-slice-known3 .given i .fits) (omega (arith, c .if2 .left)) in
+    let n = turn-count (a .image .now) (length (a .tx .now)) (a .connection) (a .segment .now) (a .t2) (a .rx .now) (a .out .now)
+    (o .there) (l .loop .turn) (l .loop .rx) (l .loop .out) (l .loop .inv .0) (l .before .body-of .ensures .0) (h .0) (h .1 .0) (h .1 .1) in
+    omega (arith, l .loop .inv .0 .low, g .low, c .if2 .left, n)
 
 loop-again : tie.Need-loop-again Inv-loop μ-loop
-loop-again c =
-    let b = c .before .before .before .before .before .before .before .before .before .before .before .before .before .before .before .before .before .before .before .before in
-    let a = b .args in
-    let l = c .before .before .before .before .before .before .before .before .before .loop in
-    let h = c .before .before .before .before .before .before .take-once .ensures in
-    let o = gate-open (a .image .now) (a .t2) (length (a .rx .now)) (length (a .tx .now)) (a .connection) (c .before .before .before .before .before .before .before .before .before .before .before .before .before .before .may-take .ensures) (sym (c .before .before .before .before .before .before .before .before .before .before .before .before .before .is-done .ensures) ∙ not-false _ (c .before .before .before .before .before .before .before .before .before .before .before .before .if1 .left)) in (
-      turn-on (a .image .now) (length (a .tx .now)) (a .connection) (a .segment .now) (a .t2) (a .rx .now) (a .out .now) (o .there) (l .turn) (l .rx) (l .out) (l .inv .0) (c .before .before .before .before .before .before .before .before .before .before .body-of .ensures .0)
-          (h .0) (h .1 .0) (h .1 .1) (λ i. c .before .before .before .before .before .before .before .before .before .before .before .before .before .before .before .before .shared-slice-known3 .given i .fits) (omega (arith, c .if2 .left)),
-      (omega arith, omega arith),
-    )
+loop-again c = (
+  let t = c .before .before .before .before .before .before in
+      let l = t .before .before .before in
+      let h = t .take-once .ensures in
+      let e = c .before .before .before .before .before .before .before .before .before .before .before .before in
+      let b = e .before .before .before .before .before .before .before .before in
+      let a = b .args in
+      let done = sym (e .before .is-done .ensures) ∙ not-false _ (e .if1 .left) in
+      let o = gate-open (a .image .now) (a .t2) (length (a .rx .now)) (length (a .tx .now)) (a .connection) (e .before .before .may-take .ensures) done in
+      turn-on (a .image .now) (length (a .tx .now)) (a .connection) (a .segment .now) (a .t2) (a .rx .now) (a .out .now)
+      (o .there) (l .loop .turn) (l .loop .rx) (l .loop .out) (l .loop .inv .0) (l .before .body-of .ensures .0) (h .0) (h .1 .0) (h .1 .1) (λ i. e .before .before .before .before .shared-slice-known3 .given i .fits) (omega (arith, c .if2 .left)),
+  (omega arith, omega arith),
+)
 
 pub take-all-spec : {M : Type 1} → statement M
 take-all-spec =
