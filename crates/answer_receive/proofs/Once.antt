@@ -19,6 +19,7 @@ use Rattle.receive.specs.Answer.{isDone}
 use Rattle.receive.specs.Segment.{segmentOf, memoryOf, payloadOf}
 use Rattle.answer_receive.specs.declared.Turn.{Turn}
 use Rattle.answer_receive.specs.Segment.{takeBytes, bytesOf, takeAt, memoryAt, bytesAt}
+use Rattle.gate.specs.Lent.{Loan}
 use Rattle.answer_receive.specs.Turn.{turnOf}
 
 pub after-none : (long at : ℕ) → at ≡ afterOf long at 0
@@ -42,43 +43,43 @@ done-all NotReceiving x e = let z : _≡_ {A = ℕ} 0 1 = cc in absurd (omega ar
 abbrev turned : SegmentTaken → ℕ → Turn
 turned t place = record { answer = t .answer; read = t .read; place = place; state = t .state }
 
-module _ (image : List ℕ) (tx connection : ℕ) (segment : List ℕ) (s : State) (rx : List ℕ) (from : ℕ) (out : List ℕ) (place : ℕ)
+module _ (l : Loan) (connection : ℕ) (segment : List ℕ) (from : ℕ) (out : List ℕ) (place : ℕ)
     {t : SegmentTaken} {m rest : List ℕ} (r : rest ≡ drop from segment)
-    (p : t ≡ segmentOf image s rx tx connection rest) (q : m ≡ memoryOf image s rx tx connection rest) where
-  taken : t ≡ takeAt image tx connection segment s rx from
-  taken = p ∙ ap (segmentOf image s rx tx connection) r
+    (p : t ≡ segmentOf l connection rest) (q : m ≡ memoryOf l connection rest) where
+  taken : t ≡ takeAt l connection segment from
+  taken = p ∙ ap (segmentOf l connection) r
 
-  kept : m ≡ memoryAt image tx connection segment s rx from
-  kept = q ∙ ap (memoryOf image s rx tx connection) r
+  kept : m ≡ memoryAt l connection segment from
+  kept = q ∙ ap (memoryOf l connection) r
 
-  told : (b : Bool) → isDone (t .answer) ≡ b → isDone (takeAt image tx connection segment s rx from .answer) ≡ b
+  told : (b : Bool) → isDone (t .answer) ≡ b → isDone (takeAt l connection segment from .answer) ≡ b
   told b e = sym (ap (λ (u : SegmentTaken). isDone (u .answer)) taken) ∙ e
 
   -- with the take's bytes at the place
-  ends : {x : List ℕ} {next : ℕ} {out′ : List ℕ} → x ≡ bytesAt image tx connection segment s rx from → next ≡ placeAfter out place x → out′ ≡ lay out place x
-      → (turned t next ≡ turnOf image tx connection segment s rx from out place)
-      × ((m ≡ memoryAt image tx connection segment s rx from) × (out′ ≡ lay out place (bytesAt image tx connection segment s rx from)))
+  ends : {x : List ℕ} {next : ℕ} {out′ : List ℕ} → x ≡ bytesAt l connection segment from → next ≡ placeAfter out place x → out′ ≡ lay out place x
+      → (turned t next ≡ turnOf l connection segment from out place)
+      × ((m ≡ memoryAt l connection segment from) × (out′ ≡ lay out place (bytesAt l connection segment from)))
   ends {x} {next} {out′} e f g = (
     ap (λ (u : SegmentTaken). turned u next) taken
-        ∙ ap (turned (takeAt image tx connection segment s rx from)) (f ∙ ap (placeAfter out place) e),
+        ∙ ap (turned (takeAt l connection segment from)) (f ∙ ap (placeAfter out place) e),
     (kept, g ∙ ap (lay out place) e),
   )
 
   pub once-refused : isDone (t .answer) ≡ false
-      → (turned t place ≡ turnOf image tx connection segment s rx from out place)
-      × ((m ≡ memoryAt image tx connection segment s rx from) × (out ≡ lay out place (bytesAt image tx connection segment s rx from)))
+      → (turned t place ≡ turnOf l connection segment from out place)
+      × ((m ≡ memoryAt l connection segment from) × (out ≡ lay out place (bytesAt l connection segment from)))
   unfolding bytesAt
   once-refused e =
-      ends {x = []} {next = place} {out′ = out} (refused-none (takeAt image tx connection segment s rx from .answer) _ (told false e)) (after-none (length out) place) (sym (lay-nothing out place))
+      ends {x = []} {next = place} {out′ = out} (refused-none (takeAt l connection segment from .answer) _ (told false e)) (after-none (length out) place) (sym (lay-nothing out place))
 
   pub once-done : {payload : List ℕ} {next : ℕ} {out′ : List ℕ} → isDone (t .answer) ≡ true → payload ≡ payloadOf rest m connection (t .outcome)
       → next ≡ placeAfter out place (takeBytes from (t .read) (t .outcome) payload) → out′ ≡ lay out place (takeBytes from (t .read) (t .outcome) payload)
-      → (turned t next ≡ turnOf image tx connection segment s rx from out place)
-      × ((m ≡ memoryAt image tx connection segment s rx from) × (out′ ≡ lay out place (bytesAt image tx connection segment s rx from)))
+      → (turned t next ≡ turnOf l connection segment from out place)
+      × ((m ≡ memoryAt l connection segment from) × (out′ ≡ lay out place (bytesAt l connection segment from)))
   unfolding bytesAt
-  once-done {payload} {next} {out′} e l f g =
+  once-done {payload} {next} {out′} e paid f g =
       ends {x = takeBytes from (t .read) (t .outcome) payload} {next = next} {out′ = out′}
-      (ap (takeBytes from (t .read) (t .outcome)) (l ∙ ap (λ (z : List ℕ). payloadOf z m connection (t .outcome)) r ∙ ap (λ (z : List ℕ). payloadOf (drop from segment) z connection (t .outcome)) kept)
-      ∙ ap (λ (u : SegmentTaken). takeBytes from (u .read) (u .outcome) (payloadOf (drop from segment) (memoryAt image tx connection segment s rx from) connection (u .outcome))) taken
-      ∙ done-all (takeAt image tx connection segment s rx from .answer) _ (told true e))
+      (ap (takeBytes from (t .read) (t .outcome)) (paid ∙ ap (λ (z : List ℕ). payloadOf z m connection (t .outcome)) r ∙ ap (λ (z : List ℕ). payloadOf (drop from segment) z connection (t .outcome)) kept)
+      ∙ ap (λ (u : SegmentTaken). takeBytes from (u .read) (u .outcome) (payloadOf (drop from segment) (memoryAt l connection segment from) connection (u .outcome))) taken
+      ∙ done-all (takeAt l connection segment from .answer) _ (told true e))
       f g

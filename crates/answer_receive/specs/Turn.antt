@@ -3,7 +3,7 @@
 use Prim.Native.Nat.{ℕ, _+_}
 use mathlib.Core.List.{List}
 use lib.ListN.{length}
-use Rattle.state.specs.declared.State.{State}
+use Rattle.gate.specs.Lent.{Loan}
 use Rattle.receive.specs.declared.Answer.{Answer}
 use Rattle.receive.specs.declared.Answer.the-variants.{Done, Refused, NotReceiving}
 use Rattle.pieces.specs.Pieces.{placeAfter}
@@ -14,13 +14,13 @@ use Rattle.answer_receive.specs.Walk.{orRefused}
 use Rattle.answer_receive.specs.Segment.{bytesOf, Run, takeAt, bytesAt}
 
 -- one take, and the place after its bytes
-abbrev pub turnOf : List ℕ → ℕ → ℕ → List ℕ → State → List ℕ → ℕ → List ℕ → ℕ → turn.Turn
-turnOf image tx connection segment s rx at out place =
+abbrev pub turnOf : Loan → ℕ → List ℕ → ℕ → List ℕ → ℕ → turn.Turn
+turnOf l connection segment at out place =
     record {
-      answer = takeAt image tx connection segment s rx at .answer;
-      read = takeAt image tx connection segment s rx at .read;
-      place = placeAfter out place (bytesAt image tx connection segment s rx at);
-      state = takeAt image tx connection segment s rx at .state;
+      answer = takeAt l connection segment at .answer;
+      read = takeAt l connection segment at .read;
+      place = placeAfter out place (bytesAt l connection segment at);
+      state = takeAt l connection segment at .state;
     }
 
 -- all of them: four bytes of the answer come before theirs, and of a refusal none follows

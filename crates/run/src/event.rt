@@ -4,6 +4,7 @@ use crate::words::hex16;
 use crate::words::said;
 use calls::Call;
 use calls::bytes_from;
+use connection::Event;
 use connection::Remote;
 use pieces::put_piece;
 
@@ -82,21 +83,24 @@ fn transmit(text: &mut [u8], at: usize, pdu: u16, payload: &[u8]) -> usize {
     said(text, with, b", ", payload.len() as u64, b" bytes")
 }
 
+fn own(text: &mut [u8], at: usize, connection: u8, event: Event) -> usize {
+    match event {
+        Event::Open => said(text, at, b"open connection ", connection as u64, b""),
+        Event::Close => said(text, at, b"close connection ", connection as u64, b""),
+        Event::Connected => said(text, at, b"connected connection ", connection as u64, b""),
+        Event::Lost => said(text, at, b"lost connection ", connection as u64, b""),
+        Event::SetRemote(remote) => set_remote(text, at, connection, remote),
+        Event::Switch { number, on } => switch(text, at, connection, number, on),
+    }
+}
+
 pub fn event(text: &mut [u8], at: usize, call: Call, body: &[u8]) -> usize {
     match call {
         Call::Unknown => at,
         Call::Unfit => at,
         Call::Ticks(n) => said(text, at, b"tick ", n as u64, b" times"),
-        Call::Open(c) => said(text, at, b"open connection ", c as u64, b""),
-        Call::Close(c) => said(text, at, b"close connection ", c as u64, b""),
-        Call::Connected(c) => said(text, at, b"connected connection ", c as u64, b""),
+        Call::Own { connection, event } => own(text, at, connection, event),
         Call::Lost(c) => said(text, at, b"lost connection ", c as u64, b""),
-        Call::SetRemote { connection, remote } => set_remote(text, at, connection, remote),
-        Call::Switch {
-            connection,
-            number,
-            on,
-        } => switch(text, at, connection, number, on),
         Call::Segment {
             connection,
             at: from,

@@ -1,10 +1,10 @@
 // A tick of the whole module, and many ticks under one check. Assumes nothing: no entry relies on its caller.
 ghost use mathlib.Core.Path.{_≡_};
 ghost use Prim.Native.Nat.{_≤_};
-ghost use lib.ListN.{length};
 ghost use Rattle.connection.specs.Connection.{tickOf};
 ghost use Rattle.state.specs.Fresh.{configIn};
 ghost use Rattle.ticks.specs.Tick.{restsOf, tickedTo, ticksTo, tickEvent, ticksEvent};
+ghost use Rattle.gate.specs.Lent.{lentBy};
 use connection::Answer;
 use connection::Connection;
 use connection::is_online;
@@ -73,7 +73,7 @@ fn tick_many(image: &[u8], rows: usize, state: State, count: u32) -> State
 }
 
 pub fn tick(image: &[u8], state: State, rx: &[u8], tx: &[u8]) -> Ticked
-    ensures { λ r. ⌜ r ≡ tickEvent (now (image .entry)) state (length (now (rx .entry))) (length (now (tx .entry))) ⌝ }
+    ensures { λ r. ⌜ r ≡ tickEvent (lentBy (now (image .entry)) state (now (rx .entry)) (now (tx .entry))) ⌝ }
 {
     let asked = gate::ask(image, state, rx.len(), tx.len());
     match asked {
@@ -93,7 +93,7 @@ pub fn tick(image: &[u8], state: State, rx: &[u8], tx: &[u8]) -> Ticked
 
 // `count` ticks under one check.
 pub fn ticks(image: &[u8], state: State, rx: &[u8], tx: &[u8], count: u32) -> Ticked
-    ensures { λ r. ⌜ r ≡ ticksEvent (now (image .entry)) state (length (now (rx .entry))) (length (now (tx .entry))) count ⌝ }
+    ensures { λ r. ⌜ r ≡ ticksEvent (lentBy (now (image .entry)) state (now (rx .entry)) (now (tx .entry))) count ⌝ }
 {
     let asked = gate::ask(image, state, rx.len(), tx.len());
     match asked {

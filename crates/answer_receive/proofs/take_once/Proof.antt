@@ -2,6 +2,7 @@
 use mathlib.Core.Path.{sym, _∙_}
 use lib.ListN.{length}
 use borrow.Author.Tests.{not-false, not-true}
+use Rattle.gate.specs.Lent.{loan}
 use Rattle.answer_receive.proofs.Once.{once-refused, once-done}
 use borrow.Author.Needs.{needs}
 use Rattle.answer_receive.proofs.take_once.Statement.{statement}
@@ -20,7 +21,7 @@ same-length : tie.Need-same-length
 same-length c = search needs
 
 returns : tie.Need-returns
-returns c = let a = c .before .before .before .before .before .before .before .before .before .before .before .before .before .args in let h = c .before .before .before .before .before .segment-take .ensures in once-refused (a .image .now) (length (a .tx .now)) (a .connection) (a .segment .now) (a .state) (a .rx .now) (a .from) (a .out .now) (a .place) (c .before .before .before .before .before .before .before .bytes-from .ensures .0) (h .0) (h .1) (sym (c .before .is-done .ensures) ∙ not-true _ (c .if1 .taken))
+returns c = let a = c .before .before .before .before .before .before .before .before .before .before .before .before .before .args in let h = c .before .before .before .before .before .segment-take .ensures in once-refused (loan (a .image .now) (a .state) (a .rx .now) (a .tx .now)) (a .connection) (a .segment .now) (a .from) (a .out .now) (a .place) (c .before .before .before .before .before .before .before .bytes-from .ensures .0) (h .0) (h .1) (sym (c .before .is-done .ensures) ∙ not-true _ (c .if1 .taken))
 
 segment-payload-requires : tie.Need-segment-payload-requires
 segment-payload-requires c κs = search needs
@@ -35,7 +36,7 @@ same-length-3 : tie.Need-same-length-3
 same-length-3 c = search needs
 
 returns-2 : tie.Need-returns-2
-returns-2 c = let a = c .before .before .before .before .before .before .before .before .before .before .before .before .before .before .before .before .before .before .before .args in let h = c .before .before .before .before .before .before .before .before .before .before .before .segment-take .ensures in let p = c .before .before .put-take .ensures in once-done (a .image .now) (length (a .tx .now)) (a .connection) (a .segment .now) (a .state) (a .rx .now) (a .from) (a .out .now) (a .place) (c .before .before .before .before .before .before .before .before .before .before .before .before .before .bytes-from .ensures .0) (h .0) (h .1) (sym (c .before .before .before .before .before .before .before .is-done .ensures) ∙ not-false _ (c .before .before .before .before .before .before .if1 .left)) (c .before .before .before .before .segment-payload .ensures .0) (p .0) (p .1)
+returns-2 c = let a = c .before .before .before .before .before .before .before .before .before .before .before .before .before .before .before .before .before .before .before .args in let h = c .before .before .before .before .before .before .before .before .before .before .before .segment-take .ensures in let p = c .before .before .put-take .ensures in once-done (loan (a .image .now) (a .state) (a .rx .now) (a .tx .now)) (a .connection) (a .segment .now) (a .from) (a .out .now) (a .place) (c .before .before .before .before .before .before .before .before .before .before .before .before .before .bytes-from .ensures .0) (h .0) (h .1) (sym (c .before .before .before .before .before .before .before .is-done .ensures) ∙ not-false _ (c .before .before .before .before .before .before .if1 .left)) (c .before .before .before .before .segment-payload .ensures .0) (p .0) (p .1)
 
 pub take-once-spec : {M : Type 1} → statement M
 take-once-spec =

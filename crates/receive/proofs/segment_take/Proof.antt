@@ -1,5 +1,5 @@
 -- `receive::segment_take` meets its contract. Assumes nothing.
-use lib.ListN.{length}
+use Rattle.gate.specs.Lent.{loan}
 use Rattle.receive.proofs.Taking.{may-take, segment-done, memory-done, segment-none, memory-none}
 use borrow.Author.Needs.{needs}
 use Rattle.receive.proofs.segment_take.Statement.{statement}
@@ -21,7 +21,7 @@ take-on-requires c κs =
     let n = d .before in
     let g = n .before in
     let a = g .before .before .before .before .before .args in
-    may-take (a .image .now) (a .state) (a .rx .now) (length (a .tx .now)) (a .connection) (a .segment .now) (g .config-of .result) (g .config-of .ensures)
+    may-take (loan (a .image .now) (a .state) (a .rx .now) (a .tx .now)) (a .connection) (a .segment .now) (g .config-of .result) (g .config-of .ensures)
     (n .answer-at .result) (n .answer-at .ensures) (d .is-done .result) (d .is-done .ensures) (h .if1 .taken)
 
 same-length : tie.Need-same-length
@@ -35,9 +35,9 @@ returns c =
     let n = d .before in
     let g = n .before in
     let a = g .before .before .before .before .before .args in (
-      segment-done (a .image .now) (a .state) (a .rx .now) (length (a .tx .now)) (a .connection) (a .segment .now) (g .config-of .result) (g .config-of .ensures)
+      segment-done (loan (a .image .now) (a .state) (a .rx .now) (a .tx .now)) (a .connection) (a .segment .now) (g .config-of .result) (g .config-of .ensures)
           (n .answer-at .result) (n .answer-at .ensures) (d .is-done .result) (d .is-done .ensures) (h .if1 .taken) (o .take-on .result) (o .take-on .ensures .0),
-      memory-done (a .image .now) (a .state) (a .rx .now) (length (a .tx .now)) (a .connection) (a .segment .now) (g .config-of .result) (g .config-of .ensures)
+      memory-done (loan (a .image .now) (a .state) (a .rx .now) (a .tx .now)) (a .connection) (a .segment .now) (g .config-of .result) (g .config-of .ensures)
           (n .answer-at .result) (n .answer-at .ensures) (d .is-done .result) (d .is-done .ensures) (h .if1 .taken) (o .take-on .last .1 .1 .0) (o .take-on .ensures .1),
     )
 
@@ -47,9 +47,9 @@ returns-2 c =
     let n = d .before in
     let g = n .before in
     let a = g .before .before .before .before .before .args in (
-      segment-none (a .image .now) (a .state) (a .rx .now) (length (a .tx .now)) (a .connection) (a .segment .now) (g .config-of .result) (g .config-of .ensures)
+      segment-none (loan (a .image .now) (a .state) (a .rx .now) (a .tx .now)) (a .connection) (a .segment .now) (g .config-of .result) (g .config-of .ensures)
           (n .answer-at .result) (n .answer-at .ensures) (d .is-done .result) (d .is-done .ensures) (c .if1 .left),
-      memory-none (a .image .now) (a .state) (a .rx .now) (length (a .tx .now)) (a .connection) (a .segment .now) (g .config-of .result) (g .config-of .ensures)
+      memory-none (loan (a .image .now) (a .state) (a .rx .now) (a .tx .now)) (a .connection) (a .segment .now) (g .config-of .result) (g .config-of .ensures)
           (n .answer-at .result) (n .answer-at .ensures) (d .is-done .result) (d .is-done .ensures) (c .if1 .left),
     )
 
