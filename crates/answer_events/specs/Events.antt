@@ -8,7 +8,6 @@ use Rattle.connection.specs.declared.Answer.the-variants.{Done, Refused}
 use Rattle.events.specs.declared.CountAnswer.{CountAnswer}
 use Rattle.events.specs.declared.CountAnswer.the-variants.{Count, Refused as Uncounted}
 use Rattle.connection.specs.declared.Event.{Event}
-use Rattle.state.specs.declared.State.{State}
 use Rattle.events.specs.declared.Told.{Told}
 use Rattle.events.specs.declared.Loss.{Loss}
 use Rattle.events.specs.declared.Counted.{Counted}
@@ -17,6 +16,7 @@ use Rattle.events.specs.Module.{switchAllOf}
 use Rattle.events.specs.Count.{readOf, clearOf}
 use Rattle.ticks.specs.declared.Ticked.{Ticked}
 use Rattle.ticks.specs.Tick.{ticksEvent}
+use Rattle.gate.specs.Lent.{Loan, sizes}
 use Rattle.answering.specs.Answers.{Effect, answers, refusal, done, doneWith}
 
 -- "any other: nothing"
@@ -52,22 +52,22 @@ ticked t rx tx out = answers (ticksBytes (t .answer)) (t .state) rx tx out
 abbrev pub counted : Counted → List ℕ → List ℕ → List ℕ → Effect
 counted t rx tx out = answers (countBytes (t .answer)) (t .state) rx tx out
 
-module _ (image : List ℕ) (s : State) (rx tx out : List ℕ) where
+module _ (l : Loan) (out : List ℕ) where
   -- open, close, connected, set remote, switch
   unfoldable pub ownEffect : ℕ → Event → Effect
-  ownEffect connection event = told (eventOf image s (length rx) (length tx) connection event) rx tx out
+  ownEffect connection event = told (eventOf (sizes l) connection event) (l .rx) (l .tx) out
 
   unfoldable pub lostEffect : ℕ → Effect
-  lostEffect connection = lost (lossOf image s (length rx) (length tx) connection) rx tx out
+  lostEffect connection = lost (lossOf (sizes l) connection) (l .rx) (l .tx) out
 
   unfoldable pub ticksEffect : ℕ → Effect
-  ticksEffect count = ticked (ticksEvent image s (length rx) (length tx) count) rx tx out
+  ticksEffect count = ticked (ticksEvent (sizes l) count) (l .rx) (l .tx) out
 
   unfoldable pub switchAllEffect : ℕ → Bool → Effect
-  switchAllEffect number on = told (switchAllOf image s (length rx) (length tx) number on) rx tx out
+  switchAllEffect number on = told (switchAllOf (sizes l) number on) (l .rx) (l .tx) out
 
   unfoldable pub readEffect : ℕ → Effect
-  readEffect protocol = counted (readOf image s (length rx) (length tx) protocol) rx tx out
+  readEffect protocol = counted (readOf (sizes l) protocol) (l .rx) (l .tx) out
 
   unfoldable pub clearEffect : ℕ → Effect
-  clearEffect protocol = counted (clearOf image s (length rx) (length tx) protocol) rx tx out
+  clearEffect protocol = counted (clearOf (sizes l) protocol) (l .rx) (l .tx) out

@@ -4,6 +4,7 @@ ghost use lib.ListN.{length};
 ghost use Rattle.wire.specs.Lay.{lay};
 ghost use Rattle.answering.specs.Answers.{dispatched};
 ghost use Rattle.answer_events.specs.Events as Is;
+ghost use Rattle.gate.specs.Lent.{loan};
 use answering::Dispatched;
 use answering::Verdict;
 use answering::put_done;
@@ -66,8 +67,8 @@ pub fn own(
     event: Event,
     out: &mut [u8],
 ) -> Dispatched
-    ensures { λ r. ⌜ r ≡ dispatched (Is.ownEffect (now (image .entry)) state (now (rx .entry)) (now (tx .entry)) (now (out .entry)) connection event) ⌝ }
-    ensures { λ _. ⌜ now (out .exit) ≡ Is.ownEffect (now (image .entry)) state (now (rx .entry)) (now (tx .entry)) (now (out .entry)) connection event .out ⌝ }
+    ensures { λ r. ⌜ r ≡ dispatched (Is.ownEffect (loan (now (image .entry)) state (now (rx .entry)) (now (tx .entry))) (now (out .entry)) connection event) ⌝ }
+    ensures { λ _. ⌜ now (out .exit) ≡ Is.ownEffect (loan (now (image .entry)) state (now (rx .entry)) (now (tx .entry))) (now (out .entry)) connection event .out ⌝ }
 {
     let entry = events::happen(image, state, rx, tx, connection, event);
     let answer = entry.answer;
@@ -87,8 +88,8 @@ pub fn lost(
     connection: u8,
     out: &mut [u8],
 ) -> Dispatched
-    ensures { λ r. ⌜ r ≡ dispatched (Is.lostEffect (now (image .entry)) state (now (rx .entry)) (now (tx .entry)) (now (out .entry)) connection) ⌝ }
-    ensures { λ _. ⌜ now (out .exit) ≡ Is.lostEffect (now (image .entry)) state (now (rx .entry)) (now (tx .entry)) (now (out .entry)) connection .out ⌝ }
+    ensures { λ r. ⌜ r ≡ dispatched (Is.lostEffect (loan (now (image .entry)) state (now (rx .entry)) (now (tx .entry))) (now (out .entry)) connection) ⌝ }
+    ensures { λ _. ⌜ now (out .exit) ≡ Is.lostEffect (loan (now (image .entry)) state (now (rx .entry)) (now (tx .entry))) (now (out .entry)) connection .out ⌝ }
 {
     let entry = events::lost(image, state, rx, tx, connection);
     let answer = entry.answer;
@@ -108,8 +109,8 @@ pub fn many_ticks(
     count: u32,
     out: &mut [u8],
 ) -> Dispatched
-    ensures { λ r. ⌜ r ≡ dispatched (Is.ticksEffect (now (image .entry)) state (now (rx .entry)) (now (tx .entry)) (now (out .entry)) count) ⌝ }
-    ensures { λ _. ⌜ now (out .exit) ≡ Is.ticksEffect (now (image .entry)) state (now (rx .entry)) (now (tx .entry)) (now (out .entry)) count .out ⌝ }
+    ensures { λ r. ⌜ r ≡ dispatched (Is.ticksEffect (loan (now (image .entry)) state (now (rx .entry)) (now (tx .entry))) (now (out .entry)) count) ⌝ }
+    ensures { λ _. ⌜ now (out .exit) ≡ Is.ticksEffect (loan (now (image .entry)) state (now (rx .entry)) (now (tx .entry))) (now (out .entry)) count .out ⌝ }
 {
     let entry = ticks::ticks(image, state, rx, tx, count);
     let answer = entry.answer;
@@ -130,8 +131,8 @@ pub fn switch_all(
     on: bool,
     out: &mut [u8],
 ) -> Dispatched
-    ensures { λ r. ⌜ r ≡ dispatched (Is.switchAllEffect (now (image .entry)) state (now (rx .entry)) (now (tx .entry)) (now (out .entry)) number on) ⌝ }
-    ensures { λ _. ⌜ now (out .exit) ≡ Is.switchAllEffect (now (image .entry)) state (now (rx .entry)) (now (tx .entry)) (now (out .entry)) number on .out ⌝ }
+    ensures { λ r. ⌜ r ≡ dispatched (Is.switchAllEffect (loan (now (image .entry)) state (now (rx .entry)) (now (tx .entry))) (now (out .entry)) number on) ⌝ }
+    ensures { λ _. ⌜ now (out .exit) ≡ Is.switchAllEffect (loan (now (image .entry)) state (now (rx .entry)) (now (tx .entry))) (now (out .entry)) number on .out ⌝ }
 {
     let entry = events::switch_all(image, state, rx, tx, number, on);
     let answer = entry.answer;
@@ -151,8 +152,8 @@ pub fn read_count(
     protocol: u8,
     out: &mut [u8],
 ) -> Dispatched
-    ensures { λ r. ⌜ r ≡ dispatched (Is.readEffect (now (image .entry)) state (now (rx .entry)) (now (tx .entry)) (now (out .entry)) protocol) ⌝ }
-    ensures { λ _. ⌜ now (out .exit) ≡ Is.readEffect (now (image .entry)) state (now (rx .entry)) (now (tx .entry)) (now (out .entry)) protocol .out ⌝ }
+    ensures { λ r. ⌜ r ≡ dispatched (Is.readEffect (loan (now (image .entry)) state (now (rx .entry)) (now (tx .entry))) (now (out .entry)) protocol) ⌝ }
+    ensures { λ _. ⌜ now (out .exit) ≡ Is.readEffect (loan (now (image .entry)) state (now (rx .entry)) (now (tx .entry))) (now (out .entry)) protocol .out ⌝ }
 {
     let entry = events::read_count(image, state, rx, tx, protocol);
     let answer = entry.answer;
@@ -172,8 +173,8 @@ pub fn clear_count(
     protocol: u8,
     out: &mut [u8],
 ) -> Dispatched
-    ensures { λ r. ⌜ r ≡ dispatched (Is.clearEffect (now (image .entry)) state (now (rx .entry)) (now (tx .entry)) (now (out .entry)) protocol) ⌝ }
-    ensures { λ _. ⌜ now (out .exit) ≡ Is.clearEffect (now (image .entry)) state (now (rx .entry)) (now (tx .entry)) (now (out .entry)) protocol .out ⌝ }
+    ensures { λ r. ⌜ r ≡ dispatched (Is.clearEffect (loan (now (image .entry)) state (now (rx .entry)) (now (tx .entry))) (now (out .entry)) protocol) ⌝ }
+    ensures { λ _. ⌜ now (out .exit) ≡ Is.clearEffect (loan (now (image .entry)) state (now (rx .entry)) (now (tx .entry))) (now (out .entry)) protocol .out ⌝ }
 {
     let entry = events::clear_count(image, state, rx, tx, protocol);
     let answer = entry.answer;

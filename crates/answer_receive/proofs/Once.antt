@@ -29,6 +29,7 @@ use Rattle.receive.specs.declared.Answer.the-variants.{Done, Refused, NotReceiv
 use Rattle.receive.specs.declared.SegmentTaken.{SegmentTaken}
 use Rattle.receive.specs.Answer.{isDone}
 use Rattle.receive.specs.Segment.{dropsAfter, countTake, takenAt, takeOn, memoryOn, segmentAnswer, payloadOf}
+use Rattle.gate.specs.Lent.{Loan, sizes, received}
 use Rattle.answer_receive.specs.declared.Turn.{Turn}
 use Rattle.answer_receive.specs.Segment.{takeBytes, bytesOf, takeAt, memoryAt, bytesAt}
 use Rattle.answer_receive.specs.Turn.{takenFrom, memoryFrom, bytesFrom, turnOf, Goes, joined}
@@ -67,8 +68,14 @@ module _ (s : State) (k : ℕ) where
         ∙ ap (λ (c : Connection). set (s .connections) k (withPart q c)) record-joined)
 
 -- THE TAKE of a turn, by the routes and switches of its connection
-module _ (image : List ℕ) (tx k : ℕ) (segment : List ℕ) (s : State) (t : Turn) (rx : List ℕ) (there : k < length (s .connections))
-    (clear : isDone (segmentAnswer image (joined s k (t .part) (t .drops)) (length rx) tx k) ≡ true) where
+module _ (l : Loan) (k : ℕ) (segment : List ℕ) (t : Turn) (rx : List ℕ) (there : k < length (l .state .connections))
+    (clear : isDone (segmentAnswer (sizes (received l (joined (l .state) k (t .part) (t .drops)) rx)) k) ≡ true) where
+  abbrev image : List ℕ
+  image = l .image
+
+  abbrev s : State
+  s = l .state
+
   abbrev at-turn : State
   at-turn = joined s k (t .part) (t .drops)
 
@@ -85,21 +92,21 @@ module _ (image : List ℕ) (tx k : ℕ) (segment : List ℕ) (s : State) (t : T
   same-taken =
       ap (λ (c : Connection). takenOf (bodyOf image Routes) k (c .switches) (c .part) (stretch 1464 k rx) (drop (t .at) segment)) (record-joined s k there (t .part) (t .drops))
 
-  pub turn-taken : takeAt image tx k segment at-turn rx (t .at) ≡ turned
+  pub turn-taken : takeAt (received l at-turn rx) k segment (t .at) ≡ turned
   unfolding takeOn
   turn-taken =
-      taken-is image at-turn rx tx k (drop (t .at) segment) clear
+      taken-is (received l at-turn rx) k (drop (t .at) segment) clear
       ∙ ap (λ (x : State). record { answer = Done; read = takenAt image at-turn rx k (drop (t .at) segment) .read; outcome = takenAt image at-turn rx k (drop (t .at) segment) .outcome; state = x })
       (joined-again s k there (t .part) (t .drops) (takenAt image at-turn rx k (drop (t .at) segment) .part) (takenAt image at-turn rx k (drop (t .at) segment) .outcome))
       ∙ ap (λ (u : Taken). record { answer = Done; read = u .read; outcome = u .outcome; state = joined s k (u .part) (dropsAfter (u .outcome) (t .drops)) }) same-taken
 
-  pub turn-memory : memoryAt image tx k segment at-turn rx (t .at) ≡ memory
+  pub turn-memory : memoryAt (received l at-turn rx) k segment (t .at) ≡ memory
   unfolding memoryOn
   turn-memory =
-      memory-is image at-turn rx tx k (drop (t .at) segment) clear
+      memory-is (received l at-turn rx) k (drop (t .at) segment) clear
       ∙ ap (λ (c : Connection). lay rx (k * 1464) (rxAfter (bodyOf image Routes) k (c .switches) (c .part) (stretch 1464 k rx) (drop (t .at) segment))) (record-joined s k there (t .part) (t .drops))
 
-  pub turn-bytes : bytesAt image tx k segment at-turn rx (t .at) ≡ bytesFrom (bodyOf image Routes) (recordAt s k .switches) k segment t rx
+  pub turn-bytes : bytesAt (received l at-turn rx) k segment (t .at) ≡ bytesFrom (bodyOf image Routes) (recordAt s k .switches) k segment t rx
   unfolding bytesAt
   turn-bytes =
       ap₂ (λ (u : SegmentTaken) (m : List ℕ). bytesOf (u .answer) (takeBytes (t .at) (u .read) (u .outcome) (payloadOf (drop (t .at) segment) m k (u .outcome))))

@@ -24,7 +24,7 @@ use Rattle.state.specs.declared.State.{State}
 use Rattle.state.specs.State.{recordAt, withRecord}
 use Rattle.state.specs.Fresh.{configOf}
 use Rattle.route.specs.Route.{lookupOf}
-use Rattle.gate.specs.Lent.{lent}
+use Rattle.gate.specs.Lent.{Lent, Loan, sizes, received}
 use Rattle.gate.proofs.Pass.{passed-gate-at}
 use Rattle.stream.specs.Stream.{cellOf, idOf, tookOf, takenOf}
 use Rattle.state.specs.Memory.{stretch}
@@ -40,13 +40,13 @@ use Rattle.answering.specs.Answers.{Effect, untouched, doneWith}
 use Rattle.answering.proofs.Chain.{length-found}
 use Rattle.answer_receive.specs.Long.{longest, tooLong}
 use Rattle.answer_receive.specs.Walk.{walked, walkEffect}
-use Rattle.answer_receive.specs.Segment.{takeBytes, bytesOf, Run, begun, takeAt, memoryAt, bytesAt, step, goesOn, runOf, allTakes, eventBytes, leaves, roomFor, segmentEffect}
+use Rattle.answer_receive.specs.Segment.{lends, takeBytes, bytesOf, Run, begun, takeAt, memoryAt, bytesAt, step, goesOn, runOf, allTakes, eventBytes, leaves, roomFor, segmentEffect}
 use Rattle.answer_receive.proofs.Size.{most, most-all, most-least, take-most, take-stops, spent-within, spent-stops}
 
 -- what nothing refuses is done
-clear-done : (image : List ℕ) (s : State) (rx tx k : ℕ) (allowed : Bool) → Clear image s rx tx k allowed → isDone (answerOf image s rx tx k allowed) ≡ true
+clear-done : (l : Lent) (k : ℕ) (allowed : Bool) → Clear l k allowed → isDone (answerOf l k allowed) ≡ true
 unfolding answerOf judgedOf
-clear-done image s rx tx k allowed c = rw (passed-gate-at (lent image s rx tx) k (c .passed) (c .there), c .allows, c .receives) refl
+clear-done l k allowed c = rw (passed-gate-at l k (c .passed) (c .there), c .allows, c .receives) refl
 
 bytes-of-within : (a : Answer) (x : List ℕ) → length (bytesOf a x) ≤ length x
 bytes-of-within Done x = omega arith
@@ -54,35 +54,44 @@ bytes-of-within (Refused r) x = omega arith
 bytes-of-within NotReceiving x = omega arith
 
 -- ONE TAKE over what is left of the segment
-module _ (image : List ℕ) (s : State) (rx : List ℕ) (tx k : ℕ) (seg : List ℕ) where
+module _ (l : Loan) (k : ℕ) (seg : List ℕ) where
+  abbrev image : List ℕ
+  image = l .image
+
+  abbrev s : State
+  s = l .state
+
+  abbrev rx : List ℕ
+  rx = l .rx
+
   abbrev answer : Answer
-  answer = segmentAnswer image s (length rx) tx k
+  answer = segmentAnswer (sizes l) k
 
   abbrev bytesFrom : ℕ → List ℕ → SegmentTaken → List ℕ
   bytesFrom from m t = bytesOf (t .answer) (takeBytes from (t .read) (t .outcome) (payloadOf seg m k (t .outcome)))
 
-  pub taken-is : isDone answer ≡ true → segmentOf image s rx tx k seg ≡ takeOn image s rx k seg
+  pub taken-is : isDone answer ≡ true → segmentOf l k seg ≡ takeOn image s rx k seg
   unfolding segmentOf
   taken-is e = rw e
 
-  pub memory-is : isDone answer ≡ true → memoryOf image s rx tx k seg ≡ memoryOn image s rx k seg
+  pub memory-is : isDone answer ≡ true → memoryOf l k seg ≡ memoryOn image s rx k seg
   unfolding memoryOf
   memory-is e = rw e
 
-  pub none-is : isDone answer ≡ false → segmentOf image s rx tx k seg ≡ noneTaken s answer
+  pub none-is : isDone answer ≡ false → segmentOf l k seg ≡ noneTaken s answer
   unfolding segmentOf
   none-is e = rw e
 
-  pub memory-stays : isDone answer ≡ false → rx ≡ memoryOf image s rx tx k seg
+  pub memory-stays : isDone answer ≡ false → rx ≡ memoryOf l k seg
   unfolding memoryOf
   memory-stays e = rw e
 
   -- its answer is the gate's
-  pub answer-is : isDone (segmentOf image s rx tx k seg .answer) ≡ isDone answer
+  pub answer-is : isDone (segmentOf l k seg .answer) ≡ isDone answer
   unfolding takeOn
   answer-is = go (isDone answer) refl
     where
-      go : (b : Bool) → isDone answer ≡ b → isDone (segmentOf image s rx tx k seg .answer) ≡ isDone answer
+      go : (b : Bool) → isDone answer ≡ b → isDone (segmentOf l k seg .answer) ≡ isDone answer
       go true e = ap (λ (t : SegmentTaken). isDone (t .answer)) (taken-is e) ∙ sym e
       go false e = ap (λ (t : SegmentTaken). isDone (t .answer)) (none-is e)
 
@@ -95,10 +104,10 @@ module _ (image : List ℕ) (s : State) (rx : List ℕ) (tx k : ℕ) (seg : List
   none-within : (from : ℕ) (m : List ℕ) → length (bytesFrom from m (noneTaken s answer)) ≤ most (recordAt s k .part)
   none-within from m = omega (arith, bytes-of-within answer (takeBytes from 0 (noneTaken s answer .outcome) (payloadOf seg m k (noneTaken s answer .outcome))), length-found 0 0 0 0 0, most-least (recordAt s k .part))
 
-  pub take-within : (from : ℕ) (m : List ℕ) → length (bytesFrom from m (segmentOf image s rx tx k seg)) ≤ most (recordAt s k .part)
+  pub take-within : (from : ℕ) (m : List ℕ) → length (bytesFrom from m (segmentOf l k seg)) ≤ most (recordAt s k .part)
   take-within from m = go (isDone answer) refl
     where
-      go : (b : Bool) → isDone answer ≡ b → length (bytesFrom from m (segmentOf image s rx tx k seg)) ≤ most (recordAt s k .part)
+      go : (b : Bool) → isDone answer ≡ b → length (bytesFrom from m (segmentOf l k seg)) ≤ most (recordAt s k .part)
       go true e = subst (λ (t : SegmentTaken). length (bytesFrom from m t) ≤ most (recordAt s k .part)) (sym (taken-is e)) (on-within from m)
       go false e = subst (λ (t : SegmentTaken). length (bytesFrom from m t) ≤ most (recordAt s k .part)) (sym (none-is e)) (none-within from m)
 
@@ -108,7 +117,7 @@ module _ (image : List ℕ) (s : State) (rx : List ℕ) (tx k : ℕ) (seg : List
   part-after e =
       ap (λ (cs : List Connection). getD cs k zeroRecord .part) (count-records (takenAt image s rx k seg .outcome) (withRecord k (withPart (takenAt image s rx k seg .part) (recordAt s k)) s))
       ∙ ap (λ (c : Connection). c .part) (getD-set-same (s .connections) k (withPart (takenAt image s rx k seg .part) (recordAt s k)) zeroRecord
-      (in-range s k (done-clear image s (length rx) tx k (configOf image k .tcp) e .receives)))
+      (in-range s k (done-clear (sizes l) k (configOf image k .tcp) e .receives)))
 
   -- where it left bytes there is enough for the next
   on-goes : (from : ℕ) (m : List ℕ) → isDone answer ≡ true → takeOn image s rx k seg .read < length seg
@@ -126,8 +135,8 @@ module _ (image : List ℕ) (s : State) (rx : List ℕ) (tx k : ℕ) (seg : List
         spent-stops from (length seg - length (takeB R c seg .rest)) seg m k R (idOf (bodyOf image RouteRows)) (stretch 1464 k rx) (recordAt s k .part) stopped,
       )
 
-  pub take-goes : (from : ℕ) (m : List ℕ) → isDone (segmentOf image s rx tx k seg .answer) ≡ true → segmentOf image s rx tx k seg .read < length seg
-      → length (bytesFrom from m (segmentOf image s rx tx k seg)) + most (recordAt (segmentOf image s rx tx k seg .state) k .part) + 3 * (length seg - segmentOf image s rx tx k seg .read)
+  pub take-goes : (from : ℕ) (m : List ℕ) → isDone (segmentOf l k seg .answer) ≡ true → segmentOf l k seg .read < length seg
+      → length (bytesFrom from m (segmentOf l k seg)) + most (recordAt (segmentOf l k seg .state) k .part) + 3 * (length seg - segmentOf l k seg .read)
       ≤ most (recordAt s k .part) + 3 * length seg
   take-goes from m d =
       let e : isDone answer ≡ true = sym answer-is ∙ d in
@@ -135,117 +144,115 @@ module _ (image : List ℕ) (s : State) (rx : List ℕ) (tx k : ℕ) (seg : List
       (sym (taken-is e)) (on-goes from m e)
 
   -- the next take is not refused
-  pub take-next : Bytes seg → isDone (segmentOf image s rx tx k seg .answer) ≡ true
-      → isDone (segmentAnswer image (segmentOf image s rx tx k seg .state) (length (memoryOf image s rx tx k seg)) tx k) ≡ true
+  pub take-next : Bytes seg → isDone (segmentOf l k seg .answer) ≡ true → isDone (segmentAnswer (sizes (received l (segmentOf l k seg .state) (memoryOf l k seg))) k) ≡ true
   take-next bytes d =
       let e : isDone answer ≡ true = sym answer-is ∙ d in
-      ap (λ (t : SegmentTaken). isDone (segmentAnswer image (t .state) (length (memoryOf image s rx tx k seg)) tx k)) (taken-is e)
-      ∙ ap (λ (m : List ℕ). isDone (segmentAnswer image (takeOn image s rx k seg .state) (length m) tx k)) (memory-is e)
-      ∙ clear-done image (takeOn image s rx k seg .state) (length (memoryOn image s rx k seg)) tx k (configOf image k .tcp)
-      (take-clear image s rx tx k seg bytes (done-clear image s (length rx) tx k (configOf image k .tcp) e))
+      ap (λ (t : SegmentTaken). isDone (segmentAnswer (sizes (received l (t .state) (memoryOf l k seg))) k)) (taken-is e)
+      ∙ ap (λ (m : List ℕ). isDone (segmentAnswer (sizes (received l (takeOn image s rx k seg .state) m)) k)) (memory-is e)
+      ∙ clear-done (sizes (received l (takeOn image s rx k seg .state) (memoryOn image s rx k seg))) k (configOf image k .tcp)
+      (take-clear l k seg bytes (done-clear (sizes l) k (configOf image k .tcp) e))
 
 -- THE TAKES OF AN EVENT
-module _ (image : List ℕ) (tx k : ℕ) (segment : List ℕ) where
-  pub bytes-within : (s : State) (rx : List ℕ) (at : ℕ) → length (bytesAt image tx k segment s rx at) ≤ most (recordAt s k .part)
+module _ (l : Loan) (k : ℕ) (segment : List ℕ) (at : ℕ) where
+  pub bytes-within : length (bytesAt l k segment at) ≤ most (recordAt (l .state) k .part)
   unfolding bytesAt
-  bytes-within s rx at = take-within image s rx tx k (drop at segment) at (memoryAt image tx k segment s rx at)
+  bytes-within = take-within l k (drop at segment) at (memoryAt l k segment at)
 
-  pub bytes-go : (s : State) (rx : List ℕ) (at : ℕ) → isDone (takeAt image tx k segment s rx at .answer) ≡ true → at + takeAt image tx k segment s rx at .read < length segment
-      → length (bytesAt image tx k segment s rx at) + most (recordAt (takeAt image tx k segment s rx at .state) k .part) + 3 * (length segment - (at + takeAt image tx k segment s rx at .read))
-      ≤ most (recordAt s k .part) + 3 * (length segment - at)
+  pub bytes-go : isDone (takeAt l k segment at .answer) ≡ true → at + takeAt l k segment at .read < length segment
+      → length (bytesAt l k segment at) + most (recordAt (takeAt l k segment at .state) k .part) + 3 * (length segment - (at + takeAt l k segment at .read))
+      ≤ most (recordAt (l .state) k .part) + 3 * (length segment - at)
   unfolding bytesAt
-  bytes-go s rx at d h =
-      let l = length-drop at segment in
-      omega (arith, take-goes image s rx tx k (drop at segment) at (memoryAt image tx k segment s rx at) d (omega arith))
+  bytes-go d h =
+      let e = length-drop at segment in
+      omega (arith, take-goes l k (drop at segment) at (memoryAt l k segment at) d (omega arith))
 
-  pub bytes-next : Bytes segment → (s : State) (rx : List ℕ) (at : ℕ) → isDone (takeAt image tx k segment s rx at .answer) ≡ true
-      → isDone (segmentAnswer image (takeAt image tx k segment s rx at .state) (length (memoryAt image tx k segment s rx at)) tx k) ≡ true
-  bytes-next bytes s rx at = take-next image s rx tx k (drop at segment) (bytes-drop at segment bytes)
+  pub bytes-next : Bytes segment → isDone (takeAt l k segment at .answer) ≡ true
+      → isDone (segmentAnswer (sizes (received l (takeAt l k segment at .state) (memoryAt l k segment at))) k) ≡ true
+  bytes-next bytes = take-next l k (drop at segment) (bytes-drop at segment bytes)
 
+module _ (l : Loan) (k : ℕ) (segment : List ℕ) where
   -- from anywhere on
-  run-fits : (n : ℕ) (r : Run) → length (runOf image tx k segment n r .bytes) ≤ length (r .bytes) + most (recordAt (r .state) k .part) + 3 * (length segment - r .at)
+  run-fits : (n : ℕ) (r : Run) → length (runOf l k segment n r .bytes) ≤ length (r .bytes) + most (recordAt (r .state) k .part) + 3 * (length segment - r .at)
   unfolding runOf step
-  run-fits zero r = omega (arith, length-append (r .bytes) (bytesAt image tx k segment (r .state) (r .rx) (r .at)), bytes-within (r .state) (r .rx) (r .at))
-  run-fits (suc n) r = go (goesOn image tx k segment (step image tx k segment r)) refl (run-fits n (step image tx k segment r))
+  run-fits zero r = omega (arith, length-append (r .bytes) (bytesAt (lends l k segment r) k segment (r .at)), bytes-within (lends l k segment r) k segment (r .at))
+  run-fits (suc n) r = go (goesOn l k segment (step l k segment r)) refl (run-fits n (step l k segment r))
     where
-      go : (b : Bool) → goesOn image tx k segment (step image tx k segment r) ≡ b
-          → length (runOf image tx k segment n (step image tx k segment r) .bytes)
-          ≤ length (step image tx k segment r .bytes) + most (recordAt (step image tx k segment r .state) k .part) + 3 * (length segment - step image tx k segment r .at)
-          → length (cond b (runOf image tx k segment n (step image tx k segment r)) (step image tx k segment r) .bytes)
+      go : (b : Bool) → goesOn l k segment (step l k segment r) ≡ b
+          → length (runOf l k segment n (step l k segment r) .bytes)
+          ≤ length (step l k segment r .bytes) + most (recordAt (step l k segment r .state) k .part) + 3 * (length segment - step l k segment r .at)
+          → length (cond b (runOf l k segment n (step l k segment r)) (step l k segment r) .bytes)
           ≤ length (r .bytes) + most (recordAt (r .state) k .part) + 3 * (length segment - r .at)
       go true e h =
           omega (
             arith,
             h,
-            length-append (r .bytes) (bytesAt image tx k segment (r .state) (r .rx) (r .at)),
-            bytes-go (r .state) (r .rx) (r .at) (and-left (isDone (takeAt image tx k segment (r .state) (r .rx) (r .at) .answer)) (ltb (r .at + takeAt image tx k segment (r .state) (r .rx) (r .at) .read) (length segment)) e)
-                (ltb-true (r .at + takeAt image tx k segment (r .state) (r .rx) (r .at) .read) (length segment) (and-right (isDone (takeAt image tx k segment (r .state) (r .rx) (r .at) .answer)) (ltb (r .at + takeAt image tx k segment (r .state) (r .rx) (r .at) .read) (length segment)) e)),
+            length-append (r .bytes) (bytesAt (lends l k segment r) k segment (r .at)),
+            bytes-go (lends l k segment r) k segment (r .at) (and-left (isDone (takeAt (lends l k segment r) k segment (r .at) .answer)) (ltb (r .at + takeAt (lends l k segment r) k segment (r .at) .read) (length segment)) e)
+                (ltb-true (r .at + takeAt (lends l k segment r) k segment (r .at) .read) (length segment) (and-right (isDone (takeAt (lends l k segment r) k segment (r .at) .answer)) (ltb (r .at + takeAt (lends l k segment r) k segment (r .at) .read) (length segment)) e)),
           )
-      go false e h = omega (arith, length-append (r .bytes) (bytesAt image tx k segment (r .state) (r .rx) (r .at)), bytes-within (r .state) (r .rx) (r .at))
+      go false e h = omega (arith, length-append (r .bytes) (bytesAt (lends l k segment r) k segment (r .at)), bytes-within (lends l k segment r) k segment (r .at))
 
   -- THE WHOLE ANSWER
-  pub all-fit : (s : State) (rx : List ℕ) → 4 + length (allTakes image tx k segment s rx .bytes) ≤ roomFor segment
-  all-fit s rx = omega (arith, run-fits (length segment) (begun s rx), most-all (recordAt s k .part))
+  pub all-fit : 4 + length (allTakes l k segment .bytes) ≤ roomFor segment
+  all-fit = omega (arith, run-fits (length segment) (begun (l .state) (l .rx)), most-all (recordAt (l .state) k .part))
 
   event-size : (a : Answer) (count : ℕ) (bytes : List ℕ) → 4 + length bytes ≤ roomFor segment → length (eventBytes a count bytes) ≤ roomFor segment
   event-size Done count bytes h = omega (arith, h, length-append (doneWith 2 count) bytes, length-append (spell 2 0) (spell 2 count), length-spell 2 0, length-spell 2 count)
   event-size (Refused r) count bytes h = omega (arith, length-append (spell 2 (refusalNumber r)) (spell 4 0), length-spell 2 (refusalNumber r), length-spell 4 0)
   event-size NotReceiving count bytes h = omega (arith, length-append (spell 2 4) (spell 4 0), length-spell 2 4, length-spell 4 0)
 
-  pub event-fits : (s : State) (rx : List ℕ)
-      → length (eventBytes (allTakes image tx k segment s rx .answer) (allTakes image tx k segment s rx .count) (allTakes image tx k segment s rx .bytes)) ≤ roomFor segment
-  event-fits s rx =
-      event-size (allTakes image tx k segment s rx .answer) (allTakes image tx k segment s rx .count) (allTakes image tx k segment s rx .bytes) (all-fit s rx)
+  pub event-fits : length (eventBytes (allTakes l k segment .answer) (allTakes l k segment .count) (allTakes l k segment .bytes)) ≤ roomFor segment
+  event-fits = event-size (allTakes l k segment .answer) (allTakes l k segment .count) (allTakes l k segment .bytes) all-fit
 
 -- A SEGMENT THAT IS NOT TOO LONG, AND AN OUT BUFFER WITH THAT ROOM, ARE NOT REFUSED
-module _ (image : List ℕ) (s : State) (rx tx out : List ℕ) (k : ℕ) (segment : List ℕ) where
+module _ (l : Loan) (out : List ℕ) (k : ℕ) (segment : List ℕ) where
   abbrev taken : Effect
-  taken = leaves (allTakes image (length tx) k segment s rx) tx out
+  taken = leaves (allTakes l k segment) (l .tx) out
 
   abbrev judged : Bool → Bool → Effect
-  judged long short = cond long (untouched Unfit s rx tx out) (cond short (untouched Small s rx tx out) taken)
+  judged long short = cond long (untouched Unfit (l .state) (l .rx) (l .tx) out) (cond short (untouched Small (l .state) (l .rx) (l .tx) out) taken)
 
-  segment-judged : (long short : Bool) → tooLong segment ≡ long → ltb (length out) (roomFor segment) ≡ short → segmentEffect image s rx tx out k segment ≡ judged long short
+  segment-judged : (long short : Bool) → tooLong segment ≡ long → ltb (length out) (roomFor segment) ≡ short → segmentEffect l out k segment ≡ judged long short
   unfolding segmentEffect
   segment-judged long short e f = ap₂ judged e f
 
-  pub segment-roomy : length segment ≤ longest → roomFor segment ≤ length out → segmentEffect image s rx tx out k segment ≡ taken
+  pub segment-roomy : length segment ≤ longest → roomFor segment ≤ length out → segmentEffect l out k segment ≡ taken
   segment-roomy short roomy = segment-judged false false (le-ltb longest (length segment) short) (le-ltb (length out) (roomFor segment) roomy)
 
-  pub segment-long : longest < length segment → segmentEffect image s rx tx out k segment ≡ untouched Unfit s rx tx out
+  pub segment-long : longest < length segment → segmentEffect l out k segment ≡ untouched Unfit (l .state) (l .rx) (l .tx) out
   segment-long long = segment-judged true (ltb (length out) (roomFor segment)) (lt-ltb longest (length segment) long) refl
 
-  pub segment-small : length segment ≤ longest → length out < roomFor segment → segmentEffect image s rx tx out k segment ≡ untouched Small s rx tx out
+  pub segment-small : length segment ≤ longest → length out < roomFor segment → segmentEffect l out k segment ≡ untouched Small (l .state) (l .rx) (l .tx) out
   segment-small short small = segment-judged false true (le-ltb longest (length segment) short) (lt-ltb (length out) (roomFor segment) small)
 
   -- refused or not, send memory stays
-  pub segment-sent : tx ≡ segmentEffect image s rx tx out k segment .tx
+  pub segment-sent : l .tx ≡ segmentEffect l out k segment .tx
   unfolding segmentEffect
   segment-sent = go (tooLong segment) (ltb (length out) (roomFor segment))
     where
-      go : (long short : Bool) → tx ≡ judged long short .tx
+      go : (long short : Bool) → l .tx ≡ judged long short .tx
       go true short = refl
       go false true = refl
       go false false = refl
 
 -- .. and so a datagram
-module _ (image : List ℕ) (s : State) (rx tx out : List ℕ) (k place : ℕ) (datagram : List ℕ) where
+module _ (l : Loan) (out : List ℕ) (k place : ℕ) (datagram : List ℕ) where
   abbrev either : Bool → Effect
-  either long = cond long (untouched Unfit s rx tx out) (walked image s rx tx out k place datagram)
+  either long = cond long (untouched Unfit (l .state) (l .rx) (l .tx) out) (walked l out k place datagram)
 
-  pub walk-short : length datagram ≤ longest → walkEffect image s rx tx out k place datagram ≡ walked image s rx tx out k place datagram
+  pub walk-short : length datagram ≤ longest → walkEffect l out k place datagram ≡ walked l out k place datagram
   unfolding walkEffect
   walk-short short = rw (le-ltb longest (length datagram) short)
 
-  pub walk-long : longest < length datagram → walkEffect image s rx tx out k place datagram ≡ untouched Unfit s rx tx out
+  pub walk-long : longest < length datagram → walkEffect l out k place datagram ≡ untouched Unfit (l .state) (l .rx) (l .tx) out
   unfolding walkEffect
   walk-long long = rw (lt-ltb longest (length datagram) long)
 
   -- refused or not, both memories stay
-  pub walk-kept : (rx ≡ walkEffect image s rx tx out k place datagram .rx) × (tx ≡ walkEffect image s rx tx out k place datagram .tx)
+  pub walk-kept : (l .rx ≡ walkEffect l out k place datagram .rx) × (l .tx ≡ walkEffect l out k place datagram .tx)
   unfolding walkEffect
   walk-kept = go (tooLong datagram)
     where
-      go : (long : Bool) → (rx ≡ either long .rx) × (tx ≡ either long .tx)
+      go : (long : Bool) → (l .rx ≡ either long .rx) × (l .tx ≡ either long .tx)
       go true = (refl, refl)
       go false = (refl, refl)

@@ -34,10 +34,11 @@ use Rattle.answering.specs.declared.Dispatched.{Dispatched}
 use Rattle.answering.specs.Answers.{dispatched, doneWith}
 use Rattle.answer_receive.specs.declared.Takes.{Takes}
 use Rattle.answer_receive.specs.Long.{longest}
-use Rattle.answer_receive.specs.Segment.{bytesOf, Run, begun, takeAt, memoryAt, bytesAt, step, goesOn, runOf, allTakes, eventBytes, leaves, roomFor}
+use Rattle.answer_receive.specs.Segment.{lends, bytesOf, Run, begun, takeAt, memoryAt, bytesAt, step, goesOn, runOf, allTakes, eventBytes, leaves, roomFor}
 use Rattle.answer_receive.specs.Turn.{takenBytes, takesOf, frontOf, lengthOf}
 use Rattle.answer_receive.proofs.Once.{refused-none, done-all}
 use Rattle.answer_receive.proofs.Size.{most, most-all}
+use Rattle.gate.specs.Lent.{Loan, sizes, received}
 use Rattle.answer_receive.proofs.Room.{none-is, memory-stays, answer-is, bytes-within, bytes-go, bytes-next}
 
 -- a take reads no more than there is, and of what is not empty a byte at least
@@ -45,23 +46,23 @@ rest-less : (R : Routes) (c : Cell) (seg : List ℕ) → 0 < length seg → leng
 rest-less R c [] h = absurd (omega arith)
 rest-less R c (b ∷ bs) h = omega (arith, take-reads R c b bs)
 
-module _ (image : List ℕ) (s : State) (rx : List ℕ) (tx connection : ℕ) (seg : List ℕ) where
-  pub read-within : segmentOf image s rx tx connection seg .read ≤ length seg
+module _ (l : Loan) (connection : ℕ) (seg : List ℕ) where
+  pub read-within : segmentOf l connection seg .read ≤ length seg
   unfolding segmentOf takeOn takenOf
-  read-within = go (isDone (segmentAnswer image s (length rx) tx connection))
+  read-within = go (isDone (segmentAnswer (sizes l) connection))
     where
-      go : (b : Bool) → cond b (takeOn image s rx connection seg) (noneTaken s (segmentAnswer image s (length rx) tx connection)) .read ≤ length seg
+      go : (b : Bool) → cond b (takeOn (l .image) (l .state) (l .rx) connection seg) (noneTaken (l .state) (segmentAnswer (sizes l) connection)) .read ≤ length seg
       go true = omega arith
       go false = omega arith
 
-  pub read-some : isDone (segmentOf image s rx tx connection seg .answer) ≡ true → 0 < length seg → 0 < segmentOf image s rx tx connection seg .read
+  pub read-some : isDone (segmentOf l connection seg .answer) ≡ true → 0 < length seg → 0 < segmentOf l connection seg .read
   unfolding segmentOf takeOn takenOf tookOf
-  read-some d h = go (isDone (segmentAnswer image s (length rx) tx connection)) refl d
+  read-some d h = go (isDone (segmentAnswer (sizes l) connection)) refl d
     where
-      go : (b : Bool) → isDone (segmentAnswer image s (length rx) tx connection) ≡ b
-          → isDone (cond b (takeOn image s rx connection seg) (noneTaken s (segmentAnswer image s (length rx) tx connection)) .answer) ≡ true
-          → 0 < cond b (takeOn image s rx connection seg) (noneTaken s (segmentAnswer image s (length rx) tx connection)) .read
-      go true e i = omega (arith, rest-less (lookupOf (bodyOf image RouteRows) connection (recordAt s connection .switches)) (cellOf (recordAt s connection .part) (stretch 1464 connection rx)) seg h)
+      go : (b : Bool) → isDone (segmentAnswer (sizes l) connection) ≡ b
+          → isDone (cond b (takeOn (l .image) (l .state) (l .rx) connection seg) (noneTaken (l .state) (segmentAnswer (sizes l) connection)) .answer) ≡ true
+          → 0 < cond b (takeOn (l .image) (l .state) (l .rx) connection seg) (noneTaken (l .state) (segmentAnswer (sizes l) connection)) .read
+      go true e i = omega (arith, rest-less (lookupOf (bodyOf (l .image) RouteRows) connection (recordAt (l .state) connection .switches)) (cellOf (recordAt (l .state) connection .part) (stretch 1464 connection (l .rx))) seg h)
       go false e i = let z : _≡_ {A = ℕ} 0 1 = cc in absurd (omega arith)
 
 pub is-done : (a : Answer) → isDone a ≡ true → a ≡ Done
@@ -73,110 +74,110 @@ is-done NotReceiving e = absurd (false≢true e)
 abbrev pub runAt : State → List ℕ → List ℕ → ℕ → ℕ → Run
 runAt s rx bytes count at = record { answer = Done; state = s; rx = rx; bytes = bytes; count = count; at = at }
 
-module _ (image : List ℕ) (tx connection : ℕ) (segment : List ℕ) where
-  stops : (n : ℕ) (r : Run) → goesOn image tx connection segment (step image tx connection segment r) ≡ false → runOf image tx connection segment n r ≡ step image tx connection segment r
+module _ (l : Loan) (connection : ℕ) (segment : List ℕ) where
+  stops : (n : ℕ) (r : Run) → goesOn l connection segment (step l connection segment r) ≡ false → runOf l connection segment n r ≡ step l connection segment r
   unfolding runOf
   stops zero r e = refl
   stops (suc n) r e = rw e
 
-  more : (n : ℕ) (r : Run) → goesOn image tx connection segment (step image tx connection segment r) ≡ true → runOf image tx connection segment (suc n) r ≡ runOf image tx connection segment n (step image tx connection segment r)
+  more : (n : ℕ) (r : Run) → goesOn l connection segment (step l connection segment r) ≡ true → runOf l connection segment (suc n) r ≡ runOf l connection segment n (step l connection segment r)
   unfolding runOf
   more n r e = rw e
 
   -- A LATER TAKE IS NEVER REFUSED: the event's answer is that of its first take
-  run-done : Bytes segment → (n : ℕ) (r : Run) → isDone (segmentAnswer image (r .state) (length (r .rx)) tx connection) ≡ true → isDone (runOf image tx connection segment n r .answer) ≡ true
+  run-done : Bytes segment → (n : ℕ) (r : Run) → isDone (segmentAnswer (sizes (lends l connection segment r)) connection) ≡ true → isDone (runOf l connection segment n r .answer) ≡ true
   unfolding runOf step
-  run-done small zero r d = answer-is image (r .state) (r .rx) tx connection (drop (r .at) segment) ∙ d
+  run-done small zero r d = answer-is (lends l connection segment r) connection (drop (r .at) segment) ∙ d
   run-done small (suc n) r d =
-      go (goesOn image tx connection segment (step image tx connection segment r))
-      (run-done small n (step image tx connection segment r) (bytes-next image tx connection segment small (r .state) (r .rx) (r .at) (answer-is image (r .state) (r .rx) tx connection (drop (r .at) segment) ∙ d)))
+      go (goesOn l connection segment (step l connection segment r))
+      (run-done small n (step l connection segment r) (bytes-next (lends l connection segment r) connection segment (r .at) small (answer-is (lends l connection segment r) connection (drop (r .at) segment) ∙ d)))
     where
-      go : (b : Bool) → isDone (runOf image tx connection segment n (step image tx connection segment r) .answer) ≡ true
-          → isDone (cond b (runOf image tx connection segment n (step image tx connection segment r)) (step image tx connection segment r) .answer) ≡ true
+      go : (b : Bool) → isDone (runOf l connection segment n (step l connection segment r) .answer) ≡ true
+          → isDone (cond b (runOf l connection segment n (step l connection segment r)) (step l connection segment r) .answer) ≡ true
       go true h = h
-      go false h = answer-is image (r .state) (r .rx) tx connection (drop (r .at) segment) ∙ d
+      go false h = answer-is (lends l connection segment r) connection (drop (r .at) segment) ∙ d
 
-  pub first-answer : Bytes segment → (s : State) (rx : List ℕ) → allTakes image tx connection segment s rx .answer ≡ takeAt image tx connection segment s rx 0 .answer
+  pub first-answer : Bytes segment → allTakes l connection segment .answer ≡ takeAt l connection segment 0 .answer
   unfolding step
-  first-answer small s rx = go (isDone (takeAt image tx connection segment s rx 0 .answer)) refl
+  first-answer small = go (isDone (takeAt l connection segment 0 .answer)) refl
     where
-      go : (b : Bool) → isDone (takeAt image tx connection segment s rx 0 .answer) ≡ b → allTakes image tx connection segment s rx .answer ≡ takeAt image tx connection segment s rx 0 .answer
+      go : (b : Bool) → isDone (takeAt l connection segment 0 .answer) ≡ b → allTakes l connection segment .answer ≡ takeAt l connection segment 0 .answer
       go true e =
-          is-done (allTakes image tx connection segment s rx .answer)
-          (run-done small (length segment) (begun s rx) (sym (answer-is image s rx tx connection (drop 0 segment)) ∙ e))
-          ∙ sym (is-done (takeAt image tx connection segment s rx 0 .answer) e)
-      go false e = ap (λ (r : Run). r .answer) (stops (length segment) (begun s rx) (and-first (isDone (takeAt image tx connection segment s rx 0 .answer)) _ e))
+          is-done (allTakes l connection segment .answer)
+          (run-done small (length segment) (begun (l .state) (l .rx)) (sym (answer-is l connection (drop 0 segment)) ∙ e))
+          ∙ sym (is-done (takeAt l connection segment 0 .answer) e)
+      go false e = ap (λ (r : Run). r .answer) (stops (length segment) (begun (l .state) (l .rx)) (and-first (isDone (takeAt l connection segment 0 .answer)) _ e))
 
   -- EACH TAKE BEFORE ANOTHER READS A BYTE: so there are no more takes than bytes
-  run-count : (n : ℕ) (r : Run) → r .count ≤ r .at → r .at < length segment → runOf image tx connection segment n r .count ≤ length segment
+  run-count : (n : ℕ) (r : Run) → r .count ≤ r .at → r .at < length segment → runOf l connection segment n r .count ≤ length segment
   unfolding runOf step
   run-count zero r low inside = omega (arith, low, inside)
-  run-count (suc n) r low inside = go (goesOn image tx connection segment (step image tx connection segment r)) refl (run-count n (step image tx connection segment r))
+  run-count (suc n) r low inside = go (goesOn l connection segment (step l connection segment r)) refl (run-count n (step l connection segment r))
     where
       t : SegmentTaken
-      t = takeAt image tx connection segment (r .state) (r .rx) (r .at)
+      t = takeAt (lends l connection segment r) connection segment (r .at)
 
-      go : (b : Bool) → goesOn image tx connection segment (step image tx connection segment r) ≡ b
-          → (r .count + 1 ≤ r .at + t .read → r .at + t .read < length segment → runOf image tx connection segment n (step image tx connection segment r) .count ≤ length segment)
-          → cond b (runOf image tx connection segment n (step image tx connection segment r)) (step image tx connection segment r) .count ≤ length segment
+      go : (b : Bool) → goesOn l connection segment (step l connection segment r) ≡ b
+          → (r .count + 1 ≤ r .at + t .read → r .at + t .read < length segment → runOf l connection segment n (step l connection segment r) .count ≤ length segment)
+          → cond b (runOf l connection segment n (step l connection segment r)) (step l connection segment r) .count ≤ length segment
       go true e h =
           let done : isDone (t .answer) ≡ true = and-left (isDone (t .answer)) (ltb (r .at + t .read) (length segment)) e in
           let left : r .at + t .read < length segment = ltb-true (r .at + t .read) (length segment) (and-right (isDone (t .answer)) (ltb (r .at + t .read) (length segment)) e) in
-          let some = read-some image (r .state) (r .rx) tx connection (drop (r .at) segment) done (omega (arith, inside, length-drop (r .at) segment)) in
+          let some = read-some (lends l connection segment r) connection (drop (r .at) segment) done (omega (arith, inside, length-drop (r .at) segment)) in
           h (omega (arith, low, some)) left
       go false e h = omega (arith, low, inside)
 
   -- the answer of the last take is not asked for the next
   blind : (n : ℕ) (a : Answer) (s : State) (rx bytes : List ℕ) (count at : ℕ)
-      → runOf image tx connection segment n (runAt s rx bytes count at)
-      ≡ runOf image tx connection segment n (record { answer = a; state = s; rx = rx; bytes = bytes; count = count; at = at })
+      → runOf l connection segment n (runAt s rx bytes count at)
+      ≡ runOf l connection segment n (record { answer = a; state = s; rx = rx; bytes = bytes; count = count; at = at })
   unfolding runOf step
   blind zero a s rx bytes count at = refl
   blind (suc n) a s rx bytes count at = refl
 
   -- what is left to do from here on is what there was to do from the start on; all bytes so far stand behind the first four, there
   -- is room for those to come, and the next take is not refused
-  pub record Going (s₀ : State) (rx₀ out₀ : List ℕ) (s : State) (rx out : List ℕ) (place count at : ℕ) : Type 0 where
+  pub record Going (out₀ : List ℕ) (s : State) (rx out : List ℕ) (place count at : ℕ) : Type 0 where
     pub bytes : List ℕ
-    pub same : runOf image tx connection segment (length segment - count) (runAt s rx bytes count at) ≡ allTakes image tx connection segment s₀ rx₀
+    pub same : runOf l connection segment (length segment - count) (runAt s rx bytes count at) ≡ allTakes l connection segment
     pub low : count ≤ at
     pub within : at ≤ length segment
     pub wrote : out ≡ lay out₀ 4 bytes
     pub placed : place ≡ 4 + length bytes
     pub spare : place + most (recordAt s connection .part) + 3 * (length segment - at) ≤ length out₀
-    pub clear : isDone (segmentAnswer image s (length rx) tx connection) ≡ true
+    pub clear : isDone (segmentAnswer (sizes (received l s rx)) connection) ≡ true
 
-  pub going-start : (s : State) (rx out : List ℕ) → roomFor segment ≤ length out → isDone (segmentAnswer image s (length rx) tx connection) ≡ true → Going s rx out s rx out 4 0 0
-  going-start s rx out h d =
+  pub going-start : (out : List ℕ) → roomFor segment ≤ length out → isDone (segmentAnswer (sizes l) connection) ≡ true → Going out (l .state) (l .rx) out 4 0 0
+  going-start out h d =
       record {
         bytes = [];
-        same = ap (λ (n : ℕ). runOf image tx connection segment n (begun s rx)) (omega arith);
+        same = ap (λ (n : ℕ). runOf l connection segment n (begun (l .state) (l .rx))) (omega arith);
         low = omega arith;
         within = omega arith;
         wrote = sym (lay-nothing out 4);
         placed = refl;
-        spare = omega (arith, most-all (recordAt s connection .part));
+        spare = omega (arith, most-all (recordAt (l .state) connection .part));
         clear = d;
       }
 
   -- one take more
   module _ (s : State) (rx out : List ℕ) (place count at : ℕ) where
     abbrev pub taken : SegmentTaken
-    taken = takeAt image tx connection segment s rx at
+    taken = takeAt (received l s rx) connection segment at
 
     abbrev pub more-bytes : List ℕ
-    more-bytes = bytesAt image tx connection segment s rx at
+    more-bytes = bytesAt (received l s rx) connection segment at
 
     pub inside : at ≤ length segment → at + taken .read ≤ length segment
-    inside h = omega (arith, read-within image s rx tx connection (drop at segment), length-drop at segment)
+    inside h = omega (arith, read-within (received l s rx) connection (drop at segment), length-drop at segment)
 
     -- its bytes are written behind the others
-    module _ {s₀ : State} {rx₀ out₀ : List ℕ} (g : Going s₀ rx₀ out₀ s rx out place count at) where
+    module _ {out₀ : List ℕ} (g : Going out₀ s rx out place count at) where
       done : isDone (taken .answer) ≡ true
-      done = answer-is image s rx tx connection (drop at segment) ∙ g .clear
+      done = answer-is (received l s rx) connection (drop at segment) ∙ g .clear
 
       room : place + length more-bytes ≤ length out₀
-      room = omega (arith, g .spare, bytes-within image tx connection segment s rx at)
+      room = omega (arith, g .spare, bytes-within (received l s rx) connection segment at)
 
       long : length out ≡ length out₀
       long = ap length (g .wrote) ∙ lay-length out₀ 4 (g .bytes)
@@ -191,18 +192,18 @@ module _ (image : List ℕ) (tx connection : ℕ) (segment : List ℕ) where
 
       -- where bytes are left
       pub going-on : Bytes segment → at + taken .read < length segment
-          → Going s₀ rx₀ out₀ (taken .state) (memoryAt image tx connection segment s rx at) (lay out place more-bytes) (placeAfter out place more-bytes) (count + 1) (at + taken .read)
+          → Going out₀ (taken .state) (memoryAt (received l s rx) connection segment at) (lay out place more-bytes) (placeAfter out place more-bytes) (count + 1) (at + taken .read)
       unfolding step
       going-on small left =
-          let l = length-drop at segment in
-          let some = read-some image s rx tx connection (drop at segment) done (omega arith) in
+          let dropped = length-drop at segment in
+          let some = read-some (received l s rx) connection (drop at segment) done (omega arith) in
           let n : length segment - count ≡ suc (length segment - (count + 1)) = omega (arith, g .low) in
           record {
             bytes = g .bytes ++ more-bytes;
             same =
-                blind (length segment - (count + 1)) (taken .answer) (taken .state) (memoryAt image tx connection segment s rx at) (g .bytes ++ more-bytes) (count + 1) (at + taken .read)
+                blind (length segment - (count + 1)) (taken .answer) (taken .state) (memoryAt (received l s rx) connection segment at) (g .bytes ++ more-bytes) (count + 1) (at + taken .read)
                 ∙ sym (more (length segment - (count + 1)) (runAt s rx (g .bytes) count at) (and-both done (lt-ltb _ _ left)))
-                ∙ ap (λ (k : ℕ). runOf image tx connection segment k (runAt s rx (g .bytes) count at)) (sym n)
+                ∙ ap (λ (k : ℕ). runOf l connection segment k (runAt s rx (g .bytes) count at)) (sym n)
                 ∙ g .same;
             low = omega (arith, g .low);
             within = omega arith;
@@ -215,19 +216,19 @@ module _ (image : List ℕ) (tx connection : ℕ) (segment : List ℕ) where
                   g .placed,
                   all-placed,
                   length-append (g .bytes) more-bytes,
-                  bytes-go image tx connection segment s rx at done left,
+                  bytes-go (received l s rx) connection segment at done left,
                 );
-            clear = bytes-next image tx connection segment small s rx at done;
+            clear = bytes-next (received l s rx) connection segment at small done;
           }
 
       -- where all is read
       pub going-end : length segment ≤ at + taken .read
-          → (record { answer = Done; count = count + 1; place = placeAfter out place more-bytes; state = taken .state } ≡ takesOf (allTakes image tx connection segment s₀ rx₀))
-          × ((memoryAt image tx connection segment s rx at ≡ allTakes image tx connection segment s₀ rx₀ .rx)
-          × (lay out place more-bytes ≡ lay out₀ 4 (takenBytes (allTakes image tx connection segment s₀ rx₀))))
+          → (record { answer = Done; count = count + 1; place = placeAfter out place more-bytes; state = taken .state } ≡ takesOf (allTakes l connection segment))
+          × ((memoryAt (received l s rx) connection segment at ≡ allTakes l connection segment .rx)
+          × (lay out place more-bytes ≡ lay out₀ 4 (takenBytes (allTakes l connection segment))))
       unfolding step
       going-end left =
-          let r : step image tx connection segment (runAt s rx (g .bytes) count at) ≡ allTakes image tx connection segment s₀ rx₀ =
+          let r : step l connection segment (runAt s rx (g .bytes) count at) ≡ allTakes l connection segment =
           sym (stops (length segment - count) (runAt s rx (g .bytes) count at) (and-second (isDone (taken .answer)) _ (le-ltb _ _ left))) ∙ g .same in
           let b : g .bytes ++ more-bytes ≡ bytesOf (taken .answer) (g .bytes ++ more-bytes) = done-all (taken .answer) (g .bytes ++ more-bytes) done in (
             ap₂ (λ (a : Answer) (p : ℕ). kept a (count + 1) p (taken .state)) (sym (is-done (taken .answer) done)) (all-placed ∙ ap (λ (x : List ℕ). 4 + length x) b) ∙ ap takesOf r,
@@ -238,23 +239,23 @@ module _ (image : List ℕ) (tx connection : ℕ) (segment : List ℕ) where
           kept a n p u = record { answer = a; count = n; place = p; state = u }
 
   -- THE FIRST TAKE IS REFUSED: it is the only one, and has no bytes
-  pub refused-first : (s : State) (rx out : List ℕ) (a : Answer) → a ≡ segmentAnswer image s (length rx) tx connection → isDone a ≡ false
-      → (record { answer = a; count = 1; place = 4; state = s } ≡ takesOf (allTakes image tx connection segment s rx))
-      × ((rx ≡ allTakes image tx connection segment s rx .rx) × (out ≡ lay out 4 (takenBytes (allTakes image tx connection segment s rx))))
+  pub refused-first : (out : List ℕ) (a : Answer) → a ≡ segmentAnswer (sizes l) connection → isDone a ≡ false
+      → (record { answer = a; count = 1; place = 4; state = l .state } ≡ takesOf (allTakes l connection segment))
+      × ((l .rx ≡ allTakes l connection segment .rx) × (out ≡ lay out 4 (takenBytes (allTakes l connection segment))))
   unfolding step
-  refused-first s rx out a e no-take =
-      let f : isDone (segmentAnswer image s (length rx) tx connection) ≡ false = ap isDone (sym e) ∙ no-take in
-      let d : isDone (takeAt image tx connection segment s rx 0 .answer) ≡ false = answer-is image s rx tx connection (drop 0 segment) ∙ f in
-      let r : step image tx connection segment (begun s rx) ≡ allTakes image tx connection segment s rx =
-      sym (stops (length segment) (begun s rx) (and-first (isDone (takeAt image tx connection segment s rx 0 .answer)) _ d)) in
-      let n : [] ≡ bytesOf (takeAt image tx connection segment s rx 0 .answer) ([] ++ bytesAt image tx connection segment s rx 0) =
-      refused-none (takeAt image tx connection segment s rx 0 .answer) ([] ++ bytesAt image tx connection segment s rx 0) d in (
-        ap (λ (x : Answer). kept x [] s) e
-            ∙ ap (λ (t : SegmentTaken). kept (t .answer) [] (t .state)) (sym (none-is image s rx tx connection (drop 0 segment) f))
-            ∙ ap (λ (x : List ℕ). kept (takeAt image tx connection segment s rx 0 .answer) x (takeAt image tx connection segment s rx 0 .state)) n
+  refused-first out a e no-take =
+      let f : isDone (segmentAnswer (sizes l) connection) ≡ false = ap isDone (sym e) ∙ no-take in
+      let d : isDone (takeAt l connection segment 0 .answer) ≡ false = answer-is l connection (drop 0 segment) ∙ f in
+      let r : step l connection segment (begun (l .state) (l .rx)) ≡ allTakes l connection segment =
+      sym (stops (length segment) (begun (l .state) (l .rx)) (and-first (isDone (takeAt l connection segment 0 .answer)) _ d)) in
+      let n : [] ≡ bytesOf (takeAt l connection segment 0 .answer) ([] ++ bytesAt l connection segment 0) =
+      refused-none (takeAt l connection segment 0 .answer) ([] ++ bytesAt l connection segment 0) d in (
+        ap (λ (x : Answer). kept x [] (l .state)) e
+            ∙ ap (λ (t : SegmentTaken). kept (t .answer) [] (t .state)) (sym (none-is l connection (drop 0 segment) f))
+            ∙ ap (λ (x : List ℕ). kept (takeAt l connection segment 0 .answer) x (takeAt l connection segment 0 .state)) n
             ∙ ap takesOf r,
         (
-          memory-stays image s rx tx connection (drop 0 segment) f ∙ ap (λ (u : Run). u .rx) r,
+          memory-stays l connection (drop 0 segment) f ∙ ap (λ (u : Run). u .rx) r,
           sym (lay-nothing out 4) ∙ ap (lay out 4) n ∙ ap (λ (u : Run). lay out 4 (takenBytes u)) r,
         ),
       )
@@ -263,11 +264,11 @@ module _ (image : List ℕ) (tx connection : ℕ) (segment : List ℕ) where
       kept x bytes u = record { answer = x; count = 1; place = 4 + length bytes; state = u }
 
 -- THE NUMBER OF TAKES over a segment that is not too long: an empty one has one take. So two bytes spell it
-pub count-fits : (image : List ℕ) (tx connection : ℕ) (segment : List ℕ) (s : State) (rx : List ℕ) → length segment ≤ longest
-    → allTakes image tx connection segment s rx .count ≤ longest
+pub count-fits : (l : Loan) (connection : ℕ) (segment : List ℕ) → length segment ≤ longest → allTakes l connection segment .count ≤ longest
 unfolding runOf step
-count-fits image tx connection [] s rx short = omega arith
-count-fits image tx connection (b ∷ bs) s rx short = omega (arith, short, run-count image tx connection (b ∷ bs) (length (b ∷ bs)) (begun s rx) (omega arith) (omega arith))
+count-fits l connection [] short = omega arith
+count-fits l connection (b ∷ bs) short =
+    omega (arith, short, run-count l connection (b ∷ bs) (length (b ∷ bs)) (begun (l .state) (l .rx)) (omega arith) (omega arith))
 
 -- THE FRONT OF THE ANSWER, before the takes' bytes: what is laid behind and then before is laid at once
 lay-front : (d : List ℕ) (m : ℕ) (x y : List ℕ) → length x ≡ m → m + length y ≤ length d → lay (lay d m y) 0 x ≡ lay d 0 (x ++ y)

@@ -24,6 +24,7 @@ use Rattle.receive.specs.Segment.{Takes, segmentAnswer}
 use Rattle.receive.proofs.Answers.{Clear, done-clear}
 use Rattle.receive.proofs.Past.{below-sixteen, passed-takes}
 use Rattle.receive.proofs.Keeps.{in-range}
+use Rattle.gate.specs.Lent.{Lent, Loan, sizes, received}
 use Rattle.answer_receive.specs.declared.Turn.{Turn}
 use Rattle.answer_receive.specs.Segment.{Run, takeAt, memoryAt, bytesAt, allTakes, roomFor}
 use Rattle.answer_receive.specs.Turn.{memoryFrom, bytesFrom, turnOf, Goes, joined, takenBytes, takesOf}
@@ -31,24 +32,30 @@ use Rattle.answer_receive.proofs.Once.{joined-own, record-joined, turne
 use Rattle.answer_receive.proofs.Run.{is-done, Going, going-start, going-on, going-end}
 
 -- WHERE THE GATE IS OPEN the connection is there
-pub record Open (image : List ℕ) (s : State) (rx tx k : ℕ) : Type 0 where
-  pub clear : isDone (segmentAnswer image s rx tx k) ≡ true
+pub record Open (l : Lent) (k : ℕ) : Type 0 where
+  pub clear : isDone (segmentAnswer l k) ≡ true
   pub small : k < 16
-  pub there : k < length (s .connections)
+  pub there : k < length (l .state .connections)
 
-pub gate-open : {a : Answer} (image : List ℕ) (s : State) (rx tx k : ℕ) → a ≡ segmentAnswer image s rx tx k → isDone a ≡ true → Open image s rx tx k
-gate-open image s rx tx k e done =
-    let d : isDone (segmentAnswer image s rx tx k) ≡ true = ap isDone (sym e) ∙ done in
-    let c : Clear image s rx tx k (configOf image k .tcp) = done-clear image s rx tx k (configOf image k .tcp) d in
-    record { clear = d; small = below-sixteen image (c .passed .table) k (c .there); there = in-range s k (c .receives) }
+pub gate-open : {a : Answer} (l : Lent) (k : ℕ) → a ≡ segmentAnswer l k → isDone a ≡ true → Open l k
+gate-open l k e done =
+    let d : isDone (segmentAnswer l k) ≡ true = ap isDone (sym e) ∙ done in
+    let c : Clear l k (configOf (l .image) k .tcp) = done-clear l k (configOf (l .image) k .tcp) d in
+    record { clear = d; small = below-sixteen (l .image) (c .passed .table) k (c .there); there = in-range (l .state) k (c .receives) }
 
-module _ (image : List ℕ) (tx k : ℕ) (segment : List ℕ) (s : State) (rx₀ out₀ : List ℕ) where
+module _ (l : Loan) (k : ℕ) (segment : List ℕ) (out₀ : List ℕ) where
+  abbrev image : List ℕ
+  image = l .image
+
+  abbrev s : State
+  s = l .state
+
   -- the loop at a turn
   abbrev pub AtTurn : Turn → List ℕ → List ℕ → Type 0
-  AtTurn t rx out = Going image tx k segment s rx₀ out₀ (joined s k (t .part) (t .drops)) rx out (t .place) (t .count) (t .at)
+  AtTurn t rx out = Going l k segment out₀ (joined s k (t .part) (t .drops)) rx out (t .place) (t .count) (t .at)
 
   abbrev all : Run
-  all = allTakes image tx k segment s rx₀
+  all = allTakes l k segment
 
   -- the event's end, after a turn
   abbrev pub Ends : Turn → List ℕ → List ℕ → Type 0
@@ -57,10 +64,10 @@ module _ (image : List ℕ) (tx k : ℕ) (segment : List ℕ) (s : State) (rx₀
       × ((rx ≡ all .rx) × (out ≡ lay out₀ 4 (takenBytes all)))
 
   -- the first
-  pub turn-start : roomFor segment ≤ length out₀ → isDone (segmentAnswer image s (length rx₀) tx k) ≡ true
-      → AtTurn (record { part = recordAt s k .part; drops = s .«tcp_drops»; at = 0; place = 4; count = 0 }) rx₀ out₀
+  pub turn-start : roomFor segment ≤ length out₀ → isDone (segmentAnswer (sizes l) k) ≡ true
+      → AtTurn (record { part = recordAt s k .part; drops = s .«tcp_drops»; at = 0; place = 4; count = 0 }) (l .rx) out₀
   turn-start room clear =
-      subst (λ (x : State). Going image tx k segment s rx₀ out₀ x rx₀ out₀ 4 0 0) (joined-own s k) (going-start image tx k segment s rx₀ out₀ room clear)
+      subst (λ (x : State). Going l k segment out₀ x (l .rx) out₀ 4 0 0) (joined-own s k) (going-start l k segment out₀ room clear)
 
   -- the state put together
   pub put-together : (t : Turn) {rx out : List ℕ} → Ends t rx out → {a : Answer} → isDone a ≡ true → {d : Connection} → d ≡ withPart (t .part) (recordAt s k)
@@ -83,13 +90,13 @@ module _ (image : List ℕ) (tx k : ℕ) (segment : List ℕ) (s : State) (rx₀
     -- what the take asks
     pub turn-goes : Goes routes k segment t rx
     turn-goes =
-        let c : Clear image at-turn (length rx) tx k (configOf image k .tcp) = done-clear image at-turn (length rx) tx k (configOf image k .tcp) (g .clear) in
-        let a : Takes image at-turn rx k = passed-takes image at-turn rx tx k (c .passed) (c .there) in
+        let c : Clear (sizes (received l at-turn rx)) k (configOf image k .tcp) = done-clear (sizes (received l at-turn rx)) k (configOf image k .tcp) (g .clear) in
+        let a : Takes image at-turn rx k = passed-takes (received l at-turn rx) k (c .passed) (c .there) in
         record {
           small = a .small;
           room = a .room;
           fit =
-              subst (λ (l : List ℕ). Fit l (t .part) (stretch 1464 k rx)) (sym er)
+              subst (λ (z : List ℕ). Fit z (t .part) (stretch 1464 k rx)) (sym er)
               (subst (λ (c : Connection). Fit (bodyOf image Routes) (c .part) (stretch 1464 k rx)) (record-joined s k there (t .part) (t .drops)) (a .fit));
           within = g .within;
           low = g .low;
@@ -97,15 +104,15 @@ module _ (image : List ℕ) (tx k : ℕ) (segment : List ℕ) (s : State) (rx₀
 
     -- what holds of the take, its memory and its bytes, holds of the turn
     moved : (P : SegmentTaken → List ℕ → List ℕ → Type 0)
-        → P (takeAt image tx k segment at-turn rx (t .at)) (memoryAt image tx k segment at-turn rx (t .at)) (bytesAt image tx k segment at-turn rx (t .at))
-        → P (turned image tx k segment s t rx there (g .clear)) (memoryFrom (bodyOf image Routes) switches k segment t rx) (bytesFrom (bodyOf image Routes) switches k segment t rx)
+        → P (takeAt (received l at-turn rx) k segment (t .at)) (memoryAt (received l at-turn rx) k segment (t .at)) (bytesAt (received l at-turn rx) k segment (t .at))
+        → P (turned l k segment t rx there (g .clear)) (memoryFrom (bodyOf image Routes) switches k segment t rx) (bytesFrom (bodyOf image Routes) switches k segment t rx)
     moved P p =
-        subst (P (turned image tx k segment s t rx there (g .clear)) (memoryFrom (bodyOf image Routes) switches k segment t rx)) (turn-bytes image tx k segment s t rx there (g .clear))
-        (subst (λ (m : List ℕ). P (turned image tx k segment s t rx there (g .clear)) m (bytesAt image tx k segment at-turn rx (t .at))) (turn-memory image tx k segment s t rx there (g .clear))
-        (subst (λ (u : SegmentTaken). P u (memoryAt image tx k segment at-turn rx (t .at)) (bytesAt image tx k segment at-turn rx (t .at))) (turn-taken image tx k segment s t rx there (g .clear)) p))
+        subst (P (turned l k segment t rx there (g .clear)) (memoryFrom (bodyOf image Routes) switches k segment t rx)) (turn-bytes l k segment t rx there (g .clear))
+        (subst (λ (m : List ℕ). P (turned l k segment t rx there (g .clear)) m (bytesAt (received l at-turn rx) k segment (t .at))) (turn-memory l k segment t rx there (g .clear))
+        (subst (λ (u : SegmentTaken). P u (memoryAt (received l at-turn rx) k segment (t .at)) (bytesAt (received l at-turn rx) k segment (t .at))) (turn-taken l k segment t rx there (g .clear)) p))
 
-    read-is : takeAt image tx k segment at-turn rx (t .at) .read ≡ turned image tx k segment s t rx there (g .clear) .read
-    read-is = ap (λ (u : SegmentTaken). u .read) (turn-taken image tx k segment s t rx there (g .clear))
+    read-is : takeAt (received l at-turn rx) k segment (t .at) .read ≡ turned l k segment t rx there (g .clear) .read
+    read-is = ap (λ (u : SegmentTaken). u .read) (turn-taken l k segment t rx there (g .clear))
 
     module _ {r : Turn} {rx′ out′ : List ℕ} (is : r ≡ turnOf routes switches k segment t rx out) (memory : rx′ ≡ memoryFrom routes switches k segment t rx)
         (wrote : out′ ≡ lay out (t .place) (bytesFrom routes switches k segment t rx)) where
@@ -114,20 +121,20 @@ module _ (image : List ℕ) (tx k : ℕ) (segment : List ℕ) (s : State) (rx₀
           → P (turnOf (bodyOf image Routes) switches k segment t rx out) (memoryFrom (bodyOf image Routes) switches k segment t rx)
           (lay out (t .place) (bytesFrom (bodyOf image Routes) switches k segment t rx)) → P r rx′ out′
       to P p =
-          subst (λ (x : Turn). P x rx′ out′) (sym (is ∙ ap (λ (l : List ℕ). turnOf l switches k segment t rx out) er))
-          (subst (λ (m : List ℕ). P (turnOf (bodyOf image Routes) switches k segment t rx out) m out′) (sym (memory ∙ ap (λ (l : List ℕ). memoryFrom l switches k segment t rx) er))
+          subst (λ (x : Turn). P x rx′ out′) (sym (is ∙ ap (λ (z : List ℕ). turnOf z switches k segment t rx out) er))
+          (subst (λ (m : List ℕ). P (turnOf (bodyOf image Routes) switches k segment t rx out) m out′) (sym (memory ∙ ap (λ (z : List ℕ). memoryFrom z switches k segment t rx) er))
           (subst (P (turnOf (bodyOf image Routes) switches k segment t rx out) (memoryFrom (bodyOf image Routes) switches k segment t rx))
-          (sym (wrote ∙ ap (λ (l : List ℕ). lay out (t .place) (bytesFrom l switches k segment t rx)) er)) p))
+          (sym (wrote ∙ ap (λ (z : List ℕ). lay out (t .place) (bytesFrom z switches k segment t rx)) er)) p))
 
-      far : r .at ≡ t .at + takeAt image tx k segment at-turn rx (t .at) .read
-      far = ap (λ (x : Turn). x .at) (is ∙ ap (λ (l : List ℕ). turnOf l switches k segment t rx out) er) ∙ ap (λ (n : ℕ). t .at + n) (sym read-is)
+      far : r .at ≡ t .at + takeAt (received l at-turn rx) k segment (t .at) .read
+      far = ap (λ (x : Turn). x .at) (is ∙ ap (λ (z : List ℕ). turnOf z switches k segment t rx out) er) ∙ ap (λ (n : ℕ). t .at + n) (sym read-is)
 
       -- bytes are left
       pub turn-on : Bytes segment → r .at < length segment → AtTurn r rx′ out′
       turn-on small h =
           to AtTurn
-          (moved (λ (u : SegmentTaken) (m b : List ℕ). Going image tx k segment s rx₀ out₀ (u .state) m (lay out (t .place) b) (placeAfter out (t .place) b) (t .count + 1) (t .at + u .read))
-          (going-on image tx k segment at-turn rx out (t .place) (t .count) (t .at) g small (subst (λ (n : ℕ). n < length segment) far h)))
+          (moved (λ (u : SegmentTaken) (m b : List ℕ). Going l k segment out₀ (u .state) m (lay out (t .place) b) (placeAfter out (t .place) b) (t .count + 1) (t .at + u .read))
+          (going-on l k segment at-turn rx out (t .place) (t .count) (t .at) g small (subst (λ (n : ℕ). n < length segment) far h)))
 
       -- all is read
       pub turn-ends : length segment ≤ r .at → Ends r rx′ out′
@@ -136,7 +143,7 @@ module _ (image : List ℕ) (tx k : ℕ) (segment : List ℕ) (s : State) (rx₀
           (moved (λ (u : SegmentTaken) (m b : List ℕ).
           (record { answer = Done; count = t .count + 1; place = placeAfter out (t .place) b; state = u .state } ≡ takesOf all)
           × ((m ≡ all .rx) × (lay out (t .place) b ≡ lay out₀ 4 (takenBytes all))))
-          (going-end image tx k segment at-turn rx out (t .place) (t .count) (t .at) g (subst (λ (n : ℕ). length segment ≤ n) far h)))
+          (going-end l k segment at-turn rx out (t .place) (t .count) (t .at) g (subst (λ (n : ℕ). length segment ≤ n) far h)))
 
       pub turn-count : r .count ≡ t .count + 1
       turn-count = ap (λ (x : Turn). x .count) is

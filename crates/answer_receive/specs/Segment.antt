@@ -17,6 +17,7 @@ use Rattle.receive.specs.Segment.{segmentOf, memoryOf, payloadOf}
 use Rattle.answering.specs.declared.Verdict.the-variants.{Unfit, Small}
 use Rattle.answering.specs.Answers.{Effect, answers, untouched, doneWith, found}
 use Rattle.answer_receive.specs.Long.{tooLong}
+use Rattle.gate.specs.Lent.{Loan, received}
 use Rattle.answer_receive.specs.Walk.{orRefused}
 
 -- a PDU: "where its payload stood: 0 (1) and the place in the segment (4)", for a take that began at the place from of the segment ..
@@ -55,30 +56,33 @@ pub record Run : Type 0 where
 abbrev pub begun : State → List ℕ → Run
 begun s rx = record { answer = Done; state = s; rx = rx; bytes = []; count = 0; at = 0 }
 
-module _ (image : List ℕ) (tx connection : ℕ) (segment : List ℕ) where
-  -- the take over what is left of the segment, receive memory after it, and its bytes of the answer
-  abbrev pub takeAt : State → List ℕ → ℕ → SegmentTaken
-  takeAt s rx at = segmentOf image s rx tx connection (drop at segment)
+-- THE TAKE over what is left of the segment, receive memory after it, and its bytes of the answer
+module _ (l : Loan) (connection : ℕ) (segment : List ℕ) (at : ℕ) where
+  abbrev pub takeAt : SegmentTaken
+  takeAt = segmentOf l connection (drop at segment)
 
-  abbrev pub memoryAt : State → List ℕ → ℕ → List ℕ
-  memoryAt s rx at = memoryOf image s rx tx connection (drop at segment)
+  abbrev pub memoryAt : List ℕ
+  memoryAt = memoryOf l connection (drop at segment)
 
-  unfoldable pub bytesAt : State → List ℕ → ℕ → List ℕ
-  bytesAt s rx at =
-      bytesOf (takeAt s rx at .answer)
-      (takeBytes at (takeAt s rx at .read) (takeAt s rx at .outcome)
-      (payloadOf (drop at segment) (memoryAt s rx at) connection (takeAt s rx at .outcome)))
+  unfoldable pub bytesAt : List ℕ
+  bytesAt =
+      bytesOf (takeAt .answer) (takeBytes at (takeAt .read) (takeAt .outcome) (payloadOf (drop at segment) memoryAt connection (takeAt .outcome)))
+
+module _ (l : Loan) (connection : ℕ) (segment : List ℕ) where
+  -- what the next take of a run is lent
+  abbrev pub lends : Run → Loan
+  lends r = received l (r .state) (r .rx)
 
   -- one take more
   unfoldable pub step : Run → Run
   step r =
       record {
-        answer = takeAt (r .state) (r .rx) (r .at) .answer;
-        state = takeAt (r .state) (r .rx) (r .at) .state;
-        rx = memoryAt (r .state) (r .rx) (r .at);
-        bytes = r .bytes ++ bytesAt (r .state) (r .rx) (r .at);
+        answer = takeAt (lends r) connection segment (r .at) .answer;
+        state = takeAt (lends r) connection segment (r .at) .state;
+        rx = memoryAt (lends r) connection segment (r .at);
+        bytes = r .bytes ++ bytesAt (lends r) connection segment (r .at);
         count = r .count + 1;
-        at = r .at + takeAt (r .state) (r .rx) (r .at) .read;
+        at = r .at + takeAt (lends r) connection segment (r .at) .read;
       }
 
   -- "until all is read": a take follows where bytes are left and this one was not refused
@@ -90,8 +94,8 @@ module _ (image : List ℕ) (tx connection : ℕ) (segment : List ℕ) where
   runOf zero r = step r
   runOf (suc n) r = cond (goesOn (step r)) (runOf n (step r)) (step r)
 
-  abbrev pub allTakes : State → List ℕ → Run
-  allTakes s rx = runOf (length segment) (begun s rx)
+  abbrev pub allTakes : Run
+  allTakes = runOf (length segment) (begun (l .state) (l .rx))
 
 -- "number of takes (2), then for every take" its bytes; "a refusal of the first take is the event's answer (later takes are never
 -- refused)": so the last take's answer is the first's (proofs/Run `first-answer`)
@@ -108,8 +112,8 @@ roomFor segment = 1502 + 3 * length segment
 
 -- WHAT A SEGMENT EVENT LEAVES: a segment that is too long, and then an out buffer that is too short, "is refused and changes nothing"; in
 -- any other the answer stands whole
-unfoldable pub segmentEffect : List ℕ → State → List ℕ → List ℕ → List ℕ → ℕ → List ℕ → Effect
-segmentEffect image s rx tx out connection segment =
-    cond (tooLong segment) (untouched Unfit s rx tx out)
-    (cond (ltb (length out) (roomFor segment)) (untouched Small s rx tx out)
-    (leaves (allTakes image (length tx) connection segment s rx) tx out))
+unfoldable pub segmentEffect : Loan → List ℕ → ℕ → List ℕ → Effect
+segmentEffect l out connection segment =
+    cond (tooLong segment) (untouched Unfit (l .state) (l .rx) (l .tx) out)
+    (cond (ltb (length out) (roomFor segment)) (untouched Small (l .state) (l .rx) (l .tx) out)
+    (leaves (allTakes l connection segment) (l .tx) out))

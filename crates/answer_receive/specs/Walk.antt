@@ -4,7 +4,6 @@ use mathlib.Core.Bool.{cond}
 use mathlib.Core.List.{List, _++_}
 use lib.ListN.{length}
 use Rattle.wire.specs.Lay.{spell}
-use Rattle.state.specs.declared.State.{State}
 use Rattle.datagram.specs.declared.Outcome.{Outcome}
 use Rattle.datagram.specs.declared.Outcome.the-variants.{End, Pdu, Drop}
 use Rattle.receive.specs.declared.Answer.{Answer}
@@ -13,6 +12,7 @@ use Rattle.receive.specs.declared.DatagramWalked.{DatagramWalked}
 use Rattle.receive.specs.Walk.{walkOf}
 use Rattle.answering.specs.declared.Verdict.the-variants.{Unfit}
 use Rattle.answering.specs.Answers.{Effect, answers, untouched, refused, refusal, done, found}
+use Rattle.gate.specs.Lent.{Loan, sizes}
 use Rattle.answer_receive.specs.Long.{tooLong}
 
 -- a refusal's bytes; where there is none, these
@@ -39,13 +39,11 @@ abbrev pub walkedBytes : DatagramWalked → List ℕ
 walkedBytes w = orRefused (w .answer) (walkBytes (w .next) (w .outcome))
 
 -- of any datagram
-abbrev pub walked : List ℕ → State → List ℕ → List ℕ → List ℕ → ℕ → ℕ → List ℕ → Effect
-walked image s rx tx out connection place datagram =
-    answers (walkedBytes (walkOf image s (length rx) (length tx) connection datagram place))
-    (walkOf image s (length rx) (length tx) connection datagram place .state)
-    rx tx out
+abbrev pub walked : Loan → List ℕ → ℕ → ℕ → List ℕ → Effect
+walked l out connection place datagram =
+    answers (walkedBytes (walkOf (sizes l) connection datagram place)) (walkOf (sizes l) connection datagram place .state) (l .rx) (l .tx) out
 
 -- WHAT A WALK LEAVES: a datagram that is too long "is refused and changes nothing"
-unfoldable pub walkEffect : List ℕ → State → List ℕ → List ℕ → List ℕ → ℕ → ℕ → List ℕ → Effect
-walkEffect image s rx tx out connection place datagram =
-    cond (tooLong datagram) (untouched Unfit s rx tx out) (walked image s rx tx out connection place datagram)
+unfoldable pub walkEffect : Loan → List ℕ → ℕ → ℕ → List ℕ → Effect
+walkEffect l out connection place datagram =
+    cond (tooLong datagram) (untouched Unfit (l .state) (l .rx) (l .tx) out) (walked l out connection place datagram)

@@ -10,6 +10,7 @@ ghost use Rattle.answering.specs.Answers.{dispatched, found};
 ghost use Rattle.answer_receive.specs.Walk as Wk;
 ghost use Rattle.answer_receive.specs.Segment as Seg;
 ghost use Rattle.answer_receive.specs.Turn as Turning;
+ghost use Rattle.gate.specs.Lent.{loan};
 use answering::Dispatched;
 use answering::Verdict;
 use answering::put_done;
@@ -106,8 +107,8 @@ pub fn walk(
     datagram: &[u8],
     out: &mut [u8],
 ) -> Dispatched
-    ensures { λ r. ⌜ r ≡ dispatched (Wk.walkEffect (now (image .entry)) state (now (rx .entry)) (now (tx .entry)) (now (out .entry)) connection place (now (datagram .entry))) ⌝ }
-    ensures { λ _. ⌜ now (out .exit) ≡ Wk.walkEffect (now (image .entry)) state (now (rx .entry)) (now (tx .entry)) (now (out .entry)) connection place (now (datagram .entry)) .out ⌝ }
+    ensures { λ r. ⌜ r ≡ dispatched (Wk.walkEffect (loan (now (image .entry)) state (now (rx .entry)) (now (tx .entry))) (now (out .entry)) connection place (now (datagram .entry))) ⌝ }
+    ensures { λ _. ⌜ now (out .exit) ≡ Wk.walkEffect (loan (now (image .entry)) state (now (rx .entry)) (now (tx .entry))) (now (out .entry)) connection place (now (datagram .entry)) .out ⌝ }
 {
     if 4096 < datagram.len() {
         return Dispatched {
@@ -308,9 +309,9 @@ fn take_all(
     out: &mut [u8],
 ) -> Takes
     requires { ⌜ Seg.roomFor (now segment) ≤ length (now out) ⌝ }
-    ensures { λ r. ⌜ r ≡ Turning.takesOf (Seg.allTakes (now (image .entry)) (length (now (tx .entry))) connection (now (segment .entry)) state (now (rx .entry))) ⌝ }
-    ensures { λ _. ⌜ now (rx .exit) ≡ Seg.allTakes (now (image .entry)) (length (now (tx .entry))) connection (now (segment .entry)) state (now (rx .entry)) .rx ⌝ }
-    ensures { λ _. ⌜ now (out .exit) ≡ lay (now (out .entry)) 4 (Turning.takenBytes (Seg.allTakes (now (image .entry)) (length (now (tx .entry))) connection (now (segment .entry)) state (now (rx .entry)))) ⌝ }
+    ensures { λ r. ⌜ r ≡ Turning.takesOf (Seg.allTakes (loan (now (image .entry)) state (now (rx .entry)) (now (tx .entry))) connection (now (segment .entry))) ⌝ }
+    ensures { λ _. ⌜ now (rx .exit) ≡ Seg.allTakes (loan (now (image .entry)) state (now (rx .entry)) (now (tx .entry))) connection (now (segment .entry)) .rx ⌝ }
+    ensures { λ _. ⌜ now (out .exit) ≡ lay (now (out .entry)) 4 (Turning.takenBytes (Seg.allTakes (loan (now (image .entry)) state (now (rx .entry)) (now (tx .entry))) connection (now (segment .entry)))) ⌝ }
 {
     let answer = may_take(image, state, rx.len(), tx.len(), connection);
     let done = is_done(answer);
@@ -375,9 +376,9 @@ pub fn segment(
     segment: &[u8],
     out: &mut [u8],
 ) -> Dispatched
-    ensures { λ r. ⌜ r ≡ dispatched (Seg.segmentEffect (now (image .entry)) state (now (rx .entry)) (now (tx .entry)) (now (out .entry)) connection (now (segment .entry))) ⌝ }
-    ensures { λ _. ⌜ now (rx .exit) ≡ Seg.segmentEffect (now (image .entry)) state (now (rx .entry)) (now (tx .entry)) (now (out .entry)) connection (now (segment .entry)) .rx ⌝ }
-    ensures { λ _. ⌜ now (out .exit) ≡ Seg.segmentEffect (now (image .entry)) state (now (rx .entry)) (now (tx .entry)) (now (out .entry)) connection (now (segment .entry)) .out ⌝ }
+    ensures { λ r. ⌜ r ≡ dispatched (Seg.segmentEffect (loan (now (image .entry)) state (now (rx .entry)) (now (tx .entry))) (now (out .entry)) connection (now (segment .entry))) ⌝ }
+    ensures { λ _. ⌜ now (rx .exit) ≡ Seg.segmentEffect (loan (now (image .entry)) state (now (rx .entry)) (now (tx .entry))) (now (out .entry)) connection (now (segment .entry)) .rx ⌝ }
+    ensures { λ _. ⌜ now (out .exit) ≡ Seg.segmentEffect (loan (now (image .entry)) state (now (rx .entry)) (now (tx .entry))) (now (out .entry)) connection (now (segment .entry)) .out ⌝ }
 {
     if 4096 < segment.len() {
         return Dispatched {

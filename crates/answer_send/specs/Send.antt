@@ -4,7 +4,6 @@ use Prim.Native.Nat.{ℕ, min}
 use mathlib.Core.List.{List}
 use lib.ListN.{length, take, replicate}
 use Rattle.connection.specs.declared.Remote.{Remote}
-use Rattle.state.specs.declared.State.{State}
 use Rattle.choose.specs.declared.Arrival.{Arrival}
 use Rattle.choose.specs.declared.Arrival.the-variants.{Met, Refused, Unmatched}
 use Rattle.choose.specs.declared.Arrived.{Arrived}
@@ -14,7 +13,7 @@ use Rattle.send.specs.declared.Transmission.the-variants.{Stored, Refused as No
 use Rattle.waiting.specs.declared.Taking.{Taking}
 use Rattle.waiting.specs.declared.Taking.the-variants.{Bytes, Refused as NotTaken, Short}
 use Rattle.sending.specs.Sending.{sendOf, sentMemory, takenOf, takenOut}
-use Rattle.gate.specs.Lent.{lent}
+use Rattle.gate.specs.Lent.{Loan, sizes}
 use Rattle.answering.specs.Answers.{Effect, answers, refused, refusal, done, doneWith, waiting}
 
 -- "datagram, accept: connection (1)"
@@ -44,23 +43,23 @@ roomOf room = min room 1472
 abbrev pub arrived : Arrived → List ℕ → List ℕ → List ℕ → Effect
 arrived a rx tx out = answers (arrivalBytes (a .answer)) (a .state) rx tx out
 
-module _ (image : List ℕ) (s : State) (rx tx out : List ℕ) where
+module _ (l : Loan) (out : List ℕ) where
   unfoldable pub datagramEffect : ℕ → Remote → Effect
-  datagramEffect group source = arrived (datagramOf (lent image s (length rx) (length tx)) group source) rx tx out
+  datagramEffect group source = arrived (datagramOf (sizes l) group source) (l .rx) (l .tx) out
 
   unfoldable pub acceptEffect : ℕ → Remote → Effect
-  acceptEffect group source = arrived (acceptOf (lent image s (length rx) (length tx)) group source) rx tx out
+  acceptEffect group source = arrived (acceptOf (sizes l) group source) (l .rx) (l .tx) out
 
   unfoldable pub transmitEffect : ℕ → List ℕ → Effect
   transmitEffect pdu payload =
-      answers (transmissionBytes (sendOf image s (length rx) tx pdu payload .answer)) (sendOf image s (length rx) tx pdu payload .state)
-      rx (sentMemory image s (length rx) tx pdu payload) out
+      answers (transmissionBytes (sendOf l pdu payload .answer)) (sendOf l pdu payload .state)
+      (l .rx) (sentMemory l pdu payload) out
 
   -- with a buffer of the call's own
   abbrev pub takeInto : ℕ → List ℕ → Effect
   takeInto connection buffer =
-      answers (takingBytes (takenOf image s (length rx) tx connection buffer .answer) (takenOut image s (length rx) tx connection buffer))
-      (takenOf image s (length rx) tx connection buffer .state) rx tx out
+      answers (takingBytes (takenOf l connection buffer .answer) (takenOut l connection buffer))
+      (takenOf l connection buffer .state) (l .rx) (l .tx) out
 
   unfoldable pub takeEffect : ℕ → ℕ → Effect
   takeEffect connection room = takeInto connection (take (roomOf room) (replicate 1472 0))

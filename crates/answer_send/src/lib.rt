@@ -6,6 +6,7 @@ ghost use lib.ListN.{length};
 ghost use Rattle.wire.specs.Lay.{lay};
 ghost use Rattle.answering.specs.Answers.{dispatched};
 ghost use Rattle.answer_send.specs.Send as Is;
+ghost use Rattle.gate.specs.Lent.{loan};
 use answering::Dispatched;
 use answering::Verdict;
 use answering::put_done;
@@ -67,8 +68,8 @@ pub fn datagram(
     source: Remote,
     out: &mut [u8],
 ) -> Dispatched
-    ensures { λ r. ⌜ r ≡ dispatched (Is.datagramEffect (now (image .entry)) state (now (rx .entry)) (now (tx .entry)) (now (out .entry)) group source) ⌝ }
-    ensures { λ _. ⌜ now (out .exit) ≡ Is.datagramEffect (now (image .entry)) state (now (rx .entry)) (now (tx .entry)) (now (out .entry)) group source .out ⌝ }
+    ensures { λ r. ⌜ r ≡ dispatched (Is.datagramEffect (loan (now (image .entry)) state (now (rx .entry)) (now (tx .entry))) (now (out .entry)) group source) ⌝ }
+    ensures { λ _. ⌜ now (out .exit) ≡ Is.datagramEffect (loan (now (image .entry)) state (now (rx .entry)) (now (tx .entry))) (now (out .entry)) group source .out ⌝ }
 {
     let entry = arrivals::datagram(image, state, rx, tx, group, source);
     let answer = entry.answer;
@@ -89,8 +90,8 @@ pub fn accept(
     source: Remote,
     out: &mut [u8],
 ) -> Dispatched
-    ensures { λ r. ⌜ r ≡ dispatched (Is.acceptEffect (now (image .entry)) state (now (rx .entry)) (now (tx .entry)) (now (out .entry)) group source) ⌝ }
-    ensures { λ _. ⌜ now (out .exit) ≡ Is.acceptEffect (now (image .entry)) state (now (rx .entry)) (now (tx .entry)) (now (out .entry)) group source .out ⌝ }
+    ensures { λ r. ⌜ r ≡ dispatched (Is.acceptEffect (loan (now (image .entry)) state (now (rx .entry)) (now (tx .entry))) (now (out .entry)) group source) ⌝ }
+    ensures { λ _. ⌜ now (out .exit) ≡ Is.acceptEffect (loan (now (image .entry)) state (now (rx .entry)) (now (tx .entry))) (now (out .entry)) group source .out ⌝ }
 {
     let entry = arrivals::accept(image, state, rx, tx, group, source);
     let answer = entry.answer;
@@ -111,9 +112,9 @@ pub fn transmit(
     payload: &[u8],
     out: &mut [u8],
 ) -> Dispatched
-    ensures { λ r. ⌜ r ≡ dispatched (Is.transmitEffect (now (image .entry)) state (now (rx .entry)) (now (tx .entry)) (now (out .entry)) pdu (now (payload .entry))) ⌝ }
-    ensures { λ _. ⌜ now (tx .exit) ≡ Is.transmitEffect (now (image .entry)) state (now (rx .entry)) (now (tx .entry)) (now (out .entry)) pdu (now (payload .entry)) .tx ⌝ }
-    ensures { λ _. ⌜ now (out .exit) ≡ Is.transmitEffect (now (image .entry)) state (now (rx .entry)) (now (tx .entry)) (now (out .entry)) pdu (now (payload .entry)) .out ⌝ }
+    ensures { λ r. ⌜ r ≡ dispatched (Is.transmitEffect (loan (now (image .entry)) state (now (rx .entry)) (now (tx .entry))) (now (out .entry)) pdu (now (payload .entry))) ⌝ }
+    ensures { λ _. ⌜ now (tx .exit) ≡ Is.transmitEffect (loan (now (image .entry)) state (now (rx .entry)) (now (tx .entry))) (now (out .entry)) pdu (now (payload .entry)) .tx ⌝ }
+    ensures { λ _. ⌜ now (out .exit) ≡ Is.transmitEffect (loan (now (image .entry)) state (now (rx .entry)) (now (tx .entry))) (now (out .entry)) pdu (now (payload .entry)) .out ⌝ }
 {
     let entry = sending::transmit(image, state, rx, tx, pdu, payload);
     let answer = entry.answer;
@@ -144,8 +145,8 @@ fn take_into(
     buffer: &mut [u8],
     out: &mut [u8],
 ) -> Dispatched
-    ensures { λ r. ⌜ r ≡ dispatched (Is.takeInto (now (image .entry)) state (now (rx .entry)) (now (tx .entry)) (now (out .entry)) connection (now (buffer .entry))) ⌝ }
-    ensures { λ _. ⌜ now (out .exit) ≡ Is.takeInto (now (image .entry)) state (now (rx .entry)) (now (tx .entry)) (now (out .entry)) connection (now (buffer .entry)) .out ⌝ }
+    ensures { λ r. ⌜ r ≡ dispatched (Is.takeInto (loan (now (image .entry)) state (now (rx .entry)) (now (tx .entry))) (now (out .entry)) connection (now (buffer .entry))) ⌝ }
+    ensures { λ _. ⌜ now (out .exit) ≡ Is.takeInto (loan (now (image .entry)) state (now (rx .entry)) (now (tx .entry))) (now (out .entry)) connection (now (buffer .entry)) .out ⌝ }
 {
     let entry = sending::take_waiting(image, state, rx, tx, connection, buffer);
     let answer = entry.answer;
@@ -166,8 +167,8 @@ pub fn take_waiting(
     room: u32,
     out: &mut [u8],
 ) -> Dispatched
-    ensures { λ r. ⌜ r ≡ dispatched (Is.takeEffect (now (image .entry)) state (now (rx .entry)) (now (tx .entry)) (now (out .entry)) connection room) ⌝ }
-    ensures { λ _. ⌜ now (out .exit) ≡ Is.takeEffect (now (image .entry)) state (now (rx .entry)) (now (tx .entry)) (now (out .entry)) connection room .out ⌝ }
+    ensures { λ r. ⌜ r ≡ dispatched (Is.takeEffect (loan (now (image .entry)) state (now (rx .entry)) (now (tx .entry))) (now (out .entry)) connection room) ⌝ }
+    ensures { λ _. ⌜ now (out .exit) ≡ Is.takeEffect (loan (now (image .entry)) state (now (rx .entry)) (now (tx .entry))) (now (out .entry)) connection room .out ⌝ }
 {
     let mut buffer = [0u8; 1472];
     let n = room_of(room);

@@ -8,7 +8,8 @@ use lib.ListN.{length, drop}
 use Rattle.wire.specs.Be.{be}
 use Rattle.connection.specs.declared.Remote.{Remote}
 use Rattle.calls.specs.declared.Call.{Call}
-use Rattle.calls.specs.declared.Call.the-variants.{Unknown, Unfit, Ticks, Open, Close, Connected, Lost, SetRemote, Switch, Segment, Walk, TakeWaiting, Datagram, Accept, Transmit, SwitchAll, ReadCount, ClearCount}
+use Rattle.calls.specs.declared.Call.the-variants.{Unknown, Unfit, Ticks, Own, Lost, Segment, Walk, TakeWaiting, Datagram, Accept, Transmit, SwitchAll, ReadCount, ClearCount}
+use Rattle.connection.specs.declared.Event.the-variants.{Open, Close, Connected, SetRemote, Switch}
 
 -- "a body that does not fit is refused"
 abbrev pub fitted : Bool → Call → Call
@@ -43,12 +44,12 @@ positioned body n at = plain body n && leb (be 1 body at) 1
 unfoldable pub callOf : ℕ → List ℕ → Call
 callOf n b =
     cond (eqb n 0) (fitted (eqb (length b) 4) (Ticks (be 4 b 0)))
-    (cond (eqb n 1) (fitted (plain b 2) (Open (be 1 b 1)))
-    (cond (eqb n 2) (fitted (plain b 2) (Close (be 1 b 1)))
-    (cond (eqb n 3) (fitted (plain b 2) (Connected (be 1 b 1)))
+    (cond (eqb n 1) (fitted (plain b 2) (Own (be 1 b 1) Open))
+    (cond (eqb n 2) (fitted (plain b 2) (Own (be 1 b 1) Close))
+    (cond (eqb n 3) (fitted (plain b 2) (Own (be 1 b 1) Connected))
     (cond (eqb n 4) (fitted (plain b 2) (Lost (be 1 b 1)))
-    (cond (eqb n 5) (fitted (addressed b) (SetRemote (be 1 b 1) (remoteIn (drop 2 b))))
-    (cond (eqb n 6) (fitted (positioned b 4 3) (Switch (be 1 b 1) (be 1 b 2) (eqb (be 1 b 3) 1)))
+    (cond (eqb n 5) (fitted (addressed b) (Own (be 1 b 1) (SetRemote (remoteIn (drop 2 b)))))
+    (cond (eqb n 6) (fitted (positioned b 4 3) (Own (be 1 b 1) (Switch (be 1 b 2) (eqb (be 1 b 3) 1))))
     (cond (eqb n 7) (fitted (counted b 2) (Segment (be 1 b 1) 6))
     (cond (eqb n 8) (fitted (counted b 6) (Walk (be 1 b 1) (be 4 b 2) 10))
     (cond (eqb n 9) (fitted (plain b 6) (TakeWaiting (be 1 b 1) (be 4 b 2)))

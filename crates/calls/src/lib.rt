@@ -5,6 +5,7 @@ ghost use Rattle.wire.specs.Place.{behind, fromAt};
 ghost use mathlib.Core.Path.{_≡_};
 ghost use Rattle.wire.specs.Be.{be};
 ghost use Rattle.calls.specs.Calls as Is;
+use connection::Event;
 use connection::Remote;
 use wire::be8;
 use wire::be16;
@@ -15,19 +16,11 @@ pub enum Call {
     Unknown,
     Unfit,
     Ticks(u32),
-    Open(u8),
-    Close(u8),
-    Connected(u8),
+    Own {
+        connection: u8,
+        event: Event,
+    },
     Lost(u8),
-    SetRemote {
-        connection: u8,
-        remote: Remote,
-    },
-    Switch {
-        connection: u8,
-        number: u8,
-        on: bool,
-    },
     Segment {
         connection: u8,
         at: usize,
@@ -143,6 +136,13 @@ fn fitted(fits: bool, call: Call) -> Call
     if fits { call } else { Call::Unfit }
 }
 
+// An event of a connection that concerns its record alone.
+fn own(connection: u8, event: Event) -> Call
+    ensures { λ r. ⌜ r ≡ Call.Own connection event ⌝ }
+{
+    Call::Own { connection, event }
+}
+
 pub fn call_of(number: u16, body: &[u8]) -> Call
     ensures { λ r. ⌜ r ≡ Is.callOf number (now (body .entry)) ⌝ }
 {
@@ -151,24 +151,20 @@ pub fn call_of(number: u16, body: &[u8]) -> Call
     let remote = remote_in(bytes_from(body, 2));
     match number {
         0 => fitted(body.len() == 4, Call::Ticks(four_bytes(body, 0))),
-        1 => fitted(is_plain(body, 2), Call::Open(first)),
-        2 => fitted(is_plain(body, 2), Call::Close(first)),
-        3 => fitted(is_plain(body, 2), Call::Connected(first)),
+        1 => fitted(is_plain(body, 2), own(first, Event::Open)),
+        2 => fitted(is_plain(body, 2), own(first, Event::Close)),
+        3 => fitted(is_plain(body, 2), own(first, Event::Connected)),
         4 => fitted(is_plain(body, 2), Call::Lost(first)),
-        5 => fitted(
-            is_addressed(body),
-            Call::SetRemote {
-                connection: first,
-                remote,
-            },
-        ),
+        5 => fitted(is_addressed(body), own(first, Event::SetRemote(remote))),
         6 => fitted(
             is_positioned(body, 4, 3),
-            Call::Switch {
-                connection: first,
-                number: one_byte(body, 2),
-                on: be8(body, 3) == 1,
-            },
+            own(
+                first,
+                Event::Switch {
+                    number: one_byte(body, 2),
+                    on: be8(body, 3) == 1,
+                },
+            ),
         ),
         7 => fitted(
             is_counted(body, 2),

@@ -19,7 +19,6 @@ use Rattle.connection.specs.declared.Event.the-variants.{Open, Close, Connected
 use Rattle.connection.specs.Connection.{withMode, withRemote, withSwitches, withSend, become}
 use Rattle.state.specs.declared.State.{State}
 use Rattle.state.specs.State.{recordAt, withRecord, withCount}
-use Rattle.gate.specs.Lent.{lent}
 use Rattle.gate.specs.Sound.{soundState}
 use Rattle.events.specs.Change.{eventOf, lossOf}
 use Rattle.events.specs.Module.{switchAllOf}
@@ -31,7 +30,7 @@ use Rattle.receive.specs.Segment.{segmentOf}
 use Rattle.receive.specs.Walk.{walkOf}
 use Rattle.sending.specs.Sending.{sendOf, takenOf}
 use Rattle.transitions.specs.Table.{modeNumber}
-use Rattle.edges.specs.Table.{image, fresh, waitingFor, used, exact}
+use Rattle.edges.specs.Table.{image, fresh, waitingFor, used, exact, lends, loans}
 use Rattle.edges.specs.Edges.{framed}
 
 pub record Change : Type 0 where
@@ -109,47 +108,41 @@ abbrev pub peer : Remote
 peer = record { address = 3232235527; port = 1000 }
 
 -- The events: the state that each entry leaves, lent both memories in their lengths.
-abbrev pub receiveMemory : List ℕ
-receiveMemory = replicate 23424 0
-
-abbrev pub sendMemory : List ℕ
-sendMemory = replicate 23552 0
-
 abbrev pub happens : ℕ → Event → State → State
-happens k e s = eventOf image s 23424 23552 k e .state
+happens k e s = eventOf (lends s) k e .state
 
 abbrev pub lost : ℕ → State → State
-lost k s = lossOf image s 23424 23552 k .state
+lost k s = lossOf (lends s) k .state
 
 abbrev pub tick : State → State
-tick s = tickEvent image s 23424 23552 .state
+tick s = tickEvent (lends s) .state
 
 abbrev pub ticks : ℕ → State → State
-ticks count s = ticksEvent image s 23424 23552 count .state
+ticks count s = ticksEvent (lends s) count .state
 
 abbrev pub datagram : ℕ → Remote → State → State
-datagram group source s = datagramOf (lent image s 23424 23552) group source .state
+datagram group source s = datagramOf (lends s) group source .state
 
 abbrev pub accept : ℕ → Remote → State → State
-accept group source s = acceptOf (lent image s 23424 23552) group source .state
+accept group source s = acceptOf (lends s) group source .state
 
 abbrev pub segment : ℕ → List ℕ → State → State
-segment k bytes s = segmentOf image s receiveMemory 23552 k bytes .state
+segment k bytes s = segmentOf (loans s) k bytes .state
 
 abbrev pub walk : ℕ → List ℕ → State → State
-walk k bytes s = walkOf image s 23424 23552 k bytes 0 .state
+walk k bytes s = walkOf (lends s) k bytes 0 .state
 
 abbrev pub transmit : ℕ → List ℕ → State → State
-transmit pdu payload s = sendOf image s 23424 sendMemory pdu payload .state
+transmit pdu payload s = sendOf (loans s) pdu payload .state
 
 abbrev pub takeWaiting : ℕ → ℕ → State → State
-takeWaiting k room s = takenOf image s 23424 sendMemory k (replicate room 0) .state
+takeWaiting k room s = takenOf (loans s) k (replicate room 0) .state
 
 abbrev pub switchAll : ℕ → Bool → State → State
-switchAll number on s = switchAllOf image s 23424 23552 number on .state
+switchAll number on s = switchAllOf (lends s) number on .state
 
 abbrev pub clear : ℕ → State → State
-clear protocol s = clearOf image s 23424 23552 protocol .state
+clear protocol s = clearOf (lends s) protocol .state
 
 abbrev pub changes : List Change
 changes =

@@ -3,3 +3,4 @@ pub mod Bits
 pub mod Ticks
 pub mod Rules
 pub mod Keeps
+pub mod Leaves

@@ -1,7 +1,7 @@
 -- The connection events that concern the record alone: when each is allowed, what it leaves, and document 01's numbers. Assumes nothing.
 use Prim.Native.Nat.{ℕ}
 use lib.Dec.{ltb}
-use mathlib.Core.Bool.{Bool, true, cond, not, _&&_, _||_}
+use mathlib.Core.Bool.{Bool, true, false, cond, not, _&&_, _||_}
 use Rattle.connection.specs.declared.Connection.{Connection}
 use Rattle.connection.specs.declared.Config.{Config}
 use Rattle.connection.specs.declared.Refusal.{Refusal}
@@ -72,6 +72,24 @@ after Connected g c = connectedOf c
 after Lost g c = lostOf g c
 after (SetRemote r) g c = remoteOf r c
 after (Switch n on) g c = switchedOf n on c
+
+-- which of them, done, drops the bytes held: a loss
+abbrev pub empties : Event → Bool
+empties Open = false
+empties Close = false
+empties Connected = false
+empties Lost = true
+empties (SetRemote r) = false
+empties (Switch n on) = false
+
+-- which can be denied: all but a switch
+abbrev pub deniable : Event → Bool
+deniable Open = true
+deniable Close = true
+deniable Connected = true
+deniable Lost = true
+deniable (SetRemote r) = true
+deniable (Switch n on) = false
 
 abbrev pub refusedBy : Refusal → Connection → Stepped
 refusedBy r c = record { answer = Refused r; connection = c }

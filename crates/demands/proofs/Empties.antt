@@ -23,7 +23,7 @@ use Rattle.state.specs.Fresh.{configOf}
 use Rattle.ticks.specs.Tick.{tickAt, tickedTo}
 use Rattle.waiting.proofs.Taken.{take-used}
 use Rattle.walk.specs.Walk.{walkAt, told}
-use Rattle.waits.proofs.Turns.{tick-used, step-used}
+use Rattle.waits.proofs.Turns.{tick-used, step-used, if-emptied, only-emptied}
 use Rattle.world.specs.World.{Held, World, blank, heldAt, cellAt}
 use Rattle.world.specs.Events.{Own, change, segment, walk, take, Whole, datagram, accept, tick, transmit, switchAll, readCount, clearCount, on, all}
 use Rattle.world.specs.Step.{Table, acted, streamed, routesAt, does, acts, step}
@@ -32,6 +32,7 @@ use Rattle.tie.specs.Whole.{wholeOf}
 use Rattle.tie.proofs.Left.{left-nothing}
 use Rattle.tie.proofs.Becomes.{Becomes, untouched, same, met, ticked, switched, sent, becomes}
 use Rattle.demands.specs.Waits.{drains, ownEmpties}
+use Rattle.waits.specs.Waits.{loses, was-taken, was-lost, isEmptied, onlyIf}
 
 -- a take: one of nothing leaves nothing
 drains-used : (room : ℕ) (c : Connection) → cond (not (ltb room (c .used))) 0 (c .used) ≡ cond (drains room c) 0 (c .used)
@@ -43,9 +44,10 @@ drains-used room c = go (eqb (c .used) 0) refl (not (ltb room (c .used)))
     go false e b = refl
 
 -- AN EVENT OF A CONNECTION on its record
-does-used : (T : Table) (k : ℕ) (e : Own) (h : Held) → does T k e h .to .connection .used ≡ cond (ownEmpties e (T .config k) (h .connection)) 0 (h .connection .used)
+does-used : (T : Table) (k : ℕ) (e : Own) (h : Held) → does T k e h .to .connection .used ≡ cond (isEmptied (ownEmpties e (T .config k) (h .connection))) 0 (h .connection .used)
 unfolding does
-does-used T k (change e) h = step-used e (T .config k) (h .connection)
+does-used T k (change e) h =
+    step-used e (T .config k) (h .connection) ∙ ap (λ (b : Bool). cond b 0 (h .connection .used)) (sym (if-emptied (loses e (T .config k) (h .connection)) was-lost))
 does-used T k (segment bytes) h = go (T .config k .tcp && receiving (h .connection))
   where
     go : (b : Bool) → cond b (streamed h (segmentOf (routesAt T k h) (cellAt h) bytes)) (acted h []) .to .connection .used ≡ h .connection .used
@@ -56,7 +58,10 @@ does-used T k (walk d p) h = go (not (T .config k .tcp) && leb p (length d) && r
     go : (b : Bool) → cond b (acted h (told d (walkAt (routesAt T k h) d p .found) [])) (acted h []) .to .connection .used ≡ h .connection .used
     go true = refl
     go false = refl
-does-used T k (take room) h = take-used (T .config k) room (h .connection) ∙ drains-used room (h .connection)
+does-used T k (take room) h =
+    take-used (T .config k) room (h .connection)
+    ∙ drains-used room (h .connection)
+    ∙ ap (λ (b : Bool). cond b 0 (h .connection .used)) (sym (if-emptied (drains room (h .connection)) was-taken))
 
 -- of all records to a number, each is changed, and past it each is as it was
 module _ {A : Type 0} (d : A) (f : ℕ → A → A) (P : A → Type 0) where
@@ -94,23 +99,24 @@ module _ (image : List ℕ) (w : World) (j : ℕ) where
   -- AN EVENT OF ANY CONNECTION
   pub own-used : (k : ℕ) (e : Own) → rowsOf image Connections ≤ length (w .held)
       → heldAt (step (tableOf image) (wholeOf image) w (on k e)) j .connection .used
-      ≡ cond (eqb k j && (ltb j (rowsOf image Connections) && ownEmpties e (configOf image j) c)) 0 (c .used)
+      ≡ cond (isEmptied (onlyIf (eqb k j && ltb j (rowsOf image Connections)) (ownEmpties e (configOf image j) c))) 0 (c .used)
   unfolding step acts
   own-used k e rows = go (ℕ-discrete k j)
     where
       there : (b : Bool) → ltb j (rowsOf image Connections) ≡ b → heldAt (step (tableOf image) (wholeOf image) w (on j e)) j .connection .used
-          ≡ cond (b && ownEmpties e (configOf image j) c) 0 (c .used)
+          ≡ cond (b && isEmptied (ownEmpties e (configOf image j) c)) 0 (c .used)
       there true h =
           ap (λ (x : Held). x .connection .used) (getD-set-same (w .held) j _ blank (omega (arith, rows, ltb-true j (rowsOf image Connections) h)))
           ∙ rw h (does-used (tableOf image) j e (heldAt w j))
       there false h = rw h (ap (λ (v : World). heldAt v j .connection .used) (left-nothing (tableOf image) w j))
 
       go : Dec (k ≡ j) → heldAt (step (tableOf image) (wholeOf image) w (on k e)) j .connection .used
-          ≡ cond (eqb k j && (ltb j (rowsOf image Connections) && ownEmpties e (configOf image j) c)) 0 (c .used)
+          ≡ cond (isEmptied (onlyIf (eqb k j && ltb j (rowsOf image Connections)) (ownEmpties e (configOf image j) c))) 0 (c .used)
       go (no ne) = rw (ne-eqb k j ne) (ap (λ (x : Held). x .connection .used) (getD-set-other (w .held) k j _ blank (λ q. ne (sym q))))
       go (yes q) =
           ap (λ (i : ℕ). heldAt (step (tableOf image) (wholeOf image) w (on i e)) j .connection .used) q
           ∙ there (ltb j (rowsOf image Connections)) refl
+          ∙ ap (λ (b : Bool). cond b 0 (c .used)) (sym (only-emptied (ltb j (rowsOf image Connections)) (ownEmpties e (configOf image j) c)))
           ∙ rw (eq-eqb k j q)
 
   -- AN EVENT OF A WHOLE GROUP OR MODULE, but a tick and a transmit

@@ -4,13 +4,12 @@ use mathlib.Core.Path.{_≡_, refl, sym, ap, _∙_, subst}
 use mathlib.Core.Bool.{Bool, true, false, not, false≢true}
 use mathlib.Core.List.{List}
 use native.Mathlib.Decide.{ℕ-discrete}
-use Rattle.lists.proofs.Both.{impossible, and-left, and-right}
+use Rattle.lists.proofs.Both.{and-left, and-right}
 use Rattle.connection.specs.declared.Connection.{Connection}
 use Rattle.connection.specs.declared.Config.{Config}
 use Rattle.connection.specs.declared.Event.{Event as Change}
-use Rattle.connection.specs.declared.Event.the-variants.{Open, Close, Connected, Lost, SetRemote, Switch}
 use Rattle.connection.specs.Connection.{isOnline, tickOf}
-use Rattle.connection.specs.Event.{after}
+use Rattle.connection.specs.Event.{empties}
 use Rattle.state.specs.Fresh.{configOf}
 use Rattle.world.specs.World.{Held, World, blank, heldAt}
 use Rattle.world.specs.Events.{Own, change, segment, walk, take, Whole, tick, transmit, Event, on, all}
@@ -19,6 +18,7 @@ use Rattle.runs.specs.Streams.{online, ends}
 use Rattle.tie.specs.Table.{tableOf}
 use Rattle.tie.specs.Whole.{wholeOf}
 use Rattle.lists.proofs.Each.{one-at}
+use Rattle.connection.proofs.Leaves.{after-leaves, only-loss}
 use Rattle.connection.proofs.Ticks.{Tick, closes, goes-on, tick-is, step-either}
 use Rattle.waiting.proofs.Taken.{take-mode}
 use Rattle.tie.proofs.Becomes.{Acts, idle, fed, changed, took, acts-is, Becomes, untouched, same, met, ticked, switched, sent, becomes}
@@ -29,34 +29,17 @@ abbrev Up : Connection → Connection → Type 0
 Up c d = isOnline (d .mode) ≡ true → isOnline (c .mode) ≡ true
 
 -- a loss
-abbrev isLost : Change → Bool
-isLost Open = false
-isLost Close = false
-isLost Connected = false
-isLost Lost = true
-isLost (SetRemote r) = false
-isLost (Switch n b) = false
-
 abbrev losing : Own → Bool
-losing (change e) = isLost e
+losing (change e) = empties e
 losing (segment bs) = false
 losing (walk d p) = false
 losing (take room) = false
-
--- the six events of the record alone, but a loss
-up-after : (e : Change) (g : Config) (c : Connection) → isLost e ≡ false → Up (after e g c) c
-up-after Open g c ne on-line = on-line
-up-after Close g c ne on-line = on-line
-up-after Connected g c ne on-line = refl
-up-after Lost g c ne on-line = impossible (sym ne)
-up-after (SetRemote r) g c ne on-line = on-line
-up-after (Switch n b) g c ne on-line = on-line
 
 -- an event of a TCP connection
 up-acts : (g : Config) (c : Connection) (e : Own) (d : Connection) → Acts g c e d → g .tcp ≡ true → losing e ≡ false → Up d c
 up-acts g c _ _ (idle e) tcp ne = λ on-line. on-line
 up-acts g c _ _ (fed bytes p) tcp ne = λ on-line. on-line
-up-acts g c _ _ (changed e) tcp ne = step-either e g c (λ (d : Connection). Up d c) (λ _ on-line. on-line) (λ _. up-after e g c ne)
+up-acts g c _ _ (changed e) tcp ne = step-either e g c (λ (d : Connection). Up d c) (λ _ on-line. on-line) (λ _. after-leaves e g c .up ne)
 up-acts g c _ _ (took room) tcp ne = λ on-line. ap isOnline (take-mode g room c tcp) ∙ on-line
 
 -- IN THE WORLD: each event but those two leaves a TCP connection online
@@ -92,12 +75,8 @@ module _ (image : List ℕ) (w : World) (k : ℕ) (tcp : configOf image k .tcp �
   ends-own : (i : ℕ) (e : Own) (b : Bool) → losing e ≡ b → Dec (i ≡ k) → ends (tableOf image) (wholeOf image) k w (on i e) ≡ true → EndsBy k c (on i e)
   ends-own i e b l (no ne) q = absurd (not-ended (on i e) (own-up i e (λ p. absurd (ne p))) q)
   ends-own i e false l (yes p) q = absurd (not-ended (on i e) (own-up i e (λ _. l)) q)
-  ends-own i (change Lost) true l (yes p) q = subst (λ (j : ℕ). EndsBy k c (on j (change Lost))) (sym p) by-loss
-  ends-own i (change Open) true l (yes p) q = absurd (false≢true l)
-  ends-own i (change Close) true l (yes p) q = absurd (false≢true l)
-  ends-own i (change Connected) true l (yes p) q = absurd (false≢true l)
-  ends-own i (change (SetRemote r)) true l (yes p) q = absurd (false≢true l)
-  ends-own i (change (Switch n x)) true l (yes p) q = absurd (false≢true l)
+  ends-own i (change e) true l (yes p) q =
+      subst (λ (j : ℕ). EndsBy k c (on j (change e))) (sym p) (subst (λ (x : Change). EndsBy k c (on k (change x))) (sym (only-loss e l)) by-loss)
   ends-own i (segment bs) true l (yes p) q = absurd (false≢true l)
   ends-own i (walk d n) true l (yes p) q = absurd (false≢true l)
   ends-own i (take room) true l (yes p) q = absurd (false≢true l)

@@ -1,7 +1,7 @@
 -- WHICH NUMBERS (document 01, "Answer numbers"): from any table, state and memory each event is answered one of the numbers listed for it.
 -- Assumes nothing.
 use Prim.Native.Nat.{ℕ, _+_}
-use mathlib.Core.Path.{_≡_, refl, sym, subst}
+use mathlib.Core.Path.{_≡_, refl, sym, subst, _∙_}
 use mathlib.Core.Bool.{Bool, true, false, cond, not, _||_, or-true}
 use mathlib.Core.List.{List, [], _∷_, _++_}
 use lib.Dec.{eqb, leb, ltb}
@@ -22,13 +22,12 @@ use Rattle.connection.specs.declared.Refusal.the-variants.{Memory, Unsound, Mis
 use Rattle.connection.specs.declared.Answer.the-variants.{Done}
 use Rattle.connection.specs.declared.Stepped.{Stepped}
 use Rattle.connection.specs.declared.Event.{Event as Change}
-use Rattle.connection.specs.declared.Event.the-variants.{Open, Close, Connected, Lost, SetRemote, Switch}
+use Rattle.connection.proofs.Leaves.{not-denied}
 use Rattle.connection.specs.Connection.{isOnline}
-use Rattle.connection.specs.Event.{answerNumber, receiving, known, allowed, after, refusedBy as notStepped, stepOf}
+use Rattle.connection.specs.Event.{answerNumber, receiving, known, allowed, after, deniable, refusedBy as notStepped, stepOf}
 use Rattle.state.specs.declared.State.{State}
 use Rattle.state.specs.State.{recordAt}
 use Rattle.state.specs.Fresh.{configOf}
-use Rattle.gate.specs.Lent.{lent}
 use Rattle.gate.specs.declared.Gate.{Gate}
 use Rattle.gate.specs.declared.Gate.the-variants.{Pass, Refused}
 use Rattle.gate.specs.Gate.{gateOf, gateAt, thenThere, through}
@@ -59,7 +58,7 @@ use Rattle.waiting.specs.declared.Taking.the-variants as Taken
 use Rattle.waiting.specs.Waiting.{takingNumber, takingOf}
 use Rattle.sending.specs.Sending.{notSent, sendOf, notTaken, takePast, takenOf}
 use Rattle.world.specs.Events.{change, segment, walk, take, datagram, accept, tick, transmit, switchAll, readCount, clearCount, Event, on, all}
-use Rattle.tie.specs.Machine.{Machine}
+use Rattle.tie.specs.Machine.{Machine, lentTo, loanTo}
 use Rattle.demands.specs.Numbers.{numberOf, numbersFor, among}
 
 -- a number among some is among more
@@ -88,7 +87,7 @@ module _ (image : List ℕ) (m : Machine) where
   tx = length (m .tx)
 
   -- the gate refuses by 11 or 12, at a connection's number by 2 as well
-  gate-is : (P : Gate → Type 0) → P Pass → P (Refused Memory) → P (Refused Unsound) → P (gateOf (lent image s rx tx))
+  gate-is : (P : Gate → Type 0) → P Pass → P (Refused Memory) → P (Refused Unsound) → P (gateOf (lentTo image m))
   unfolding gateOf
   gate-is P pass memory unsound = go (not (eqb rx 23424) || not (eqb tx 23552)) (soundState image s)
     where
@@ -97,7 +96,7 @@ module _ (image : List ℕ) (m : Machine) where
       go false true = pass
       go false false = unsound
 
-  gate-at : (k : ℕ) (P : Gate → Type 0) → P Pass → P (Refused Memory) → P (Refused Unsound) → P (Refused Missing) → P (gateAt (lent image s rx tx) k)
+  gate-at : (k : ℕ) (P : Gate → Type 0) → P Pass → P (Refused Memory) → P (Refused Unsound) → P (Refused Missing) → P (gateAt (lentTo image m) k)
   unfolding gateAt
   gate-at k P pass memory unsound missing =
       gate-is (λ g. P (thenThere (ltb k (rowsOf image Connections)) g)) (go (ltb k (rowsOf image Connections))) memory unsound
@@ -111,23 +110,24 @@ module _ (image : List ℕ) (m : Machine) where
   Listed e n = among n (numbersFor e) ≡ true
 
   -- an event of the record alone: all but a switch can be denied
+  abbrev changeNumbers : Bool → List ℕ
+  changeNumbers b = 11 ∷ 12 ∷ 2 ∷ cond b (3 ∷ 0 ∷ []) (0 ∷ [])
+
   always : (k : ℕ) (e : Change) → (Listed (on k (change e)) 11) × (Listed (on k (change e)) 12) × (Listed (on k (change e)) 2) × (Listed (on k (change e)) 0)
   unfolding numbersFor among
-  always k Open = (refl, refl, refl, refl)
-  always k Close = (refl, refl, refl, refl)
-  always k Connected = (refl, refl, refl, refl)
-  always k Lost = (refl, refl, refl, refl)
-  always k (SetRemote r) = (refl, refl, refl, refl)
-  always k (Switch n b) = (refl, refl, refl, refl)
+  always k e = go (deniable e)
+    where
+      go : (b : Bool) → (among 11 (changeNumbers b) ≡ true) × (among 12 (changeNumbers b) ≡ true) × (among 2 (changeNumbers b) ≡ true) × (among 0 (changeNumbers b) ≡ true)
+      go true = (refl, refl, refl, refl)
+      go false = (refl, refl, refl, refl)
 
   denied : (k : ℕ) (e : Change) (g : Config) (c : Connection) → allowed e g c ≡ false → Listed (on k (change e)) 3
   unfolding numbersFor among
-  denied k Open g c p = refl
-  denied k Close g c p = refl
-  denied k Connected g c p = refl
-  denied k Lost g c p = refl
-  denied k (SetRemote r) g c p = refl
-  denied k (Switch n b) g c p = impossible (sym p)
+  denied k e g c p = go (deniable e) refl
+    where
+      go : (b : Bool) → deniable e ≡ b → among 3 (changeNumbers b) ≡ true
+      go true n = refl
+      go false n = impossible (sym p ∙ not-denied e g c n)
 
   step-listed : (k : ℕ) (e : Change) → Listed (on k (change e)) (answerNumber (changeOf image s k e .answer))
   unfolding changeOf toldOf stepOf
@@ -154,7 +154,7 @@ module _ (image : List ℕ) (m : Machine) where
   abbrev Received : Answer → Type 0
   Received a = among (receiveNumber a) (11 ∷ 12 ∷ 2 ∷ 3 ∷ 4 ∷ 0 ∷ []) ≡ true
 
-  receive-listed : (k : ℕ) (ok : Bool) → Received (answerOf image s rx tx k ok)
+  receive-listed : (k : ℕ) (ok : Bool) → Received (answerOf (lentTo image m) k ok)
   unfolding answerOf judgedOf among
   receive-listed k ok = gate-at k (λ g. Received (through g Receive.Refused (judgedOf ok (recordAt s k)))) (past ok (receiving (recordAt s k))) refl refl refl
     where
@@ -163,24 +163,24 @@ module _ (image : List ℕ) (m : Machine) where
       past true false = refl
       past false b = refl
 
-  segment-listed : (k : ℕ) (bs : List ℕ) → Received (segmentOf image s (m .rx) tx k bs .answer)
+  segment-listed : (k : ℕ) (bs : List ℕ) → Received (segmentOf (loanTo image m) k bs .answer)
   unfolding segmentOf takeOn among
-  segment-listed k bs = go (isDone (segmentAnswer image s rx tx k))
+  segment-listed k bs = go (isDone (segmentAnswer (lentTo image m) k))
     where
-      go : (b : Bool) → Received (cond b (takeOn image s (m .rx) k bs) (noneTaken s (segmentAnswer image s rx tx k)) .answer)
+      go : (b : Bool) → Received (cond b (takeOn image s (m .rx) k bs) (noneTaken s (segmentAnswer (lentTo image m) k)) .answer)
       go true = refl
       go false = receive-listed k (configOf image k .tcp)
 
-  walk-listed : (k : ℕ) (d : List ℕ) (p : ℕ) → Received (walkOf image s rx tx k d p .answer)
+  walk-listed : (k : ℕ) (d : List ℕ) (p : ℕ) → Received (walkOf (lentTo image m) k d p .answer)
   unfolding walkOf walkOn among
-  walk-listed k d p = go (isDone (walkAnswer image s rx tx k d p))
+  walk-listed k d p = go (isDone (walkAnswer (lentTo image m) k d p))
     where
-      go : (b : Bool) → Received (cond b (walkOn image s k d p) (noneWalked s p (walkAnswer image s rx tx k d p)) .answer)
+      go : (b : Bool) → Received (cond b (walkOn image s k d p) (noneWalked s p (walkAnswer (lentTo image m) k d p)) .answer)
       go true = refl
       go false = receive-listed k (walkAllowed image k d p)
 
   -- the waiting bytes: 9
-  take-listed : (k : ℕ) (out : List ℕ) → among (takingNumber (takenOf image s rx (m .tx) k out .answer)) (11 ∷ 12 ∷ 2 ∷ 9 ∷ 0 ∷ []) ≡ true
+  take-listed : (k : ℕ) (out : List ℕ) → among (takingNumber (takenOf (loanTo image m) k out .answer)) (11 ∷ 12 ∷ 2 ∷ 9 ∷ 0 ∷ []) ≡ true
   unfolding takenOf takingOf among
   take-listed k out = gate-at k (λ g. Takes (through g (notTaken s) (takePast image s k (length out)) .answer)) (past (ltb (length out) (recordAt s k .used))) refl refl refl
     where
@@ -192,7 +192,7 @@ module _ (image : List ℕ) (m : Machine) where
       past false = refl
 
   -- a datagram, an accept: 2, 3, then 10
-  arrival-listed : (a : Bool) (group : ℕ) (source : Remote) → among (arrivalNumber (arrivalOf (lent image s rx tx) a group source .answer)) (11 ∷ 12 ∷ 2 ∷ 3 ∷ 10 ∷ 0 ∷ []) ≡ true
+  arrival-listed : (a : Bool) (group : ℕ) (source : Remote) → among (arrivalNumber (arrivalOf (lentTo image m) a group source .answer)) (11 ∷ 12 ∷ 2 ∷ 3 ∷ 10 ∷ 0 ∷ []) ≡ true
   unfolding arrivalOf arriveOf among
   arrival-listed a group source =
       gate-is (λ g. Met (through g (notMet s) (arriveOf image s a group source)))
@@ -221,7 +221,7 @@ module _ (image : List ℕ) (m : Machine) where
       past false = refl
 
   count-listed : (f : Bool → Counted) → ((b : Bool) → countNumber (f b .answer) ≡ 0) → (p : ℕ)
-      → among (countNumber (through (gateOf (lent image s rx tx)) (uncounted s) (ofProtocol f (uncounted s Denied) p) .answer)) (11 ∷ 12 ∷ 3 ∷ 0 ∷ []) ≡ true
+      → among (countNumber (through (gateOf (lentTo image m)) (uncounted s) (ofProtocol f (uncounted s Denied) p) .answer)) (11 ∷ 12 ∷ 3 ∷ 0 ∷ []) ≡ true
   unfolding ofProtocol among
   count-listed f is p = gate-is (λ g. Counts (through g (uncounted s) (ofProtocol f (uncounted s Denied) p))) (past (eqb p 1) (eqb p 2)) refl refl
     where

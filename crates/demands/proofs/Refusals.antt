@@ -18,7 +18,6 @@ use Rattle.connection.specs.Event.{answerNumber, stepOf}
 use Rattle.state.specs.declared.State.{State}
 use Rattle.state.specs.State.{recordAt}
 use Rattle.state.specs.Fresh.{configOf}
-use Rattle.gate.specs.Lent.{lent}
 use Rattle.gate.specs.declared.Gate.{Gate}
 use Rattle.gate.specs.declared.Gate.the-variants as Gated
 use Rattle.gate.specs.Gate.{gateOf, gateAt, through}
@@ -45,7 +44,7 @@ use Rattle.waiting.specs.Waiting.{takingNumber, takingOf, takeOf}
 use Rattle.sending.specs.declared.Taken.{Taken}
 use Rattle.sending.specs.Sending.{notSent, sendOf, sentMemory, notTaken, takePast, takenOf}
 use Rattle.world.specs.Events.{change, segment, walk, take, datagram, accept, tick, transmit, switchAll, readCount, clearCount, Event, on, all}
-use Rattle.tie.specs.Machine.{Machine, machine, taken, afterSegment}
+use Rattle.tie.specs.Machine.{Machine, lentTo, loanTo, machine, taken, afterSegment}
 use Rattle.tie.specs.Run.{afterOwn, afterWhole, afterEvent}
 use Rattle.demands.specs.Numbers.{numberOf}
 use Rattle.state.proofs.Records.{put-back}
@@ -55,12 +54,6 @@ use Rattle.tie.proofs.Segments.{no-segment}
 module _ (image : List ℕ) (m : Machine) where
   abbrev s : State
   s = m .state
-
-  abbrev rx : ℕ
-  rx = length (m .rx)
-
-  abbrev tx : ℕ
-  tx = length (m .tx)
 
   -- an answer that refuses comes with the state as it was
   abbrev StaysTold : Told → Type 0
@@ -88,10 +81,10 @@ module _ (image : List ℕ) (m : Machine) where
   told-answer k Done c = refl
   told-answer k (Refused r) c = refl
 
-  change-stays : (k : ℕ) (e : Change) → StaysTold (eventOf image s rx tx k e)
+  change-stays : (k : ℕ) (e : Change) → StaysTold (eventOf (lentTo image m) k e)
   unfolding eventOf changeOf
   change-stays k e =
-      past-or StaysTold (gateAt (lent image s rx tx) k) (refusedBy s) (changeOf image s k e) (λ r no-zero. refl)
+      past-or StaysTold (gateAt (lentTo image m) k) (refusedBy s) (changeOf image s k e) (λ r no-zero. refl)
       (λ _ no-zero. told-stays k a c (λ z. no-zero (ap answerNumber (told-answer k a c) ∙ z)))
     where
       a : Answer
@@ -101,23 +94,23 @@ module _ (image : List ℕ) (m : Machine) where
       c = stepOf e (configOf image k) (recordAt s k) .connection
 
   -- a take, a walk: nothing is made that is refused
-  refused-take : (k : ℕ) (bs : List ℕ) → (receiveNumber (taken image k m bs .answer) ≡ 0 → ⊥) → isDone (segmentAnswer image s rx tx k) ≡ false
+  refused-take : (k : ℕ) (bs : List ℕ) → (receiveNumber (taken image k m bs .answer) ≡ 0 → ⊥) → isDone (segmentAnswer (lentTo image m) k) ≡ false
   unfolding segmentOf takeOn
-  refused-take k bs no-zero = go (isDone (segmentAnswer image s rx tx k)) refl
+  refused-take k bs no-zero = go (isDone (segmentAnswer (lentTo image m) k)) refl
     where
-      go : (b : Bool) → isDone (segmentAnswer image s rx tx k) ≡ b → isDone (segmentAnswer image s rx tx k) ≡ false
+      go : (b : Bool) → isDone (segmentAnswer (lentTo image m) k) ≡ b → isDone (segmentAnswer (lentTo image m) k) ≡ false
       go true e = absurd (no-zero (rw e))
       go false e = e
 
   segment-stays : (k : ℕ) (bs : List ℕ) → (receiveNumber (taken image k m bs .answer) ≡ 0 → ⊥) → afterSegment image k m bs ≡ m
   segment-stays k bs no-zero = no-segment image m k bs (refused-take k bs no-zero)
 
-  walk-stays : (k : ℕ) (d : List ℕ) (p : ℕ) → (receiveNumber (walkOf image s rx tx k d p .answer) ≡ 0 → ⊥) → walkOf image s rx tx k d p .state ≡ s
+  walk-stays : (k : ℕ) (d : List ℕ) (p : ℕ) → (receiveNumber (walkOf (lentTo image m) k d p .answer) ≡ 0 → ⊥) → walkOf (lentTo image m) k d p .state ≡ s
   unfolding walkOf walkOn
-  walk-stays k d p = go (isDone (walkAnswer image s rx tx k d p))
+  walk-stays k d p = go (isDone (walkAnswer (lentTo image m) k d p))
     where
-      go : (b : Bool) → (receiveNumber (cond b (walkOn image s k d p) (noneWalked s p (walkAnswer image s rx tx k d p)) .answer) ≡ 0 → ⊥)
-          → cond b (walkOn image s k d p) (noneWalked s p (walkAnswer image s rx tx k d p)) .state ≡ s
+      go : (b : Bool) → (receiveNumber (cond b (walkOn image s k d p) (noneWalked s p (walkAnswer (lentTo image m) k d p)) .answer) ≡ 0 → ⊥)
+          → cond b (walkOn image s k d p) (noneWalked s p (walkAnswer (lentTo image m) k d p)) .state ≡ s
       go true no-zero = absurd (no-zero refl)
       go false no-zero = refl
 
@@ -130,10 +123,10 @@ module _ (image : List ℕ) (m : Machine) where
       go true e no-zero = rw (e, or-true (eqb (recordAt s k .used) 0)) (put-back s k)
       go false e no-zero = absurd (no-zero (rw e))
 
-  taken-stays : (k : ℕ) (out : List ℕ) → StaysTaken (takenOf image s rx (m .tx) k out)
+  taken-stays : (k : ℕ) (out : List ℕ) → StaysTaken (takenOf (loanTo image m) k out)
   unfolding takenOf
   taken-stays k out =
-      past-or StaysTaken (gateAt (lent image s rx tx) k) (notTaken s) (takePast image s k (length out)) (λ r no-zero. refl)
+      past-or StaysTaken (gateAt (lentTo image m) k) (notTaken s) (takePast image s k (length out)) (λ r no-zero. refl)
       (λ _. take-stays k (length out))
 
   -- a datagram, an accept
@@ -147,29 +140,29 @@ module _ (image : List ℕ) (m : Machine) where
       go false false Nobody no-zero = refl
       go false false (At k) no-zero = absurd (no-zero refl)
 
-  arrival-stays : (a : Bool) (group : ℕ) (source : Remote) → StaysArrived (arrivalOf (lent image s rx tx) a group source)
+  arrival-stays : (a : Bool) (group : ℕ) (source : Remote) → StaysArrived (arrivalOf (lentTo image m) a group source)
   unfolding arrivalOf
   arrival-stays a group source =
-      past-or StaysArrived (gateOf (lent image s rx tx)) (notMet s) (arriveOf image s a group source) (λ r no-zero. refl) (λ _. arrive-stays a group source)
+      past-or StaysArrived (gateOf (lentTo image m)) (notMet s) (arriveOf image s a group source) (λ r no-zero. refl) (λ _. arrive-stays a group source)
 
-  tick-stays : StaysTicked (tickEvent image s rx tx)
+  tick-stays : StaysTicked (tickEvent (lentTo image m))
   unfolding tickEvent
   tick-stays =
-      past-or StaysTicked (gateOf (lent image s rx tx)) (unticked s) (record { answer = Done; state = tickedTo image (rowsOf image Connections) s })
+      past-or StaysTicked (gateOf (lentTo image m)) (unticked s) (record { answer = Done; state = tickedTo image (rowsOf image Connections) s })
       (λ r no-zero. refl) (λ _ no-zero. absurd (no-zero refl))
 
   -- many under one check, which are no event of a run: they write no lent memory
-  pub ticks-stays : (count : ℕ) → (answerNumber (ticksEvent image (m .state) (length (m .rx)) (length (m .tx)) count .answer) ≡ 0 → ⊥)
-      → ticksEvent image (m .state) (length (m .rx)) (length (m .tx)) count .state ≡ m .state
+  pub ticks-stays : (count : ℕ) → (answerNumber (ticksEvent (lentTo image m) count .answer) ≡ 0 → ⊥)
+      → ticksEvent (lentTo image m) count .state ≡ m .state
   unfolding ticksEvent
   ticks-stays count =
-      past-or StaysTicked (gateOf (lent image s rx tx)) (unticked s) (record { answer = Done; state = ticksTo image (rowsOf image Connections) count s })
+      past-or StaysTicked (gateOf (lentTo image m)) (unticked s) (record { answer = Done; state = ticksTo image (rowsOf image Connections) count s })
       (λ r no-zero. refl) (λ _ no-zero. absurd (no-zero refl))
 
-  switches-stay : (n : ℕ) (b : Bool) → StaysTold (switchAllOf image s rx tx n b)
+  switches-stay : (n : ℕ) (b : Bool) → StaysTold (switchAllOf (lentTo image m) n b)
   unfolding switchAllOf
   switches-stay n b =
-      past-or StaysTold (gateOf (lent image s rx tx)) (refusedBy s)
+      past-or StaysTold (gateOf (lentTo image m)) (refusedBy s)
       (cond (ltb n 32) (record { answer = Done; state = switchedAll (rowsOf image Connections) n b s }) (refusedBy s Missing)) (λ r no-zero. refl) (λ _. go (ltb n 32))
     where
       go : (x : Bool) → StaysTold (cond x (record { answer = Done; state = switchedAll (rowsOf image Connections) n b s }) (refusedBy s Missing))
@@ -177,21 +170,21 @@ module _ (image : List ℕ) (m : Machine) where
       go false no-zero = refl
 
   -- a count: read it never changes the state; cleared it does, where it is not refused
-  count-stays : (f : Bool → Counted) → ((b : Bool) → countNumber (f b .answer) ≡ 0) → (p : ℕ) → StaysCounted (through (gateOf (lent image s rx tx)) (uncounted s) (ofProtocol f (uncounted s Denied) p))
+  count-stays : (f : Bool → Counted) → ((b : Bool) → countNumber (f b .answer) ≡ 0) → (p : ℕ) → StaysCounted (through (gateOf (lentTo image m)) (uncounted s) (ofProtocol f (uncounted s Denied) p))
   unfolding ofProtocol
   count-stays f zero p =
-      past-or StaysCounted (gateOf (lent image s rx tx)) (uncounted s) (ofProtocol f (uncounted s Denied) p) (λ r no-zero. refl) (λ _. go (eqb p 1) (eqb p 2))
+      past-or StaysCounted (gateOf (lentTo image m)) (uncounted s) (ofProtocol f (uncounted s Denied) p) (λ r no-zero. refl) (λ _. go (eqb p 1) (eqb p 2))
     where
       go : (x y : Bool) → StaysCounted (cond x (f false) (cond y (f true) (uncounted s Denied)))
       go true y no-zero = absurd (no-zero (zero false))
       go false true no-zero = absurd (no-zero (zero true))
       go false false no-zero = refl
 
-  read-stays : (p : ℕ) → StaysCounted (readOf image s rx tx p)
+  read-stays : (p : ℕ) → StaysCounted (readOf (lentTo image m) p)
   unfolding readOf readPast
   read-stays p = count-stays (readFrom s) (λ b. refl) p
 
-  clear-stays : (p : ℕ) → StaysCounted (clearOf image s rx tx p)
+  clear-stays : (p : ℕ) → StaysCounted (clearOf (lentTo image m) p)
   unfolding clearOf clearPast
   clear-stays p = count-stays (clearFrom s) (λ b. refl) p
 
@@ -207,10 +200,10 @@ module _ (image : List ℕ) (m : Machine) where
   unfolding transmitOf
   nothing-sent pdu payload no-zero = rw (not-stored (checkOf image s pdu (length payload)) no-zero)
 
-  transmit-stays : (pdu : ℕ) (payload : List ℕ) → (transmissionNumber (sendOf image s rx (m .tx) pdu payload .answer) ≡ 0 → ⊥)
-      → machine (sendOf image s rx (m .tx) pdu payload .state) (m .rx) (sentMemory image s rx (m .tx) pdu payload) ≡ m
+  transmit-stays : (pdu : ℕ) (payload : List ℕ) → (transmissionNumber (sendOf (loanTo image m) pdu payload .answer) ≡ 0 → ⊥)
+      → machine (sendOf (loanTo image m) pdu payload .state) (m .rx) (sentMemory (loanTo image m) pdu payload) ≡ m
   unfolding sendOf sentMemory
-  transmit-stays pdu payload = go (gateOf (lent image s rx tx))
+  transmit-stays pdu payload = go (gateOf (lentTo image m))
     where
       go : (g : Gate) → (transmissionNumber (through g (notSent s) (transmittedOf image s pdu payload (m .tx)) .answer) ≡ 0 → ⊥)
           → machine (through g (notSent s) (transmittedOf image s pdu payload (m .tx)) .state) (m .rx) (through g (λ r. m .tx) (transmitOf image s pdu payload (m .tx) .memory)) ≡ m

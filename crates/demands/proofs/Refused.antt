@@ -14,7 +14,6 @@ use Rattle.connection.specs.declared.Refusal.the-variants.{Memory, Unsound}
 use Rattle.connection.specs.Event.{refusalNumber}
 use Rattle.state.specs.declared.State.{State}
 use Rattle.state.specs.Fresh.{configOf}
-use Rattle.gate.specs.Lent.{lent}
 use Rattle.gate.specs.declared.Gate.{Gate}
 use Rattle.gate.specs.declared.Gate.the-variants.{Pass, Refused}
 use Rattle.gate.specs.Gate.{gateOf, gateAt}
@@ -31,7 +30,7 @@ use Rattle.receive.specs.Walk.{walkAllowed, walkOf}
 use Rattle.sending.specs.Sending.{sendOf, sentMemory, takenOf}
 use Rattle.world.specs.Events.{Own, change, segment, walk, take, Whole, datagram, accept, tick, transmit, switchAll, readCount, clearCount, Event, on, all}
 use Rattle.runs.specs.Streams.{RunBytes}
-use Rattle.tie.specs.Machine.{Machine}
+use Rattle.tie.specs.Machine.{Machine, lentTo}
 use Rattle.tie.specs.Run.{afterOwn, afterWhole, afterEvent, afterRun}
 use Rattle.tie.proofs.Segments.{no-segment}
 use Rattle.demands.specs.Numbers.{numberOf, numbersIn}
@@ -49,11 +48,11 @@ module _ (image : List ℕ) (m : Machine) (r : Refusal) (shut : gateHere image m
   tx = length (m .tx)
 
   -- at the gate with a connection's number
-  shut-at : (k : ℕ) → gateAt (lent image s rx tx) k ≡ Refused r
+  shut-at : (k : ℕ) → gateAt (lentTo image m) k ≡ Refused r
   unfolding gateAt
   shut-at k = rw shut
 
-  not-done : (k : ℕ) (allowed : Bool) → isDone (answerOf image s rx tx k allowed) ≡ false
+  not-done : (k : ℕ) (allowed : Bool) → isDone (answerOf (lentTo image m) k allowed) ≡ false
   unfolding answerOf
   not-done k allowed = rw (shut-at k)
 
@@ -139,5 +138,5 @@ pub any-run : (image : List ℕ) (m : Machine) (es : List Event) → RunBytes es
 any-run image m es b n = go (gateHere image m) refl
   where
     go : (g : Gate) → gateHere image m ≡ g → Run image m es
-    go Pass e = keeps-good e (run-good image m es b (record { passed = gate-passed (lent image (m .state) (length (m .rx)) (length (m .tx))) e; sixteen = n }))
+    go Pass e = keeps-good e (run-good image m es b (record { passed = gate-passed (lentTo image m) e; sixteen = n }))
     go (Refused r) e = leaves-all r e (run-refused image m r e es) (run-stays image m r e es)

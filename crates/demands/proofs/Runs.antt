@@ -19,7 +19,7 @@ use Rattle.lengths.specs.Listed.{Bytes}
 use Rattle.lengths.proofs.Bytes.{bytes-append}
 use Rattle.world.specs.World.{Held, World, heldAt, cellAt}
 use Rattle.world.specs.Events.{Event}
-use Rattle.world.specs.Step.{run, heard}
+use Rattle.world.specs.Step.{run, heard, compared}
 use Rattle.world.proofs.View.{view-at}
 use Rattle.runs.specs.Same.{Same, swap, cut, join, same, later, both}
 use Rattle.runs.specs.Streams.{RunBytes, streamsOf, listedIn, Rests}
@@ -81,12 +81,16 @@ module _ (image : List ℕ) (m : Machine) (good : Good image m) {es fs : List Ev
   same-state =
       run-view image m es bytes good ∙ same-end (tableOf image) (wholeOf image) (seen m) alike ∙ sym (run-view image m fs (same-bytes alike bytes) good)
 
-  -- each connection has handed out the same PDUs in the same order
-  pub same-pdus : (k : ℕ) → givenIn image k m es ≡ givenIn image k m fs
-  same-pdus k =
+  -- each connection has given the same outcomes in the same order, PDUs and drops ..
+  pub same-given : (k : ℕ) → givenIn image k m es ≡ givenIn image k m fs
+  same-given k =
       run-given image k m es bytes good
       ∙ same-heard (tableOf image) (wholeOf image) k (seen m) alike
       ∙ sym (run-given image k m fs (same-bytes alike bytes) good)
+
+  -- .. and so it has handed out the same PDUs
+  pub same-pdus : (k : ℕ) → compared (givenIn image k m es) ≡ compared (givenIn image k m fs)
+  same-pdus k = ap compared (same-given k)
 
 -- .. and that list is exactly demand 2's: of each online period's stream the PDUs that are complete, routed, switched on at their eighth
 -- header byte and short enough, in order; the first stream begun with what the record holds
@@ -97,6 +101,6 @@ module _ (image : List ℕ) (m : Machine) (good : Good image m) (es : List Event
       let s : Sound (configOf image k) (recordAt (m .state) k) = row-sound image k (recordAt (m .state) k) (record-at image (m .state .connections) k (good .passed .sound) lt) there in
       sound-rests (configOf image k) (heldAt (seen m) k) (subst (Sound (configOf image k)) (sym (ap (λ (h : Held). h .connection) (view-at (m .state) (m .rx) (m .tx) k))) s)
 
-  pub exact-list : givenIn image k m es ≡ listedIn (lookupOf (bodyOf image Routes) k) (cellAt (heldAt (seen m) k)) (streamsOf (tableOf image) (wholeOf image) k (seen m) es)
+  pub exact-list : compared (givenIn image k m es) ≡ listedIn (lookupOf (bodyOf image Routes) k) (cellAt (heldAt (seen m) k)) (streamsOf (tableOf image) (wholeOf image) k (seen m) es)
   exact-list =
-      run-given image k m es bytes good ∙ heard-listed (tableOf image) (wholeOf image) k tcp (gentle image k tcp) (seen m) es rests bytes
+      ap compared (run-given image k m es bytes good) ∙ heard-listed (tableOf image) (wholeOf image) k tcp (gentle image k tcp) (seen m) es rests bytes

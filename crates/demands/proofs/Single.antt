@@ -16,7 +16,7 @@ use Rattle.layout.specs.Layout.{bodyOf, partOf}
 use Rattle.layout.specs.declared.Kind.the-variants.{Route as RouteBody}
 use Rattle.feed.specs.declared.Decision.{Decision}
 use Rattle.feed.specs.declared.Decision.the-variants.{Accept, Refuse}
-use Rattle.feed.specs.Feed.{Routes, header, payload, skip, Cell, cell, Out, nothing, pdu, dropped, Fed, decided, done, feed, after, stops, Took, took, takeB, bytesRead, Ends, at-end, at-byte, Pdu}
+use Rattle.feed.specs.Feed.{Routes, header, payload, skip, Cell, cell, Out, nothing, pdu, dropped, Fed, decided, done, feed, after, stops, Took, took, takeB, bytesRead, Ends, at-end, at-byte}
 use Rattle.feed.proofs.Cut.{take-ends, ends-take}
 use Rattle.wire.specs.Lay.{lay}
 use Rattle.part.specs.declared.Part.{Part}
@@ -32,7 +32,7 @@ use Rattle.receive.specs.declared.Answer.the-variants.{Done}
 use Rattle.receive.specs.declared.SegmentTaken.{SegmentTaken}
 use Rattle.receive.specs.Answer.{isDone}
 use Rattle.receive.specs.Segment.{countTake, takeOn, memoryOn, noneTaken, segmentAnswer, segmentOf, memoryOf, payloadOf}
-use Rattle.tie.specs.Machine.{Machine, machine, taken, afterOne, restOf, told, toldBy, afterTakes, toldTakes, afterSegment, toldSegment}
+use Rattle.tie.specs.Machine.{Machine, lentTo, machine, taken, afterOne, restOf, told, toldBy, afterTakes, toldTakes, afterSegment, toldSegment}
 use Rattle.tie.specs.Run.{afterOwn, afterEvent, given, afterRun, givenIn}
 use Rattle.demands.specs.Order.{Call, event, once, bytesTaken, afterCall, givenBy, asEvent, afterCalls, givenCalls, asEvents}
 
@@ -173,10 +173,10 @@ module _ (image : List ℕ) (k : ℕ) (m : Machine) (bs : List ℕ) where
   stretch′ = stretch 1464 k (m .rx)
 
   abbrev done? : Bool
-  done? = isDone (segmentAnswer image s (length (m .rx)) (length (m .tx)) k)
+  done? = isDone (segmentAnswer (lentTo image m) k)
 
   abbrev made : Bool → List ℕ → SegmentTaken
-  made d l = cond d (takeOn image s (m .rx) k l) (noneTaken s (segmentAnswer image s (length (m .rx)) (length (m .tx)) k))
+  made d l = cond d (takeOn image s (m .rx) k l) (noneTaken s (segmentAnswer (lentTo image m) k))
 
   made-same : (d : Bool) → made d (take (made d bs .read) bs) ≡ made d bs
   unfolding takeOn
@@ -232,7 +232,7 @@ module _ (image : List ℕ) (k : ℕ) (m : Machine) (bs : List ℕ) where
       ap₂ (λ (u : SegmentTaken) (r : List ℕ). told image k (payloadOf front r k (u .outcome)) (u .outcome)) same-answer same-memory
       ∙ ap (λ (p : List ℕ). told image k p (taken image k m bs .outcome)) (same-payload (afterOne image k m bs .rx))
 
-  -- .. and the PDU that it tells is the list that this event tells
+  -- .. and what it tells is the list that this event tells
   pub single-told : toldBy image k m bs ≡ toldSegment image k m (bytesTaken image k m bs)
   unfolding toldTakes
   single-told = rw all-read (sym (append-nil (toldBy image k m front) ∙ told-same))
@@ -247,7 +247,7 @@ module _ (image : List ℕ) where
   call-given : (i : ℕ) (c : Call) (m : Machine) → givenBy image i c m ≡ given image i (asEvent image c m) m
   unfolding givenBy asEvent given
   call-given i (event e) m = refl
-  call-given i (once k bs) m = ap (λ (l : List Pdu). cond (eqb k i) l []) (single-told image k m bs)
+  call-given i (once k bs) m = ap (λ (l : List Out). cond (eqb k i) l []) (single-told image k m bs)
 
   pub any-order : (m : Machine) (cs : List Call) → afterCalls image m cs ≡ afterRun image m (asEvents image m cs)
   unfolding afterCalls asEvents afterRun

@@ -29,6 +29,7 @@ use Rattle.demands.specs.Ends.{EndsBy}
 use Rattle.demands.specs.Streams.{onlineAt, readsAt, endsAt, streamsIn}
 use Rattle.demands.proofs.Runs.{exact-list}
 use Rattle.demands.proofs.Ends.{ends-by}
+use Rattle.world.specs.Step.{compared}
 
 module _ (image : List ℕ) (k : ℕ) (there : k < rowsOf image Connections) (tcp : configOf image k .tcp ≡ true) where
   seen-c : (m : Machine) → heldAt (seen m) k .connection ≡ recordAt (m .state) k
@@ -70,7 +71,7 @@ module _ (image : List ℕ) (k : ℕ) (there : k < rowsOf image Connections) (tc
 
   -- DEMAND 3'S LIST, by the machine's own streams
   pub own-list : (m : Machine) → Good image m → (es : List Event) → RunBytes es
-      → givenIn image k m es ≡ listedIn (lookupOf (bodyOf image Routes) k) (cellAt (heldAt (seen m) k)) (streamsIn image k m es)
+      → compared (givenIn image k m es) ≡ listedIn (lookupOf (bodyOf image Routes) k) (cellAt (heldAt (seen m) k)) (streamsIn image k m es)
   own-list m good es bytes =
       exact-list image m good es bytes k there tcp
       ∙ ap (listedIn (lookupOf (bodyOf image Routes) k) (cellAt (heldAt (seen m) k))) (sym (streams-is m es bytes good))

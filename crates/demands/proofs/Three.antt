@@ -12,7 +12,7 @@ use Rattle.keeps.proofs.Fresh.{fresh-passed}
 use Rattle.world.specs.Events.{Event}
 use Rattle.runs.specs.Same.{Same}
 use Rattle.runs.specs.Streams.{RunBytes}
-use Rattle.tie.specs.Machine.{Machine, machine}
+use Rattle.tie.specs.Machine.{Machine, machine, lentTo}
 use Rattle.tie.specs.Run.{Good}
 use Rattle.demands.specs.Three.{Demand3}
 use Rattle.demands.proofs.Runs.{same-state, same-pdus}
@@ -31,10 +31,7 @@ module _ (image : List ℕ) (accepted : checkTable image ≡ Accepted) where
   pub fresh-good : (rx tx : List ℕ) → length rx ≡ 23424 → length tx ≡ 23552 → Good image (machine (freshState image) rx tx)
   unfolding freshState
   fresh-good rx tx r t =
-      record {
-        passed = record { receive = r; send = t; table = accepted; sound = fresh-passed image accepted .sound };
-        sixteen = refl;
-      }
+      record { passed = fresh-passed (lentTo image (machine (freshState image) rx tx)) accepted refl r t; sixteen = refl }
 
   -- and memory that is all zero
   pub fresh-zeroed : Good image (machine (freshState image) (replicate 23424 0) (replicate 23552 0))

@@ -1,11 +1,11 @@
 -- DEMAND 2'S ROUND TRIP, of the entry points: what take waiting gives out of one machine is the frames of the PDUs that its transmits
 -- stored since nothing waited; cut into segments in any way, a TCP connection of another machine that is online, ready and at a header's
 -- first byte, with routes for those ids, switched on and allowing those lengths, hands out the same PDUs in the same order; and so does a
--- UDP connection, walked over them as one datagram.
+-- UDP connection, walked over them as one datagram. Just these PDUs, and no drop.
 -- Assumes nothing.
 use Prim.Native.Nat.{ℕ, _*_, _≤_, _<_}
 use mathlib.Core.Path.{_≡_, refl, sym, ap, _∙_, subst}
-use mathlib.Core.List.{List, [], flatten}
+use mathlib.Core.List.{List, [], flatten, map}
 use native.Mathlib.Omega.{arith}
 use lib.ListN.{length, take, drop}
 use lib.Seq.{take-take, take-at}
@@ -15,15 +15,13 @@ use Rattle.layout.specs.declared.Kind.the-variants.{Connection as Connections, 
 use Rattle.connection.specs.declared.Connection.{Connection}
 use Rattle.connection.specs.Event.{receiving}
 use Rattle.state.specs.State.{recordAt}
-use Rattle.feed.specs.Feed.{Pdu, pdus}
+use Rattle.feed.specs.Feed.{Pdu, asOut}
 use Rattle.feed.specs.Frame.{Sent, frames, Routed}
-use Rattle.feed.proofs.Trip.{pdus-back}
 use Rattle.walk.specs.Walk.{walks}
 use Rattle.walk.proofs.Trip.{round-trip as walk-trip, then-the-end}
 use Rattle.route.specs.Route.{lookupOf}
 use Rattle.receive.specs.Routes.{routesIn}
 use Rattle.table.proofs.Facts.{accepted-facts}
-use Rattle.gate.specs.Lent.{lent}
 use Rattle.gate.proofs.Pass.{passed-gate-at}
 use Rattle.keeps.proofs.Transmitted.{all-fit}
 use Rattle.turns.proofs.Entries.{waits-length, taken-bytes}
@@ -37,7 +35,7 @@ use Rattle.runs.specs.Trip.{Reads, asSegments}
 use Rattle.runs.proofs.Trip.{trip}
 use Rattle.tie.specs.Table.{tableOf}
 use Rattle.tie.specs.Whole.{wholeOf}
-use Rattle.tie.specs.Machine.{Machine, seen}
+use Rattle.tie.specs.Machine.{Machine, lentTo, loanTo, seen}
 use Rattle.tie.specs.Run.{afterRun, givenIn, Good}
 use Rattle.demands.specs.Waits.{sentIn}
 use Rattle.demands.specs.Trip.{outgoing, Reader, Walker, asWalks}
@@ -61,7 +59,7 @@ module _ (image : List ℕ) (m : Machine) (good : Good image m) (j : ℕ) (there
   out-waits room =
       let small : j < 16 = omega (arith, accepted-facts image (good .passed .table) .most Connections) in
       ap (take n)
-      (taken-bytes image (m .state) (length (m .rx)) (m .tx) j out (good .passed .sound) (passed-gate-at (lent image (m .state) (length (m .rx)) (length (m .tx))) j (good .passed) there) room)
+      (taken-bytes (loanTo image m) j out (good .passed .sound) (passed-gate-at (lentTo image m) j (good .passed) there) room)
       ∙ take-at (waitingOf (m .tx) j n) (drop n out) n (waits-length (m .tx) j n small (good .passed .send) fits)
 
   pub given-out : recordAt (m .state) j .used ≤ length out → outgoing image m j out ≡ heldAt (seen m) j .waiting
@@ -76,19 +74,19 @@ module _ (image : List ℕ) (m : Machine) (good : Good image m) (k : ℕ) (reade
   reads = record { there = lt-ltb _ _ (reader .there); tcp = reader .tcp; receives = ap receiving seen-c ∙ reader .receives; at-header = reader .at-header }
 
   pub read-back : {ss : List Sent} {ps : List Pdu} (pieces : List (List ℕ)) → Routed (routesIn image (m .state) k) ss ps → flatten pieces ≡ frames ss
-      → RunBytes (asSegments k pieces) → givenIn image k m (asSegments k pieces) ≡ ps
+      → RunBytes (asSegments k pieces) → givenIn image k m (asSegments k pieces) ≡ map asOut ps
   read-back {ss} {ps} pieces h e bytes =
       run-given image k m (asSegments k pieces) bytes good
       ∙ trip (tableOf image) (wholeOf image) (seen m) k reads pieces (subst (λ (d : Connection). Routed (lookupOf (bodyOf image Route) k (d .switches)) ss ps) (sym seen-c) h) e
 
 -- WHAT A WALK HANDS OUT, a step for each PDU; more steps meet the end and hand out nothing
 pub walk-back : (image : List ℕ) (m : Machine) → Good image m → (k : ℕ) → Walker image m k → {ss : List Sent} {ps : List Pdu} (datagram : List ℕ) → Routed (routesIn image (m .state) k) ss ps
-    → datagram ≡ frames ss → (steps : ℕ) → length ss ≤ steps → givenIn image k m (asWalks image k datagram steps m 0) ≡ ps
+    → datagram ≡ frames ss → (steps : ℕ) → length ss ≤ steps → givenIn image k m (asWalks image k datagram steps m 0) ≡ map asOut ps
 walk-back image m good k walker {ss} {ps} datagram routed e steps enough =
     walks-given image k datagram m walker steps m good refl 0 (omega arith)
-    ∙ ap (λ (l : List ℕ). pdus (walks (routesIn image (m .state) k) steps l 0)) e
-    ∙ ap pdus (walks-more (routesIn image (m .state) k) (length ss) steps (frames ss) 0 enough (then-the-end (routesIn image (m .state) k) routed) ∙ walk-trip (routesIn image (m .state) k) routed)
-    ∙ pdus-back ps
+    ∙ ap (λ (l : List ℕ). walks (routesIn image (m .state) k) steps l 0) e
+    ∙ walks-more (routesIn image (m .state) k) (length ss) steps (frames ss) 0 enough (then-the-end (routesIn image (m .state) k) routed)
+    ∙ walk-trip (routesIn image (m .state) k) routed
 
 -- BOTH TOGETHER: any run from a machine where nothing waits on connection j, and then a take of what waits
 module _ (image : List ℕ) (a : Machine) (good : Good image a) (j : ℕ) (there : j < rowsOf image Connections) (nothing : recordAt (a .state) j .used ≡ 0) (es : List Event) (bytes : RunBytes es)
@@ -104,11 +102,11 @@ module _ (image : List ℕ) (a : Machine) (good : Good image a) (j : ℕ) (there
   -- and what is read out of them is those PDUs: cut into segments in any way
   pub round-trip : recordAt (afterRun image a es .state) j .used ≤ length out → (image′ : List ℕ) (b : Machine) → Good image′ b → (k : ℕ) → Reader image′ b k → {ps : List Pdu}
       → Routed (routesIn image′ (b .state) k) (sentIn image j a es []) ps → (pieces : List (List ℕ)) → flatten pieces ≡ outgoing image (afterRun image a es) j out → RunBytes (asSegments k pieces)
-      → givenIn image′ k b (asSegments k pieces) ≡ ps
+      → givenIn image′ k b (asSegments k pieces) ≡ map asOut ps
   round-trip room image′ b good′ k reader routed pieces cut-is bytes′ = read-back image′ b good′ k reader pieces routed (cut-is ∙ sent-out room) bytes′
 
   -- or walked over as one datagram, in as many steps or more
   pub datagram-trip : recordAt (afterRun image a es .state) j .used ≤ length out → (image′ : List ℕ) (b : Machine) → Good image′ b → (k : ℕ) → Walker image′ b k → {ps : List Pdu}
       → Routed (routesIn image′ (b .state) k) (sentIn image j a es []) ps → (steps : ℕ) → length (sentIn image j a es []) ≤ steps
-      → givenIn image′ k b (asWalks image′ k (outgoing image (afterRun image a es) j out) steps b 0) ≡ ps
+      → givenIn image′ k b (asWalks image′ k (outgoing image (afterRun image a es) j out) steps b 0) ≡ map asOut ps
   datagram-trip room image′ b good′ k walker routed steps enough = walk-back image′ b good′ k walker (outgoing image (afterRun image a es) j out) routed (sent-out room) steps enough

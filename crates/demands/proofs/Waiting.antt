@@ -17,7 +17,6 @@ use Rattle.connection.specs.declared.Answer.the-variants.{Done}
 use Rattle.state.specs.declared.State.{State}
 use Rattle.state.specs.State.{recordAt}
 use Rattle.state.specs.Fresh.{configOf}
-use Rattle.gate.specs.Lent.{lent}
 use Rattle.gate.specs.declared.Gate.{Gate}
 use Rattle.gate.specs.Gate.{through}
 use Rattle.gate.proofs.Pass.{passed-gate}
@@ -28,7 +27,7 @@ use Rattle.ticks.specs.declared.Ticked.{Ticked}
 use Rattle.ticks.specs.Tick.{tickedTo, unticked, tickEvent}
 use Rattle.receive.specs.Answer.{isDone}
 use Rattle.waiting.specs.Waiting.{waitingOf}
-use Rattle.waits.specs.Waits.{waits, goesTo, framesFrom, addedTo, adds, empties, turned, afterAll, anyEmpties, since}
+use Rattle.waits.specs.Waits.{waits, goesTo, framesFrom, addedTo, turned, afterAll, anyEmpties, since, was-closed, Emptied, not-emptied, emptied, isEmptied, onlyIf, turnBy}
 use Rattle.waits.proofs.Since.{waits-since}
 use Rattle.turns.proofs.Entries.{transmit-turn}
 use Rattle.world.specs.World.{World, heldAt}
@@ -38,13 +37,14 @@ use Rattle.world.proofs.View.{view-record, view-length}
 use Rattle.runs.specs.Streams.{EventBytes, RunBytes}
 use Rattle.tie.specs.Table.{tableOf}
 use Rattle.tie.specs.Whole.{wholeOf}
-use Rattle.tie.specs.Machine.{Machine, seen, taken, afterOne, restOf, goesOn, afterTakes}
+use Rattle.tie.specs.Machine.{Machine, lentTo, loanTo, seen, taken, afterOne, restOf, goesOn, afterTakes}
 use Rattle.tie.specs.Run.{afterOwn, afterWhole, afterEvent, afterRun, Good}
 use Rattle.tie.proofs.Steps.{event-view}
 use Rattle.tie.proofs.Good.{event-good}
 use Rattle.tie.proofs.Modules.{past}
 use Rattle.demands.specs.Waits.{sentFrom, sentTo, ownEmpties, emptiesBy, addsBy, turnOf, turnsOf, sentIn}
 use Rattle.demands.proofs.Empties.{ticked-used, own-used, leavesAll, whole-used}
+use Rattle.waits.proofs.Turns.{if-emptied}
 
 -- FRAMES: what a transmit adds is the frames of what it sends
 frames-append : (a b : List Sent) → frames (a ++ b) ≡ frames a ++ frames b
@@ -110,32 +110,33 @@ module _ (image : List ℕ) (j : ℕ) (m : Machine) (good : Good image m) where
       ap (λ (d : Connection). d .used) (sym (view-record (afterEvent image e m .state) (afterEvent image e m .rx) (afterEvent image e m .tx) j))
       ∙ ap (λ (w : World). heldAt w j .connection .used) (event-view image m good e b)
 
-  own-after : (k : ℕ) (e : Own) → EventBytes (on k e) → recordAt (afterEvent image (on k e) m .state) j .used ≡ cond (emptiesBy image j m (on k e)) 0 (c .used)
+  own-after : (k : ℕ) (e : Own) → EventBytes (on k e) → recordAt (afterEvent image (on k e) m .state) j .used ≡ cond (isEmptied (emptiesBy image j m (on k e))) 0 (c .used)
   own-after k e b =
       after-used (on k e) b
-      ∙ subst (λ (d : Connection). heldAt (step (tableOf image) (wholeOf image) (seen m) (on k e)) j .connection .used ≡ cond (eqb k j && (ltb j (rowsOf image Connections) && ownEmpties e (configOf image j) d)) 0 (d .used)) seen-c
+      ∙ subst (λ (d : Connection). heldAt (step (tableOf image) (wholeOf image) (seen m) (on k e)) j .connection .used ≡ cond (isEmptied (onlyIf (eqb k j && ltb j (rowsOf image Connections)) (ownEmpties e (configOf image j) d))) 0 (d .used)) seen-c
       (own-used image (seen m) j k e (omega (arith, rows-fit, view-length (m .rx) (m .tx) 0 (m .state .connections))))
 
   whole-after : (e : Whole) → leavesAll e ≡ true → recordAt (afterEvent image (all e) m .state) j .used ≡ c .used
   whole-after e l = after-used (all e) tt ∙ whole-used image (seen m) j e l ∙ ap (λ (d : Connection). d .used) seen-c
 
-  tick-after : recordAt (afterEvent image (all tick) m .state) j .used ≡ cond (emptiesBy image j m (all tick)) 0 (c .used)
+  tick-after : recordAt (afterEvent image (all tick) m .state) j .used ≡ cond (isEmptied (emptiesBy image j m (all tick))) 0 (c .used)
   unfolding afterEvent afterWhole tickEvent
   tick-after =
       ap (λ (t : Ticked). recordAt (t .state) j .used)
-      (past image (m .state) (m .rx) (m .tx) (unticked (m .state)) (record { answer = Done; state = tickedTo image (rowsOf image Connections) (m .state) }) (good .passed))
+      (past (loanTo image m) (unticked (m .state)) (record { answer = Done; state = tickedTo image (rowsOf image Connections) (m .state) }) (good .passed))
       ∙ ticked-used image (m .state) j rows-fit
+      ∙ ap (λ (b : Bool). cond b 0 (c .used)) (sym (if-emptied (ltb j (rowsOf image Connections) && c .«close_wanted») was-closed))
 
   -- AN EVENT THAT ADDS NOTHING, and the bytes themselves
-  kept-waits : (e : Event) → addsBy image j m e ≡ [] → afterEvent image e m .tx ≡ m .tx → recordAt (afterEvent image e m .state) j .used ≡ cond (emptiesBy image j m e) 0 (c .used)
+  kept-waits : (e : Event) → addsBy image j m e ≡ [] → afterEvent image e m .tx ≡ m .tx → recordAt (afterEvent image e m .state) j .used ≡ cond (isEmptied (emptiesBy image j m e)) 0 (c .used)
       → waits (afterEvent image e m .state) (afterEvent image e m .tx) j ≡ turned (turnOf image j m e) (waits (m .state) (m .tx) j)
   unfolding waitingOf
   kept-waits e none tx used = go (emptiesBy image j m e) used
     where
-      go : (b : Bool) → recordAt (afterEvent image e m .state) j .used ≡ cond b 0 (c .used)
-          → waits (afterEvent image e m .state) (afterEvent image e m .tx) j ≡ turned (cond b empties (adds (frames (addsBy image j m e)))) (waits (m .state) (m .tx) j)
-      go true p = ap (λ (i : ℕ). front i (drop (j * 1472) (afterEvent image e m .tx))) p
-      go false p =
+      go : (x : Emptied) → recordAt (afterEvent image e m .state) j .used ≡ cond (isEmptied x) 0 (c .used)
+          → waits (afterEvent image e m .state) (afterEvent image e m .tx) j ≡ turned (turnBy x (frames (addsBy image j m e))) (waits (m .state) (m .tx) j)
+      go (emptied why) p = ap (λ (i : ℕ). front i (drop (j * 1472) (afterEvent image e m .tx))) p
+      go not-emptied p =
           ap₂ (λ (i : ℕ) (l : List ℕ). front i (drop (j * 1472) l)) p tx
           ∙ sym (append-nil (waits (m .state) (m .tx) j))
           ∙ ap (λ (l : List ℕ). waits (m .state) (m .tx) j ++ l) (sym (ap frames none ∙ no-frames))
@@ -145,8 +146,8 @@ module _ (image : List ℕ) (j : ℕ) (m : Machine) (good : Good image m) where
       ≡ turned (turnOf image j m (all (transmit pdu payload))) (waits (m .state) (m .tx) j)
   unfolding afterEvent afterWhole
   transmit-waits pdu payload =
-      transmit-turn image (m .state) (length (m .rx)) (m .tx) pdu payload (good .sixteen) (good .passed .sound) j
-      ∙ ap (λ (g : Gate). waits (m .state) (m .tx) j ++ through g (λ r. []) (addedTo image (m .state) pdu payload j)) (passed-gate (lent image (m .state) (length (m .rx)) (length (m .tx))) (good .passed))
+      transmit-turn (loanTo image m) pdu payload (good .sixteen) (good .passed .sound) j
+      ∙ ap (λ (g : Gate). waits (m .state) (m .tx) j ++ through g (λ r. []) (addedTo image (m .state) pdu payload j)) (passed-gate (lentTo image m) (good .passed))
       ∙ ap (λ (l : List ℕ). waits (m .state) (m .tx) j ++ l) (added-sent image (m .state) pdu payload j)
 
   -- ANY EVENT
@@ -175,19 +176,19 @@ pub run-waits : (image : List ℕ) (j : ℕ) (m : Machine) (es : List Event) →
 run-waits image j m es b g = turns-waits image j m es b g ∙ waits-since (turnsOf image j m es) (waits (m .state) (m .tx) j)
 
 -- BY NAME: where the frames of ss wait at the start, those of `sentIn` wait after the run
-turned-sent : (image : List ℕ) (j : ℕ) (m : Machine) (e : Event) (ss : List Sent) → turned (turnOf image j m e) (frames ss) ≡ frames (cond (emptiesBy image j m e) [] (ss ++ addsBy image j m e))
+turned-sent : (image : List ℕ) (j : ℕ) (m : Machine) (e : Event) (ss : List Sent) → turned (turnOf image j m e) (frames ss) ≡ frames (cond (isEmptied (emptiesBy image j m e)) [] (ss ++ addsBy image j m e))
 turned-sent image j m e ss = go (emptiesBy image j m e)
   where
-    go : (b : Bool) → turned (cond b empties (adds (frames (addsBy image j m e)))) (frames ss) ≡ frames (cond b [] (ss ++ addsBy image j m e))
-    go true = sym no-frames
-    go false = sym (frames-append ss (addsBy image j m e))
+    go : (x : Emptied) → turned (turnBy x (frames (addsBy image j m e))) (frames ss) ≡ frames (cond (isEmptied x) [] (ss ++ addsBy image j m e))
+    go (emptied why) = sym no-frames
+    go not-emptied = sym (frames-append ss (addsBy image j m e))
 
 turns-sent : (image : List ℕ) (j : ℕ) (m : Machine) (es : List Event) (ss : List Sent) → afterAll (turnsOf image j m es) (frames ss) ≡ frames (sentIn image j m es ss)
 unfolding turnsOf sentIn
 turns-sent image j m [] ss = refl
 turns-sent image j m (e ∷ es) ss =
     ap (afterAll (turnsOf image j (afterEvent image e m) es)) (turned-sent image j m e ss)
-    ∙ turns-sent image j (afterEvent image e m) es (cond (emptiesBy image j m e) [] (ss ++ addsBy image j m e))
+    ∙ turns-sent image j (afterEvent image e m) es (cond (isEmptied (emptiesBy image j m e)) [] (ss ++ addsBy image j m e))
 
 pub run-frames : (image : List ℕ) (j : ℕ) (m : Machine) (es : List Event) (ss : List Sent) → RunBytes es → Good image m → waits (m .state) (m .tx) j ≡ frames ss
     → waits (afterRun image m es .state) (afterRun image m es .tx) j ≡ frames (sentIn image j m es ss)

@@ -17,7 +17,7 @@ use Rattle.route.specs.Route.{lookupOf}
 use Rattle.state.specs.State.{recordAt}
 use Rattle.feed.specs.declared.Decision.{Decision}
 use Rattle.feed.specs.declared.Decision.the-variants.{Accept, Refuse}
-use Rattle.feed.specs.Feed.{Routes, pdus}
+use Rattle.feed.specs.Feed.{Routes}
 use Rattle.walk.specs.Walk.{Found, the-end, a-pdu, a-drop, Walked, walked, wholeAt, stepOf, walkAt, told, walks, placeAfter}
 use Rattle.walk.proofs.Steps.{at-last, next-within}
 use Rattle.datagram.specs.declared.Walked.{Walked as Answered}
@@ -28,15 +28,14 @@ use Rattle.receive.specs.Walk.{walkedAt, walkOn, walkAllowed, walkAnswer, walkO
 use Rattle.receive.specs.Routes.{routesIn}
 use Rattle.receive.proofs.Keeps.{walk-records}
 use Rattle.world.specs.Events.{walk, on}
-use Rattle.tie.specs.Machine.{Machine}
+use Rattle.tie.specs.Machine.{Machine, lentTo}
 use Rattle.tie.specs.Run.{toldWalk, afterOwn, afterEvent, given, givenIn, Good}
 use Rattle.tie.proofs.Answered.{done-is}
 use Rattle.tie.proofs.Good.{event-good}
 use Rattle.demands.specs.Trip.{Walker, asWalks}
 
--- one step's PDU
-told-found : (d : List ℕ) (f : Found) → toldWalk d (outcomeOf f) ≡ pdus (told d f [])
-unfolding pdus
+-- one step's outcome
+told-found : (d : List ℕ) (f : Found) → toldWalk d (outcomeOf f) ≡ told d f []
 told-found d the-end = refl
 told-found d (a-pdu r p n i) = refl
 told-found d (a-drop q i n) = refl
@@ -49,18 +48,18 @@ walks-more R zero (suc f) d p l e = ap (λ (w : Walked). told d (w .found) (walk
 walks-more R (suc n) zero d p l e = absurd (omega arith)
 walks-more R (suc n) (suc f) d p l e = ap (told d (walkAt R d p .found)) (walks-more R n f d (walkAt R d p .next) (omega arith) e)
 
--- a step's PDU, and those of the steps after it
-then-later : (R : Routes) (f : ℕ) (d : List ℕ) (p : ℕ) → pdus (told d (walkAt R d p .found) []) ++ pdus (walks R f d (walkAt R d p .next)) ≡ pdus (walks R (suc f) d p)
-unfolding walks walkAt placeAfter pdus
+-- a step's outcome, and those of the steps after it
+then-later : (R : Routes) (f : ℕ) (d : List ℕ) (p : ℕ) → told d (walkAt R d p .found) [] ++ walks R f d (walkAt R d p .next) ≡ walks R (suc f) d p
+unfolding walks walkAt placeAfter
 then-later R f d p = go (headOf (drop p d))
   where
-    decided : (q : Decision) (i n : ℕ) → pdus (told d (wholeAt q p i n .found) []) ++ pdus (walks R f d (wholeAt q p i n .next)) ≡ pdus (told d (wholeAt q p i n .found) (walks R f d (wholeAt q p i n .next)))
+    decided : (q : Decision) (i n : ℕ) → told d (wholeAt q p i n .found) [] ++ walks R f d (wholeAt q p i n .next) ≡ told d (wholeAt q p i n .found) (walks R f d (wholeAt q p i n .next))
     decided (Accept r) i n = refl
     decided (Refuse k) i n = refl
 
-    go : (h : Head) → pdus (told d (stepOf R (length d) p h .found) []) ++ pdus (walks R f d (stepOf R (length d) p h .next))
-        ≡ pdus (told d (stepOf R (length d) p h .found) (walks R f d (stepOf R (length d) p h .next)))
-    go ended = ap pdus (walks-more R 0 f d (length d) (omega arith) (at-last R d))
+    go : (h : Head) → told d (stepOf R (length d) p h .found) [] ++ walks R f d (stepOf R (length d) p h .next)
+        ≡ told d (stepOf R (length d) p h .found) (walks R f d (stepOf R (length d) p h .next))
+    go ended = walks-more R 0 f d (length d) (omega arith) (at-last R d)
     go short = refl
     go (beyond i n) = refl
     go (whole i n) = decided (R i n) i n
@@ -72,14 +71,14 @@ module _ (image : List ℕ) (k : ℕ) (d : List ℕ) (start : Machine) (walker :
   -- a later machine, with the records of the start
   module _ (m : Machine) (good : Good image m) (same : m .state .connections ≡ start .state .connections) (p : ℕ) (within : p ≤ length d) where
     abbrev w : DatagramWalked
-    w = walkOf image (m .state) (length (m .rx)) (length (m .tx)) k d p
+    w = walkOf (lentTo image m) k d p
 
     receives : receiving (recordAt (m .state) k) ≡ true
     receives = ap (λ (cs : List Connection). receiving (getD cs k zeroRecord)) same ∙ walker .receives
 
-    done : isDone (walkAnswer image (m .state) (length (m .rx)) (length (m .tx)) k d p) ≡ true
+    done : isDone (walkAnswer (lentTo image m) k d p) ≡ true
     done =
-        done-is image (m .state) (length (m .rx)) (length (m .tx)) k (walkAllowed image k d p) (good .passed)
+        done-is (lentTo image m) k (walkAllowed image k d p) (good .passed)
         ∙ rw (lt-ltb _ _ (walker .there), walker .udp, le-leb p (length d) within) receives
 
     walked-is : walkedAt image (m .state) k d p ≡ stepped (walkAt R d p)
@@ -98,21 +97,21 @@ module _ (image : List ℕ) (k : ℕ) (d : List ℕ) (start : Machine) (walker :
     unfolding walkOn
     next-is = ap (λ (a : DatagramWalked). a .next) goes-on ∙ ap (λ (a : Answered). a .next) walked-is
 
-    given-here : given image k (on k (walk d p)) m ≡ pdus (told d (walkAt R d p .found) [])
+    given-here : given image k (on k (walk d p)) m ≡ told d (walkAt R d p .found) []
     unfolding given
     given-here = rw (eq-eqb k k refl) (ap (toldWalk d) outcome-is ∙ told-found d (walkAt R d p .found))
 
     still-same : afterEvent image (on k (walk d p)) m .state .connections ≡ start .state .connections
     unfolding afterEvent afterOwn
-    still-same = walk-records image (m .state) (length (m .rx)) (length (m .tx)) k d p ∙ same
+    still-same = walk-records (lentTo image m) k d p ∙ same
 
   -- ANY NUMBER OF STEPS
-  pub walks-given : (f : ℕ) (m : Machine) → Good image m → m .state .connections ≡ start .state .connections → (p : ℕ) → p ≤ length d → givenIn image k m (asWalks image k d f m p) ≡ pdus (walks (routesIn image (start .state) k) f d p)
-  unfolding givenIn asWalks walks pdus
+  pub walks-given : (f : ℕ) (m : Machine) → Good image m → m .state .connections ≡ start .state .connections → (p : ℕ) → p ≤ length d → givenIn image k m (asWalks image k d f m p) ≡ walks (routesIn image (start .state) k) f d p
+  unfolding givenIn asWalks walks
   walks-given zero m good same p within = refl
   walks-given (suc f) m good same p within =
       ap₂ _++_ (given-here m good same p within)
       (walks-given f (afterEvent image (on k (walk d p)) m) (event-good image m good (on k (walk d p)) tt) (still-same m good same p within) (w m good same p within .next)
       (subst (λ (q : ℕ). q ≤ length d) (sym (next-is m good same p within)) (next-within R d p within))
-      ∙ ap (λ (q : ℕ). pdus (walks R f d q)) (next-is m good same p within))
+      ∙ ap (λ (q : ℕ). walks R f d q) (next-is m good same p within))
       ∙ then-later R f d p

@@ -5,7 +5,7 @@ use mathlib.Core.Bool.{cond}
 use mathlib.Core.List.{List, [], _∷_, _++_}
 use lib.Dec.{eqb}
 use lib.ListN.{take}
-use Rattle.feed.specs.Feed.{Pdu}
+use Rattle.feed.specs.Feed.{Out}
 use Rattle.world.specs.Events.{segment, Event, on}
 use Rattle.tie.specs.Machine.{Machine, taken, afterOne, toldBy}
 use Rattle.tie.specs.Run.{afterEvent, given}
@@ -20,13 +20,13 @@ module _ (image : List ℕ) where
   abbrev pub bytesTaken : ℕ → Machine → List ℕ → List ℕ
   bytesTaken k m bytes = take (taken image k m bytes .read) bytes
 
-  -- what a call makes of the machine, the PDUs that the caller is given for connection i, and the event that it is: one take is the
+  -- what a call makes of the machine, the outcomes that the caller is given for connection i, and the event that it is: one take is the
   -- segment event of the bytes that it reads
   unfoldable pub afterCall : Call → Machine → Machine
   afterCall (event e) m = afterEvent image e m
   afterCall (once k bytes) m = afterOne image k m bytes
 
-  unfoldable pub givenBy : ℕ → Call → Machine → List Pdu
+  unfoldable pub givenBy : ℕ → Call → Machine → List Out
   givenBy i (event e) m = given image i e m
   givenBy i (once k bytes) m = cond (eqb k i) (toldBy image k m bytes) []
 
@@ -39,7 +39,7 @@ module _ (image : List ℕ) where
   afterCalls m [] = m
   afterCalls m (c ∷ cs) = afterCalls (afterCall c m) cs
 
-  unfoldable pub givenCalls : ℕ → Machine → List Call → List Pdu
+  unfoldable pub givenCalls : ℕ → Machine → List Call → List Out
   givenCalls i m [] = []
   givenCalls i m (c ∷ cs) = givenBy i c m ++ givenCalls i (afterCall c m) cs
 

@@ -9,6 +9,7 @@ use Rattle.route.specs.Route.{lookupOf}
 use Rattle.state.specs.Fresh.{configOf}
 use Rattle.world.specs.World.{heldAt, cellAt}
 use Rattle.world.specs.Events.{Event}
+use Rattle.world.specs.Step.{compared}
 use Rattle.runs.specs.Streams.{listedIn}
 use Rattle.tie.specs.Machine.{Machine, seen}
 use Rattle.tie.specs.Run.{afterRun, givenIn}
@@ -18,8 +19,8 @@ pub record Demand3 (image : List ℕ) (m : Machine) (es fs : List Event) : Type 
   -- the end state is the same: same numbers and same held bytes
   pub state : seen (afterRun image m es) ≡ seen (afterRun image m fs)
   -- each connection has handed out the same PDUs in the same order
-  pub pdus : (k : ℕ) → givenIn image k m es ≡ givenIn image k m fs
+  pub pdus : (k : ℕ) → compared (givenIn image k m es) ≡ compared (givenIn image k m fs)
   -- and, of a TCP connection, that list is exactly demand 2's: of each online period's stream, by lengths; the first stream begun with what
   -- the record holds
   pub list : (k : ℕ) → k < rowsOf image Connections → configOf image k .tcp ≡ true
-      → givenIn image k m es ≡ listedIn (lookupOf (bodyOf image Routes) k) (cellAt (heldAt (seen m) k)) (streamsIn image k m es)
+      → compared (givenIn image k m es) ≡ listedIn (lookupOf (bodyOf image Routes) k) (cellAt (heldAt (seen m) k)) (streamsIn image k m es)

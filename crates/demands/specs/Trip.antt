@@ -17,12 +17,12 @@ use Rattle.receive.specs.Walk.{walkOf}
 use Rattle.sending.specs.Sending.{takenOut}
 use Rattle.world.specs.World.{heldAt, cellAt}
 use Rattle.world.specs.Events.{walk, Event, on}
-use Rattle.tie.specs.Machine.{Machine, seen}
+use Rattle.tie.specs.Machine.{Machine, lentTo, loanTo, seen}
 use Rattle.tie.specs.Run.{afterEvent}
 
 -- what taking the waiting bytes of connection j gives out: as many bytes as are used, at the front of the out buffer
 abbrev pub outgoing : List ℕ → Machine → ℕ → List ℕ → List ℕ
-outgoing image m j out = take (recordAt (m .state) j .used) (takenOut image (m .state) (length (m .rx)) (m .tx) j out)
+outgoing image m j out = take (recordAt (m .state) j .used) (takenOut (loanTo image m) j out)
 
 pub record Reader (image : List ℕ) (m : Machine) (k : ℕ) : Type 0 where
   pub there : k < rowsOf image Connections
@@ -40,4 +40,4 @@ module _ (image : List ℕ) (k : ℕ) (datagram : List ℕ) where
   unfoldable pub asWalks : ℕ → Machine → ℕ → List Event
   asWalks zero m place = []
   asWalks (suc steps) m place =
-      on k (walk datagram place) ∷ asWalks steps (afterEvent image (on k (walk datagram place)) m) (walkOf image (m .state) (length (m .rx)) (length (m .tx)) k datagram place .next)
+      on k (walk datagram place) ∷ asWalks steps (afterEvent image (on k (walk datagram place)) m) (walkOf (lentTo image m) k datagram place .next)

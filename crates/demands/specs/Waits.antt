@@ -2,7 +2,7 @@
 -- transmit adds the frames of its switched-on destinations there; every other event leaves them. And the PDUs whose frames these bytes are.
 -- Assumes nothing: these are definitions.
 use Prim.Native.Nat.{ℕ, zero, suc}
-use mathlib.Core.Bool.{Bool, false, cond, not, _&&_}
+use mathlib.Core.Bool.{Bool, cond, not, _&&_}
 use mathlib.Core.List.{List, [], _∷_, _++_}
 use lib.Dec.{eqb, ltb}
 use lib.ListN.{length}
@@ -17,7 +17,7 @@ use Rattle.state.specs.State.{recordAt}
 use Rattle.state.specs.Fresh.{configOf}
 use Rattle.send.specs.Verdict.{isStored}
 use Rattle.send.specs.Send.{destinations, checkOf}
-use Rattle.waits.specs.Waits.{goesTo, loses, Turn, adds, empties}
+use Rattle.waits.specs.Waits.{goesTo, loses, was-taken, was-closed, was-lost, Emptied, not-emptied, isEmptied, emptiedIf, onlyIf, Turn, turnBy}
 use Rattle.world.specs.Events.{Own, change, segment, walk, take, datagram, accept, tick, transmit, switchAll, readCount, clearCount, Event, on, all}
 use Rattle.tie.specs.Machine.{Machine}
 use Rattle.tie.specs.Run.{afterEvent}
@@ -37,25 +37,25 @@ module _ (image : List ℕ) (s : State) (pdu : ℕ) (payload : List ℕ) (k : �
 abbrev pub drains : ℕ → Connection → Bool
 drains room c = not (eqb (c .used) 0) && not (ltb room (c .used))
 
--- which events of a connection empty it, by its record: a loss that is allowed, a non-empty take
-abbrev pub ownEmpties : Own → Config → Connection → Bool
-ownEmpties (change e) g c = loses e g c
-ownEmpties (segment bytes) g c = false
-ownEmpties (walk bytes place) g c = false
-ownEmpties (take room) g c = drains room c
+-- which events of a connection empty it, by its record, and why: a loss that is allowed, a non-empty take
+abbrev pub ownEmpties : Own → Config → Connection → Emptied
+ownEmpties (change e) g c = emptiedIf (loses e g c) was-lost
+ownEmpties (segment bytes) g c = not-emptied
+ownEmpties (walk bytes place) g c = not-emptied
+ownEmpties (take room) g c = emptiedIf (drains room c) was-taken
 
 -- ANY EVENT, seen from connection j
 module _ (image : List ℕ) (j : ℕ) where
-  -- whether it empties (a number that is not there is refused): its own loss or non-empty take, and a tick with close wanted
-  abbrev pub emptiesBy : Machine → Event → Bool
-  emptiesBy m (on k e) = eqb k j && (ltb j (rowsOf image Connections) && ownEmpties e (configOf image j) (recordAt (m .state) j))
-  emptiesBy m (all (datagram group source)) = false
-  emptiesBy m (all (accept group source)) = false
-  emptiesBy m (all tick) = ltb j (rowsOf image Connections) && recordAt (m .state) j .«close_wanted»
-  emptiesBy m (all (transmit pdu payload)) = false
-  emptiesBy m (all (switchAll number position)) = false
-  emptiesBy m (all (readCount protocol)) = false
-  emptiesBy m (all (clearCount protocol)) = false
+  -- whether it empties, and why (a number that is not there is refused): its own loss or non-empty take, and a tick with close wanted
+  abbrev pub emptiesBy : Machine → Event → Emptied
+  emptiesBy m (on k e) = onlyIf (eqb k j && ltb j (rowsOf image Connections)) (ownEmpties e (configOf image j) (recordAt (m .state) j))
+  emptiesBy m (all (datagram group source)) = not-emptied
+  emptiesBy m (all (accept group source)) = not-emptied
+  emptiesBy m (all tick) = emptiedIf (ltb j (rowsOf image Connections) && recordAt (m .state) j .«close_wanted») was-closed
+  emptiesBy m (all (transmit pdu payload)) = not-emptied
+  emptiesBy m (all (switchAll number position)) = not-emptied
+  emptiesBy m (all (readCount protocol)) = not-emptied
+  emptiesBy m (all (clearCount protocol)) = not-emptied
 
   -- what it adds: a transmit its frames, every other event nothing
   abbrev pub addsBy : Machine → Event → List Sent
@@ -69,7 +69,7 @@ module _ (image : List ℕ) (j : ℕ) where
   addsBy m (all (clearCount protocol)) = []
 
   abbrev pub turnOf : Machine → Event → Turn
-  turnOf m e = cond (emptiesBy m e) empties (adds (frames (addsBy m e)))
+  turnOf m e = turnBy (emptiesBy m e) (frames (addsBy m e))
 
   -- in a run
   unfoldable pub turnsOf : Machine → List Event → List Turn
@@ -79,4 +79,4 @@ module _ (image : List ℕ) (j : ℕ) where
   -- THE PDUS THAT WAIT after a run, where ss waited before it: those stored since it was last emptied
   unfoldable pub sentIn : Machine → List Event → List Sent → List Sent
   sentIn m [] ss = ss
-  sentIn m (e ∷ es) ss = sentIn (afterEvent image e m) es (cond (emptiesBy m e) [] (ss ++ addsBy m e))
+  sentIn m (e ∷ es) ss = sentIn (afterEvent image e m) es (cond (isEmptied (emptiesBy m e)) [] (ss ++ addsBy m e))

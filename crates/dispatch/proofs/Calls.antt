@@ -10,8 +10,9 @@ use lib.Dec.{eqb, leb}
 use lib.ListN.{length, drop, length-drop}
 use Rattle.wire.specs.Be.{be}
 use Rattle.lists.proofs.Both.{and-right}
+use Rattle.connection.specs.declared.Event.the-variants.{Open, Close, Connected, SetRemote, Switch}
 use Rattle.calls.specs.declared.Call.{Call}
-use Rattle.calls.specs.declared.Call.the-variants.{Unknown, Unfit, Ticks, Open, Close, Connected, Lost, SetRemote, Switch, Segment, Walk, TakeWaiting, Datagram, Accept, Transmit, SwitchAll, ReadCount, ClearCount}
+use Rattle.calls.specs.declared.Call.the-variants.{Unknown, Unfit, Ticks, Own, Lost, Segment, Walk, TakeWaiting, Datagram, Accept, Transmit, SwitchAll, ReadCount, ClearCount}
 use Rattle.calls.specs.Calls.{fitted, plain, counted, addressed, remoteIn, positioned, callOf, bytesFrom}
 use Rattle.answer_receive.specs.Long.{longest}
 use Rattle.answer_receive.specs.Segment.{roomFor}
@@ -22,12 +23,8 @@ unfoldable pub carried : List ℕ → Call → ℕ
 carried b Unknown = 0
 carried b Unfit = 0
 carried b (Ticks n) = 0
-carried b (Open c) = 0
-carried b (Close c) = 0
-carried b (Connected c) = 0
+carried b (Own c e) = 0
 carried b (Lost c) = 0
-carried b (SetRemote c r) = 0
-carried b (Switch c n on) = 0
 carried b (Segment c at) = length (drop at b)
 carried b (Walk c p at) = length (drop at b)
 carried b (TakeWaiting c n) = 0
@@ -67,12 +64,12 @@ pub call-short : (n : ℕ) (b : List ℕ) → Short b (callOf n b)
 unfolding callOf carried
 call-short n b =
     either b (eqb n 0) _ _ (fits-short b (eqb (length b) 4) (Ticks (be 4 b 0)) (λ _. omega arith))
-    (either b (eqb n 1) _ _ (fits-short b (plain b 2) (Open (be 1 b 1)) (λ _. omega arith))
-    (either b (eqb n 2) _ _ (fits-short b (plain b 2) (Close (be 1 b 1)) (λ _. omega arith))
-    (either b (eqb n 3) _ _ (fits-short b (plain b 2) (Connected (be 1 b 1)) (λ _. omega arith))
+    (either b (eqb n 1) _ _ (fits-short b (plain b 2) (Own (be 1 b 1) Open) (λ _. omega arith))
+    (either b (eqb n 2) _ _ (fits-short b (plain b 2) (Own (be 1 b 1) Close) (λ _. omega arith))
+    (either b (eqb n 3) _ _ (fits-short b (plain b 2) (Own (be 1 b 1) Connected) (λ _. omega arith))
     (either b (eqb n 4) _ _ (fits-short b (plain b 2) (Lost (be 1 b 1)) (λ _. omega arith))
-    (either b (eqb n 5) _ _ (fits-short b (addressed b) (SetRemote (be 1 b 1) (remoteIn (drop 2 b))) (λ _. omega arith))
-    (either b (eqb n 6) _ _ (fits-short b (positioned b 4 3) (Switch (be 1 b 1) (be 1 b 2) (eqb (be 1 b 3) 1)) (λ _. omega arith))
+    (either b (eqb n 5) _ _ (fits-short b (addressed b) (Own (be 1 b 1) (SetRemote (remoteIn (drop 2 b)))) (λ _. omega arith))
+    (either b (eqb n 6) _ _ (fits-short b (positioned b 4 3) (Own (be 1 b 1) (Switch (be 1 b 2) (eqb (be 1 b 3) 1))) (λ _. omega arith))
     (either b (eqb n 7) _ _ (fits-short b (counted b 2) (Segment (be 1 b 1) 6) (segment-short b))
     (either b (eqb n 8) _ _ (fits-short b (counted b 6) (Walk (be 1 b 1) (be 4 b 2) 10) (walk-short b))
     (either b (eqb n 9) _ _ (fits-short b (plain b 6) (TakeWaiting (be 1 b 1) (be 4 b 2)) (λ _. omega arith))

@@ -14,9 +14,8 @@ use Rattle.connection.specs.declared.Remote.{Remote}
 use Rattle.connection.specs.declared.Answer.{Answer}
 use Rattle.connection.specs.declared.Answer.the-variants.{Done, Refused}
 use Rattle.connection.specs.Event.{refusalNumber}
-use Rattle.state.specs.declared.State.{State}
 use Rattle.state.specs.State.{recordAt}
-use Rattle.gate.specs.Lent.{lent}
+use Rattle.gate.specs.Lent.{Loan, sizes}
 use Rattle.gate.specs.declared.Gate.{Gate}
 use Rattle.gate.specs.declared.Gate.the-variants as Gated
 use Rattle.gate.specs.Gate.{gateAt, through}
@@ -99,12 +98,12 @@ out-size c bytes out = go (ltb (length out) (c .used))
     go true = refl
     go false = lay-length out 0 bytes
 
-pub taken-size : (image : List ℕ) (s : State) (rx : ℕ) (tx : List ℕ) (n : ℕ) (out : List ℕ) → length (takenOut image s rx tx n out) ≡ length out
+pub taken-size : (l : Loan) (n : ℕ) (out : List ℕ) → length (takenOut l n out) ≡ length out
 unfolding takenOut
-taken-size image s rx tx n out = go (gateAt (lent image s rx (length tx)) n)
+taken-size l n out = go (gateAt (sizes l) n)
   where
-    go : (g : Gate) → length (through g (λ r. out) (outOf (recordAt s n) (waitingOf tx n (recordAt s n .used)) out)) ≡ length out
-    go Gated.Pass = out-size (recordAt s n) (waitingOf tx n (recordAt s n .used)) out
+    go : (g : Gate) → length (through g (λ r. out) (outOf (recordAt (l .state) n) (waitingOf (l .tx) n (recordAt (l .state) n .used)) out)) ≡ length out
+    go Gated.Pass = out-size (recordAt (l .state) n) (waitingOf (l .tx) n (recordAt (l .state) n .used)) out
     go (Gated.Refused r) = refl
 
 pub buffer-size : (n : ℕ) → length {A = ℕ} (take (roomOf n) (replicate 1472 0)) ≤ 1472

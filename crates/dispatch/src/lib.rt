@@ -2,12 +2,12 @@
 ghost use mathlib.Core.Path.{_≡_};
 ghost use Rattle.answering.specs.Answers.{dispatched};
 ghost use Rattle.dispatch.specs.Dispatch.{effectOf, dispatchOf};
+ghost use Rattle.gate.specs.Lent.{loan};
 use answering::Dispatched;
 use answering::Verdict;
 use calls::Call;
 use calls::bytes_from;
 use calls::call_of;
-use connection::Event;
 use state::State;
 
 // The step of a call, whose bytes stand in the body.
@@ -20,10 +20,10 @@ fn answer_call(
     call: Call,
     out: &mut [u8],
 ) -> Dispatched
-    ensures { λ r. ⌜ r ≡ dispatched (effectOf (now (image .entry)) state (now (rx .entry)) (now (tx .entry)) (now (out .entry)) (now (body .entry)) call) ⌝ }
-    ensures { λ _. ⌜ now (rx .exit) ≡ effectOf (now (image .entry)) state (now (rx .entry)) (now (tx .entry)) (now (out .entry)) (now (body .entry)) call .rx ⌝ }
-    ensures { λ _. ⌜ now (tx .exit) ≡ effectOf (now (image .entry)) state (now (rx .entry)) (now (tx .entry)) (now (out .entry)) (now (body .entry)) call .tx ⌝ }
-    ensures { λ _. ⌜ now (out .exit) ≡ effectOf (now (image .entry)) state (now (rx .entry)) (now (tx .entry)) (now (out .entry)) (now (body .entry)) call .out ⌝ }
+    ensures { λ r. ⌜ r ≡ dispatched (effectOf (loan (now (image .entry)) state (now (rx .entry)) (now (tx .entry))) (now (out .entry)) (now (body .entry)) call) ⌝ }
+    ensures { λ _. ⌜ now (rx .exit) ≡ effectOf (loan (now (image .entry)) state (now (rx .entry)) (now (tx .entry))) (now (out .entry)) (now (body .entry)) call .rx ⌝ }
+    ensures { λ _. ⌜ now (tx .exit) ≡ effectOf (loan (now (image .entry)) state (now (rx .entry)) (now (tx .entry))) (now (out .entry)) (now (body .entry)) call .tx ⌝ }
+    ensures { λ _. ⌜ now (out .exit) ≡ effectOf (loan (now (image .entry)) state (now (rx .entry)) (now (tx .entry))) (now (out .entry)) (now (body .entry)) call .out ⌝ }
 {
     match call {
         Call::Unknown => Dispatched {
@@ -35,32 +35,10 @@ fn answer_call(
             state: state,
         },
         Call::Ticks(n) => answer_events::many_ticks(image, state, rx, tx, n, out),
-        Call::Open(c) => answer_events::own(image, state, rx, tx, c, Event::Open, out),
-        Call::Close(c) => answer_events::own(image, state, rx, tx, c, Event::Close, out),
-        Call::Connected(c) => answer_events::own(image, state, rx, tx, c, Event::Connected, out),
+        Call::Own { connection, event } => {
+            answer_events::own(image, state, rx, tx, connection, event, out)
+        }
         Call::Lost(c) => answer_events::lost(image, state, rx, tx, c, out),
-        Call::SetRemote { connection, remote } => answer_events::own(
-            image,
-            state,
-            rx,
-            tx,
-            connection,
-            Event::SetRemote(remote),
-            out,
-        ),
-        Call::Switch {
-            connection,
-            number,
-            on,
-        } => answer_events::own(
-            image,
-            state,
-            rx,
-            tx,
-            connection,
-            Event::Switch { number, on },
-            out,
-        ),
         Call::Segment { connection, at } => answer_receive::segment(
             image,
             state,
@@ -117,10 +95,10 @@ pub fn dispatch(
     body: &[u8],
     out: &mut [u8],
 ) -> Dispatched
-    ensures { λ r. ⌜ r ≡ dispatched (dispatchOf (now (image .entry)) state (now (rx .entry)) (now (tx .entry)) (now (out .entry)) number (now (body .entry))) ⌝ }
-    ensures { λ _. ⌜ now (rx .exit) ≡ dispatchOf (now (image .entry)) state (now (rx .entry)) (now (tx .entry)) (now (out .entry)) number (now (body .entry)) .rx ⌝ }
-    ensures { λ _. ⌜ now (tx .exit) ≡ dispatchOf (now (image .entry)) state (now (rx .entry)) (now (tx .entry)) (now (out .entry)) number (now (body .entry)) .tx ⌝ }
-    ensures { λ _. ⌜ now (out .exit) ≡ dispatchOf (now (image .entry)) state (now (rx .entry)) (now (tx .entry)) (now (out .entry)) number (now (body .entry)) .out ⌝ }
+    ensures { λ r. ⌜ r ≡ dispatched (dispatchOf (loan (now (image .entry)) state (now (rx .entry)) (now (tx .entry))) (now (out .entry)) number (now (body .entry))) ⌝ }
+    ensures { λ _. ⌜ now (rx .exit) ≡ dispatchOf (loan (now (image .entry)) state (now (rx .entry)) (now (tx .entry))) (now (out .entry)) number (now (body .entry)) .rx ⌝ }
+    ensures { λ _. ⌜ now (tx .exit) ≡ dispatchOf (loan (now (image .entry)) state (now (rx .entry)) (now (tx .entry))) (now (out .entry)) number (now (body .entry)) .tx ⌝ }
+    ensures { λ _. ⌜ now (out .exit) ≡ dispatchOf (loan (now (image .entry)) state (now (rx .entry)) (now (tx .entry))) (now (out .entry)) number (now (body .entry)) .out ⌝ }
 {
     if out.len() < 16384 {
         return Dispatched {

@@ -11,13 +11,12 @@ use lib.Dec.{ltb}
 use lib.ListN.{length, drop}
 use Rattle.wire.specs.Lay.{lay}
 use Rattle.wire.proofs.Lay.{lay-fits}
-use Rattle.state.specs.declared.State.{State}
 use Rattle.receive.specs.declared.Answer.{Answer}
 use Rattle.receive.specs.declared.Answer.the-variants as Received
 use Rattle.receive.specs.Answer.{isDone}
 use Rattle.receive.specs.Walk.{walkOf}
 use Rattle.calls.specs.declared.Call.{Call}
-use Rattle.calls.specs.declared.Call.the-variants.{Unknown, Unfit, Ticks, Open, Close, Connected, Lost, SetRemote, Switch, Segment, Walk, TakeWaiting, Datagram, Accept, Transmit, SwitchAll, ReadCount, ClearCount}
+use Rattle.calls.specs.declared.Call.the-variants.{Unknown, Unfit, Ticks, Own, Lost, Segment, Walk, TakeWaiting, Datagram, Accept, Transmit, SwitchAll, ReadCount, ClearCount}
 use Rattle.calls.specs.Calls.{callOf, bytesFrom}
 use Rattle.answering.specs.declared.Verdict.{Verdict}
 use Rattle.answering.specs.declared.Verdict.the-variants.{Done, Unknown as NoEvent, Unfit as DoesNotFit, Small}
@@ -32,10 +31,11 @@ use Rattle.dispatch.specs.Dispatch.{room, effectOf, dispatchOf}
 use Rattle.dispatch.specs.Whole.{Whole, answer, unknown, unfit, small}
 use Rattle.dispatch.proofs.Calls.{Short, call-short, segment-fits, walk-fits, call-room}
 use Rattle.dispatch.proofs.Whole.{whole}
-use Rattle.tie.specs.Machine.{Machine}
+use Rattle.tie.specs.Machine.{Machine, loanTo}
 use Rattle.dispatched.specs.Spelt.{Spoken}
 use Rattle.dispatched.specs.Told.{Take, bytesIn, nextTake, tookThen, takesFrom}
 use Rattle.dispatched.specs.Answer.{takesOver, segmentAnswer, answerOf, answerBy}
+use Rattle.gate.specs.Lent.{Loan, sizes}
 use Rattle.dispatched.proofs.Takes.{segment-bytes}
 
 -- THE NUMBER OF TAKES in an answer that is no refusal is that of the takes that it tells
@@ -50,16 +50,16 @@ more-counts true true x y c t ts same d e h = omega (arith, h d, e)
 more-counts true false x y c t ts same d e h = e
 more-counts false left x y c t ts same d e h = absurd (false≢true (sym same ∙ d))
 
-module _ (image : List ℕ) (tx k : ℕ) (seg : List ℕ) where
+module _ (l : Loan) (k : ℕ) (seg : List ℕ) where
   abbrev next : Run → Run
-  next r = step image tx k seg r
+  next r = step l k seg r
 
-  pub takes-count : (n : ℕ) (r : Run) → isDone (runOf image tx k seg n r .answer) ≡ true → runOf image tx k seg n r .count ≡ r .count + length (takesFrom image tx k seg n r)
+  pub takes-count : (n : ℕ) (r : Run) → isDone (runOf l k seg n r .answer) ≡ true → runOf l k seg n r .count ≡ r .count + length (takesFrom l k seg n r)
   unfolding runOf step takesFrom
-  takes-count zero r d = ap (λ (n : ℕ). r .count + n) (last-counts (isDone (next r .answer)) (nextTake image tx k seg r) [] d)
+  takes-count zero r d = ap (λ (n : ℕ). r .count + n) (last-counts (isDone (next r .answer)) (nextTake l k seg r) [] d)
   takes-count (suc n) r d =
-      more-counts (isDone (next r .answer)) (ltb (next r .at) (length seg)) (runOf image tx k seg n (next r)) (next r) (r .count) (nextTake image tx k seg r)
-      (takesFrom image tx k seg n (next r)) refl d refl (takes-count n (next r))
+      more-counts (isDone (next r .answer)) (ltb (next r .at) (length seg)) (runOf l k seg n (next r)) (next r) (r .count) (nextTake l k seg r)
+      (takesFrom l k seg n (next r)) refl d refl (takes-count n (next r))
 
   -- the answer of a segment event
   event-named : (a : Answer) (count : ℕ) (bytes : List ℕ) (ts : List Take) → (isDone a ≡ true → count ≡ length ts) → bytes ≡ bytesIn ts
@@ -68,21 +68,21 @@ module _ (image : List ℕ) (tx k : ℕ) (seg : List ℕ) where
   event-named (Received.Refused r) count bytes ts c e = refl
   event-named Received.NotReceiving count bytes ts c e = refl
 
-module _ (image : List ℕ) (s : State) (rx tx : List ℕ) where
+module _ (l : Loan) where
   segment-named : (c : ℕ) (seg : List ℕ)
-      → eventBytes (allTakes image (length tx) c seg s rx .answer) (allTakes image (length tx) c seg s rx .count) (allTakes image (length tx) c seg s rx .bytes)
-      ≡ segmentAnswer image s rx tx c seg
+      → eventBytes (allTakes l c seg .answer) (allTakes l c seg .count) (allTakes l c seg .bytes)
+      ≡ segmentAnswer l c seg
   segment-named c seg =
-      event-named image (length tx) c seg (allTakes image (length tx) c seg s rx .answer) (allTakes image (length tx) c seg s rx .count) (allTakes image (length tx) c seg s rx .bytes)
-      (takesOver image s rx tx c seg) (λ d. takes-count image (length tx) c seg (length seg) (begun s rx) d ∙ zero-add _) (segment-bytes image (length tx) c seg s rx)
+      event-named l c seg (allTakes l c seg .answer) (allTakes l c seg .count) (allTakes l c seg .bytes)
+      (takesOver l c seg) (λ d. takes-count l c seg (length seg) (begun (l .state) (l .rx)) d ∙ zero-add _) (segment-bytes l c seg)
 
   -- what it leaves, where there is room for it
   segment-says : (out : List ℕ) (c : ℕ) (seg : List ℕ) → length seg ≤ longest → roomFor seg ≤ length out
-      → segmentEffect image s rx tx out c seg
-      ≡ answers (segmentAnswer image s rx tx c seg) (allTakes image (length tx) c seg s rx .state) (allTakes image (length tx) c seg s rx .rx) tx out
+      → segmentEffect l out c seg
+      ≡ answers (segmentAnswer l c seg) (allTakes l c seg .state) (allTakes l c seg .rx) (l .tx) out
   segment-says out c seg short h =
-      segment-roomy image s rx tx out c seg short h
-      ∙ ap (λ (l : List ℕ). answers l (allTakes image (length tx) c seg s rx .state) (allTakes image (length tx) c seg s rx .rx) tx out) (segment-named c seg)
+      segment-roomy l out c seg short h
+      ∙ ap (λ (bytes : List ℕ). answers bytes (allTakes l c seg .state) (allTakes l c seg .rx) (l .tx) out) (segment-named c seg)
 
 -- how many bytes a verdict says are written, and whether it says so
 abbrev written : Verdict → ℕ
@@ -107,7 +107,7 @@ fits out small n e = omega (arith, ap written e)
 abbrev Named : List ℕ → List ℕ → ℕ → List ℕ → Type 0
 Named out bytes n after = (n ≡ length bytes) × (after ≡ bytes ++ drop n out)
 
-module _ (image : List ℕ) (s : State) (rx tx out : List ℕ) (n : ℕ) (low : n ≤ room) (long : room ≤ length out) where
+module _ (l : Loan) (out : List ℕ) (n : ℕ) (low : n ≤ room) (long : room ≤ length out) where
   laid : (bytes : List ℕ) → Done (length bytes) ≡ Done n → Named out bytes n (lay out 0 bytes)
   laid bytes e =
       let is : length bytes ≡ n = ap written e in
@@ -120,24 +120,20 @@ module _ (image : List ℕ) (s : State) (rx tx out : List ℕ) (n : ℕ) (low : 
       (is, ap (λ (k : ℕ). drop k out) (sym is))
 
   -- the step of a call whose segment or datagram, where it has one, is short enough
-  call-named : (body : List ℕ) (call : Call) → Short body call → effectOf image s rx tx out body call .verdict ≡ Done n
-      → Named out (answerOf image s rx tx body call) n (effectOf image s rx tx out body call .out)
+  call-named : (body : List ℕ) (call : Call) → Short body call → effectOf l out body call .verdict ≡ Done n
+      → Named out (answerOf l body call) n (effectOf l out body call .out)
   unfolding effectOf answerOf ownEffect lostEffect ticksEffect switchAllEffect readEffect clearEffect datagramEffect acceptEffect transmitEffect takeEffect
   call-named body Unknown h e = none NoEvent refl e
   call-named body Unfit h e = none DoesNotFit refl e
   call-named body (Ticks k) h e = laid _ e
-  call-named body (Open c) h e = laid _ e
-  call-named body (Close c) h e = laid _ e
-  call-named body (Connected c) h e = laid _ e
+  call-named body (Own c own) h e = laid _ e
   call-named body (Lost c) h e = laid _ e
-  call-named body (SetRemote c remote) h e = laid _ e
-  call-named body (Switch c number position) h e = laid _ e
   call-named body (Segment c at) h e =
-      subst (λ (x : Effect). x .verdict ≡ Done n → Named out (segmentAnswer image s rx tx c (bytesFrom body at)) n (x .out))
-      (sym (segment-says image s rx tx out c (bytesFrom body at) (segment-fits body c at h) (omega (arith, long, call-room body c at h)))) (laid _) e
+      subst (λ (x : Effect). x .verdict ≡ Done n → Named out (segmentAnswer l c (bytesFrom body at)) n (x .out))
+      (sym (segment-says l out c (bytesFrom body at) (segment-fits body c at h) (omega (arith, long, call-room body c at h)))) (laid _) e
   call-named body (Walk c place at) h e =
-      subst (λ (x : Effect). x .verdict ≡ Done n → Named out (walkedBytes (walkOf image s (length rx) (length tx) c (bytesFrom body at) place)) n (x .out))
-      (sym (walk-short image s rx tx out c place (bytesFrom body at) (walk-fits body c place at h))) (laid _) e
+      subst (λ (x : Effect). x .verdict ≡ Done n → Named out (walkedBytes (walkOf (sizes l) c (bytesFrom body at) place)) n (x .out))
+      (sym (walk-short l out c place (bytesFrom body at) (walk-fits body c place at h))) (laid _) e
   call-named body (TakeWaiting c k) h e = laid _ e
   call-named body (Datagram group source) h e = laid _ e
   call-named body (Accept group source) h e = laid _ e
@@ -147,23 +143,19 @@ module _ (image : List ℕ) (s : State) (rx tx out : List ℕ) (n : ℕ) (low : 
   call-named body (ClearCount protocol) h e = laid _ e
 
 -- EVERY EVENT IS ANSWERED: what a number and a body spell, into an out buffer that is long enough
-module _ (image : List ℕ) (s : State) (rx tx out : List ℕ) (long : room ≤ length out) where
+module _ (l : Loan) (out : List ℕ) (long : room ≤ length out) where
   call-answered : (body : List ℕ) (call : Call) → Short body call → (call ≡ Unknown → ⊥) → (call ≡ Unfit → ⊥)
-      → effectOf image s rx tx out body call .verdict ≡ Done (length (answerOf image s rx tx body call))
+      → effectOf l out body call .verdict ≡ Done (length (answerOf l body call))
   unfolding effectOf answerOf ownEffect lostEffect ticksEffect switchAllEffect readEffect clearEffect datagramEffect acceptEffect transmitEffect takeEffect
   call-answered body Unknown h known fit = absurd (known refl)
   call-answered body Unfit h known fit = absurd (fit refl)
   call-answered body (Ticks k) h known fit = refl
-  call-answered body (Open c) h known fit = refl
-  call-answered body (Close c) h known fit = refl
-  call-answered body (Connected c) h known fit = refl
+  call-answered body (Own c e) h known fit = refl
   call-answered body (Lost c) h known fit = refl
-  call-answered body (SetRemote c remote) h known fit = refl
-  call-answered body (Switch c number position) h known fit = refl
   call-answered body (Segment c at) h known fit =
-      ap (λ (x : Effect). x .verdict) (segment-says image s rx tx out c (bytesFrom body at) (segment-fits body c at h) (omega (arith, long, call-room body c at h)))
+      ap (λ (x : Effect). x .verdict) (segment-says l out c (bytesFrom body at) (segment-fits body c at h) (omega (arith, long, call-room body c at h)))
   call-answered body (Walk c place at) h known fit =
-      ap (λ (x : Effect). x .verdict) (walk-short image s rx tx out c place (bytesFrom body at) (walk-fits body c place at h))
+      ap (λ (x : Effect). x .verdict) (walk-short l out c place (bytesFrom body at) (walk-fits body c place at h))
   call-answered body (TakeWaiting c k) h known fit = refl
   call-answered body (Datagram group source) h known fit = refl
   call-answered body (Accept group source) h known fit = refl
@@ -174,26 +166,26 @@ module _ (image : List ℕ) (s : State) (rx tx out : List ℕ) (long : room ≤ 
 
 pub event-answered : (image : List ℕ) (m : Machine) (c : Spoken) → room ≤ length (c .out)
     → (callOf (c .number) (c .body) ≡ Unknown → ⊥) → (callOf (c .number) (c .body) ≡ Unfit → ⊥)
-    → dispatchOf image (m .state) (m .rx) (m .tx) (c .out) (c .number) (c .body) .verdict ≡ Done (length (answerBy image m c))
+    → dispatchOf (loanTo image m) (c .out) (c .number) (c .body) .verdict ≡ Done (length (answerBy image m c))
 unfolding dispatchOf
 event-answered image m c long known fit =
-    ap (λ (b : Bool). cond b (untouched Small (m .state) (m .rx) (m .tx) (c .out)) (effectOf image (m .state) (m .rx) (m .tx) (c .out) (c .body) (callOf (c .number) (c .body))) .verdict)
+    ap (λ (b : Bool). cond b (untouched Small (m .state) (m .rx) (m .tx) (c .out)) (effectOf (loanTo image m) (c .out) (c .body) (callOf (c .number) (c .body))) .verdict)
     (le-ltb (length (c .out)) room long)
-    ∙ call-answered image (m .state) (m .rx) (m .tx) (c .out) long (c .body) (callOf (c .number) (c .body)) (call-short (c .number) (c .body)) known fit
+    ∙ call-answered (loanTo image m) (c .out) long (c .body) (callOf (c .number) (c .body)) (call-short (c .number) (c .body)) known fit
 
 -- EVERY ANSWER, of any image, machine and call
-pub answer-named : (image : List ℕ) (m : Machine) (c : Spoken) (n : ℕ) → dispatchOf image (m .state) (m .rx) (m .tx) (c .out) (c .number) (c .body) .verdict ≡ Done n
-    → (n ≡ length (answerBy image m c)) × (dispatchOf image (m .state) (m .rx) (m .tx) (c .out) (c .number) (c .body) .out ≡ answerBy image m c ++ drop n (c .out))
+pub answer-named : (image : List ℕ) (m : Machine) (c : Spoken) (n : ℕ) → dispatchOf (loanTo image m) (c .out) (c .number) (c .body) .verdict ≡ Done n
+    → (n ≡ length (answerBy image m c)) × (dispatchOf (loanTo image m) (c .out) (c .number) (c .body) .out ≡ answerBy image m c ++ drop n (c .out))
 unfolding dispatchOf
 answer-named image m c n said = go (ltb (length (c .out)) room) refl said
   where
     low : n ≤ room
-    low = fits (c .out) (whole image (m .state) (m .rx) (m .tx) (c .out) (c .number) (c .body)) n said
+    low = fits (c .out) (whole (loanTo image m) (c .out) (c .number) (c .body)) n said
 
     go : (b : Bool) → ltb (length (c .out)) room ≡ b
-        → cond b (untouched Small (m .state) (m .rx) (m .tx) (c .out)) (effectOf image (m .state) (m .rx) (m .tx) (c .out) (c .body) (callOf (c .number) (c .body))) .verdict ≡ Done n
+        → cond b (untouched Small (m .state) (m .rx) (m .tx) (c .out)) (effectOf (loanTo image m) (c .out) (c .body) (callOf (c .number) (c .body))) .verdict ≡ Done n
         → Named (c .out) (answerBy image m c) n
-        (cond b (untouched Small (m .state) (m .rx) (m .tx) (c .out)) (effectOf image (m .state) (m .rx) (m .tx) (c .out) (c .body) (callOf (c .number) (c .body))) .out)
+        (cond b (untouched Small (m .state) (m .rx) (m .tx) (c .out)) (effectOf (loanTo image m) (c .out) (c .body) (callOf (c .number) (c .body))) .out)
     go true e d = absurd (false≢true (ap answered d))
     go false e d =
-        call-named image (m .state) (m .rx) (m .tx) (c .out) n low (ltb-false (length (c .out)) room e) (c .body) (callOf (c .number) (c .body)) (call-short (c .number) (c .body)) d
+        call-named (loanTo image m) (c .out) n low (ltb-false (length (c .out)) room e) (c .body) (callOf (c .number) (c .body)) (call-short (c .number) (c .body)) d

@@ -9,16 +9,15 @@ use lib.ListN.{length, replicate}
 use Rattle.lengths.specs.Listed.{Bytes}
 use Rattle.lengths.proofs.Bytes.{bytes-drop}
 use Rattle.connection.specs.declared.Refusal.{Refusal}
-use Rattle.gate.specs.Lent.{lent}
 use Rattle.gate.specs.declared.Gate.the-variants.{Refused}
 use Rattle.gate.specs.Gate.{gateOf}
 use Rattle.calls.specs.declared.Call.{Call}
-use Rattle.calls.specs.declared.Call.the-variants.{Unknown, Unfit, Ticks, Open, Close, Connected, Lost, SetRemote, Switch, Segment, Walk, TakeWaiting, Datagram, Accept, Transmit, SwitchAll, ReadCount, ClearCount}
+use Rattle.calls.specs.declared.Call.the-variants.{Unknown, Unfit, Ticks, Own, Lost, Segment, Walk, TakeWaiting, Datagram, Accept, Transmit, SwitchAll, ReadCount, ClearCount}
 use Rattle.calls.specs.Calls.{callOf}
 use Rattle.dispatch.specs.Dispatch.{room}
 use Rattle.world.specs.Events.{tick, Event, all}
 use Rattle.runs.specs.Streams.{RunBytes}
-use Rattle.tie.specs.Machine.{Machine}
+use Rattle.tie.specs.Machine.{Machine, lentTo}
 use Rattle.tie.specs.Run.{afterEvent, afterRun, Good}
 use Rattle.demands.proofs.Runs.{run-good}
 use Rattle.demands.proofs.Refused.{run-stays}
@@ -49,12 +48,8 @@ unfolding eventsOf
 events-bytes body b Unknown = tt
 events-bytes body b Unfit = tt
 events-bytes body b (Ticks n) = ticks-bytes n
-events-bytes body b (Open c) = (tt, tt)
-events-bytes body b (Close c) = (tt, tt)
-events-bytes body b (Connected c) = (tt, tt)
+events-bytes body b (Own c e) = (tt, tt)
 events-bytes body b (Lost c) = (tt, tt)
-events-bytes body b (SetRemote c remote) = (tt, tt)
-events-bytes body b (Switch c number position) = (tt, tt)
 events-bytes body b (Segment c at) = (bytes-drop at body b, tt)
 events-bytes body b (Walk c place at) = (tt, tt)
 events-bytes body b (TakeWaiting c n) = (tt, tt)
@@ -87,6 +82,6 @@ pub calls-good : (image : List ℕ) (m : Machine) (cs : List Spoken) → CallByt
 calls-good image m cs b g = subst (Good image) (sym (calls-run image m cs)) (run-good image m (spelt cs) (spelt-bytes cs b) g)
 
 -- .. and where the gate refuses (11, 12), calls leave state and lent memory as they were
-pub calls-stay : (image : List ℕ) (m : Machine) (r : Refusal) → gateOf (lent image (m .state) (length (m .rx)) (length (m .tx))) ≡ Refused r → (cs : List Spoken)
+pub calls-stay : (image : List ℕ) (m : Machine) (r : Refusal) → gateOf (lentTo image m) ≡ Refused r → (cs : List Spoken)
     → afterCalls image m cs ≡ m
 calls-stay image m r shut cs = calls-run image m cs ∙ run-stays image m r shut (spelt cs)

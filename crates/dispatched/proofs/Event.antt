@@ -8,14 +8,13 @@ use native.Mathlib.Omega.{arith}
 use borrow.Author.Tests.{ltb-false}
 use lib.Dec.{ltb}
 use lib.ListN.{length, take as front, replicate, length-take, length-replicate}
-use Rattle.state.specs.declared.State.{State}
-use Rattle.gate.specs.Lent.{lent}
+use Rattle.gate.specs.Lent.{Loan, sizes}
 use Rattle.gate.specs.Gate.{gateAt, through}
 use Rattle.events.specs.Change.{lossOf}
 use Rattle.sending.specs.declared.Taken.{Taken}
 use Rattle.sending.specs.Sending.{notTaken, takePast, takenOf}
 use Rattle.calls.specs.declared.Call.{Call}
-use Rattle.calls.specs.declared.Call.the-variants.{Unknown, Unfit, Ticks, Open, Close, Connected, Lost, SetRemote, Switch, Segment, Walk, TakeWaiting, Datagram, Accept, Transmit, SwitchAll, ReadCount, ClearCount}
+use Rattle.calls.specs.declared.Call.the-variants.{Unknown, Unfit, Ticks, Own, Lost, Segment, Walk, TakeWaiting, Datagram, Accept, Transmit, SwitchAll, ReadCount, ClearCount}
 use Rattle.calls.specs.Calls.{callOf, bytesFrom}
 use Rattle.answering.specs.declared.Verdict.the-variants.{Small}
 use Rattle.answering.specs.Answers.{untouched}
@@ -24,7 +23,7 @@ use Rattle.answer_receive.proofs.Room.{segment-roomy, walk-short}
 use Rattle.answer_send.specs.Send.{roomOf, datagramEffect, acceptEffect, transmitEffect, takeEffect}
 use Rattle.dispatch.specs.Dispatch.{room, effectOf, dispatchOf}
 use Rattle.dispatch.proofs.Calls.{Short, call-short, segment-fits, walk-fits, call-room}
-use Rattle.tie.specs.Machine.{Machine, machine}
+use Rattle.tie.specs.Machine.{Machine, machine, loanTo}
 use Rattle.tie.specs.Run.{afterOwn, afterWhole, afterEvent, afterRun}
 use Rattle.dispatched.specs.Spelt.{eventsOf, Spoken, speltBy, machineOf, afterCall}
 use Rattle.dispatched.proofs.Segment.{segment-machine}
@@ -36,29 +35,25 @@ buffer-room n =
     omega (arith, length-take {A = ℕ} (roomOf n) (replicate 1472 0), length-replicate {A = ℕ} 1472 0, length-replicate {A = ℕ} (roomOf n) 0)
 
 -- of an out buffer only its room matters to the state
-take-room : (image : List ℕ) (s : State) (rx : ℕ) (tx : List ℕ) (c : ℕ) (a b : List ℕ) → length a ≡ length b → takenOf image s rx tx c a ≡ takenOf image s rx tx c b
+take-room : (l : Loan) (c : ℕ) (a b : List ℕ) → length a ≡ length b → takenOf l c a ≡ takenOf l c b
 unfolding takenOf
-take-room image s rx tx c a b e = ap (λ (n : ℕ). through (gateAt (lent image s rx (length tx)) c) (notTaken s) (takePast image s c n)) e
+take-room l c a b e = ap (λ (n : ℕ). through (gateAt (sizes l) c) (notTaken (l .state)) (takePast (l .image) (l .state) c n)) e
 
-module _ (image : List ℕ) (s : State) (rx tx out body : List ℕ) (long : room ≤ length out) where
+module _ (image : List ℕ) (m : Machine) (out body : List ℕ) (long : room ≤ length out) where
   -- the step of a call whose segment or datagram, where it has one, is short enough
-  call-events : (call : Call) → Short body call → machineOf (effectOf image s rx tx out body call) ≡ afterRun image (machine s rx tx) (eventsOf body call)
+  call-events : (call : Call) → Short body call → machineOf (effectOf (loanTo image m) out body call) ≡ afterRun image m (eventsOf body call)
   unfolding effectOf eventsOf afterRun afterEvent afterOwn afterWhole ownEffect lostEffect lossOf ticksEffect switchAllEffect readEffect clearEffect datagramEffect acceptEffect transmitEffect takeEffect
   call-events Unknown h = refl
   call-events Unfit h = refl
-  call-events (Ticks n) h = ticks-run image rx tx s n
-  call-events (Open c) h = refl
-  call-events (Close c) h = refl
-  call-events (Connected c) h = refl
+  call-events (Ticks n) h = ticks-run image (m .rx) (m .tx) (m .state) n
+  call-events (Own c e) h = refl
   call-events (Lost c) h = refl
-  call-events (SetRemote c remote) h = refl
-  call-events (Switch c number position) h = refl
   call-events (Segment c at) h =
-      ap machineOf (segment-roomy image s rx tx out c (bytesFrom body at) (segment-fits body c at h) (omega (arith, long, call-room body c at h)))
-      ∙ segment-machine image c (bytesFrom body at) s rx tx
-  call-events (Walk c place at) h = ap machineOf (walk-short image s rx tx out c place (bytesFrom body at) (walk-fits body c place at h))
+      ap machineOf (segment-roomy (loanTo image m) out c (bytesFrom body at) (segment-fits body c at h) (omega (arith, long, call-room body c at h)))
+      ∙ segment-machine image c (bytesFrom body at) m
+  call-events (Walk c place at) h = ap machineOf (walk-short (loanTo image m) out c place (bytesFrom body at) (walk-fits body c place at h))
   call-events (TakeWaiting c n) h =
-      ap (λ (t : Taken). machine (t .state) rx tx) (take-room image s (length rx) tx c (front (roomOf n) (replicate 1472 0)) (replicate (roomOf n) 0) (buffer-room n))
+      ap (λ (t : Taken). machine (t .state) (m .rx) (m .tx)) (take-room (loanTo image m) c (front (roomOf n) (replicate 1472 0)) (replicate (roomOf n) 0) (buffer-room n))
   call-events (Datagram group source) h = refl
   call-events (Accept group source) h = refl
   call-events (Transmit pdu at) h = refl
@@ -72,8 +67,8 @@ unfolding dispatchOf speltBy afterRun
 dispatched-events image m c = go (ltb (length (c .out)) room) refl
   where
     go : (b : Bool) → ltb (length (c .out)) room ≡ b
-        → machineOf (cond b (untouched Small (m .state) (m .rx) (m .tx) (c .out)) (effectOf image (m .state) (m .rx) (m .tx) (c .out) (c .body) (callOf (c .number) (c .body))))
+        → machineOf (cond b (untouched Small (m .state) (m .rx) (m .tx) (c .out)) (effectOf (loanTo image m) (c .out) (c .body) (callOf (c .number) (c .body))))
         ≡ afterRun image m (cond b [] (eventsOf (c .body) (callOf (c .number) (c .body))))
     go true e = refl
     go false e =
-        call-events image (m .state) (m .rx) (m .tx) (c .out) (c .body) (ltb-false (length (c .out)) room e) (callOf (c .number) (c .body)) (call-short (c .number) (c .body))
+        call-events image m (c .out) (c .body) (ltb-false (length (c .out)) room e) (callOf (c .number) (c .body)) (call-short (c .number) (c .body))

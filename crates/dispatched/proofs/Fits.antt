@@ -1,5 +1,5 @@
 -- THE ANSWERS ARE READ BACK: what takes and walks find fits the widths that the answer spells it in, so a reader of the bytes gets exactly
--- the PDUs that the call tells. Assumes nothing.
+-- the PDUs and drops that the call tells. Assumes nothing.
 use Prim.Native.Nat.{ℕ, zero, suc, _+_, _-_, _/_, _≤_, _<_}
 use mathlib.Core.Path.{_≡_, refl, sym, ap, _∙_, subst}
 use mathlib.Core.Bool.{Bool, true, false, cond, true≢false}
@@ -18,7 +18,7 @@ use Rattle.table.specs.Accepts.{Accepts}
 use Rattle.table.proofs.Facts.{accepted-facts}
 use Rattle.feed.specs.declared.Decision.{Decision}
 use Rattle.feed.specs.declared.Decision.the-variants as Decided
-use Rattle.feed.specs.Feed.{Pdu, Routes, Cell, Out, nothing, pdu, dropped, takeB}
+use Rattle.feed.specs.Feed.{Routes, Cell, Out, nothing, pdu, dropped, takeB}
 use Rattle.lengths.specs.Listed.{Bytes}
 use Rattle.lengths.specs.Head.{Head, ended, short, beyond, whole, headOf}
 use Rattle.lengths.proofs.Bytes.{bytes-drop}
@@ -32,9 +32,10 @@ use Rattle.state.specs.declared.State.{State}
 use Rattle.state.specs.State.{recordAt}
 use Rattle.state.specs.Fresh.{configOf}
 use Rattle.state.specs.Memory.{stretch}
+use Rattle.gate.specs.Lent.{Lent, Loan, sizes}
 use Rattle.gate.proofs.Records.{row-routed, record-at}
 use Rattle.stream.specs.Stream.{cellOf, inSegment, idOf, outcomeOf, tookOf, takenOf, Limits}
-use Rattle.stream.proofs.Leaves.{PartHolds, Owns, Told, take-sane, part-sane}
+use Rattle.stream.proofs.Leaves.{PartHolds, Owns, Told, take-sane, part-sane, Sane}
 use Rattle.datagram.specs.declared.Outcome.the-variants as Met
 use Rattle.datagram.specs.Datagram.{walkedOf}
 use Rattle.datagram.specs.Datagram as met
@@ -48,22 +49,23 @@ use Rattle.receive.proofs.Keeps.{in-range}
 use Rattle.receive.proofs.Past.{stretch-length, passed-takes}
 use Rattle.receive.proofs.Routed.{routed-owns}
 use Rattle.calls.specs.declared.Call.{Call}
-use Rattle.calls.specs.declared.Call.the-variants.{Unknown, Unfit, Ticks, Open, Close, Connected, Lost, SetRemote, Switch, Segment, Walk, TakeWaiting, Datagram, Accept, Transmit, SwitchAll, ReadCount, ClearCount}
+use Rattle.calls.specs.declared.Call.the-variants.{Unknown, Unfit, Ticks, Own, Lost, Segment, Walk, TakeWaiting, Datagram, Accept, Transmit, SwitchAll, ReadCount, ClearCount}
 use Rattle.calls.specs.Calls.{callOf, bytesFrom}
 use Rattle.answer_receive.specs.Long.{longest}
-use Rattle.answer_receive.specs.Segment.{Run, begun, takeAt, memoryAt, step, allTakes, eventBytes}
+use Rattle.answer_receive.specs.Segment.{lends, Run, begun, takeAt, memoryAt, step, allTakes, eventBytes}
 use Rattle.answer_receive.specs.Walk.{walkedBytes}
 use Rattle.answer_receive.proofs.Room.{answer-is}
 use Rattle.answer_receive.proofs.Run.{read-within, first-answer, count-fits}
 use Rattle.dispatch.proofs.Calls.{Short, call-short, segment-fits, walk-fits}
-use Rattle.tie.specs.Machine.{Machine}
+use Rattle.tie.specs.Machine.{Machine, lentTo, loanTo}
 use Rattle.tie.specs.Run.{toldWalk}
 use Rattle.dispatched.specs.Spelt.{Spoken}
-use Rattle.dispatched.specs.Told.{Take, bytesIn, pdusIn, nextTake, takesFrom, tellsOf}
+use Rattle.dispatched.specs.Told.{Take, bytesIn, outsIn, nextTake, takesFrom, tellsOf}
 use Rattle.dispatched.specs.Answer.{takesOver, segmentAnswer as answerTo, answerOf, answerBy}
 use Rattle.dispatched.specs.Read.{takesRead, segmentRead, walkRead, readOf}
 use Rattle.dispatched.proofs.Answer.{takes-count}
 use Rattle.dispatched.proofs.Read.{TakeFits, more-back, done-back, refused-back, StepFits, walk-back}
+use Rattle.dispatched.proofs.Drops.{DropFits, reason-small, sane-heads, take-drops, head-small}
 
 -- ROUTE AND LENGTH of each PDU that is handed out: a row of the table, and no more than it allows
 abbrev Within : ℕ → ℕ → Type 0
@@ -93,24 +95,33 @@ told-small (pdu r′ p′) c t r p e =
     (subst (λ (x : ℕ). x < 64) same (t .1 .0), subst (λ (l : List ℕ). length l ≤ 1464) long (t .1 .1))
 told-small (dropped k i n) c t r p e = let z : _≡_ {A = ℕ} 0 1 = cc in absurd (omega arith)
 
--- an outcome with such a PDU fits, where the take read no further than a segment that is not too long, and receive memory is as long as it is
+-- an outcome with such a PDU, or with a drop that fits, fits, where the take read no further than a segment that is not too long, and receive memory is as long as it is
 outcome-fits : (ids : ℕ → ℕ) (s : Bool) (begins read : ℕ) (rest rx : List ℕ) (k : ℕ) (o : Out) → ((r : ℕ) (p : List ℕ) → o ≡ pdu r p → Within r (length p))
-    → begins + read ≤ longest → length (stretch 1464 k rx) ≡ 1464
+    → DropFits o → begins + read ≤ longest → length (stretch 1464 k rx) ≡ 1464
     → TakeFits begins (outcomeOf ids s read o) (payloadOf rest rx k (outcomeOf ids s read o))
 unfolding payloadOf
-outcome-fits ids s begins read rest rx k nothing small within room = tt
-outcome-fits ids true begins read rest rx k (pdu r p) small within room =
+outcome-fits ids s begins read rest rx k nothing small spelt within room = tt
+outcome-fits ids true begins read rest rx k (pdu r p) small spelt within room =
     let h = small r p refl in (omega (arith, h .0), (omega (arith, h .1), omega (arith, within)))
-outcome-fits ids false begins read rest rx k (pdu r p) small within room =
+outcome-fits ids false begins read rest rx k (pdu r p) small spelt within room =
     let h = small r p refl in
     let l : length (partOf (stretch 1464 k rx) 0 (length p)) ≡ length p =
     ap length (part-fits (stretch 1464 k rx) 0 (length p) (omega (arith, h .1, room))) ∙ length-take-le (length p) (drop 0 (stretch 1464 k rx)) (omega (arith, h .1, room)) in
     (omega (arith, h .0), (omega (arith, h .1), l))
-outcome-fits ids s begins read rest rx k (dropped j i n) small within room = tt
+outcome-fits ids s begins read rest rx k (dropped j i n) small spelt within room = spelt
 
 -- A TAKE THAT IS DONE
-module _ (image : List ℕ) (tx k : ℕ) (seg : List ℕ) (bytes : Bytes seg) (notLong : length seg ≤ longest) where
-  module _ (s : State) (rx : List ℕ) (at : ℕ) (within : at ≤ length seg) (d : isDone (takeAt image tx k seg s rx at .answer) ≡ true) where
+module _ (start : Loan) (k : ℕ) (seg : List ℕ) (bytes : Bytes seg) (notLong : length seg ≤ longest) where
+  module _ (l : Loan) (at : ℕ) (within : at ≤ length seg) (d : isDone (takeAt l k seg at .answer) ≡ true) where
+    abbrev image : List ℕ
+    image = l .image
+
+    abbrev s : State
+    s = l .state
+
+    abbrev rx : List ℕ
+    rx = l .rx
+
     abbrev rest : List ℕ
     rest = drop at seg
 
@@ -123,14 +134,14 @@ module _ (image : List ℕ) (tx k : ℕ) (seg : List ℕ) (bytes : Bytes seg) (n
     abbrev part : Cell
     part = cellOf (recordAt s k .part) (stretch 1464 k rx)
 
-    e : isDone (segmentAnswer image s (length rx) tx k) ≡ true
-    e = sym (answer-is image s rx tx k rest) ∙ d
+    e : isDone (segmentAnswer (sizes l) k) ≡ true
+    e = sym (answer-is l k rest) ∙ d
 
-    clear : Clear image s (length rx) tx k (configOf image k .tcp)
-    clear = done-clear image s (length rx) tx k (configOf image k .tcp) e
+    clear : Clear (sizes l) k (configOf image k .tcp)
+    clear = done-clear (sizes l) k (configOf image k .tcp) e
 
     takes : Takes image s rx k
-    takes = passed-takes image s rx tx k (clear .passed) (clear .there)
+    takes = passed-takes l k (clear .passed) (clear .there)
 
     few : length routes / 16 ≤ 64
     few =
@@ -147,106 +158,108 @@ module _ (image : List ℕ) (tx k : ℕ) (seg : List ℕ) (bytes : Bytes seg) (n
         let allows = accepted routes k (recordAt s k .switches) i n r a in
         (accepted-row routes k (recordAt s k .switches) i n r a, omega (arith, allows .fits, takes .fit .limits r))
 
-    small : (r : ℕ) (p : List ℕ) → takeB R part rest .out ≡ pdu r p → Within r (length p)
-    small =
-        told-small (takeB R part rest .out) (takeB R part rest .to)
-        (take-sane Within R decides part rest (bytes-drop at seg bytes) (part-sane Within routes (recordAt s k .part) (stretch 1464 k rx) (takes .fit) held) .1)
+    sane : Sane Within part
+    sane = part-sane Within routes (recordAt s k .part) (stretch 1464 k rx) (takes .fit) held
 
-    outcome-is : segmentOf image s rx tx k rest .outcome ≡ outcomeOf (idOf routes) (inSegment part) (length rest - length (takeB R part rest .rest)) (takeB R part rest .out)
+    small : (r : ℕ) (p : List ℕ) → takeB R part rest .out ≡ pdu r p → Within r (length p)
+    small = told-small (takeB R part rest .out) (takeB R part rest .to) (take-sane Within R decides part rest (bytes-drop at seg bytes) sane .1)
+
+    spelt : DropFits (takeB R part rest .out)
+    spelt = take-drops R (reason-small routes k (recordAt s k .switches)) part rest (bytes-drop at seg bytes) (sane-heads Within part sane)
+
+    outcome-is : segmentOf l k rest .outcome ≡ outcomeOf (idOf routes) (inSegment part) (length rest - length (takeB R part rest .rest)) (takeB R part rest .out)
     unfolding segmentOf takeOn takenOf tookOf
     outcome-is = rw e refl
 
-    memory-long : length (memoryOf image s rx tx k rest) ≡ 23424
+    memory-long : length (memoryOf l k rest) ≡ 23424
     unfolding memoryOf memoryOn
     memory-long = rw e (lay-length rx _ (stretchAt image s rx k rest) ∙ clear .passed .receive)
 
-    take-fits : TakeFits at (takeAt image tx k seg s rx at .outcome) (payloadOf rest (memoryAt image tx k seg s rx at) k (takeAt image tx k seg s rx at .outcome))
+    take-fits : TakeFits at (takeAt l k seg at .outcome) (payloadOf rest (memoryAt l k seg at) k (takeAt l k seg at .outcome))
     take-fits =
-        subst (λ (o : _). TakeFits at o (payloadOf rest (memoryOf image s rx tx k rest) k o)) (sym outcome-is)
-        (outcome-fits (idOf routes) (inSegment part) at (length rest - length (takeB R part rest .rest)) rest (memoryOf image s rx tx k rest) k (takeB R part rest .out) small
-        (omega (arith, within, notLong, length-drop at seg)) (stretch-length k (memoryOf image s rx tx k rest) (takes .small) memory-long))
+        subst (λ (o : _). TakeFits at o (payloadOf rest (memoryOf l k rest) k o)) (sym outcome-is)
+        (outcome-fits (idOf routes) (inSegment part) at (length rest - length (takeB R part rest .rest)) rest (memoryOf l k rest) k (takeB R part rest .out) small spelt
+        (omega (arith, within, notLong, length-drop at seg)) (stretch-length k (memoryOf l k rest) (takes .small) memory-long))
 
   -- THE TAKES, one after the other
   abbrev next : Run → Run
-  next r = step image tx k seg r
+  next r = step start k seg r
 
   takes-back : (n : ℕ) (r : Run) → r .at ≤ length seg
-      → takesRead seg (length (takesFrom image tx k seg n r)) (bytesIn (takesFrom image tx k seg n r)) ≡ pdusIn seg (takesFrom image tx k seg n r)
-  unfolding takesFrom step takesRead bytesIn pdusIn
-  takes-back zero r within = more-back seg (isDone (next r .answer)) false (nextTake image tx k seg r) [] (take-fits (r .state) (r .rx) (r .at) within) refl
+      → takesRead seg (length (takesFrom start k seg n r)) (bytesIn (takesFrom start k seg n r)) ≡ outsIn seg (takesFrom start k seg n r)
+  unfolding takesFrom step takesRead bytesIn outsIn
+  takes-back zero r within = more-back seg (isDone (next r .answer)) false (nextTake start k seg r) [] (take-fits (lends start k seg r) (r .at) within) refl
   takes-back (suc n) r within =
-      more-back seg (isDone (next r .answer)) (ltb (next r .at) (length seg)) (nextTake image tx k seg r) (takesFrom image tx k seg n (next r)) (take-fits (r .state) (r .rx) (r .at) within)
-      (takes-back n (next r) (omega (arith, within, read-within image (r .state) (r .rx) tx k (drop (r .at) seg), length-drop (r .at) seg)))
+      more-back seg (isDone (next r .answer)) (ltb (next r .at) (length seg)) (nextTake start k seg r) (takesFrom start k seg n (next r)) (take-fits (lends start k seg r) (r .at) within)
+      (takes-back n (next r) (omega (arith, within, read-within (lends start k seg r) k (drop (r .at) seg), length-drop (r .at) seg)))
 
-  none-taken : (n : ℕ) (r : Run) → isDone (next r .answer) ≡ false → takesFrom image tx k seg n r ≡ []
+  none-taken : (n : ℕ) (r : Run) → isDone (next r .answer) ≡ false → takesFrom start k seg n r ≡ []
   unfolding takesFrom
   none-taken zero r e = rw e refl
   none-taken (suc n) r e = rw e refl
 
 -- A SEGMENT EVENT
-segment-read : (image : List ℕ) (s : State) (rx tx : List ℕ) (k : ℕ) (seg : List ℕ) → Bytes seg → length seg ≤ longest
-    → segmentRead seg (answerTo image s rx tx k seg) ≡ pdusIn seg (takesOver image s rx tx k seg)
-unfolding step pdusIn
-segment-read image s rx tx k seg bytes notLong = go (allTakes image (length tx) k seg s rx .answer) refl
+segment-read : (l : Loan) (k : ℕ) (seg : List ℕ) → Bytes seg → length seg ≤ longest
+    → segmentRead seg (answerTo l k seg) ≡ outsIn seg (takesOver l k seg)
+unfolding step outsIn
+segment-read l k seg bytes notLong = go (allTakes l k seg .answer) refl
   where
     ts : List Take
-    ts = takesOver image s rx tx k seg
+    ts = takesOver l k seg
 
-    none : isDone (allTakes image (length tx) k seg s rx .answer) ≡ false → ts ≡ []
-    none e = none-taken image (length tx) k seg bytes notLong (length seg) (begun s rx) (sym (ap isDone (first-answer image (length tx) k seg bytes s rx)) ∙ e)
+    none : isDone (allTakes l k seg .answer) ≡ false → ts ≡ []
+    none e = none-taken l k seg bytes notLong (length seg) (begun (l .state) (l .rx)) (sym (ap isDone (first-answer l k seg bytes)) ∙ e)
 
-    go : (a : Answer) → allTakes image (length tx) k seg s rx .answer ≡ a → segmentRead seg (eventBytes a (length ts) (bytesIn ts)) ≡ pdusIn seg ts
+    go : (a : Answer) → allTakes l k seg .answer ≡ a → segmentRead seg (eventBytes a (length ts) (bytesIn ts)) ≡ outsIn seg ts
     go Done e =
         done-back seg ts
-        (omega (arith, zero-add (length ts), takes-count image (length tx) k seg (length seg) (begun s rx) (ap isDone e), count-fits image (length tx) k seg s rx notLong))
-        (takes-back image (length tx) k seg bytes notLong (length seg) (begun s rx) (omega arith))
-    go (Refused r) e = refused-back seg (Refused r) (length ts) (bytesIn ts) refl ∙ sym (ap (pdusIn seg) (none (ap isDone e)))
-    go NotReceiving e = refused-back seg NotReceiving (length ts) (bytesIn ts) refl ∙ sym (ap (pdusIn seg) (none (ap isDone e)))
+        (omega (arith, zero-add (length ts), takes-count l k seg (length seg) (begun (l .state) (l .rx)) (ap isDone e), count-fits l k seg notLong))
+        (takes-back l k seg bytes notLong (length seg) (begun (l .state) (l .rx)) (omega arith))
+    go (Refused r) e = refused-back seg (Refused r) (length ts) (bytesIn ts) refl ∙ sym (ap (outsIn seg) (none (ap isDone e)))
+    go NotReceiving e = refused-back seg NotReceiving (length ts) (bytesIn ts) refl ∙ sym (ap (outsIn seg) (none (ap isDone e)))
 
 -- A WALK
-walk-read : (image : List ℕ) (s : State) (rx tx k : ℕ) (datagram : List ℕ) (place : ℕ) → length datagram ≤ longest
-    → walkRead datagram (walkedBytes (walkOf image s rx tx k datagram place)) ≡ toldWalk datagram (walkOf image s rx tx k datagram place .outcome)
+walk-read : (l : Lent) (k : ℕ) (datagram : List ℕ) (place : ℕ) → Bytes datagram → length datagram ≤ longest
+    → walkRead datagram (walkedBytes (walkOf l k datagram place)) ≡ toldWalk datagram (walkOf l k datagram place .outcome)
 unfolding walkOf walkOn walkedOf walkAt
-walk-read image s rx tx k datagram place notLong = go (isDone (walkAnswer image s rx tx k datagram place))
+walk-read l k datagram place bytes notLong = go (isDone (walkAnswer l k datagram place))
   where
     R : Routes
-    R = lookupOf (bodyOf image RouteRows) k (recordAt s k .switches)
+    R = lookupOf (bodyOf (l .image) RouteRows) k (recordAt (l .state) k .switches)
 
     decided : (d : Decision) (i n : ℕ) → R i n ≡ d → headOf (drop place datagram) ≡ whole i n → StepFits (met.outcomeOf (wholeAt d place i n .found))
     decided (Decided.Accept r) i n a e =
-        (omega (arith, accepted-row (bodyOf image RouteRows) k (recordAt s k .switches) i n r a), (omega (arith, notLong, whole-fits (drop place datagram) i n e, length-drop place datagram), omega (arith, notLong, whole-fits (drop place datagram) i n e, length-drop place datagram)))
-    decided (Decided.Refuse j) i n a e = tt
+        (omega (arith, accepted-row (bodyOf (l .image) RouteRows) k (recordAt (l .state) k .switches) i n r a), (omega (arith, notLong, whole-fits (drop place datagram) i n e, length-drop place datagram), omega (arith, notLong, whole-fits (drop place datagram) i n e, length-drop place datagram)))
+    decided (Decided.Refuse j) i n a e =
+        let h = head-small (drop place datagram) (bytes-drop place datagram bytes) (whole i n) e in
+        (reason-small (bodyOf (l .image) RouteRows) k (recordAt (l .state) k .switches) i n j a, (h .0, h .1))
 
     fits : (h : Head) → headOf (drop place datagram) ≡ h → StepFits (met.outcomeOf (stepOf R (length datagram) place h .found))
     fits ended e = tt
-    fits short e = tt
-    fits (beyond i n) e = tt
+    fits short e = (omega arith, (omega arith, omega arith))
+    fits (beyond i n) e = let h = head-small (drop place datagram) (bytes-drop place datagram bytes) (beyond i n) e in (omega arith, (h .0, h .1))
     fits (whole i n) e = decided (R i n) i n refl e
 
     go : (b : Bool)
-        → walkRead datagram (walkedBytes (cond b (walkOn image s k datagram place) (noneWalked s place (walkAnswer image s rx tx k datagram place))))
-        ≡ toldWalk datagram (cond b (walkOn image s k datagram place) (noneWalked s place (walkAnswer image s rx tx k datagram place)) .outcome)
+        → walkRead datagram (walkedBytes (cond b (walkOn (l .image) (l .state) k datagram place) (noneWalked (l .state) place (walkAnswer l k datagram place))))
+        ≡ toldWalk datagram (cond b (walkOn (l .image) (l .state) k datagram place) (noneWalked (l .state) place (walkAnswer l k datagram place)) .outcome)
     go true =
-        walk-back datagram Done (walkOn image s k datagram place .next) (walkOn image s k datagram place .outcome) (fits (headOf (drop place datagram)) refl) (λ z. absurd (true≢false z))
-    go false = walk-back datagram (walkAnswer image s rx tx k datagram place) place Met.End tt (λ z. refl)
+        walk-back datagram Done (walkOn (l .image) (l .state) k datagram place .next) (walkOn (l .image) (l .state) k datagram place .outcome) (fits (headOf (drop place datagram)) refl) (λ z. absurd (true≢false z))
+    go false = walk-back datagram (walkAnswer l k datagram place) place Met.End tt (λ z. refl)
 
 -- THE ANSWER OF A CALL, whose body is bytes: reading it gives exactly what the call tells
 call-read : (image : List ℕ) (k : ℕ) (m : Machine) (body : List ℕ) (call : Call) → Bytes body → Short body call
-    → readOf k body call (answerOf image (m .state) (m .rx) (m .tx) body call) ≡ tellsOf image k m body call
+    → readOf k body call (answerOf (loanTo image m) body call) ≡ tellsOf image k m body call
 unfolding readOf answerOf tellsOf
 call-read image k m body Unknown bytes h = refl
 call-read image k m body Unfit bytes h = refl
 call-read image k m body (Ticks n) bytes h = refl
-call-read image k m body (Open c) bytes h = refl
-call-read image k m body (Close c) bytes h = refl
-call-read image k m body (Connected c) bytes h = refl
+call-read image k m body (Own c e) bytes h = refl
 call-read image k m body (Lost c) bytes h = refl
-call-read image k m body (SetRemote c remote) bytes h = refl
-call-read image k m body (Switch c number position) bytes h = refl
 call-read image k m body (Segment c at) bytes h =
-    ap (λ (l : List Pdu). cond (eqb c k) l []) (segment-read image (m .state) (m .rx) (m .tx) c (bytesFrom body at) (bytes-drop at body bytes) (segment-fits body c at h))
+    ap (λ (l : List Out). cond (eqb c k) l []) (segment-read (loanTo image m) c (bytesFrom body at) (bytes-drop at body bytes) (segment-fits body c at h))
 call-read image k m body (Walk c place at) bytes h =
-    ap (λ (l : List Pdu). cond (eqb c k) l []) (walk-read image (m .state) (length (m .rx)) (length (m .tx)) c (bytesFrom body at) place (walk-fits body c place at h))
+    ap (λ (l : List Out). cond (eqb c k) l []) (walk-read (lentTo image m) c (bytesFrom body at) place (bytes-drop at body bytes) (walk-fits body c place at h))
 call-read image k m body (TakeWaiting c n) bytes h = refl
 call-read image k m body (Datagram group source) bytes h = refl
 call-read image k m body (Accept group source) bytes h = refl

@@ -5,6 +5,7 @@ pub mod Ticks
 pub mod Event
 pub mod Calls
 pub mod Answer
+pub mod Drops
 pub mod Read
 pub mod Fits
 pub mod Told

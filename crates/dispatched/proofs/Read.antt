@@ -1,4 +1,5 @@
--- WHAT STANDS IN THE BYTES OF A TAKE OR A WALK IS READ BACK: kind, route, length, place and payload, where they fit their widths.
+-- WHAT STANDS IN THE BYTES OF A TAKE OR A WALK IS READ BACK: kind, route or reason, id, length, place and payload, where they fit their
+-- widths.
 -- Assumes nothing.
 use Prim.Native.Nat.{ℕ, _+_, _^_, _<_}
 use mathlib.Core.Path.{_≡_, refl, sym, ap, ap₂, _∙_}
@@ -12,7 +13,7 @@ use Rattle.wire.specs.Be.{be}
 use Rattle.wire.specs.Lay.{spell}
 use Rattle.wire.proofs.Spell.{length-spell, be-spell}
 use Rattle.layout.specs.Layout.{partOf}
-use Rattle.feed.specs.Feed.{Pdu, handed}
+use Rattle.feed.specs.Feed.{Out, pdu, dropped}
 use Rattle.connection.specs.declared.Refusal.{Refusal}
 use Rattle.connection.specs.declared.Refusal.the-variants.{Memory, Unsound, Missing, Denied}
 use Rattle.connection.specs.Event.{refusalNumber}
@@ -29,8 +30,9 @@ use Rattle.answer_receive.specs.Segment.{hereBytes, heldBytes, takeBytes, event
 use Rattle.answer_receive.specs.Walk.{orRefused, stepBytes, walkBytes}
 use Rattle.answer_receive.proofs.Written.{length-here, length-held}
 use Rattle.tie.specs.Run.{toldWalk}
-use Rattle.dispatched.specs.Told.{Take, bytesIn, pduIn, pdusIn, tookThen}
+use Rattle.dispatched.specs.Told.{Take, bytesIn, outIn, outsIn, tookThen}
 use Rattle.dispatched.specs.Read.{payloadRead, takeRead, takeLong, takesRead, stepRead, ifDone, segmentRead, walkRead}
+use Rattle.dispatched.proofs.Drops.{Spelt}
 
 -- a number behind other bytes
 number-at : (w v : ℕ) (a r : List ℕ) {l : List ℕ} (at : ℕ) → v < 256 ^ w → length a ≡ at → l ≡ a ++ (spell w v ++ r) → be w l at ≡ v
@@ -46,24 +48,34 @@ module _ (first kind which id n : ℕ) (r : List ℕ) {l : List ℕ} (is : l ≡
   which-at h =
       number-at 1 which (spell 4 first ++ spell 1 kind) (spell 4 id ++ spell 4 n ++ r) 5 h (simp (length-append, length-spell)) (is ∙ simp append-assoc)
 
+  id-at : id < 256 ^ 4 → be 4 l 6 ≡ id
+  id-at h =
+      number-at 4 id (spell 4 first ++ spell 1 kind ++ spell 1 which) (spell 4 n ++ r) 6 h (simp (length-append, length-spell)) (is ∙ simp append-assoc)
+
   length-at : n < 256 ^ 4 → be 4 l 10 ≡ n
   length-at h =
       number-at 4 n (spell 4 first ++ spell 1 kind ++ spell 1 which ++ spell 4 id) r 10 h (simp (length-append, length-spell)) (is ∙ simp append-assoc)
 
--- what fits its width: route, length, and the place of the payload or the payload as long as it is said to be
+-- what fits its width: route, length, and the place of the payload or the payload as long as it is said to be; of a drop reason, id and
+-- length
 abbrev pub TakeFits : ℕ → Outcome → List ℕ → Type 0
 TakeFits begins Found.More payload = Unit {0}
 TakeFits begins (Found.Pdu route id true at n) payload = (route < 256) × ((n < 256 ^ 4) × (begins + at < 256 ^ 4))
 TakeFits begins (Found.Pdu route id false at n) payload = (route < 256) × ((n < 256 ^ 4) × (length payload ≡ n))
-TakeFits begins (Found.Drop reason id n) payload = Unit {0}
+TakeFits begins (Found.Drop reason id n) payload = Spelt reason id n
 
 -- A TAKE
 module _ (segment : List ℕ) where
-  none-read : (l : List ℕ) (kind : ℕ) → be 1 l 4 ≡ kind → eqb kind 1 ≡ false → (takeRead segment l ≡ []) × (takeLong l ≡ 14)
+  none-read : (l : List ℕ) → be 1 l 4 ≡ 0 → (takeRead segment l ≡ []) × (takeLong l ≡ 14)
   unfolding takeRead takeLong
-  none-read l kind e f = (rw (e, f) refl, rw (e, f) refl)
+  none-read l e = (rw e refl, rw e refl)
 
-  pdu-read : (l : List ℕ) (route : ℕ) (payload : List ℕ) → be 1 l 4 ≡ 1 → be 1 l 5 ≡ route → payloadRead segment l ≡ payload → takeRead segment l ≡ handed route payload ∷ []
+  drop-read : (l : List ℕ) (reason id n : ℕ) → be 1 l 4 ≡ 2 → be 1 l 5 ≡ reason → be 4 l 6 ≡ id → be 4 l 10 ≡ n
+      → (takeRead segment l ≡ dropped reason id n ∷ []) × (takeLong l ≡ 14)
+  unfolding takeRead takeLong
+  drop-read l reason id n e w i m = (rw (e, w, i, m) refl, rw e refl)
+
+  pdu-read : (l : List ℕ) (route : ℕ) (payload : List ℕ) → be 1 l 4 ≡ 1 → be 1 l 5 ≡ route → payloadRead segment l ≡ payload → takeRead segment l ≡ pdu route payload ∷ []
   unfolding takeRead
   pdu-read l route payload e f g = rw (e, f, g) refl
 
@@ -77,20 +89,22 @@ module _ (segment : List ℕ) where
   unfolding payloadRead takeLong
   held-read l payload n e w f p = (rw (w, f) p, rw (e, w, f) refl)
 
-  -- its PDU, and the bytes behind it
+  -- what it found, and the bytes behind it
   abbrev Back : ℕ → ℕ → Outcome → List ℕ → List ℕ → Type 0
   Back begins read o payload rest =
-      (takeRead segment (takeBytes begins read o payload ++ rest) ≡ pduIn segment begins o payload)
+      (takeRead segment (takeBytes begins read o payload ++ rest) ≡ outIn segment begins o payload)
       × (drop (takeLong (takeBytes begins read o payload ++ rest)) (takeBytes begins read o payload ++ rest) ≡ rest)
 
   take-back : (begins read : ℕ) (o : Outcome) (payload rest : List ℕ) → TakeFits begins o payload → Back begins read o payload rest
   take-back begins read Found.More payload rest h =
       let l : List ℕ = found read 0 0 0 0 ++ rest in
-      let t = none-read l 0 (kind-at read 0 0 0 0 rest refl (omega arith)) refl in
+      let t = none-read l (kind-at read 0 0 0 0 rest refl (omega arith)) in
       (t .0, drop-at (found read 0 0 0 0) rest (takeLong l) (length-found read 0 0 0 0 ∙ sym (t .1)))
   take-back begins read (Found.Drop reason id n) payload rest h =
       let l : List ℕ = found read 2 reason id n ++ rest in
-      let t = none-read l 2 (kind-at read 2 reason id n rest refl (omega arith)) refl in
+      let t =
+      drop-read l reason id n (kind-at read 2 reason id n rest refl (omega arith)) (which-at read 2 reason id n rest refl (h .0))
+      (id-at read 2 reason id n rest refl (h .1 .0)) (length-at read 2 reason id n rest refl (h .1 .1)) in
       (t .0, drop-at (found read 2 reason id n) rest (takeLong l) (length-found read 2 reason id n ∙ sym (t .1)))
   take-back begins read (Found.Pdu route id true at n) payload rest h =
       let l : List ℕ = hereBytes read route id n begins at ++ rest in
@@ -124,24 +138,24 @@ module _ (segment : List ℕ) where
   abbrev TookFits : Take → Type 0
   TookFits t = TakeFits (t .begins) (t .outcome) (t .payload)
 
-  one-back : (t : Take) (ts : List Take) → TookFits t → takesRead segment (length ts) (bytesIn ts) ≡ pdusIn segment ts
-      → takesRead segment (length (t ∷ ts)) (bytesIn (t ∷ ts)) ≡ pdusIn segment (t ∷ ts)
-  unfolding takesRead bytesIn pdusIn
+  one-back : (t : Take) (ts : List Take) → TookFits t → takesRead segment (length ts) (bytesIn ts) ≡ outsIn segment ts
+      → takesRead segment (length (t ∷ ts)) (bytesIn (t ∷ ts)) ≡ outsIn segment (t ∷ ts)
+  unfolding takesRead bytesIn outsIn
   one-back t ts h later =
       let b = take-back (t .begins) (t .read) (t .outcome) (t .payload) (bytesIn ts) h in
       ap₂ _++_ (b .0) (ap (takesRead segment (length ts)) (b .1) ∙ later)
 
   pub more-back : (done left : Bool) (t : Take) (ts : List Take) → (done ≡ true → TakeFits (t .begins) (t .outcome) (t .payload))
-      → takesRead segment (length ts) (bytesIn ts) ≡ pdusIn segment ts
-      → takesRead segment (length (tookThen done left t ts)) (bytesIn (tookThen done left t ts)) ≡ pdusIn segment (tookThen done left t ts)
-  unfolding takesRead bytesIn pdusIn
+      → takesRead segment (length ts) (bytesIn ts) ≡ outsIn segment ts
+      → takesRead segment (length (tookThen done left t ts)) (bytesIn (tookThen done left t ts)) ≡ outsIn segment (tookThen done left t ts)
+  unfolding takesRead bytesIn outsIn
   more-back true true t ts h later = one-back t ts (h refl) later
   more-back true false t ts h later = one-back t [] (h refl) refl
   more-back false left t ts h later = refl
 
   -- THE ANSWER OF A SEGMENT EVENT
-  pub done-back : (ts : List Take) → length ts < 256 ^ 2 → takesRead segment (length ts) (bytesIn ts) ≡ pdusIn segment ts
-      → segmentRead segment (eventBytes Done (length ts) (bytesIn ts)) ≡ pdusIn segment ts
+  pub done-back : (ts : List Take) → length ts < 256 ^ 2 → takesRead segment (length ts) (bytesIn ts) ≡ outsIn segment ts
+      → segmentRead segment (eventBytes Done (length ts) (bytesIn ts)) ≡ outsIn segment ts
   unfolding segmentRead
   done-back ts few later =
       let l : List ℕ = eventBytes Done (length ts) (bytesIn ts) in
@@ -150,14 +164,14 @@ module _ (segment : List ℕ) where
       let rest : drop 4 l ≡ bytesIn ts = drop-at (doneWith 2 (length ts)) (bytesIn ts) 4 (simp (length-append, length-spell)) in
       rw (zero-at, count, rest) later
 
--- A REFUSAL has no PDU
+-- A REFUSAL tells nothing
 some-number : (r : Refusal) → (refusalNumber r < 256 ^ 2) × (eqb (refusalNumber r) 0 ≡ false)
 some-number Memory = (omega arith, refl)
 some-number Unsound = (omega arith, refl)
 some-number Missing = (omega arith, refl)
 some-number Denied = (omega arith, refl)
 
-not-read : (number : ℕ) (read : List Pdu) → number < 256 ^ 2 → eqb number 0 ≡ false → ifDone (refused number 0) read ≡ []
+not-read : (number : ℕ) (read : List Out) → number < 256 ^ 2 → eqb number 0 ≡ false → ifDone (refused number 0) read ≡ []
 not-read number read h e =
     let z : be 2 (refused number 0) 0 ≡ number = number-at 2 number [] (spell 4 0) 0 h refl refl in
     rw (z, e) refl
@@ -172,21 +186,36 @@ refused-back segment NotReceiving count bytes e = not-read 4 _ (omega arith) ref
 abbrev pub StepFits : Step → Type 0
 StepFits Met.End = Unit {0}
 StepFits (Met.Pdu route id at n) = (route < 256) × ((n < 256 ^ 4) × (at < 256 ^ 4))
-StepFits (Met.Drop reason id n) = Unit {0}
+StepFits (Met.Drop reason id n) = Spelt reason id n
 
 module _ (datagram : List ℕ) where
-  none-step : (next kind which id n : ℕ) → kind < 256 → eqb kind 1 ≡ false → walkRead datagram (stepBytes next kind which id n) ≡ []
+  -- the bytes of a step that found no PDU
+  module _ (next kind which id n : ℕ) where
+    abbrev told : List ℕ
+    told = stepBytes next kind which id n
+
+    is-done : be 2 told 0 ≡ 0
+    is-done = number-at 2 0 [] (found next kind which id n) 0 (omega arith) refl refl
+
+    behind : drop 2 told ≡ found next kind which id n ++ []
+    behind = drop-at (spell 2 0) (found next kind which id n) 2 (length-spell 2 0) ∙ sym (append-nil _)
+
+  none-step : (next : ℕ) → walkRead datagram (stepBytes next 0 0 0 0) ≡ []
   unfolding walkRead stepRead
-  none-step next kind which id n h e =
-      let l : List ℕ = stepBytes next kind which id n in
-      let zero-at : be 2 l 0 ≡ 0 = number-at 2 0 [] (found next kind which id n) 0 (omega arith) refl refl in
-      let k : be 1 (drop 2 l) 4 ≡ kind = kind-at next kind which id n [] (drop-at (spell 2 0) (found next kind which id n) 2 (length-spell 2 0) ∙ sym (append-nil _)) h in
-      rw (zero-at, k, e) refl
+  none-step next = rw (is-done next 0 0 0 0, kind-at next 0 0 0 0 [] (behind next 0 0 0 0) (omega arith)) refl
+
+  drop-step : (next reason id n : ℕ) → Spelt reason id n → walkRead datagram (stepBytes next 2 reason id n) ≡ dropped reason id n ∷ []
+  unfolding walkRead stepRead
+  drop-step next reason id n h =
+      let is = behind next 2 reason id n in
+      rw
+      (is-done next 2 reason id n, kind-at next 2 reason id n [] is (omega arith), which-at next 2 reason id n [] is (h .0), id-at next 2 reason id n [] is (h .1 .0), length-at next 2 reason id n [] is (h .1 .1))
+      refl
 
   step-back : (next : ℕ) (o : Step) → StepFits o → walkRead datagram (walkBytes next o) ≡ toldWalk datagram o
   unfolding walkRead stepRead
-  step-back next Met.End h = none-step next 0 0 0 0 (omega arith) refl
-  step-back next (Met.Drop reason id n) h = none-step next 2 reason id n (omega arith) refl
+  step-back next Met.End h = none-step next
+  step-back next (Met.Drop reason id n) h = drop-step next reason id n h
   step-back next (Met.Pdu route id at n) h =
       let l : List ℕ = walkBytes next (Met.Pdu route id at n) in
       let zero-at : be 2 l 0 ≡ 0 = number-at 2 0 [] (found next 1 route id n ++ spell 4 at) 0 (omega arith) refl (simp append-assoc) in

@@ -8,9 +8,10 @@ use lib.Dec.{ltb, leb·zero, leb·suc-zero, leb·suc-suc}
 use lib.ListN.{length, drop}
 use lib.Seq.{drop-drop}
 use Rattle.state.specs.declared.State.{State}
+use Rattle.gate.specs.Lent.{Loan}
 use Rattle.receive.specs.Answer.{isDone}
 use Rattle.answer_receive.specs.Segment.{Run, begun, step, runOf, allTakes}
-use Rattle.tie.specs.Machine.{Machine, machine, taken, afterOne, restOf, goesOn, afterTakes, afterSegment}
+use Rattle.tie.specs.Machine.{Machine, machine, taken, afterOne, restOf, goesOn, afterTakes, afterSegment, loanTo}
 
 pub either-way : {A : Type 0} (b : Bool) (x : A) → x ≡ cond b x x
 either-way true x = refl
@@ -35,20 +36,23 @@ module _ (image : List ℕ) (k : ℕ) where
       ap (λ (b : Bool). done && b) (left-by (at + read) seg ∙ ap (λ (l : List ℕ). ltb 0 (length l)) (sym (drop-drop read at seg)))
       ∙ goes-by done (drop read (drop at seg))
 
-module _ (image : List ℕ) (k : ℕ) (seg tx : List ℕ) where
+module _ (l : Loan) (k : ℕ) (seg : List ℕ) where
+  abbrev image : List ℕ
+  image = l .image
+
   -- the machine as far as the takes are
   abbrev pub machineAt : Run → Machine
-  machineAt r = machine (r .state) (r .rx) tx
+  machineAt r = machine (r .state) (r .rx) (l .tx)
 
   machine-if : (b : Bool) (x y : Run) → machineAt (cond b x y) ≡ cond b (machineAt x) (machineAt y)
   machine-if true x y = refl
   machine-if false x y = refl
 
   abbrev next : Run → Run
-  next r = step image (length tx) k seg r
+  next r = step l k seg r
 
   abbrev many : ℕ → Run → Run
-  many n r = runOf image (length tx) k seg n r
+  many n r = runOf l k seg n r
 
   pub takes-machine : (n : ℕ) (r : Run) → machineAt (many n r) ≡ afterTakes image k (suc n) (machineAt r) (drop (r .at) seg)
   unfolding runOf step afterTakes
@@ -64,6 +68,6 @@ module _ (image : List ℕ) (k : ℕ) (seg tx : List ℕ) where
       (goes image k (isDone (t .answer)) (t .read) (r .at) seg)
 
 -- A SEGMENT EVENT, of either
-pub segment-machine : (image : List ℕ) (k : ℕ) (seg : List ℕ) (s : State) (rx tx : List ℕ)
-    → machine (allTakes image (length tx) k seg s rx .state) (allTakes image (length tx) k seg s rx .rx) tx ≡ afterSegment image k (machine s rx tx) seg
-segment-machine image k seg s rx tx = takes-machine image k seg tx (length seg) (begun s rx)
+pub segment-machine : (image : List ℕ) (k : ℕ) (seg : List ℕ) (m : Machine)
+    → machine (allTakes (loanTo image m) k seg .state) (allTakes (loanTo image m) k seg .rx) (m .tx) ≡ afterSegment image k m seg
+segment-machine image k seg m = takes-machine (loanTo image m) k seg (length seg) (begun (m .state) (m .rx))

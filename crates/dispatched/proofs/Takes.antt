@@ -9,7 +9,7 @@ use borrow.Author.Tests.{leb-true, leb-false}
 use lib.Dec.{leb, ltb}
 use lib.ListN.{length, take, drop, length-drop}
 use lib.Seq.{drop-drop}
-use Rattle.feed.specs.Feed.{Pdu, handed}
+use Rattle.feed.specs.Feed.{Out, pdu}
 use Rattle.state.specs.declared.State.{State}
 use Rattle.stream.specs.declared.Outcome.{Outcome}
 use Rattle.stream.specs.declared.Outcome.the-variants as Found
@@ -18,9 +18,10 @@ use Rattle.receive.specs.declared.Answer.{Answer}
 use Rattle.receive.specs.declared.Answer.the-variants.{Done, Refused, NotReceiving}
 use Rattle.receive.specs.Answer.{isDone}
 use Rattle.receive.specs.Segment.{segmentOf, segmentAnswer, takeOn, noneTaken, payloadOf}
-use Rattle.answer_receive.specs.Segment.{takeBytes, bytesOf, Run, begun, bytesAt, step, runOf, allTakes}
-use Rattle.tie.specs.Machine.{Machine, machine, taken, afterOne, restOf, told, toldBy, goesOn, toldTakes, toldSegment}
-use Rattle.dispatched.specs.Told.{Take, bytesIn, pduIn, pdusIn, nextTake, tookThen, takesFrom}
+use Rattle.answer_receive.specs.Segment.{lends, takeBytes, bytesOf, Run, begun, bytesAt, step, runOf, allTakes}
+use Rattle.tie.specs.Machine.{Machine, machine, taken, afterOne, restOf, told, toldBy, goesOn, toldTakes, toldSegment, loanTo}
+use Rattle.dispatched.specs.Told.{Take, bytesIn, outIn, outsIn, nextTake, tookThen, takesFrom}
+use Rattle.gate.specs.Lent.{Loan, sizes}
 use Rattle.dispatched.proofs.Segment.{either-way, goes, machineAt}
 
 -- THE BYTES: a take that is done adds its own, and none comes behind one that is refused
@@ -43,19 +44,19 @@ more-bytes Done false x y before t ts e h = e ∙ last-bytes Done before t ts
 more-bytes (Refused r) left x y before t ts e h = e
 more-bytes NotReceiving left x y before t ts e h = e
 
-module _ (image : List ℕ) (tx k : ℕ) (seg : List ℕ) where
+module _ (l : Loan) (k : ℕ) (seg : List ℕ) where
   abbrev next : Run → Run
-  next r = step image tx k seg r
+  next r = step l k seg r
 
-  takes-bytes : (n : ℕ) (r : Run) → runOf image tx k seg n r .bytes ≡ r .bytes ++ bytesIn (takesFrom image tx k seg n r)
+  takes-bytes : (n : ℕ) (r : Run) → runOf l k seg n r .bytes ≡ r .bytes ++ bytesIn (takesFrom l k seg n r)
   unfolding runOf step bytesAt takesFrom
-  takes-bytes zero r = last-bytes (next r .answer) (r .bytes) (nextTake image tx k seg r) []
+  takes-bytes zero r = last-bytes (next r .answer) (r .bytes) (nextTake l k seg r) []
   takes-bytes (suc n) r =
-      more-bytes (next r .answer) (ltb (next r .at) (length seg)) (runOf image tx k seg n (next r)) (next r) (r .bytes) (nextTake image tx k seg r)
-      (takesFrom image tx k seg n (next r)) refl (takes-bytes n (next r))
+      more-bytes (next r .answer) (ltb (next r .at) (length seg)) (runOf l k seg n (next r)) (next r) (r .bytes) (nextTake l k seg r)
+      (takesFrom l k seg n (next r)) refl (takes-bytes n (next r))
 
-  pub segment-bytes : (s : State) (rx : List ℕ) → allTakes image tx k seg s rx .bytes ≡ bytesIn (takesFrom image tx k seg (length seg) (begun s rx))
-  segment-bytes s rx = takes-bytes (length seg) (begun s rx)
+  pub segment-bytes : allTakes l k seg .bytes ≡ bytesIn (takesFrom l k seg (length seg) (begun (l .state) (l .rx)))
+  segment-bytes = takes-bytes (length seg) (begun (l .state) (l .rx))
 
 -- a part of what is left of a segment is a part of the segment
 part-rest : (l : List ℕ) (begins at n : ℕ) → partOf (drop begins l) at n ≡ partOf l (begins + at) n
@@ -76,66 +77,69 @@ part-rest l begins at n = go (leb (at + n) (length (drop begins l))) (leb (begin
 module _ (image : List ℕ) (k : ℕ) (seg : List ℕ) where
   -- the place that the answer names is where the payload stands in the whole segment
   pdu-told : (begins : ℕ) (rx : List ℕ) (o : Outcome)
-      → told image k (payloadOf (drop begins seg) rx k o) o ≡ pduIn seg begins o (payloadOf (drop begins seg) rx k o)
+      → told image k (payloadOf (drop begins seg) rx k o) o ≡ outIn seg begins o (payloadOf (drop begins seg) rx k o)
   unfolding payloadOf
   pdu-told begins rx Found.More = refl
-  pdu-told begins rx (Found.Pdu route id true at n) = ap (λ (l : List ℕ). handed route l ∷ []) (part-rest seg begins at n)
+  pdu-told begins rx (Found.Pdu route id true at n) = ap (λ (l : List ℕ). pdu route l ∷ []) (part-rest seg begins at n)
   pdu-told begins rx (Found.Pdu route id false at n) = refl
   pdu-told begins rx (Found.Drop reason id n) = refl
 
-  last-told : (done : Bool) (ps : List Pdu) (t : Take) (ts : List Take) → (done ≡ false → ps ≡ []) → ps ≡ pduIn seg (t .begins) (t .outcome) (t .payload)
-      → ps ++ [] ≡ pdusIn seg (tookThen done false t ts)
-  unfolding pdusIn
-  last-told true ps t ts none e = ap (λ (l : List Pdu). l ++ []) e
+  last-told : (done : Bool) (ps : List Out) (t : Take) (ts : List Take) → (done ≡ false → ps ≡ []) → ps ≡ outIn seg (t .begins) (t .outcome) (t .payload)
+      → ps ++ [] ≡ outsIn seg (tookThen done false t ts)
+  unfolding outsIn
+  last-told true ps t ts none e = ap (λ (l : List Out). l ++ []) e
   last-told false ps t ts none e = append-nil ps ∙ none refl
 
-  more-told : (done left : Bool) (ps x : List Pdu) (t : Take) (ts : List Take) → (done ≡ false → ps ≡ []) → ps ≡ pduIn seg (t .begins) (t .outcome) (t .payload)
-      → x ≡ pdusIn seg ts → ps ++ cond (done && left) x [] ≡ pdusIn seg (tookThen done left t ts)
-  unfolding pdusIn
+  more-told : (done left : Bool) (ps x : List Out) (t : Take) (ts : List Take) → (done ≡ false → ps ≡ []) → ps ≡ outIn seg (t .begins) (t .outcome) (t .payload)
+      → x ≡ outsIn seg ts → ps ++ cond (done && left) x [] ≡ outsIn seg (tookThen done left t ts)
+  unfolding outsIn
   more-told true true ps x t ts none e h = ap₂ _++_ e h
   more-told true false ps x t ts none e h = last-told true ps t ts none e
   more-told false left ps x t ts none e h = last-told false ps t ts none e
 
-  none-told : (s : State) (rx : List ℕ) (tx : ℕ) (bs payload : List ℕ) → isDone (segmentOf image s rx tx k bs .answer) ≡ false
-      → told image k payload (segmentOf image s rx tx k bs .outcome) ≡ []
+  none-told : (l : Loan) (bs payload : List ℕ) → isDone (segmentOf l k bs .answer) ≡ false
+      → told image k payload (segmentOf l k bs .outcome) ≡ []
   unfolding segmentOf takeOn
-  none-told s rx tx bs payload refused = go (isDone (segmentAnswer image s (length rx) tx k)) refused
+  none-told l bs payload refused = go (isDone (segmentAnswer (sizes l) k)) refused
     where
-      go : (b : Bool) → isDone (cond b (takeOn image s rx k bs) (noneTaken s (segmentAnswer image s (length rx) tx k)) .answer) ≡ false
-          → told image k payload (cond b (takeOn image s rx k bs) (noneTaken s (segmentAnswer image s (length rx) tx k)) .outcome) ≡ []
+      go : (b : Bool) → isDone (cond b (takeOn (l .image) (l .state) (l .rx) k bs) (noneTaken (l .state) (segmentAnswer (sizes l) k)) .answer) ≡ false
+          → told image k payload (cond b (takeOn (l .image) (l .state) (l .rx) k bs) (noneTaken (l .state) (segmentAnswer (sizes l) k)) .outcome) ≡ []
       go true e = absurd (true≢false e)
       go false e = refl
 
-module _ (image : List ℕ) (k : ℕ) (seg tx : List ℕ) where
+module _ (l : Loan) (k : ℕ) (seg : List ℕ) where
+  abbrev image : List ℕ
+  image = l .image
+
   abbrev here : Run → Machine
-  here r = machineAt image k seg tx r
+  here r = machineAt l k seg r
 
   abbrev rest : Run → List ℕ
   rest r = drop (r .at) seg
 
   -- what the next take tells
-  own-told : (r : Run) → toldBy image k (here r) (rest r) ≡ pduIn seg (r .at) (nextTake image (length tx) k seg r .outcome) (nextTake image (length tx) k seg r .payload)
+  own-told : (r : Run) → toldBy image k (here r) (rest r) ≡ outIn seg (r .at) (nextTake l k seg r .outcome) (nextTake l k seg r .payload)
   own-told r = pdu-told image k seg (r .at) (afterOne image k (here r) (rest r) .rx) (taken image k (here r) (rest r) .outcome)
 
   own-none : (r : Run) → isDone (taken image k (here r) (rest r) .answer) ≡ false → toldBy image k (here r) (rest r) ≡ []
-  own-none r = none-told image k seg (r .state) (r .rx) (length tx) (rest r) (nextTake image (length tx) k seg r .payload)
+  own-none r = none-told image k seg (lends l k seg r) (rest r) (nextTake l k seg r .payload)
 
-  takes-told : (n : ℕ) (r : Run) → toldTakes image k (suc n) (here r) (rest r) ≡ pdusIn seg (takesFrom image (length tx) k seg n r)
+  takes-told : (n : ℕ) (r : Run) → toldTakes image k (suc n) (here r) (rest r) ≡ outsIn seg (takesFrom l k seg n r)
   unfolding toldTakes takesFrom step
   takes-told zero r =
-      ap (λ (l : List Pdu). toldBy image k (here r) (rest r) ++ l) (sym (either-way (goesOn image k (isDone (taken image k (here r) (rest r) .answer)) (restOf image k (here r) (rest r))) []))
-      ∙ last-told image k seg (isDone (taken image k (here r) (rest r) .answer)) (toldBy image k (here r) (rest r)) (nextTake image (length tx) k seg r) [] (own-none r) (own-told r)
+      ap (λ (ps : List Out). toldBy image k (here r) (rest r) ++ ps) (sym (either-way (goesOn image k (isDone (taken image k (here r) (rest r) .answer)) (restOf image k (here r) (rest r))) []))
+      ∙ last-told image k seg (isDone (taken image k (here r) (rest r) .answer)) (toldBy image k (here r) (rest r)) (nextTake l k seg r) [] (own-none r) (own-told r)
   takes-told (suc n) r =
       let t = taken image k (here r) (rest r) in
-      let r′ = step image (length tx) k seg r in
+      let r′ = step l k seg r in
       ap (λ (b : Bool). toldBy image k (here r) (rest r) ++ cond b (toldTakes image k (suc n) (afterOne image k (here r) (rest r)) (restOf image k (here r) (rest r))) [])
       (sym (goes image k (isDone (t .answer)) (t .read) (r .at) seg))
       ∙ more-told image k seg (isDone (t .answer)) (ltb (r′ .at) (length seg)) (toldBy image k (here r) (rest r))
-      (toldTakes image k (suc n) (afterOne image k (here r) (rest r)) (restOf image k (here r) (rest r))) (nextTake image (length tx) k seg r) (takesFrom image (length tx) k seg n r′)
+      (toldTakes image k (suc n) (afterOne image k (here r) (rest r)) (restOf image k (here r) (rest r))) (nextTake l k seg r) (takesFrom l k seg n r′)
       (own-none r) (own-told r)
       (ap (toldTakes image k (suc n) (afterOne image k (here r) (rest r))) (drop-drop (t .read) (r .at) seg) ∙ takes-told n r′)
 
--- A SEGMENT EVENT: the PDUs that the answer tells, and those that the machine hands out
-pub segment-told : (image : List ℕ) (k : ℕ) (seg : List ℕ) (s : State) (rx tx : List ℕ)
-    → pdusIn seg (takesFrom image (length tx) k seg (length seg) (begun s rx)) ≡ toldSegment image k (machine s rx tx) seg
-segment-told image k seg s rx tx = sym (takes-told image k seg tx (length seg) (begun s rx))
+-- A SEGMENT EVENT: the outcomes that the answer tells, and those that the machine gives
+pub segment-told : (image : List ℕ) (k : ℕ) (seg : List ℕ) (m : Machine)
+    → outsIn seg (takesFrom (loanTo image m) k seg (length seg) (begun (m .state) (m .rx))) ≡ toldSegment image k m seg
+segment-told image k seg m = sym (takes-told (loanTo image m) k seg (length seg) (begun (m .state) (m .rx)))

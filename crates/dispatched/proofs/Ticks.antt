@@ -5,7 +5,6 @@ use mathlib.Core.List.{List}
 use lib.ListN.{length, replicate}
 use Rattle.connection.specs.declared.Refusal.{Refusal}
 use Rattle.state.specs.declared.State.{State}
-use Rattle.gate.specs.Lent.{lent}
 use Rattle.gate.specs.declared.Gate.{Gate}
 use Rattle.gate.specs.declared.Gate.the-variants.{Pass, Refused}
 use Rattle.gate.specs.Gate.{gateOf}
@@ -15,7 +14,7 @@ use Rattle.ticks.specs.Tick.{tickEvent, ticksEvent}
 use Rattle.keeps.specs.Calls.{calls}
 use Rattle.keeps.proofs.Single.{ticks-single}
 use Rattle.world.specs.Events.{tick, Event, all}
-use Rattle.tie.specs.Machine.{machine}
+use Rattle.tie.specs.Machine.{machine, lentTo}
 use Rattle.tie.specs.Run.{afterWhole, afterEvent, afterRun}
 
 abbrev ticksOf : ℕ → List Event
@@ -23,18 +22,18 @@ ticksOf n = replicate n (all tick)
 
 module _ (image rx tx : List ℕ) where
   -- calls of `tick`, one after the other, are such a run
-  ticked-run : (n : ℕ) (s : State) → machine (calls image (length rx) (length tx) n s) rx tx ≡ afterRun image (machine s rx tx) (ticksOf n)
+  ticked-run : (n : ℕ) (s : State) → machine (calls n (lentTo image (machine s rx tx))) rx tx ≡ afterRun image (machine s rx tx) (ticksOf n)
   unfolding calls afterRun afterEvent afterWhole
   ticked-run zero s = refl
-  ticked-run (suc n) s = ticked-run n (tickEvent image s (length rx) (length tx) .state)
+  ticked-run (suc n) s = ticked-run n (tickEvent (lentTo image (machine s rx tx)) .state)
 
   -- where the gate refuses, no tick changes anything
-  module _ (s : State) (r : Refusal) (shut : gateOf (lent image s (length rx) (length tx)) ≡ Refused r) where
-    no-tick : tickEvent image s (length rx) (length tx) .state ≡ s
+  module _ (s : State) (r : Refusal) (shut : gateOf (lentTo image (machine s rx tx)) ≡ Refused r) where
+    no-tick : tickEvent (lentTo image (machine s rx tx)) .state ≡ s
     unfolding tickEvent
     no-tick = rw shut
 
-    no-ticks : (n : ℕ) → ticksEvent image s (length rx) (length tx) n .state ≡ s
+    no-ticks : (n : ℕ) → ticksEvent (lentTo image (machine s rx tx)) n .state ≡ s
     unfolding ticksEvent
     no-ticks n = rw shut
 
@@ -43,12 +42,12 @@ module _ (image rx tx : List ℕ) where
     still zero = refl
     still (suc n) = ap (λ (t : State). afterRun image (machine t rx tx) (ticksOf n)) no-tick ∙ still n
 
-  pub ticks-run : (s : State) (n : ℕ) → machine (ticksEvent image s (length rx) (length tx) n .state) rx tx ≡ afterRun image (machine s rx tx) (ticksOf n)
-  ticks-run s n = go (gateOf (lent image s (length rx) (length tx))) refl
+  pub ticks-run : (s : State) (n : ℕ) → machine (ticksEvent (lentTo image (machine s rx tx)) n .state) rx tx ≡ afterRun image (machine s rx tx) (ticksOf n)
+  ticks-run s n = go (gateOf (lentTo image (machine s rx tx))) refl
     where
-      go : (g : Gate) → gateOf (lent image s (length rx) (length tx)) ≡ g
-          → machine (ticksEvent image s (length rx) (length tx) n .state) rx tx ≡ afterRun image (machine s rx tx) (ticksOf n)
+      go : (g : Gate) → gateOf (lentTo image (machine s rx tx)) ≡ g
+          → machine (ticksEvent (lentTo image (machine s rx tx)) n .state) rx tx ≡ afterRun image (machine s rx tx) (ticksOf n)
       go Pass e =
-          ap (λ (t : Ticked). machine (t .state) rx tx) (ticks-single image s (length rx) (length tx) n (gate-passed (lent image s (length rx) (length tx)) e))
+          ap (λ (t : Ticked). machine (t .state) rx tx) (ticks-single (lentTo image (machine s rx tx)) n (gate-passed (lentTo image (machine s rx tx)) e))
           ∙ ticked-run n s
       go (Refused r) e = ap (λ (t : State). machine t rx tx) (no-ticks s r e n) ∙ sym (still s r e n)

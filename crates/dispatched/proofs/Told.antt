@@ -1,4 +1,4 @@
--- THE ANSWERS OF CALLS TELL THE PDUS THAT THE MACHINE HANDS OUT in the run that they spell: so demand 3 holds of the dispatcher.
+-- THE ANSWERS OF CALLS TELL THE OUTCOMES THAT THE MACHINE GIVES in the run that they spell: so demand 3 holds of the dispatcher.
 -- Assumes nothing.
 use Prim.Native.Nat.{ℕ, zero, suc}
 use mathlib.Core.Path.{_≡_, refl, sym, ap, ap₂, _∙_}
@@ -6,10 +6,10 @@ use mathlib.Core.Bool.{Bool, true, false, cond}
 use mathlib.Core.List.{List, [], _∷_, _++_, append-assoc, append-nil}
 use lib.Dec.{eqb, ltb}
 use lib.ListN.{length, replicate}
-use Rattle.feed.specs.Feed.{Pdu}
+use Rattle.feed.specs.Feed.{Out}
 use Rattle.lengths.specs.Listed.{Bytes}
 use Rattle.calls.specs.declared.Call.{Call}
-use Rattle.calls.specs.declared.Call.the-variants.{Unknown, Unfit, Ticks, Open, Close, Connected, Lost, SetRemote, Switch, Segment, Walk, TakeWaiting, Datagram, Accept, Transmit, SwitchAll, ReadCount, ClearCount}
+use Rattle.calls.specs.declared.Call.the-variants.{Unknown, Unfit, Ticks, Own, Lost, Segment, Walk, TakeWaiting, Datagram, Accept, Transmit, SwitchAll, ReadCount, ClearCount}
 use Rattle.calls.specs.Calls.{callOf, bytesFrom}
 use Rattle.dispatch.specs.Dispatch.{room}
 use Rattle.world.specs.Events.{tick, Event, all}
@@ -26,6 +26,7 @@ use Rattle.dispatched.proofs.Takes.{segment-told}
 use Rattle.dispatched.proofs.Fits.{answers-read}
 use Rattle.dispatched.proofs.Event.{dispatched-events}
 use Rattle.dispatched.proofs.Calls.{calls-run, spelt-bytes}
+use Rattle.world.specs.Step.{compared}
 
 module _ (image : List ℕ) (k : ℕ) where
   ticks-tell : (n : ℕ) (m : Machine) → [] ≡ givenIn image k m (replicate n (all tick))
@@ -38,19 +39,15 @@ module _ (image : List ℕ) (k : ℕ) where
   call-tells m body Unknown = refl
   call-tells m body Unfit = refl
   call-tells m body (Ticks n) = ticks-tell n m
-  call-tells m body (Open c) = refl
-  call-tells m body (Close c) = refl
-  call-tells m body (Connected c) = refl
+  call-tells m body (Own c e) = refl
   call-tells m body (Lost c) = refl
-  call-tells m body (SetRemote c remote) = refl
-  call-tells m body (Switch c number position) = refl
   call-tells m body (Segment c at) =
-      ap (λ (l : List Pdu). cond (eqb c k) l []) (segment-told image c (bytesFrom body at) (m .state) (m .rx) (m .tx)) ∙ sym (append-nil _)
+      ap (λ (l : List Out). cond (eqb c k) l []) (segment-told image c (bytesFrom body at) m) ∙ sym (append-nil _)
   call-tells m body (Walk c place at) = sym (append-nil _)
   call-tells m body (TakeWaiting c n) = refl
   call-tells m body (Datagram group source) = refl
   call-tells m body (Accept group source) = refl
-  call-tells m body (Transmit pdu at) = refl
+  call-tells m body (Transmit number at) = refl
   call-tells m body (SwitchAll number position) = refl
   call-tells m body (ReadCount protocol) = refl
   call-tells m body (ClearCount protocol) = refl
@@ -66,7 +63,7 @@ module _ (image : List ℕ) (k : ℕ) where
 
   call-read : (m : Machine) (c : Spoken) → Bytes (c .body) → toldBy image k m c ≡ tellsBy image k m c
   unfolding toldBy tellsBy
-  call-read m c bytes = ap (λ (l : List Pdu). cond (ltb (length (c .out)) room) [] l) (answers-read image k m c bytes)
+  call-read m c bytes = ap (λ (l : List Out). cond (ltb (length (c .out)) room) [] l) (answers-read image k m c bytes)
 
   pub dispatched-tells : (m : Machine) (c : Spoken) → Bytes (c .body) → toldBy image k m c ≡ givenIn image k m (speltBy c)
   dispatched-tells m c bytes = call-read m c bytes ∙ call-told m c
@@ -75,7 +72,7 @@ module _ (image : List ℕ) (k : ℕ) where
   unfolding givenIn afterRun
   given-append m [] fs = refl
   given-append m (e ∷ es) fs =
-      ap (λ (l : List Pdu). given image k e m ++ l) (given-append (afterEvent image e m) es fs)
+      ap (λ (l : List Out). given image k e m ++ l) (given-append (afterEvent image e m) es fs)
       ∙ sym (append-assoc (given image k e m) (givenIn image k (afterEvent image e m) es) (givenIn image k (afterRun image (afterEvent image e m) es) fs))
 
   -- CALLS one after the other
@@ -105,8 +102,8 @@ calls-alike image m good cs ds bytes alike = go (demand-3 image m good alike (sp
     go d =
         record {
           state = ap seen (calls-run image m cs) ∙ d .state ∙ ap seen (sym (calls-run image m ds));
-          pdus = λ k. calls-tell image k m cs ∙ d .pdus k ∙ sym (calls-tell image k m ds);
-          list = λ k there tcp. calls-tell image k m cs ∙ d .list k there tcp;
+          pdus = λ k. ap compared (calls-tell image k m cs) ∙ d .pdus k ∙ ap compared (sym (calls-tell image k m ds));
+          list = λ k there tcp. ap compared (calls-tell image k m cs) ∙ d .list k there tcp;
         }
 
 -- .. and by the bytes of their answers
@@ -118,6 +115,6 @@ calls-demand-3 image m good cs ds bytes others alike = go (calls-alike image m g
     go d =
         record {
           state = d .state;
-          pdus = λ k. calls-read image k m cs bytes ∙ d .pdus k ∙ sym (calls-read image k m ds others);
-          list = λ k there tcp. calls-read image k m cs bytes ∙ d .list k there tcp;
+          pdus = λ k. ap compared (calls-read image k m cs bytes) ∙ d .pdus k ∙ ap compared (sym (calls-read image k m ds others));
+          list = λ k there tcp. ap compared (calls-read image k m cs bytes) ∙ d .list k there tcp;
         }

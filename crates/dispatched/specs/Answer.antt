@@ -4,8 +4,6 @@ use Prim.Native.Nat.{ℕ}
 use mathlib.Core.List.{List, []}
 use lib.ListN.{length, take, replicate}
 use Rattle.connection.specs.declared.Event.{Event}
-use Rattle.connection.specs.declared.Event.the-variants.{Open as Opens, Close as Closes, Connected as Connects, SetRemote as SetsRemote, Switch as Switches}
-use Rattle.state.specs.declared.State.{State}
 use Rattle.events.specs.Change.{eventOf, lossOf}
 use Rattle.events.specs.Module.{switchAllOf}
 use Rattle.events.specs.Count.{readOf, clearOf}
@@ -14,55 +12,51 @@ use Rattle.receive.specs.Walk.{walkOf}
 use Rattle.arrivals.specs.Arrivals.{datagramOf, acceptOf}
 use Rattle.sending.specs.Sending.{sendOf, takenOf, takenOut}
 use Rattle.calls.specs.declared.Call.{Call}
-use Rattle.calls.specs.declared.Call.the-variants.{Unknown, Unfit, Ticks, Open, Close, Connected, Lost, SetRemote, Switch, Segment, Walk, TakeWaiting, Datagram, Accept, Transmit, SwitchAll, ReadCount, ClearCount}
+use Rattle.calls.specs.declared.Call.the-variants.{Unknown, Unfit, Ticks, Own, Lost, Segment, Walk, TakeWaiting, Datagram, Accept, Transmit, SwitchAll, ReadCount, ClearCount}
 use Rattle.calls.specs.Calls.{callOf, bytesFrom}
 use Rattle.answer_events.specs.Events.{toldBytes, lossBytes, ticksBytes, countBytes}
 use Rattle.answer_receive.specs.Walk.{walkedBytes}
 use Rattle.answer_receive.specs.Segment.{begun, allTakes, eventBytes}
 use Rattle.answer_send.specs.Send.{arrivalBytes, transmissionBytes, takingBytes, roomOf}
-use Rattle.tie.specs.Machine.{Machine}
+use Rattle.tie.specs.Machine.{Machine, loanTo}
 use Rattle.dispatched.specs.Spelt.{Spoken}
-use Rattle.gate.specs.Lent.{lent}
+use Rattle.gate.specs.Lent.{Loan, sizes}
 use Rattle.dispatched.specs.Told.{Take, bytesIn, takesFrom}
 
-module _ (image : List ℕ) (s : State) (rx tx : List ℕ) where
+module _ (l : Loan) where
   -- open, close, connected, set remote, switch
   abbrev pub ownAnswer : ℕ → Event → List ℕ
-  ownAnswer c e = toldBytes (eventOf image s (length rx) (length tx) c e .answer)
+  ownAnswer c e = toldBytes (eventOf (sizes l) c e .answer)
 
   -- "number of takes (2), then for every take" its bytes; or the refusal
   abbrev pub takesOver : ℕ → List ℕ → List Take
-  takesOver c segment = takesFrom image (length tx) c segment (length segment) (begun s rx)
+  takesOver c segment = takesFrom l c segment (length segment) (begun (l .state) (l .rx))
 
   abbrev pub segmentAnswer : ℕ → List ℕ → List ℕ
   segmentAnswer c segment =
-      eventBytes (allTakes image (length tx) c segment s rx .answer) (length (takesOver c segment)) (bytesIn (takesOver c segment))
+      eventBytes (allTakes l c segment .answer) (length (takesOver c segment)) (bytesIn (takesOver c segment))
 
   -- "count (4), address (19): the remote before the call, bytes": out of a buffer of the room that is asked for
   abbrev pub takeAnswer : ℕ → List ℕ → List ℕ
-  takeAnswer c buffer = takingBytes (takenOf image s (length rx) tx c buffer .answer) (takenOut image s (length rx) tx c buffer)
+  takeAnswer c buffer = takingBytes (takenOf l c buffer .answer) (takenOut l c buffer)
 
   -- what is refused by its number or its body has none
   unfoldable pub answerOf : List ℕ → Call → List ℕ
   answerOf body Unknown = []
   answerOf body Unfit = []
-  answerOf body (Ticks n) = ticksBytes (ticksEvent image s (length rx) (length tx) n .answer)
-  answerOf body (Open c) = ownAnswer c Opens
-  answerOf body (Close c) = ownAnswer c Closes
-  answerOf body (Connected c) = ownAnswer c Connects
-  answerOf body (Lost c) = lossBytes (lossOf image s (length rx) (length tx) c .answer)
-  answerOf body (SetRemote c remote) = ownAnswer c (SetsRemote remote)
-  answerOf body (Switch c number position) = ownAnswer c (Switches number position)
+  answerOf body (Ticks n) = ticksBytes (ticksEvent (sizes l) n .answer)
+  answerOf body (Own c e) = ownAnswer c e
+  answerOf body (Lost c) = lossBytes (lossOf (sizes l) c .answer)
   answerOf body (Segment c at) = segmentAnswer c (bytesFrom body at)
-  answerOf body (Walk c place at) = walkedBytes (walkOf image s (length rx) (length tx) c (bytesFrom body at) place)
+  answerOf body (Walk c place at) = walkedBytes (walkOf (sizes l) c (bytesFrom body at) place)
   answerOf body (TakeWaiting c n) = takeAnswer c (take (roomOf n) (replicate 1472 0))
-  answerOf body (Datagram group source) = arrivalBytes (datagramOf (lent image s (length rx) (length tx)) group source .answer)
-  answerOf body (Accept group source) = arrivalBytes (acceptOf (lent image s (length rx) (length tx)) group source .answer)
-  answerOf body (Transmit pdu at) = transmissionBytes (sendOf image s (length rx) tx pdu (bytesFrom body at) .answer)
-  answerOf body (SwitchAll number position) = toldBytes (switchAllOf image s (length rx) (length tx) number position .answer)
-  answerOf body (ReadCount protocol) = countBytes (readOf image s (length rx) (length tx) protocol .answer)
-  answerOf body (ClearCount protocol) = countBytes (clearOf image s (length rx) (length tx) protocol .answer)
+  answerOf body (Datagram group source) = arrivalBytes (datagramOf (sizes l) group source .answer)
+  answerOf body (Accept group source) = arrivalBytes (acceptOf (sizes l) group source .answer)
+  answerOf body (Transmit pdu at) = transmissionBytes (sendOf l pdu (bytesFrom body at) .answer)
+  answerOf body (SwitchAll number position) = toldBytes (switchAllOf (sizes l) number position .answer)
+  answerOf body (ReadCount protocol) = countBytes (readOf (sizes l) protocol .answer)
+  answerOf body (ClearCount protocol) = countBytes (clearOf (sizes l) protocol .answer)
 
 -- of a call of the dispatcher
 abbrev pub answerBy : List ℕ → Machine → Spoken → List ℕ
-answerBy image m c = answerOf image (m .state) (m .rx) (m .tx) (c .body) (callOf (c .number) (c .body))
+answerBy image m c = answerOf (loanTo image m) (c .body) (callOf (c .number) (c .body))

@@ -6,16 +6,16 @@ use mathlib.Core.Bool.{cond}
 use mathlib.Core.List.{List, [], _∷_, _++_}
 use lib.Dec.{ltb}
 use lib.ListN.{length, replicate}
-use Rattle.connection.specs.declared.Event.the-variants.{Open as Opens, Close as Closes, Connected as Connects, Lost as Loses, SetRemote as SetsRemote, Switch as Switches}
+use Rattle.connection.specs.declared.Event.the-variants.{Lost as Loses}
 use Rattle.lengths.specs.Listed.{Bytes}
 use Rattle.calls.specs.declared.Call.{Call}
-use Rattle.calls.specs.declared.Call.the-variants.{Unknown, Unfit, Ticks, Open, Close, Connected, Lost, SetRemote, Switch, Segment, Walk, TakeWaiting, Datagram, Accept, Transmit, SwitchAll, ReadCount, ClearCount}
+use Rattle.calls.specs.declared.Call.the-variants.{Unknown, Unfit, Ticks, Own, Lost, Segment, Walk, TakeWaiting, Datagram, Accept, Transmit, SwitchAll, ReadCount, ClearCount}
 use Rattle.calls.specs.Calls.{callOf, bytesFrom}
 use Rattle.answering.specs.Answers.{Effect}
 use Rattle.answer_send.specs.Send.{roomOf}
 use Rattle.dispatch.specs.Dispatch.{room, dispatchOf}
 use Rattle.world.specs.Events.{change, segment, walk, take, datagram, accept, tick, transmit, switchAll, readCount, clearCount, Event, on, all}
-use Rattle.tie.specs.Machine.{Machine, machine}
+use Rattle.tie.specs.Machine.{Machine, machine, loanTo}
 
 -- the events of a call whose bytes stand in the body: "n ticks" are n events; "a room above 1,472 answers as 1,472"; "refused and changes
 -- nothing" is no event
@@ -23,12 +23,8 @@ unfoldable pub eventsOf : List ℕ → Call → List Event
 eventsOf body Unknown = []
 eventsOf body Unfit = []
 eventsOf body (Ticks n) = replicate n (all tick)
-eventsOf body (Open c) = on c (change Opens) ∷ []
-eventsOf body (Close c) = on c (change Closes) ∷ []
-eventsOf body (Connected c) = on c (change Connects) ∷ []
+eventsOf body (Own c e) = on c (change e) ∷ []
 eventsOf body (Lost c) = on c (change Loses) ∷ []
-eventsOf body (SetRemote c remote) = on c (change (SetsRemote remote)) ∷ []
-eventsOf body (Switch c number position) = on c (change (Switches number position)) ∷ []
 eventsOf body (Segment c at) = on c (segment (bytesFrom body at)) ∷ []
 eventsOf body (Walk c place at) = on c (walk (bytesFrom body at) place) ∷ []
 eventsOf body (TakeWaiting c n) = on c (take (roomOf n)) ∷ []
@@ -66,7 +62,7 @@ machineOf e = machine (e .state) (e .rx) (e .tx)
 module _ (image : List ℕ) where
   -- what a call leaves, by the dispatcher's contract
   abbrev pub afterCall : Spoken → Machine → Machine
-  afterCall c m = machineOf (dispatchOf image (m .state) (m .rx) (m .tx) (c .out) (c .number) (c .body))
+  afterCall c m = machineOf (dispatchOf (loanTo image m) (c .out) (c .number) (c .body))
 
   -- calls, each lent the memory that the last one left
   unfoldable pub afterCalls : Machine → List Spoken → Machine

@@ -30,11 +30,11 @@ use Rattle.destination.specs.Destination.{refusalOf, lookOf, timerOf}
 use Rattle.send.specs.Verdict.{verdictOf}
 use Rattle.send.specs.Send.{appendOf, lookAt, checkOf, wantedAt, storeOf, storeAll, transmitOf}
 use Rattle.sending.specs.Sending.{sentMemory}
-use Rattle.edges.specs.Table.{image, fresh, used}
+use Rattle.edges.specs.Table.{image, fresh, used, sendMemory, lends, loans}
 use Rattle.edges.specs.Wrong.{Happen, IsHappen, LeavesState, Send, IsSend, StoresNothing}
 
 -- an open of a fresh connection sets open wanted
-opens : recordAt (eventOf image fresh 23424 23552 0 Open .state) 0 .«open_wanted» ≡ true
+opens : recordAt (eventOf (lends fresh) 0 Open .state) 0 .«open_wanted» ≡ true
 unfolding image be badFrom every rowsOf bodyBytes startOf endOf rowAt partOf bodyOf rowIn groupRow connectionRow routeRow destinationRow groupGood connectionGood routeGood destinationGood sizeIn routesShare destinationsShare share clearIn goodIn headGood entryGood rule then entriesPlace headPlace allRowsPlace checkTable configOf freshState soundOf zeroOf soundAt recordsSound soundState gateOf gateAt stepOf toldOf changeOf eventOf
 opens = refl
 
@@ -44,20 +44,17 @@ not-open = refl
 
 pub no-still-events : (f : Happen) → IsHappen f → LeavesState f → ⊥
 no-still-events f is still =
-    true≢false (sym opens ∙ ap (λ (s : State). recordAt s 0 .«open_wanted») (ap (λ (t : Told). t .state) (sym (is image fresh 23424 23552 0 Open)) ∙ still image fresh 23424 23552 0 Open) ∙ not-open)
+    true≢false (sym opens ∙ ap (λ (s : State). recordAt s 0 .«open_wanted») (ap (λ (t : Told). t .state) (sym (is (lends fresh) 0 Open)) ∙ still (lends fresh) 0 Open) ∙ not-open)
 
 -- a transmit to an online destination with room writes the header's id behind the bytes that wait
-abbrev zeros : List ℕ
-zeros = replicate 23552 0
-
-stores : getD (sentMemory image (used 10) 23424 zeros 9 (1 ∷ 2 ∷ [])) 2956 0 ≡ 2
+stores : getD (sentMemory (loans (used 10)) 9 (1 ∷ 2 ∷ [])) 2956 0 ≡ 2
 unfolding image be spell lay badFrom every foldFrom rowsOf bodyBytes startOf endOf rowAt partOf bodyOf rowIn groupRow connectionRow routeRow destinationRow groupGood connectionGood routeGood destinationGood sizeIn routesShare destinationsShare share clearIn goodIn headGood entryGood rule then entriesPlace headPlace allRowsPlace checkTable configOf freshState soundOf zeroOf soundAt recordsSound soundState gateOf frame isOn refusalOf lookOf timerOf verdictOf appendOf lookAt checkOf wantedAt storeOf storeAll transmitOf sentMemory
 stores = refl
 
 pub no-empty-transmit : (f : Send) → IsSend f → StoresNothing f → ⊥
 no-empty-transmit f is nothing-stored =
-    let same : zeros ≡ sentMemory image (used 10) 23424 zeros 9 (1 ∷ 2 ∷ []) =
-    sym (nothing-stored image (used 10) 23424 zeros 9 (1 ∷ 2 ∷ [])) ∙ is image (used 10) 23424 zeros 9 (1 ∷ 2 ∷ []) in
-    let byte : getD zeros 2956 0 ≡ 2 = ap (λ (l : List ℕ). getD l 2956 0) same ∙ stores in
+    let same : sendMemory ≡ sentMemory (loans (used 10)) 9 (1 ∷ 2 ∷ []) =
+    sym (nothing-stored (loans (used 10)) 9 (1 ∷ 2 ∷ [])) ∙ is (loans (used 10)) 9 (1 ∷ 2 ∷ []) in
+    let byte : getD sendMemory 2956 0 ≡ 2 = ap (λ (l : List ℕ). getD l 2956 0) same ∙ stores in
     let z : _≡_ {A = ℕ} 0 2 = sym (getD-replicate 23552 2956 0 0 (omega arith)) ∙ byte in
     omega arith

@@ -2,12 +2,14 @@
 use Prim.Native.Nat.{ℕ}
 use mathlib.Core.Bool.{true}
 use mathlib.Core.List.{List, [], _∷_}
+use lib.ListN.{replicate}
 use Rattle.connection.specs.declared.Remote.{Remote}
 use Rattle.connection.specs.declared.Mode.the-variants.{Reconnect, Online}
 use Rattle.connection.specs.Connection.{become, withSend}
 use Rattle.state.specs.declared.State.{State}
 use Rattle.state.specs.State.{recordAt, withRecord}
 use Rattle.state.specs.Fresh.{freshState}
+use Rattle.gate.specs.Lent.{Lent, lent, Loan, loan}
 
 -- two groups (UDP, TCP), three connections, three routes, one destination
 unfoldable pub image : List ℕ
@@ -41,3 +43,16 @@ used n = withRecord 2 (withSend n 0 true (become Online (recordAt fresh 2))) fre
 -- the remote of connection 1
 abbrev pub exact : Remote
 exact = record { address = 3232235525; port = 1000 }
+
+-- WHAT A CALL OVER THE IMAGE IS LENT: both memories in their lengths, all zero
+abbrev pub receiveMemory : List ℕ
+receiveMemory = replicate 23424 0
+
+abbrev pub sendMemory : List ℕ
+sendMemory = replicate 23552 0
+
+abbrev pub lends : State → Lent
+lends s = lent image s 23424 23552
+
+abbrev pub loans : State → Loan
+loans s = loan image s receiveMemory sendMemory

@@ -12,7 +12,7 @@ use Rattle.connection.specs.Event.{stepOf}
 use Rattle.state.specs.declared.State.{State}
 use Rattle.state.specs.State.{recordAt, withRecord}
 use Rattle.state.specs.Fresh.{configOf}
-use Rattle.gate.specs.Lent.{lent}
+use Rattle.gate.specs.Lent.{Lent}
 use Rattle.gate.specs.Gate.{gateAt, through}
 use Rattle.events.specs.declared.Told.{Told}
 use Rattle.events.specs.declared.Loss.{Loss}
@@ -31,10 +31,10 @@ unfoldable pub changeOf : List ℕ → State → ℕ → Event → Told
 changeOf image s n e =
     toldOf s n (stepOf e (configOf image n) (recordAt s n) .answer) (stepOf e (configOf image n) (recordAt s n) .connection)
 
--- an event of connection n, lent rx bytes of receive memory and tx bytes of send memory
-unfoldable pub eventOf : List ℕ → State → ℕ → ℕ → ℕ → Event → Told
-eventOf image s rx tx n e = through (gateAt (lent image s rx tx) n) (refusedBy s) (changeOf image s n e)
+-- an event of connection n
+unfoldable pub eventOf : Lent → ℕ → Event → Told
+eventOf l n e = through (gateAt l n) (refusedBy (l .state)) (changeOf (l .image) (l .state) n e)
 
 -- a loss
-unfoldable pub lossOf : List ℕ → State → ℕ → ℕ → ℕ → Loss
-lossOf image s rx tx n = record { answer = eventOf image s rx tx n Lost .answer; state = eventOf image s rx tx n Lost .state }
+unfoldable pub lossOf : Lent → ℕ → Loss
+lossOf l n = record { answer = eventOf l n Lost .answer; state = eventOf l n Lost .state }

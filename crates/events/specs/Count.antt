@@ -1,14 +1,13 @@
 -- Reading, and reading and clearing, a drop count. A refusal carries its number, and the state stays. Assumes nothing.
 use Prim.Native.Nat.{ℕ}
 use mathlib.Core.Bool.{Bool, true, false, cond}
-use mathlib.Core.List.{List}
 use lib.Dec.{eqb}
 use Rattle.connection.specs.declared.Refusal.{Refusal}
 use Rattle.connection.specs.declared.Refusal.the-variants.{Denied}
 use Rattle.connection.specs.Event.{refusalNumber}
 use Rattle.state.specs.declared.State.{State}
 use Rattle.state.specs.State.{countOf, withCount}
-use Rattle.gate.specs.Lent.{lent}
+use Rattle.gate.specs.Lent.{Lent}
 use Rattle.gate.specs.Gate.{gateOf, through}
 use Rattle.events.specs.declared.CountAnswer.{CountAnswer}
 use Rattle.events.specs.declared.CountAnswer.the-variants.{Count, Refused}
@@ -41,8 +40,8 @@ unfoldable pub clearPast : State → ℕ → Counted
 clearPast s p = ofProtocol (clearFrom s) (uncounted s Denied) p
 
 -- "reading or reading and clearing a count": 11, 12, then 3
-unfoldable pub readOf : List ℕ → State → ℕ → ℕ → ℕ → Counted
-readOf image s rx tx p = through (gateOf (lent image s rx tx)) (uncounted s) (readPast s p)
+unfoldable pub readOf : Lent → ℕ → Counted
+readOf l p = through (gateOf l) (uncounted (l .state)) (readPast (l .state) p)
 
-unfoldable pub clearOf : List ℕ → State → ℕ → ℕ → ℕ → Counted
-clearOf image s rx tx p = through (gateOf (lent image s rx tx)) (uncounted s) (clearPast s p)
+unfoldable pub clearOf : Lent → ℕ → Counted
+clearOf l p = through (gateOf l) (uncounted (l .state)) (clearPast (l .state) p)

@@ -1,7 +1,6 @@
 -- A switch on all connections. A refusal carries its number, and the state stays. Assumes nothing.
 use Prim.Native.Nat.{ℕ}
 use mathlib.Core.Bool.{Bool, cond}
-use mathlib.Core.List.{List}
 use lib.Dec.{ltb}
 use Rattle.layout.specs.Layout.{rowsOf}
 use Rattle.layout.specs.declared.Kind.the-variants.{Connection as Connections}
@@ -12,7 +11,7 @@ use Rattle.connection.specs.Connection.{switchedOf}
 use Rattle.lists.specs.Each.{eachTo}
 use Rattle.state.specs.declared.State.{State}
 use Rattle.state.specs.State.{withRecords}
-use Rattle.gate.specs.Lent.{lent}
+use Rattle.gate.specs.Lent.{Lent}
 use Rattle.gate.specs.Gate.{gateOf, through}
 use Rattle.events.specs.declared.Told.{Told}
 use Rattle.events.specs.Change.{refusedBy}
@@ -25,7 +24,7 @@ unfoldable pub switchedAll : ℕ → ℕ → Bool → State → State
 switchedAll rows number on s = withRecords (eachTo (switchAt number on) 0 rows (s .connections)) s
 
 -- "switching a group on all connections": 11, 12, then 2 for a switch number above 31
-unfoldable pub switchAllOf : List ℕ → State → ℕ → ℕ → ℕ → Bool → Told
-switchAllOf image s rx tx number on =
-    through (gateOf (lent image s rx tx)) (refusedBy s)
-    (cond (ltb number 32) (record { answer = Done; state = switchedAll (rowsOf image Connections) number on s }) (refusedBy s Missing))
+unfoldable pub switchAllOf : Lent → ℕ → Bool → Told
+switchAllOf l number on =
+    through (gateOf l) (refusedBy (l .state))
+    (cond (ltb number 32) (record { answer = Done; state = switchedAll (rowsOf (l .image) Connections) number on (l .state) }) (refusedBy (l .state) Missing))

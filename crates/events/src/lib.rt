@@ -2,11 +2,11 @@
 // counts. Each is lent image, state and both memories, and answers any of them. Assumes nothing: no entry relies on its caller.
 ghost use mathlib.Core.Path.{_≡_};
 ghost use Prim.Native.Nat.{_<_, _≤_};
-ghost use lib.ListN.{length};
 ghost use Rattle.layout.specs.Layout.{rowsOf};
 ghost use Rattle.events.specs.Change.{changeOf, eventOf, lossOf};
 ghost use Rattle.events.specs.Module.{switchedAll, switchAllOf};
 ghost use Rattle.events.specs.Count.{readPast, clearPast, readOf, clearOf};
+ghost use Rattle.gate.specs.Lent.{lentBy};
 use connection::Answer;
 use connection::Connection;
 use connection::Event;
@@ -77,7 +77,7 @@ pub fn happen(
     connection: u8,
     event: Event,
 ) -> Told
-    ensures { λ r. ⌜ r ≡ eventOf (now (image .entry)) state (length (now (rx .entry))) (length (now (tx .entry))) connection event ⌝ }
+    ensures { λ r. ⌜ r ≡ eventOf (lentBy (now (image .entry)) state (now (rx .entry)) (now (tx .entry))) connection event ⌝ }
 {
     let n = connection as usize;
     let asked = gate::ask_at(image, state, rx.len(), tx.len(), n);
@@ -91,25 +91,25 @@ pub fn happen(
 }
 
 pub fn open(image: &[u8], state: State, rx: &[u8], tx: &[u8], connection: u8) -> Told
-    ensures { λ r. ⌜ r ≡ eventOf (now (image .entry)) state (length (now (rx .entry))) (length (now (tx .entry))) connection Event.Open ⌝ }
+    ensures { λ r. ⌜ r ≡ eventOf (lentBy (now (image .entry)) state (now (rx .entry)) (now (tx .entry))) connection Event.Open ⌝ }
 {
     happen(image, state, rx, tx, connection, Event::Open)
 }
 
 pub fn close(image: &[u8], state: State, rx: &[u8], tx: &[u8], connection: u8) -> Told
-    ensures { λ r. ⌜ r ≡ eventOf (now (image .entry)) state (length (now (rx .entry))) (length (now (tx .entry))) connection Event.Close ⌝ }
+    ensures { λ r. ⌜ r ≡ eventOf (lentBy (now (image .entry)) state (now (rx .entry)) (now (tx .entry))) connection Event.Close ⌝ }
 {
     happen(image, state, rx, tx, connection, Event::Close)
 }
 
 pub fn connected(image: &[u8], state: State, rx: &[u8], tx: &[u8], connection: u8) -> Told
-    ensures { λ r. ⌜ r ≡ eventOf (now (image .entry)) state (length (now (rx .entry))) (length (now (tx .entry))) connection Event.Connected ⌝ }
+    ensures { λ r. ⌜ r ≡ eventOf (lentBy (now (image .entry)) state (now (rx .entry)) (now (tx .entry))) connection Event.Connected ⌝ }
 {
     happen(image, state, rx, tx, connection, Event::Connected)
 }
 
 pub fn lost(image: &[u8], state: State, rx: &[u8], tx: &[u8], connection: u8) -> Loss
-    ensures { λ r. ⌜ r ≡ lossOf (now (image .entry)) state (length (now (rx .entry))) (length (now (tx .entry))) connection ⌝ }
+    ensures { λ r. ⌜ r ≡ lossOf (lentBy (now (image .entry)) state (now (rx .entry)) (now (tx .entry))) connection ⌝ }
 {
     let told = happen(image, state, rx, tx, connection, Event::Lost);
     let answer = told.answer;
@@ -128,7 +128,7 @@ pub fn set_remote(
     connection: u8,
     remote: Remote,
 ) -> Told
-    ensures { λ r. ⌜ r ≡ eventOf (now (image .entry)) state (length (now (rx .entry))) (length (now (tx .entry))) connection (Event.SetRemote remote) ⌝ }
+    ensures { λ r. ⌜ r ≡ eventOf (lentBy (now (image .entry)) state (now (rx .entry)) (now (tx .entry))) connection (Event.SetRemote remote) ⌝ }
 {
     happen(image, state, rx, tx, connection, Event::SetRemote(remote))
 }
@@ -142,7 +142,7 @@ pub fn switch(
     number: u8,
     on: bool,
 ) -> Told
-    ensures { λ r. ⌜ r ≡ eventOf (now (image .entry)) state (length (now (rx .entry))) (length (now (tx .entry))) connection (Event.Switch number on) ⌝ }
+    ensures { λ r. ⌜ r ≡ eventOf (lentBy (now (image .entry)) state (now (rx .entry)) (now (tx .entry))) connection (Event.Switch number on) ⌝ }
 {
     happen(
         image,
@@ -174,7 +174,7 @@ fn switch_rows(rows: usize, state: State, number: u8, on: bool) -> State
 }
 
 pub fn switch_all(image: &[u8], state: State, rx: &[u8], tx: &[u8], number: u8, on: bool) -> Told
-    ensures { λ r. ⌜ r ≡ switchAllOf (now (image .entry)) state (length (now (rx .entry))) (length (now (tx .entry))) number on ⌝ }
+    ensures { λ r. ⌜ r ≡ switchAllOf (lentBy (now (image .entry)) state (now (rx .entry)) (now (tx .entry))) number on ⌝ }
 {
     let asked = gate::ask(image, state, rx.len(), tx.len());
     match asked {
@@ -245,7 +245,7 @@ fn clear_past(state: State, protocol: u8) -> Counted
 }
 
 pub fn read_count(image: &[u8], state: State, rx: &[u8], tx: &[u8], protocol: u8) -> Counted
-    ensures { λ r. ⌜ r ≡ readOf (now (image .entry)) state (length (now (rx .entry))) (length (now (tx .entry))) protocol ⌝ }
+    ensures { λ r. ⌜ r ≡ readOf (lentBy (now (image .entry)) state (now (rx .entry)) (now (tx .entry))) protocol ⌝ }
 {
     let asked = gate::ask(image, state, rx.len(), tx.len());
     match asked {
@@ -258,7 +258,7 @@ pub fn read_count(image: &[u8], state: State, rx: &[u8], tx: &[u8], protocol: u8
 }
 
 pub fn clear_count(image: &[u8], state: State, rx: &[u8], tx: &[u8], protocol: u8) -> Counted
-    ensures { λ r. ⌜ r ≡ clearOf (now (image .entry)) state (length (now (rx .entry))) (length (now (tx .entry))) protocol ⌝ }
+    ensures { λ r. ⌜ r ≡ clearOf (lentBy (now (image .entry)) state (now (rx .entry)) (now (tx .entry))) protocol ⌝ }
 {
     let asked = gate::ask(image, state, rx.len(), tx.len());
     match asked {

@@ -22,11 +22,9 @@ use Rattle.connection.specs.declared.Refusal.the-variants.{Memory, Unsound, Mis
 use Rattle.connection.specs.declared.Answer.the-variants.{Done}
 use Rattle.connection.specs.declared.Stepped.{Stepped}
 use Rattle.connection.specs.declared.Event.{Event as Change}
-use Rattle.connection.specs.declared.Event.the-variants.{Open, Close, Connected, Lost, SetRemote, Switch}
 use Rattle.connection.specs.Connection.{isOnline}
 use Rattle.connection.specs.Event.{refusalNumber, answerNumber, known, allowed, after, refusedBy as notStepped, stepOf}
 use Rattle.state.specs.declared.State.{State}
-use Rattle.gate.specs.Lent.{lent}
 use Rattle.gate.specs.declared.Gate.the-variants.{Pass, Refused}
 use Rattle.gate.specs.Gate.{gateOf, gateAt, thenThere, through}
 use Rattle.gate.specs.Sound.{soundState}
@@ -59,7 +57,7 @@ use Rattle.waiting.specs.declared.Taking.the-variants as Taken
 use Rattle.waiting.specs.Waiting.{takingNumber, takingOf}
 use Rattle.sending.specs.Sending.{notSent, sendOf, notTaken, takePast, takenOf}
 use Rattle.world.specs.Events.{change, segment, walk, take, datagram, accept, tick, transmit, switchAll, readCount, clearCount, Event, on, all}
-use Rattle.tie.specs.Machine.{Machine}
+use Rattle.tie.specs.Machine.{Machine, lentTo, loanTo}
 use Rattle.demands.specs.Numbers.{numberOf}
 use Rattle.exactly.specs.When.{Check, check, firstFailing, row, here, first, firstOf, noSwitch, notOnline, noProtocol, matching, arrives, has, switchedOn, tooLong, noRoom, asked, askedFrom, sends, checksFor}
 
@@ -105,7 +103,7 @@ module _ (image : List ℕ) (m : Machine) where
   -- THE GATE: 11, 12, then the event's own; of a connection event 11, 12, 2
   module _ {A : Type 0} (number : A → ℕ) (refused : Refusal → A) (event : A) (own : List Check) (by : (r : Refusal) → number (refused r) ≡ refusalNumber r)
       (is : number event ≡ firstFailing own) where
-    gate-first : number (through (gateOf (lent image s rx tx)) refused event) ≡ firstFailing (first image m own)
+    gate-first : number (through (gateOf (lentTo image m)) refused event) ≡ firstFailing (first image m own)
     unfolding gateOf firstFailing
     gate-first = go (not (eqb rx 23424) || not (eqb tx 23552)) (soundState image s)
       where
@@ -114,7 +112,7 @@ module _ (image : List ℕ) (m : Machine) where
         go false true = is
         go false false = by Unsound
 
-    gate-firstOf : (k : ℕ) → number (through (gateAt (lent image s rx tx) k) refused event) ≡ firstFailing (firstOf image m k own)
+    gate-firstOf : (k : ℕ) → number (through (gateAt (lentTo image m) k) refused event) ≡ firstFailing (firstOf image m k own)
     unfolding gateOf gateAt firstFailing
     gate-firstOf k = go (not (eqb rx 23424) || not (eqb tx 23552)) (soundState image s) (ltb k (rowsOf image Connections)) (leb (rowsOf image Connections) k) (not-below k (rowsOf image Connections))
       where
@@ -144,17 +142,9 @@ module _ (image : List ℕ) (m : Machine) where
       go true true = refl
 
   change-number : (k : ℕ) (e : Change) (own : List Check) → answerNumber (changeOf image s k e .answer) ≡ firstFailing own
-      → answerNumber (eventOf image s rx tx k e .answer) ≡ firstFailing (firstOf image m k own)
+      → answerNumber (eventOf (lentTo image m) k e .answer) ≡ firstFailing (firstOf image m k own)
   unfolding eventOf
   change-number k e own is = gate-firstOf (λ (t : Told). answerNumber (t .answer)) (refusedBy s) (changeOf image s k e) own (λ r. refl) is k
-
-  -- .. of an event without a switch number 3 alone
-  denied-number : (k : ℕ) (e : Change) → known e ≡ true
-      → answerNumber (eventOf image s rx tx k e .answer) ≡ firstFailing (firstOf image m k (check (not (allowed e (row image m k) (here image m k))) 3 ∷ []))
-  unfolding firstFailing
-  denied-number k e known′ =
-      change-number k e (check (not (allowed e (row image m k) (here image m k))) 3 ∷ [])
-      (step-number k e ∙ ap (λ (x : Bool). cond (not x) 2 (cond (not (allowed e (row image m k) (here image m k))) 3 0)) known′)
 
   -- a take, a walk: 3, then 4
   judged-number : (k : ℕ) (ok no-way : Bool) → not ok ≡ no-way → receiveNumber (judgedOf ok (here image m k)) ≡ firstFailing (check no-way 3 ∷ notOnline image m k ∷ [])
@@ -168,7 +158,7 @@ module _ (image : List ℕ) (m : Machine) where
       go true false c = refl
 
   receive-number : (k : ℕ) (ok no-way : Bool) → not ok ≡ no-way
-      → receiveNumber (answerOf image s rx tx k ok) ≡ firstFailing (firstOf image m k (check no-way 3 ∷ notOnline image m k ∷ []))
+      → receiveNumber (answerOf (lentTo image m) k ok) ≡ firstFailing (firstOf image m k (check no-way 3 ∷ notOnline image m k ∷ []))
   unfolding answerOf
   receive-number k ok no-way e =
       gate-firstOf receiveNumber Receive.Refused (judgedOf ok (here image m k)) (check no-way 3 ∷ notOnline image m k ∷ []) (λ r. refl) (judged-number k ok no-way e) k
@@ -179,22 +169,22 @@ module _ (image : List ℕ) (m : Machine) where
   done-zero (Receive.Refused r) e = impossible e
   done-zero Receive.NotReceiving e = impossible e
 
-  segment-number : (k : ℕ) (bs : List ℕ) → receiveNumber (segmentOf image s (m .rx) tx k bs .answer) ≡ receiveNumber (segmentAnswer image s rx tx k)
+  segment-number : (k : ℕ) (bs : List ℕ) → receiveNumber (segmentOf (loanTo image m) k bs .answer) ≡ receiveNumber (segmentAnswer (lentTo image m) k)
   unfolding segmentOf takeOn
-  segment-number k bs = go (isDone (segmentAnswer image s rx tx k)) refl
+  segment-number k bs = go (isDone (segmentAnswer (lentTo image m) k)) refl
     where
-      go : (b : Bool) → isDone (segmentAnswer image s rx tx k) ≡ b
-          → receiveNumber (cond b (takeOn image s (m .rx) k bs) (noneTaken s (segmentAnswer image s rx tx k)) .answer) ≡ receiveNumber (segmentAnswer image s rx tx k)
-      go true e = done-zero (segmentAnswer image s rx tx k) e
+      go : (b : Bool) → isDone (segmentAnswer (lentTo image m) k) ≡ b
+          → receiveNumber (cond b (takeOn image s (m .rx) k bs) (noneTaken s (segmentAnswer (lentTo image m) k)) .answer) ≡ receiveNumber (segmentAnswer (lentTo image m) k)
+      go true e = done-zero (segmentAnswer (lentTo image m) k) e
       go false e = refl
 
-  walk-number : (k : ℕ) (d : List ℕ) (p : ℕ) → receiveNumber (walkOf image s rx tx k d p .answer) ≡ receiveNumber (walkAnswer image s rx tx k d p)
+  walk-number : (k : ℕ) (d : List ℕ) (p : ℕ) → receiveNumber (walkOf (lentTo image m) k d p .answer) ≡ receiveNumber (walkAnswer (lentTo image m) k d p)
   unfolding walkOf walkOn
-  walk-number k d p = go (isDone (walkAnswer image s rx tx k d p)) refl
+  walk-number k d p = go (isDone (walkAnswer (lentTo image m) k d p)) refl
     where
-      go : (b : Bool) → isDone (walkAnswer image s rx tx k d p) ≡ b
-          → receiveNumber (cond b (walkOn image s k d p) (noneWalked s p (walkAnswer image s rx tx k d p)) .answer) ≡ receiveNumber (walkAnswer image s rx tx k d p)
-      go true e = done-zero (walkAnswer image s rx tx k d p) e
+      go : (b : Bool) → isDone (walkAnswer (lentTo image m) k d p) ≡ b
+          → receiveNumber (cond b (walkOn image s k d p) (noneWalked s p (walkAnswer (lentTo image m) k d p)) .answer) ≡ receiveNumber (walkAnswer (lentTo image m) k d p)
+      go true e = done-zero (walkAnswer (lentTo image m) k d p) e
       go false e = refl
 
   -- where a walk is not allowed
@@ -211,14 +201,14 @@ module _ (image : List ℕ) (m : Machine) where
       go false = refl
 
   take-number : (k : ℕ) (out : List ℕ)
-      → takingNumber (takenOf image s rx (m .tx) k out .answer) ≡ firstFailing (firstOf image m k (check (ltb (length out) (here image m k .used)) 9 ∷ []))
+      → takingNumber (takenOf (loanTo image m) k out .answer) ≡ firstFailing (firstOf image m k (check (ltb (length out) (here image m k .used)) 9 ∷ []))
   unfolding takenOf
   take-number k out =
       gate-firstOf (λ (t : Drained). takingNumber (t .answer)) (notTaken s) (takePast image s k (length out)) (check (ltb (length out) (here image m k .used)) 9 ∷ []) (λ r. refl)
       (taking-number k (length out)) k
 
   -- a switch on all connections: 2; a count: 3
-  switches-number : (n : ℕ) (b : Bool) → answerNumber (switchAllOf image s rx tx n b .answer) ≡ firstFailing (first image m (noSwitch image m n ∷ []))
+  switches-number : (n : ℕ) (b : Bool) → answerNumber (switchAllOf (lentTo image m) n b .answer) ≡ firstFailing (first image m (noSwitch image m n ∷ []))
   unfolding switchAllOf firstFailing
   switches-number n b = gate-first (λ (t : Told). answerNumber (t .answer)) (refusedBy s) (event (ltb n 32)) (noSwitch image m n ∷ []) (λ r. refl) (rw (← not-below n 32) (past (ltb n 32)))
     where
@@ -230,7 +220,7 @@ module _ (image : List ℕ) (m : Machine) where
       past false = refl
 
   count-number : (f : Bool → Counted) → ((b : Bool) → countNumber (f b .answer) ≡ 0) → (p : ℕ)
-      → countNumber (through (gateOf (lent image s rx tx)) (uncounted s) (ofProtocol f (uncounted s Denied) p) .answer) ≡ firstFailing (first image m (noProtocol image m p ∷ []))
+      → countNumber (through (gateOf (lentTo image m)) (uncounted s) (ofProtocol f (uncounted s Denied) p) .answer) ≡ firstFailing (first image m (noProtocol image m p ∷ []))
   unfolding ofProtocol firstFailing
   count-number f is p =
       gate-first (λ (t : Counted). countNumber (t .answer)) (uncounted s) (ofProtocol f (uncounted s Denied) p) (noProtocol image m p ∷ []) (λ r. refl) (past (eqb p 1) (eqb p 2))
@@ -272,7 +262,7 @@ module _ (image : List ℕ) (m : Machine) where
         go false false Nobody h = rw (every-all (λ i. not (match i)) 16 (λ i l. score-none i (h i l)))
         go false false (At k) h = rw (← pass-failed (λ i. not (match i)) 16 k (h .inside) (score-some k (h .counts)))
 
-    arrival-number : arrivalNumber (arrivalOf (lent image s rx tx) a group source .answer) ≡ firstFailing (first image m (arrives image m a group source))
+    arrival-number : arrivalNumber (arrivalOf (lentTo image m) a group source .answer) ≡ firstFailing (first image m (arrives image m a group source))
     unfolding arrivalOf
     arrival-number =
         gate-first (λ (t : Arrived). arrivalNumber (t .answer)) (notMet s) (arriveOf image s a group source) (arrives image m a group source) (λ r. refl) arrival-own
@@ -342,13 +332,8 @@ module _ (image : List ℕ) (m : Machine) where
   -- EVERY EVENT
   pub exactly-when : (e : Event) → numberOf image m e ≡ firstFailing (checksFor image m e)
   unfolding checksFor firstFailing tickEvent readOf readPast clearOf clearPast sendOf
-  exactly-when (on k (change Open)) = denied-number k Open refl
-  exactly-when (on k (change Close)) = denied-number k Close refl
-  exactly-when (on k (change Connected)) = denied-number k Connected refl
-  exactly-when (on k (change Lost)) = denied-number k Lost refl
-  exactly-when (on k (change (SetRemote r))) = denied-number k (SetRemote r) refl
-  exactly-when (on k (change (Switch n b))) =
-      change-number k (Switch n b) (noSwitch image m n ∷ []) (step-number k (Switch n b) ∙ ap (λ (t : Bool). cond t 2 0) (not-below n 32))
+  exactly-when (on k (change e)) =
+      change-number k e (check (not (known e)) 2 ∷ check (not (allowed e (row image m k) (here image m k))) 3 ∷ []) (step-number k e)
   exactly-when (on k (segment bs)) = segment-number k bs ∙ receive-number k (row image m k .tcp) (not (row image m k .tcp)) refl
   exactly-when (on k (walk d p)) = walk-number k d p ∙ receive-number k (walkAllowed image k d p) (row image m k .tcp || ltb (length d) p) (walk-denied k d p)
   exactly-when (on k (take room)) = rw (length-replicate room) at (take-number k (replicate room 0))

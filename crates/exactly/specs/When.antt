@@ -14,9 +14,8 @@ use Rattle.feed.specs.On.{isOn}
 use Rattle.connection.specs.declared.Config.{Config}
 use Rattle.connection.specs.declared.Connection.{Connection}
 use Rattle.connection.specs.declared.Remote.{Remote}
-use Rattle.connection.specs.declared.Event.the-variants.{Open, Close, Connected, Lost, SetRemote, Switch}
 use Rattle.connection.specs.Connection.{isOnline, equalFields, wildFields, wildcard}
-use Rattle.connection.specs.Event.{openAllowed, closeAllowed, connectedAllowed, lostAllowed, remoteAllowed}
+use Rattle.connection.specs.Event.{known, allowed}
 use Rattle.state.specs.State.{recordAt}
 use Rattle.state.specs.Fresh.{configOf}
 use Rattle.gate.specs.Sound.{soundState}
@@ -124,12 +123,7 @@ module _ (image : List ℕ) (m : Machine) where
   -- THE CHECKS OF AN EVENT: "Checks run 11, 12, 2, 3, then the event's own order". When a connection event is not allowed (3) is in the
   -- document's words beside connection/specs/Event `openAllowed` and its fellows
   unfoldable pub checksFor : Event → List Check
-  checksFor (on k (change Open)) = firstOf k (check (not (openAllowed (row k) (here k))) 3 ∷ [])
-  checksFor (on k (change Close)) = firstOf k (check (not (closeAllowed (row k) (here k))) 3 ∷ [])
-  checksFor (on k (change Connected)) = firstOf k (check (not (connectedAllowed (row k) (here k))) 3 ∷ [])
-  checksFor (on k (change Lost)) = firstOf k (check (not (lostAllowed (row k) (here k))) 3 ∷ [])
-  checksFor (on k (change (SetRemote remote))) = firstOf k (check (not (remoteAllowed (here k))) 3 ∷ [])
-  checksFor (on k (change (Switch number position))) = firstOf k (noSwitch number ∷ [])
+  checksFor (on k (change e)) = firstOf k (check (not (known e)) 2 ∷ check (not (allowed e (row k) (here k))) 3 ∷ [])
   -- "Segment: TCP, else 3"
   checksFor (on k (segment bytes)) = firstOf k (check (not (row k .tcp)) 3 ∷ notOnline k ∷ [])
   -- "beyond the end: 3; a TCP connection: 3"

@@ -1,9 +1,11 @@
 -- What is known past the gate, and what passes it. Assumes nothing.
 use Prim.Native.Nat.{ℕ, _<_, _≤_}
-use mathlib.Core.Path.{_≡_, refl}
+use mathlib.Core.Path.{_≡_, refl, _∙_}
 use mathlib.Core.Bool.{Bool, true, false, cond, not, _&&_, _||_}
 use native.Mathlib.Omega.{arith}
+use mathlib.Core.List.{List}
 use lib.Dec.{eqb, ltb}
+use lib.ListN.{length}
 use borrow.Author.Tests.{eqb-true, eq-eqb, ltb-true, lt-ltb}
 use Rattle.layout.specs.Layout.{rowsOf}
 use Rattle.layout.specs.declared.Kind.the-variants.{Connection as Connections}
@@ -15,8 +17,9 @@ use Rattle.table.proofs.Facts.{accepted-facts}
 use Rattle.connection.specs.declared.Refusal.{Refusal}
 use Rattle.connection.specs.declared.Refusal.the-variants.{Memory, Unsound, Missing}
 use Rattle.lists.proofs.Both.{and-left, and-right}
+use Rattle.state.specs.declared.State.{State}
 use Rattle.gate.specs.declared.Gate.{Gate}
-use Rattle.gate.specs.Lent.{Lent}
+use Rattle.gate.specs.Lent.{Lent, next, Loan, sizes, received, sent}
 use Rattle.gate.specs.declared.Gate.the-variants.{Pass, Refused}
 use Rattle.gate.specs.Sound.{recordsSound, accepted, soundState}
 use Rattle.gate.specs.Gate.{gateOf, gateAt, thenThere, Passed}
@@ -34,17 +37,32 @@ accepts-is : (a : TableAnswer) → accepted a ≡ true → a ≡ Accepted
 accepts-is Table.Accepted p = refl
 accepts-is (Table.Refused q) p = absurd (let z : _≡_ {A = ℕ} 0 1 = cc in omega arith)
 
+-- PASSED IS BUILT HERE, and nowhere else: out of its parts; with records that are sound; by memories as long as before
+pub passed-by : (l : Lent) → l .rx ≡ 23424 → l .tx ≡ 23552 → checkTable (l .image) ≡ Accepted → recordsSound (l .image) (l .state .connections) ≡ true → Passed l
+passed-by l rx tx table sound = record { receive = rx; send = tx; table = table; sound = sound }
+
+-- out of the rules as one test
+pub sound-passed : (l : Lent) → l .rx ≡ 23424 → l .tx ≡ 23552 → soundState (l .image) (l .state) ≡ true → Passed l
+unfolding soundState
+sound-passed l rx tx s =
+    passed-by l rx tx (accepts-is (checkTable (l .image)) (and-left (accepted (checkTable (l .image))) _ s)) (and-right (accepted (checkTable (l .image))) _ s)
+
+pub passed-next : (l : Lent) (t : State) → Passed l → recordsSound (l .image) (t .connections) ≡ true → Passed (next l t)
+passed-next l t p h = passed-by (next l t) (p .receive) (p .send) (p .table) h
+
+module _ (l : Loan) (t : State) (p : Passed (sizes l)) (h : recordsSound (l .image) (t .connections) ≡ true) where
+  pub passed-received : (rx : List ℕ) → length rx ≡ length (l .rx) → Passed (sizes (received l t rx))
+  passed-received rx e = passed-by (sizes (received l t rx)) (e ∙ p .receive) (p .send) (p .table) h
+
+  pub passed-sent : (tx : List ℕ) → length tx ≡ length (l .tx) → Passed (sizes (sent l t tx))
+  passed-sent tx e = passed-by (sizes (sent l t tx)) (p .receive) (e ∙ p .send) (p .table) h
+
 module _ (l : Lent) where
   pub gate-passed : gateOf l ≡ Pass → Passed l
-  unfolding gateOf soundState
+  unfolding gateOf
   gate-passed p =
-      let g = three (eqb (l .rx) 23424) (eqb (l .tx) 23552) (accepted (checkTable (l .image)) && recordsSound (l .image) (l .state .connections)) p in
-      record {
-        receive = eqb-true _ _ (g .0);
-        send = eqb-true _ _ (g .1);
-        table = accepts-is (checkTable (l .image)) (and-left (accepted (checkTable (l .image))) _ (g .2));
-        sound = and-right (accepted (checkTable (l .image))) _ (g .2);
-      }
+      let g = three (eqb (l .rx) 23424) (eqb (l .tx) 23552) (soundState (l .image) (l .state)) p in
+      sound-passed l (eqb-true _ _ (g .0)) (eqb-true _ _ (g .1)) (g .2)
 
   pub passed-gate : Passed l → gateOf l ≡ Pass
   unfolding gateOf soundState

@@ -2,6 +2,7 @@
 use Prim.Native.Nat.{ℕ}
 use mathlib.Core.Path.{_≡_}
 use mathlib.Core.Bool.{Bool, true, cond, not, _||_}
+use mathlib.Core.List.{List}
 use lib.Dec.{eqb, ltb}
 use Rattle.layout.specs.Layout.{rowsOf}
 use Rattle.layout.specs.declared.Kind.the-variants.{Connection as Connections}
@@ -9,6 +10,7 @@ use Rattle.table.specs.declared.TableAnswer.the-variants.{Accepted}
 use Rattle.table.specs.Table.{checkTable}
 use Rattle.connection.specs.declared.Refusal.{Refusal}
 use Rattle.connection.specs.declared.Refusal.the-variants.{Memory, Unsound, Missing}
+use Rattle.state.specs.declared.State.{State}
 use Rattle.gate.specs.declared.Gate.{Gate}
 use Rattle.gate.specs.declared.Gate.the-variants.{Pass, Refused}
 use Rattle.gate.specs.Lent.{Lent}
@@ -33,9 +35,12 @@ abbrev pub through : {A : Type 0} → Gate → (Refusal → A) → A → A
 through Pass refused event = event
 through (Refused r) refused event = refused r
 
--- what is known past the gate
-pub record Passed (l : Lent) : Type 0 where
-  pub receive : l .rx ≡ 23424
-  pub send : l .tx ≡ 23552
-  pub table : checkTable (l .image) ≡ Accepted
-  pub sound : recordsSound (l .image) (l .state .connections) ≡ true
+-- WHAT IS KNOWN PAST THE GATE, of what one call leaves to the next: it says nothing of what varies from call to call
+pub record Known (image : List ℕ) (s : State) (rx tx : ℕ) : Type 0 where
+  pub receive : rx ≡ 23424
+  pub send : tx ≡ 23552
+  pub table : checkTable image ≡ Accepted
+  pub sound : recordsSound image (s .connections) ≡ true
+
+abbrev pub Passed : Lent → Type 0
+Passed l = Known (l .image) (l .state) (l .rx) (l .tx)

@@ -27,7 +27,8 @@ use Rattle.choose.specs.Best.{IsChosen}
 use Rattle.choose.specs.Choose.{rankOf, matches, counts, member, scoreOf, scoreAt, chosenIn, meet, refusedBy, protocolOf, deniedOf, arriveOf}
 use Rattle.choose.proofs.Pass.{chosen-is-best}
 use Rattle.arrivals.specs.Arrivals.{arrivalOf}
-use Rattle.keeps.proofs.Past.{past-or, from-sound}
+use Rattle.gate.proofs.Pass.{passed-next}
+use Rattle.keeps.proofs.Past.{past-or}
 use Rattle.keeps.proofs.Rows.{same, row-set}
 use Rattle.keeps.proofs.Records.{counts-up}
 
@@ -71,4 +72,4 @@ pub arrival-passed : (l : Lent) (accept : Bool) (group : ℕ) (source : Remote) 
 unfolding arrivalOf
 arrival-passed l accept group source p =
     past-or (λ (a : Arrived). Passed (next l (a .state))) (gateOf l) (refusedBy (l .state)) (arriveOf (l .image) (l .state) accept group source) (λ r. p)
-    (λ _. from-sound l _ p (arrive-keeps (l .image) (l .state) accept group source (p .sound)))
+    (λ _. passed-next l _ p (arrive-keeps (l .image) (l .state) accept group source (p .sound)))

@@ -1,6 +1,6 @@
 -- The fresh state of an accepted table passes the gate; without rows it is all zero. Assumes nothing.
 use Prim.Native.Nat.{ℕ, zero, suc, _≤_}
-use mathlib.Core.Path.{_≡_, refl, sym, ap, ap₂}
+use mathlib.Core.Path.{_≡_, refl, sym, ap, ap₂, _∙_}
 use mathlib.Core.Bool.{Bool, true, false}
 use mathlib.Core.List.{List, [], _∷_}
 use native.Mathlib.Omega.{arith}
@@ -20,11 +20,13 @@ use Rattle.connection.specs.Connection.{freshOf, zeroRecord}
 use Rattle.connection.proofs.Keeps.{fresh-sound}
 use Rattle.lists.specs.Each.{each}
 use Rattle.lists.proofs.Each.{all-changed}
+use Rattle.state.specs.declared.State.{State}
 use Rattle.state.specs.Fresh.{configOf, freshAt, freshState, emptyState}
 use Rattle.state.specs.State.{withRecords}
-use Rattle.gate.specs.Lent.{lent}
+use Rattle.gate.specs.Lent.{Lent}
 use Rattle.gate.specs.Sound.{soundAt, recordsSound}
 use Rattle.gate.specs.Gate.{Passed}
+use Rattle.gate.proofs.Pass.{passed-by}
 use Rattle.gate.proofs.Records.{sound-row, zero-past}
 
 module _ (image : List ℕ) (accepted : checkTable image ≡ Accepted) where
@@ -43,9 +45,9 @@ module _ (image : List ℕ) (accepted : checkTable image ≡ Accepted) where
       go true e = sound-row image i (freshOf (configOf image i)) (ltb-true _ _ e) (fresh-sound (configOf image i)) refl
       go false e = rw (fresh-past i (ltb-false _ _ e)) (zero-past image i (ltb-false _ _ e))
 
-  pub fresh-passed : Passed (lent image (freshState image) 23424 23552)
+  pub fresh-all : recordsSound image (freshState image .connections) ≡ true
   unfolding freshState recordsSound
-  fresh-passed = record { receive = refl; send = refl; table = accepted; sound = all-changed (soundAt image) (freshAt image) fresh-at 0 (replicate 16 zeroRecord) }
+  fresh-all = all-changed (soundAt image) (freshAt image) fresh-at 0 (replicate 16 zeroRecord)
 
   -- "that of the empty table": with no rows the fresh state is all zero
   zeros : rowsOf image Connections ≡ 0 → (n k : ℕ) → each (freshAt image) k (replicate n zeroRecord) ≡ replicate n zeroRecord
@@ -55,3 +57,7 @@ module _ (image : List ℕ) (accepted : checkTable image ≡ Accepted) where
   pub fresh-empty : rowsOf image Connections ≡ 0 → freshState image ≡ emptyState
   unfolding freshState
   fresh-empty e = ap (λ (l : List Connection). withRecords l emptyState) (zeros e 16 0)
+
+-- so it passes the gate, with memory of the right lengths
+pub fresh-passed : (l : Lent) → checkTable (l .image) ≡ Accepted → l .state ≡ freshState (l .image) → l .rx ≡ 23424 → l .tx ≡ 23552 → Passed l
+fresh-passed l ok e rx tx = passed-by l rx tx ok (ap (λ (t : State). recordsSound (l .image) (t .connections)) e ∙ fresh-all (l .image) ok)

@@ -23,7 +23,7 @@ use Rattle.gate.specs.declared.Gate.{Gate}
 use Rattle.gate.specs.declared.Gate.the-variants.{Pass, Refused}
 use Rattle.gate.specs.Sound.{soundAt, recordsSound}
 use Rattle.gate.specs.Gate.{gateOf, gateAt, through, Passed}
-use Rattle.gate.proofs.Pass.{gate-at-passed}
+use Rattle.gate.proofs.Pass.{gate-at-passed, passed-next}
 use Rattle.gate.proofs.Records.{record-set}
 use Rattle.events.specs.Change.{refusedBy, toldOf, changeOf, eventOf, lossOf}
 use Rattle.events.specs.Module.{switchAt, switchedAll, switchAllOf}
@@ -33,7 +33,7 @@ use Rattle.events.specs.declared.Counted.{Counted}
 use Rattle.events.proofs.Counts.{read-state, clear-records}
 use Rattle.ticks.specs.declared.Ticked.{Ticked}
 use Rattle.ticks.specs.Tick.{tickAt, tickedTo, tickOnce, ticksTo, unticked, tickEvent, ticksEvent}
-use Rattle.keeps.proofs.Past.{past-or, from-sound}
+use Rattle.keeps.proofs.Past.{past-or}
 use Rattle.keeps.proofs.Rows.{row-at, step-sound, switch-sound, tick-sound}
 
 -- a tick of every row
@@ -54,27 +54,21 @@ module _ (l : Lent) (passed : Passed l) where
   abbrev s : State
   s = l .state
 
-  abbrev rx : ℕ
-  rx = l .rx
-
-  abbrev tx : ℕ
-  tx = l .tx
-
   -- a connection event: past the gate its own record is replaced by a sound one
   told-sound : (n : ℕ) (a : Answer) (c : Connection) → soundAt image n c ≡ true → recordsSound image (toldOf s n a c .state .connections) ≡ true
   unfolding toldOf
   told-sound n Answers.Done c p = record-set image (s .connections) n c (passed .sound) p
   told-sound n (Answers.Refused r) c p = passed .sound
 
-  pub event-passed : (n : ℕ) (e : Event) → Passed (next l (eventOf image s rx tx n e .state))
+  pub event-passed : (n : ℕ) (e : Event) → Passed (next l (eventOf l n e .state))
   unfolding eventOf changeOf
   event-passed n e =
       past-or (λ (t : Told). Passed (next l (t .state))) (gateAt l n) (refusedBy s) (changeOf image s n e) (λ r. passed)
       (λ q.
       let h : n < rowsOf image Connections = gate-at-passed l n q .1 in
-      from-sound l _ passed (told-sound n _ _ (step-sound image n (recordAt s n) (row-at image (s .connections) n (passed .sound) h) h e)))
+      passed-next l _ passed (told-sound n _ _ (step-sound image n (recordAt s n) (row-at image (s .connections) n (passed .sound) h) h e)))
 
-  pub loss-passed : (n : ℕ) → Passed (next l (lossOf image s rx tx n .state))
+  pub loss-passed : (n : ℕ) → Passed (next l (lossOf l n .state))
   unfolding lossOf
   loss-passed n = event-passed n Lost
 
@@ -85,7 +79,7 @@ module _ (l : Lent) (passed : Passed l) where
       all-each (soundAt image) (switchAt number on) 0 (rowsOf image Connections) (s .connections) (passed .sound)
       (λ j c l p. switch-sound image j c p (omega arith) number on)
 
-  pub switch-all-passed : (number : ℕ) (on : Bool) → Passed (next l (switchAllOf image s rx tx number on .state))
+  pub switch-all-passed : (number : ℕ) (on : Bool) → Passed (next l (switchAllOf l number on .state))
   unfolding switchAllOf
   switch-all-passed number on = go (gateOf l) (ltb number 32)
     where
@@ -93,29 +87,29 @@ module _ (l : Lent) (passed : Passed l) where
           → Passed (next l (through g (refusedBy s) (cond b (record { answer = Answers.Done; state = switchedAll (rowsOf image Connections) number on s }) (refusedBy s Missing)) .state))
       go (Refused r) b = passed
       go Pass false = passed
-      go Pass true = from-sound l _ passed (switched-sound number on)
+      go Pass true = passed-next l _ passed (switched-sound number on)
 
   -- the counts: the records stay
-  pub read-passed : (p : ℕ) → Passed (next l (readOf image s rx tx p .state))
+  pub read-passed : (p : ℕ) → Passed (next l (readOf l p .state))
   unfolding readOf
   read-passed p =
       past-or (λ (t : Counted). Passed (next l (t .state))) (gateOf l) (uncounted s) (readPast s p) (λ r. passed)
-      (λ _. from-sound l _ passed (ap (λ (t : State). recordsSound image (t .connections)) (read-state s p) ∙ passed .sound))
+      (λ _. passed-next l _ passed (ap (λ (t : State). recordsSound image (t .connections)) (read-state s p) ∙ passed .sound))
 
-  pub clear-passed : (p : ℕ) → Passed (next l (clearOf image s rx tx p .state))
+  pub clear-passed : (p : ℕ) → Passed (next l (clearOf l p .state))
   unfolding clearOf
   clear-passed p =
       past-or (λ (t : Counted). Passed (next l (t .state))) (gateOf l) (uncounted s) (clearPast s p) (λ r. passed)
-      (λ _. from-sound l _ passed (ap (recordsSound image) (clear-records s p) ∙ passed .sound))
+      (λ _. passed-next l _ passed (ap (recordsSound image) (clear-records s p) ∙ passed .sound))
 
-  pub tick-passed : Passed (next l (tickEvent image s rx tx .state))
+  pub tick-passed : Passed (next l (tickEvent l .state))
   unfolding tickEvent
   tick-passed =
       past-or (λ (t : Ticked). Passed (next l (t .state))) (gateOf l) (unticked s) (record { answer = Answers.Done; state = tickedTo image (rowsOf image Connections) s }) (λ r. passed)
-      (λ _. from-sound l _ passed (ticked-sound image s (passed .sound)))
+      (λ _. passed-next l _ passed (ticked-sound image s (passed .sound)))
 
-  pub ticks-passed : (count : ℕ) → Passed (next l (ticksEvent image s rx tx count .state))
+  pub ticks-passed : (count : ℕ) → Passed (next l (ticksEvent l count .state))
   unfolding ticksEvent
   ticks-passed count =
       past-or (λ (t : Ticked). Passed (next l (t .state))) (gateOf l) (unticked s) (record { answer = Answers.Done; state = ticksTo image (rowsOf image Connections) count s }) (λ r. passed)
-      (λ _. from-sound l _ passed (ticks-sound image s count (passed .sound)))
+      (λ _. passed-next l _ passed (ticks-sound image s count (passed .sound)))

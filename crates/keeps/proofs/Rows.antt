@@ -1,7 +1,7 @@
 -- One record of a sound state: what each event of it leaves sound, its route rule included. Assumes nothing.
 use Prim.Native.Nat.{ℕ, _<_}
 use mathlib.Core.Path.{_≡_, refl, sym, subst}
-use mathlib.Core.Bool.{Bool, true, false}
+use mathlib.Core.Bool.{Bool, true, false, cond}
 use mathlib.Core.List.{List}
 use lib.Dec.{ltb}
 use lib.ListN.{length, getD, List·getD-eq-default}
@@ -13,11 +13,11 @@ use Rattle.part.specs.Part.{ready}
 use Rattle.connection.specs.declared.Config.{Config}
 use Rattle.connection.specs.declared.Connection.{Connection}
 use Rattle.connection.specs.declared.Event.{Event}
-use Rattle.connection.specs.declared.Event.the-variants.{Open, Close, Connected, Lost, SetRemote, Switch}
 use Rattle.connection.specs.Connection.{zeroRecord, switchedOf, tickOf}
-use Rattle.connection.specs.Event.{after, stepOf}
+use Rattle.connection.specs.Event.{after, empties, stepOf}
 use Rattle.connection.specs.Sound.{Sound}
 use Rattle.connection.proofs.Keeps.{bare-sound, step-keeps, switches-keep, tick-keeps}
+use Rattle.connection.proofs.Leaves.{after-leaves}
 use Rattle.connection.proofs.Ticks.{Tick, closes, goes-on, tick-is, step-either}
 use Rattle.state.specs.declared.State.{State}
 use Rattle.state.specs.State.{recordAt, withRecord}
@@ -38,12 +38,11 @@ stays-routed routes n same h = h
 stays-routed routes n empty h = refl
 
 after-part : (e : Event) (g : Config) (c : Connection) → Stays (c .part) (after e g c .part)
-after-part Open g c = same
-after-part Close g c = same
-after-part Connected g c = same
-after-part Lost g c = empty
-after-part (SetRemote r) g c = same
-after-part (Switch n on) g c = same
+after-part e g c = go (empties e) (after-leaves e g c .part)
+  where
+    go : (b : Bool) → after e g c .part ≡ cond b ready (c .part) → Stays (c .part) (after e g c .part)
+    go true p = subst (Stays (c .part)) (sym p) empty
+    go false p = stays-same p
 
 step-part : (e : Event) (g : Config) (c : Connection) → Stays (c .part) (stepOf e g c .connection .part)
 step-part e g c = step-either e g c (λ (d : Connection). Stays (c .part) (d .part)) (λ _. same) (λ _. after-part e g c)

@@ -7,7 +7,7 @@ use Rattle.layout.specs.declared.Kind.the-variants.{Connection as Connections}
 use Rattle.connection.specs.declared.Answer.the-variants.{Done}
 use Rattle.lists.specs.Fold.{foldFrom}
 use Rattle.state.specs.declared.State.{State}
-use Rattle.gate.specs.Lent.{lent}
+use Rattle.gate.specs.Lent.{Lent, next}
 use Rattle.gate.specs.declared.Gate.{Gate}
 use Rattle.gate.specs.Gate.{through, Passed}
 use Rattle.gate.proofs.Pass.{passed-gate}
@@ -21,20 +21,20 @@ unfolding foldFrom
 from image rows zero k j s = refl
 from image rows (suc n) k j s = from image rows n (suc k) (suc j) (tickedTo image rows s)
 
-one : (image : List ℕ) (s : State) (rx tx : ℕ) → Passed (lent image s rx tx) → tickEvent image s rx tx .state ≡ tickedTo image (rowsOf image Connections) s
+one : (l : Lent) → Passed l → tickEvent l .state ≡ tickedTo (l .image) (rowsOf (l .image) Connections) (l .state)
 unfolding tickEvent
-one image s rx tx p = rw (passed-gate (lent image s rx tx) p)
+one l p = rw (passed-gate l p)
 
-many : (image : List ℕ) (s : State) (rx tx n : ℕ) → Passed (lent image s rx tx) → ticksTo image (rowsOf image Connections) n s ≡ calls image rx tx n s
+many : (n : ℕ) (l : Lent) → Passed l → ticksTo (l .image) (rowsOf (l .image) Connections) n (l .state) ≡ calls n l
 unfolding ticksTo foldFrom calls
-many image s rx tx zero p = refl
-many image s rx tx (suc n) p =
-    from image (rowsOf image Connections) n 1 0 (tickedTo image (rowsOf image Connections) s)
-    ∙ ap (foldFrom (tickOnce image (rowsOf image Connections)) n 0) (sym (one image s rx tx p))
-    ∙ many image (tickEvent image s rx tx .state) rx tx n (tick-passed (lent image s rx tx) p)
+many zero l p = refl
+many (suc n) l p =
+    from (l .image) (rowsOf (l .image) Connections) n 1 0 (tickedTo (l .image) (rowsOf (l .image) Connections) (l .state))
+    ∙ ap (foldFrom (tickOnce (l .image) (rowsOf (l .image) Connections)) n 0) (sym (one l p))
+    ∙ many n (next l (tickEvent l .state)) (tick-passed l p)
 
-pub ticks-single : (image : List ℕ) (s : State) (rx tx n : ℕ) → Passed (lent image s rx tx) → ticksEvent image s rx tx n ≡ record { answer = Done; state = calls image rx tx n s }
+pub ticks-single : (l : Lent) (n : ℕ) → Passed l → ticksEvent l n ≡ record { answer = Done; state = calls n l }
 unfolding ticksEvent
-ticks-single image s rx tx n p =
-    ap (λ (g : Gate). through g (unticked s) (record { answer = Done; state = ticksTo image (rowsOf image Connections) n s })) (passed-gate (lent image s rx tx) p)
-    ∙ ap (λ (t : State). record { answer = Done; state = t }) (many image s rx tx n p)
+ticks-single l n p =
+    ap (λ (g : Gate). through g (unticked (l .state)) (record { answer = Done; state = ticksTo (l .image) (rowsOf (l .image) Connections) n (l .state) })) (passed-gate l p)
+    ∙ ap (λ (t : State). record { answer = Done; state = t }) (many n l p)

@@ -2,25 +2,25 @@
 use Prim.Native.Nat.{ℕ}
 use mathlib.Core.List.{List}
 use lib.ListN.{length}
-use Rattle.gate.specs.Lent.{lent}
+use Rattle.gate.specs.Lent.{next, Loan, sizes}
 use Rattle.gate.specs.Gate.{gateAt, Passed}
-use Rattle.gate.proofs.Pass.{gate-at-passed}
-use Rattle.state.specs.declared.State.{State}
+use Rattle.gate.proofs.Pass.{gate-at-passed, passed-next}
 use Rattle.state.specs.State.{recordAt}
 use Rattle.state.specs.Fresh.{configOf}
 use Rattle.waiting.specs.Waiting.{takeOf}
 use Rattle.waiting.proofs.Taken.{take-part}
 use Rattle.sending.specs.declared.Taken.{Taken}
 use Rattle.sending.specs.Sending.{notTaken, takePast, takenOf}
-use Rattle.keeps.proofs.Past.{past-or, from-sound}
+use Rattle.keeps.proofs.Past.{past-or}
 use Rattle.keeps.proofs.Rows.{stays-same, row-set}
 use Rattle.keeps.proofs.Records.{take-keeps}
 
-pub taken-passed : (image : List ℕ) (s : State) (rx : ℕ) (tx : List ℕ) (n : ℕ) (out : List ℕ) → Passed (lent image s rx (length tx)) → Passed (lent image (takenOf image s rx tx n out .state) rx (length tx))
+pub taken-passed : (l : Loan) (n : ℕ) (out : List ℕ) → Passed (sizes l) → Passed (next (sizes l) (takenOf l n out .state))
 unfolding takenOf
-taken-passed image s rx tx n out p =
-    past-or (λ (t : Taken). Passed (lent image (t .state) rx (length tx))) (gateAt (lent image s rx (length tx)) n) (notTaken s) (takePast image s n (length out)) (λ r. p)
+taken-passed l n out p =
+    past-or (λ (t : Taken). Passed (next (sizes l) (t .state))) (gateAt (sizes l) n) (notTaken (l .state)) (takePast (l .image) (l .state) n (length out)) (λ r. p)
     (λ e.
-    from-sound (lent image s rx (length tx)) _ p
-    (row-set image s n (takeOf (configOf image n) (length out) (recordAt s n)) (p .sound) (gate-at-passed (lent image s rx (length tx)) n e .1) (take-keeps (configOf image n) (length out) (recordAt s n))
-    (stays-same (take-part (configOf image n) (length out) (recordAt s n)))))
+    passed-next (sizes l) _ p
+    (row-set (l .image) (l .state) n (takeOf (configOf (l .image) n) (length out) (recordAt (l .state) n)) (p .sound) (gate-at-passed (sizes l) n e .1)
+    (take-keeps (configOf (l .image) n) (length out) (recordAt (l .state) n))
+    (stays-same (take-part (configOf (l .image) n) (length out) (recordAt (l .state) n)))))

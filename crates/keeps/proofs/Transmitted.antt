@@ -9,7 +9,7 @@ use lib.ListN.{length, List·getD-eq-default}
 use borrow.Author.Tests.{leb-true}
 use Rattle.connection.specs.declared.Connection.{Connection}
 use Rattle.connection.specs.Connection.{zeroRecord}
-use Rattle.gate.specs.Lent.{lent}
+use Rattle.gate.specs.Lent.{Loan, sizes}
 use Rattle.gate.specs.declared.Gate.{Gate}
 use Rattle.gate.specs.declared.Gate.the-variants.{Pass, Refused}
 use Rattle.gate.specs.Gate.{gateOf, through}
@@ -81,16 +81,18 @@ module _ (image : List ℕ) (ready : Ready image) (there : (i : ℕ) → i < des
       (begin image ready s pdu payload tx sixteen long fits clear, p) .1
 
 -- the entry point
-pub transmit-keeps : (image : List ℕ) (s : State) (rx : ℕ) (tx : List ℕ) (pdu : ℕ) (payload : List ℕ) → length (s .connections) ≡ 16 → recordsSound image (s .connections) ≡ true
-    → recordsSound image (sendOf image s rx tx pdu payload .state .connections) ≡ true
+pub transmit-keeps : (l : Loan) (pdu : ℕ) (payload : List ℕ) → length (l .state .connections) ≡ 16 → recordsSound (l .image) (l .state .connections) ≡ true
+    → recordsSound (l .image) (sendOf l pdu payload .state .connections) ≡ true
 unfolding sendOf transmitOf
-transmit-keeps image s rx tx pdu payload sixteen h = go (gateOf (lent image s rx (length tx))) refl
+transmit-keeps l pdu payload sixteen h = go (gateOf (sizes l)) refl
   where
-    inner : Accepts image → length tx ≡ 23552 → (b : Bool) → isStored (checkOf image s pdu (length payload)) ≡ b
-        → recordsSound image (cond b (storeAll image s pdu payload tx) (sending s tx) .state .connections) ≡ true
+    inner : Accepts (l .image) → length (l .tx) ≡ 23552 → (b : Bool) → isStored (checkOf (l .image) (l .state) pdu (length payload)) ≡ b
+        → recordsSound (l .image) (cond b (storeAll (l .image) (l .state) pdu payload (l .tx)) (sending (l .state) (l .tx)) .state .connections) ≡ true
     inner a long false e = h
-    inner a long true e = store-keeps image (ready-from image a) (row-there image a) s pdu payload e tx sixteen long (all-fit image a s h) h
+    inner a long true e = store-keeps (l .image) (ready-from (l .image) a) (row-there (l .image) a) (l .state) pdu payload e (l .tx) sixteen long (all-fit (l .image) a (l .state) h) h
 
-    go : (q : Gate) → gateOf (lent image s rx (length tx)) ≡ q → recordsSound image (through q (notSent s) (transmittedOf image s pdu payload tx) .state .connections) ≡ true
+    go : (q : Gate) → gateOf (sizes l) ≡ q → recordsSound (l .image) (through q (notSent (l .state)) (transmittedOf (l .image) (l .state) pdu payload (l .tx)) .state .connections) ≡ true
     go (Refused r) e = h
-    go Pass e = let p = gate-passed (lent image s rx (length tx)) e in inner (accepted-facts image (p .table)) (p .send) (isStored (checkOf image s pdu (length payload))) refl
+    go Pass e =
+        let p = gate-passed (sizes l) e in
+        inner (accepted-facts (l .image) (p .table)) (p .send) (isStored (checkOf (l .image) (l .state) pdu (length payload))) refl

@@ -1,9 +1,9 @@
 -- Calls of `tick`, one after the other. Assumes nothing.
 use Prim.Native.Nat.{ℕ, zero, suc}
-use mathlib.Core.List.{List}
 use Rattle.state.specs.declared.State.{State}
+use Rattle.gate.specs.Lent.{Lent, next}
 use Rattle.ticks.specs.Tick.{tickEvent}
 
-unfoldable pub calls : List ℕ → ℕ → ℕ → ℕ → State → State
-calls image rx tx zero s = s
-calls image rx tx (suc n) s = calls image rx tx n (tickEvent image s rx tx .state)
+unfoldable pub calls : ℕ → Lent → State
+calls zero l = l .state
+calls (suc n) l = calls n (next l (tickEvent l .state))

@@ -39,8 +39,7 @@ use Rattle.send.specs.Verdict.{verdictOf}
 use Rattle.send.specs.Send.{lookAt, checkOf}
 use Rattle.waiting.specs.Waiting.{takingOf}
 use Rattle.sending.specs.Sending.{sendOf, takenOf}
-use Rattle.edges.specs.Table.{image, fresh}
-use Rattle.changes.specs.Changes.{receiveMemory, sendMemory}
+use Rattle.edges.specs.Table.{image, fresh, receiveMemory, sendMemory}
 use Rattle.world.specs.Events.{change, segment, walk, take, datagram, accept, tick, transmit, switchAll, readCount, clearCount, Event, on, all}
 use Rattle.tie.specs.Machine.{Machine, machine}
 use Rattle.demands.specs.Numbers.{numbersFor, among}

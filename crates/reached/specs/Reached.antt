@@ -13,8 +13,8 @@ use Rattle.state.specs.declared.State.{State}
 use Rattle.world.specs.Events.{change, segment, walk, take, datagram, accept, tick, transmit, switchAll, readCount, clearCount, Event, on, all}
 use Rattle.tie.specs.Machine.{Machine, machine}
 use Rattle.demands.specs.Numbers.{numberOf}
-use Rattle.edges.specs.Table.{image, fresh, waitingFor, used, exact}
-use Rattle.changes.specs.Changes.{stands, met, peer, receiveMemory, sendMemory}
+use Rattle.edges.specs.Table.{image, fresh, waitingFor, used, exact, receiveMemory, sendMemory}
+use Rattle.changes.specs.Changes.{stands, met, peer}
 
 -- the kind of an event, by its number in docs/EVENTS.md
 unfoldable pub kindOf : Event → ℕ

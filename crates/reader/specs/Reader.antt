@@ -9,9 +9,9 @@ use Rattle.feed.specs.Feed.{Out, pdu, dropped}
 use Rattle.layout.specs.Layout.{partOf, partAt}
 use Rattle.datagram.specs.declared.Outcome.{Outcome}
 use Rattle.datagram.specs.declared.Outcome.the-variants.{End, Pdu, Drop}
-use Rattle.state.specs.declared.State.{State}
 use Rattle.receive.specs.declared.DatagramWalked.{DatagramWalked}
 use Rattle.receive.specs.Walk.{walkOf}
+use Rattle.gate.specs.Lent.{Lent, next}
 use Rattle.reader.specs.declared.DatagramReader.{DatagramReader}
 
 -- a reader that "holds the datagram and its place": the first place is 0
@@ -23,8 +23,8 @@ abbrev pub movedTo : DatagramReader → ℕ → DatagramReader
 movedTo r place = record { datagram = r .datagram; place = place }
 
 -- "gives the next PDU, a drop, or the end, with the next place": the walk's answer for the reader's datagram at its place
-abbrev pub answerAt : DatagramReader → List ℕ → State → ℕ → ℕ → ℕ → DatagramWalked
-answerAt r image s rx tx connection = walkOf image s rx tx connection (now (r .datagram)) (r .place)
+abbrev pub answerAt : DatagramReader → Lent → ℕ → DatagramWalked
+answerAt r l connection = walkOf l connection (now (r .datagram)) (r .place)
 
 -- the payload of the PDU that was found: the part of the datagram where it stands; where none was found there is none
 unfoldable pub payloadIn : List ℕ → Outcome → List ℕ
@@ -49,8 +49,8 @@ tellOf datagram (Pdu route id at n) later = pdu route (payloadIn datagram (Pdu r
 tellOf datagram (Drop reason id n) later = dropped reason id n ∷ later
 
 -- ANSWER AFTER ANSWER until the end, f at most: the reader is moved each time to the next place, and the state handed on
-unfoldable pub readAll : List ℕ → ℕ → ℕ → ℕ → ℕ → DatagramReader → State → List Out
-readAll image rx tx connection zero r s = []
-readAll image rx tx connection (suc f) r s =
-    tellOf (now (r .datagram)) (answerAt r image s rx tx connection .outcome)
-    (readAll image rx tx connection f (movedTo r (answerAt r image s rx tx connection .next)) (answerAt r image s rx tx connection .state))
+unfoldable pub readAll : ℕ → DatagramReader → Lent → ℕ → List Out
+readAll zero r l connection = []
+readAll (suc f) r l connection =
+    tellOf (now (r .datagram)) (answerAt r l connection .outcome)
+    (readAll f (movedTo r (answerAt r l connection .next)) (next l (answerAt r l connection .state)) connection)

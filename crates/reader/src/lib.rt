@@ -1,9 +1,9 @@
 // The datagram reader: a struct that holds a datagram and its place, over the entry point that walks a datagram. Each function
 // over it is thin and takes it apart; the last has plain parameters. Assumes nothing: no function relies on its caller.
 ghost use mathlib.Core.Path.{_≡_};
-ghost use lib.ListN.{length};
 ghost use Rattle.receive.specs.Walk.{walkOf};
 ghost use Rattle.reader.specs.Reader.{opened, movedTo, answerAt, Found};
+ghost use Rattle.gate.specs.Lent.{lentBy};
 use datagram::Outcome;
 use layout::part_of;
 use receive::DatagramWalked;
@@ -40,7 +40,7 @@ pub fn next<'a>(
     tx: &[u8],
     connection: u8,
 ) -> DatagramWalked
-    ensures { λ r. ⌜ r ≡ answerAt (reader .entry) (now (image .entry)) state (length (now (rx .entry))) (length (now (tx .entry))) connection ⌝ }
+    ensures { λ r. ⌜ r ≡ answerAt (reader .entry) (lentBy (now (image .entry)) state (now (rx .entry)) (now (tx .entry))) connection ⌝ }
 {
     receive::walk_datagram(
         image,
@@ -90,7 +90,7 @@ pub fn walk_from(
     tx: &[u8],
     connection: u8,
 ) -> DatagramWalked
-    ensures { λ r. ⌜ r ≡ walkOf (now (image .entry)) state (length (now (rx .entry))) (length (now (tx .entry))) connection (now (datagram .entry)) place ⌝ }
+    ensures { λ r. ⌜ r ≡ walkOf (lentBy (now (image .entry)) state (now (rx .entry)) (now (tx .entry))) connection (now (datagram .entry)) place ⌝ }
 {
     next(
         moved(new(datagram), place),

@@ -2,7 +2,6 @@
 use Prim.Native.Nat.{ℕ, _<_}
 use mathlib.Core.Path.{_≡_, refl, sym, ap, _∙_}
 use mathlib.Core.Bool.{Bool, true, false, cond, not, _&&_}
-use mathlib.Core.List.{List}
 use borrow.Author.Tests.{not-true, not-false}
 use Rattle.lists.proofs.Both.{impossible}
 use Rattle.layout.specs.Layout.{rowsOf}
@@ -11,9 +10,8 @@ use Rattle.connection.specs.declared.Connection.{Connection}
 use Rattle.connection.specs.declared.Refusal.{Refusal}
 use Rattle.connection.specs.declared.Refusal.the-variants.{Denied}
 use Rattle.connection.specs.Connection.{isOnline}
-use Rattle.state.specs.declared.State.{State}
 use Rattle.state.specs.State.{recordAt}
-use Rattle.gate.specs.Lent.{lent}
+use Rattle.gate.specs.Lent.{Lent}
 use Rattle.gate.specs.declared.Gate.{Gate}
 use Rattle.gate.specs.declared.Gate.the-variants as Gated
 use Rattle.gate.specs.Gate.{gateAt, through, Passed}
@@ -24,11 +22,11 @@ use Rattle.receive.specs.declared.Answer.the-variants.{Done, Refused, No
 use Rattle.receive.specs.Answer.{isDone, judgedOf, answerOf}
 
 -- WHAT IS KNOWN WHEN NOTHING REFUSES
-pub record Clear (image : List ℕ) (s : State) (rx tx n : ℕ) (allowed : Bool) : Type 0 where
-  pub passed : Passed (lent image s rx tx)
-  pub there : n < rowsOf image Connections
+pub record Clear (l : Lent) (n : ℕ) (allowed : Bool) : Type 0 where
+  pub passed : Passed l
+  pub there : n < rowsOf (l .image) Connections
   pub allows : allowed ≡ true
-  pub receives : receiving (recordAt s n) ≡ true
+  pub receives : receiving (recordAt (l .state) n) ≡ true
 
 judged-clear : (allowed : Bool) (c : Connection) → isDone (judgedOf allowed c) ≡ true → (allowed ≡ true) × (receiving c ≡ true)
 unfolding judgedOf
@@ -39,14 +37,14 @@ judged-clear allowed c p = go allowed (receiving c) refl refl p
     go true false e f q = impossible q
     go false b e f q = impossible q
 
-pub done-clear : (image : List ℕ) (s : State) (rx tx n : ℕ) (allowed : Bool) → isDone (answerOf image s rx tx n allowed) ≡ true → Clear image s rx tx n allowed
+pub done-clear : (l : Lent) (n : ℕ) (allowed : Bool) → isDone (answerOf l n allowed) ≡ true → Clear l n allowed
 unfolding answerOf
-done-clear image s rx tx n allowed p = go (gateAt (lent image s rx tx) n) refl p
+done-clear l n allowed p = go (gateAt l n) refl p
   where
-    go : (g : Gate) → gateAt (lent image s rx tx) n ≡ g → isDone (through g Refused (judgedOf allowed (recordAt s n))) ≡ true → Clear image s rx tx n allowed
+    go : (g : Gate) → gateAt l n ≡ g → isDone (through g Refused (judgedOf allowed (recordAt (l .state) n))) ≡ true → Clear l n allowed
     go Gated.Pass e q =
-        let g : Passed (lent image s rx tx) × (n < rowsOf image Connections) = gate-at-passed (lent image s rx tx) n e in
-        let j : (allowed ≡ true) × (receiving (recordAt s n) ≡ true) = judged-clear allowed (recordAt s n) q in
+        let g : Passed l × (n < rowsOf (l .image) Connections) = gate-at-passed l n e in
+        let j : (allowed ≡ true) × (receiving (recordAt (l .state) n) ≡ true) = judged-clear allowed (recordAt (l .state) n) q in
         record { passed = g .0; there = g .1; allows = j .0; receives = j .1 }
     go (Gated.Refused r) e q = impossible q
 
@@ -69,14 +67,14 @@ module _ (allowed : Bool) (c : Connection) where
       rw (not-false allowed p, r)
 
 -- the gate refuses, or passes
-module _ (image : List ℕ) (s : State) (rx tx n : ℕ) (allowed : Bool) (asked : Gate) (ea : asked ≡ gateAt (lent image s rx tx) n) where
-  pub answer-refused : (r : Refusal) → asked ≡ Gated.Refused r → Refused r ≡ answerOf image s rx tx n allowed
+module _ (l : Lent) (n : ℕ) (allowed : Bool) (asked : Gate) (ea : asked ≡ gateAt l n) where
+  pub answer-refused : (r : Refusal) → asked ≡ Gated.Refused r → Refused r ≡ answerOf l n allowed
   unfolding answerOf
-  answer-refused r e = ap (λ (g : Gate). through g Refused (judgedOf allowed (recordAt s n))) (sym e ∙ ea)
+  answer-refused r e = ap (λ (g : Gate). through g Refused (judgedOf allowed (recordAt (l .state) n))) (sym e ∙ ea)
 
-  pub answer-judged : (a : Answer) → asked ≡ Gated.Pass → a ≡ judgedOf allowed (recordAt s n) → a ≡ answerOf image s rx tx n allowed
+  pub answer-judged : (a : Answer) → asked ≡ Gated.Pass → a ≡ judgedOf allowed (recordAt (l .state) n) → a ≡ answerOf l n allowed
   unfolding answerOf
-  answer-judged a e j = j ∙ ap (λ (g : Gate). through g Refused (judgedOf allowed (recordAt s n))) (sym e ∙ ea)
+  answer-judged a e j = j ∙ ap (λ (g : Gate). through g Refused (judgedOf allowed (recordAt (l .state) n))) (sym e ∙ ea)
 
-  pub asked-there : asked ≡ Gated.Pass → Passed (lent image s rx tx) × (n < rowsOf image Connections)
-  asked-there e = gate-at-passed (lent image s rx tx) n (sym ea ∙ e)
+  pub asked-there : asked ≡ Gated.Pass → Passed l × (n < rowsOf (l .image) Connections)
+  asked-there e = gate-at-passed l n (sym ea ∙ e)

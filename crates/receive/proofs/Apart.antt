@@ -21,6 +21,7 @@ use Rattle.datagram.specs.declared.Outcome.{Outcome as Found}
 use Rattle.datagram.specs.declared.Outcome.the-variants as Met
 use Rattle.state.specs.Memory.{stretch}
 use Rattle.state.proofs.Stretch.{stretch-apart}
+use Rattle.gate.specs.Lent.{Lent, Loan, sizes}
 use Rattle.receive.specs.Answer.{isDone}
 use Rattle.receive.specs.Segment.{countTake, takenAt, stretchAt, takeOn, memoryOn, Takes, noneTaken, segmentAnswer, segmentOf, memoryOf, Apart}
 use Rattle.receive.specs.Walk.{countWalk, walkedAt, walkOn, noneWalked, walkAnswer, walkOf}
@@ -54,23 +55,23 @@ take-apart image s rx k segment bytes takes =
     }
 
 -- THE SEGMENT ENTRY, whatever it answers
-pub segment-apart : (image : List ℕ) (s : State) (rx : List ℕ) (tx k : ℕ) (segment : List ℕ) → ((i : ℕ) → getD segment i 0 < 256)
-    → Apart k s (segmentOf image s rx tx k segment .state) rx (memoryOf image s rx tx k segment)
+pub segment-apart : (l : Loan) (k : ℕ) (segment : List ℕ) → ((i : ℕ) → getD segment i 0 < 256) → Apart k (l .state) (segmentOf l k segment .state) (l .rx) (memoryOf l k segment)
 unfolding segmentOf memoryOf
-segment-apart image s rx tx k segment bytes = go (isDone (segmentAnswer image s (length rx) tx k)) refl
+segment-apart l k segment bytes = go (isDone (segmentAnswer (sizes l) k)) refl
   where
-    go : (b : Bool) → isDone (segmentAnswer image s (length rx) tx k) ≡ b
-        → Apart k s (cond b (takeOn image s rx k segment) (noneTaken s (segmentAnswer image s (length rx) tx k)) .state) rx (cond b (memoryOn image s rx k segment) rx)
+    go : (b : Bool) → isDone (segmentAnswer (sizes l) k) ≡ b
+        → Apart k (l .state) (cond b (takeOn (l .image) (l .state) (l .rx) k segment) (noneTaken (l .state) (segmentAnswer (sizes l) k)) .state)
+        (l .rx) (cond b (memoryOn (l .image) (l .state) (l .rx) k segment) (l .rx))
     go true e =
-        let c : Clear image s (length rx) tx k (configOf image k .tcp) = done-clear image s (length rx) tx k (configOf image k .tcp) e in
-        take-apart image s rx k segment bytes (passed-takes image s rx tx k (c .passed) (c .there))
+        let c : Clear (sizes l) k (configOf (l .image) k .tcp) = done-clear (sizes l) k (configOf (l .image) k .tcp) e in
+        take-apart (l .image) (l .state) (l .rx) k segment bytes (passed-takes l k (c .passed) (c .there))
     go false e = record { records = λ j ne. refl; stretches = λ j ne. refl; udp = refl }
 
 -- THE WALK ENTRY: no record (crate's proofs/Keeps, `walk-records`), and not the TCP count
-pub walk-apart : (image : List ℕ) (s : State) (rx tx k : ℕ) (datagram : List ℕ) (place : ℕ) → walkOf image s rx tx k datagram place .state .«tcp_drops» ≡ s .«tcp_drops»
+pub walk-apart : (l : Lent) (k : ℕ) (datagram : List ℕ) (place : ℕ) → walkOf l k datagram place .state .«tcp_drops» ≡ l .state .«tcp_drops»
 unfolding walkOf walkOn
-walk-apart image s rx tx k datagram place = go (isDone (walkAnswer image s rx tx k datagram place))
+walk-apart l k datagram place = go (isDone (walkAnswer l k datagram place))
   where
-    go : (b : Bool) → cond b (walkOn image s k datagram place) (noneWalked s place (walkAnswer image s rx tx k datagram place)) .state .«tcp_drops» ≡ s .«tcp_drops»
-    go true = count-tcp (walkedAt image s k datagram place .outcome) s
+    go : (b : Bool) → cond b (walkOn (l .image) (l .state) k datagram place) (noneWalked (l .state) place (walkAnswer l k datagram place)) .state .«tcp_drops» ≡ l .state .«tcp_drops»
+    go true = count-tcp (walkedAt (l .image) (l .state) k datagram place .outcome) (l .state)
     go false = refl

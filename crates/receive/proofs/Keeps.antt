@@ -12,6 +12,8 @@ use Rattle.lists.proofs.Both.{and-left, and-both}
 use Rattle.layout.specs.Layout.{bodyOf}
 use Rattle.layout.specs.declared.Kind.the-variants.{Route as Routes}
 use Rattle.layout.proofs.Parts.{body-rows}
+use Rattle.table.specs.declared.TableAnswer.the-variants.{Accepted}
+use Rattle.table.specs.Table.{checkTable}
 use Rattle.table.specs.Accepts.{Accepts}
 use Rattle.table.proofs.Facts.{accepted-facts}
 use Rattle.connection.specs.declared.Connection.{Connection}
@@ -25,9 +27,10 @@ use Rattle.stream.specs.declared.Outcome.the-variants.{More, Pdu, Drop}
 use Rattle.stream.proofs.Leaves.{PartHolds, Owns, leaves-fit, leaves-owned}
 use Rattle.datagram.specs.declared.Outcome.{Outcome as Found}
 use Rattle.datagram.specs.declared.Outcome.the-variants as Met
-use Rattle.gate.specs.Lent.{lent}
+use Rattle.gate.specs.Lent.{Lent, next, Loan, sizes, received}
 use Rattle.gate.specs.Sound.{soundAt, recordsSound}
 use Rattle.gate.specs.Gate.{Passed}
+use Rattle.gate.proofs.Pass.{passed-next, passed-received}
 use Rattle.gate.proofs.Records.{row-sound, row-routed, sound-row, record-at, record-set}
 use Rattle.state.specs.Memory.{stretch}
 use Rattle.connection.specs.Event.{receiving}
@@ -47,9 +50,9 @@ in-range s k h = go (decLt k (length (s .connections)))
     go (no ge) = absurd (false≢true (sym (ap receiving (List·getD-eq-default (s .connections) zeroRecord (omega arith))) ∙ h))
 
 -- an accepted table has 64 routes at most
-few-routes : (image : List ℕ) (s : State) (rx tx : ℕ) → Passed (lent image s rx tx) → length (bodyOf image Routes) / 16 ≤ 64
-few-routes image s rx tx passed =
-    let facts : Accepts image = accepted-facts image (passed .table) in
+few-routes : (image : List ℕ) → checkTable image ≡ Accepted → length (bodyOf image Routes) / 16 ≤ 64
+few-routes image table =
+    let facts : Accepts image = accepted-facts image table in
     omega (arith, body-rows image (facts .laid) Routes, facts .most Routes)
 
 -- a drop leaves the records
@@ -64,13 +67,21 @@ walk-count-records (Met.Pdu route id at n) s = refl
 walk-count-records (Met.Drop reason id n) s = refl
 
 -- A TAKE THAT NOTHING REFUSES
-module _ (image : List ℕ) (s : State) (rx : List ℕ) (tx k : ℕ) (segment : List ℕ) (bytes : (i : ℕ) → getD segment i 0 < 256)
-    (clear : Clear image s (length rx) tx k (configOf image k .tcp)) where
+module _ (l : Loan) (k : ℕ) (segment : List ℕ) (bytes : (i : ℕ) → getD segment i 0 < 256) (clear : Clear (sizes l) k (configOf (l .image) k .tcp)) where
+  abbrev image : List ℕ
+  image = l .image
+
+  abbrev s : State
+  s = l .state
+
+  abbrev rx : List ℕ
+  rx = l .rx
+
   abbrev after : Connection
   after = withPart (takenAt image s rx k segment .part) (recordAt s k)
 
   takes : Takes image s rx k
-  takes = passed-takes image s rx tx k (clear .passed) (clear .there)
+  takes = passed-takes l k (clear .passed) (clear .there)
 
   sound-before : soundAt image k (recordAt s k) ≡ true
   sound-before = record-at image (s .connections) k (clear .passed .sound) (in-range s k (clear .receives))
@@ -78,7 +89,7 @@ module _ (image : List ℕ) (s : State) (rx : List ℕ) (tx k : ℕ) (segment : 
   owned : PartHolds (Owns (bodyOf image Routes) k) (takenAt image s rx k segment .part)
   owned =
       leaves-owned (bodyOf image Routes) k (recordAt s k .switches) (recordAt s k .part) (stretch 1464 k rx) segment (takes .fit) bytes
-      (routed-owns (bodyOf image Routes) k (recordAt s k .part) (few-routes image s (length rx) tx (clear .passed))
+      (routed-owns (bodyOf image Routes) k (recordAt s k .part) (few-routes image (clear .passed .table))
       (row-routed image k (recordAt s k) sound-before (clear .there)))
 
   -- the record is sound again: shaped, its route the connection's, the length allowed
@@ -99,46 +110,45 @@ module _ (image : List ℕ) (s : State) (rx : List ℕ) (tx k : ℕ) (segment : 
       ap (λ (cs : List Connection). getD cs k zeroRecord) records-after
       ∙ getD-set-same (s .connections) k after zeroRecord (in-range s k (clear .receives))
 
-  pub take-passed : Passed (lent image (takeOn image s rx k segment .state) (length (memoryOn image s rx k segment)) tx)
+  -- the loan after it
+  abbrev pub lends : Loan
+  lends = received l (takeOn image s rx k segment .state) (memoryOn image s rx k segment)
+
+  pub take-passed : Passed (sizes lends)
   unfolding memoryOn
   take-passed =
-      record {
-        receive = lay-length rx (k * 1464) (stretchAt image s rx k segment) ∙ clear .passed .receive;
-        send = clear .passed .send;
-        table = clear .passed .table;
-        sound = ap (recordsSound image) records-after ∙ record-set image (s .connections) k after (clear .passed .sound) sound-after;
-      }
+      passed-received l (takeOn image s rx k segment .state) (clear .passed)
+      (ap (recordsSound image) records-after ∙ record-set image (s .connections) k after (clear .passed .sound) sound-after)
+      (memoryOn image s rx k segment) (lay-length rx (k * 1464) (stretchAt image s rx k segment))
 
   -- and nothing refuses the next one
-  pub take-clear : Clear image (takeOn image s rx k segment .state) (length (memoryOn image s rx k segment)) tx k (configOf image k .tcp)
+  pub take-clear : Clear (sizes lends) k (configOf image k .tcp)
   take-clear =
       record { passed = take-passed; there = clear .there; allows = clear .allows; receives = ap receiving record-after ∙ clear .receives }
 
 -- THE SEGMENT ENTRY, whatever it answers
-pub segment-passed : (image : List ℕ) (s : State) (rx : List ℕ) (tx k : ℕ) (segment : List ℕ) → ((i : ℕ) → getD segment i 0 < 256) → Passed (lent image s (length rx) tx)
-    → Passed (lent image (segmentOf image s rx tx k segment .state) (length (memoryOf image s rx tx k segment)) tx)
+pub segment-passed : (l : Loan) (k : ℕ) (segment : List ℕ) → ((i : ℕ) → getD segment i 0 < 256) → Passed (sizes l)
+    → Passed (sizes (received l (segmentOf l k segment .state) (memoryOf l k segment)))
 unfolding segmentOf memoryOf
-segment-passed image s rx tx k segment bytes passed = go (isDone (segmentAnswer image s (length rx) tx k)) refl
+segment-passed l k segment bytes passed = go (isDone (segmentAnswer (sizes l) k)) refl
   where
-    go : (b : Bool) → isDone (segmentAnswer image s (length rx) tx k) ≡ b
-        → Passed (lent image (cond b (takeOn image s rx k segment) (noneTaken s (segmentAnswer image s (length rx) tx k)) .state) (length (cond b (memoryOn image s rx k segment) rx)) tx)
-    go true e = take-passed image s rx tx k segment bytes (done-clear image s (length rx) tx k (configOf image k .tcp) e)
+    go : (b : Bool) → isDone (segmentAnswer (sizes l) k) ≡ b
+        → Passed
+        (sizes
+        (received l (cond b (takeOn (l .image) (l .state) (l .rx) k segment) (noneTaken (l .state) (segmentAnswer (sizes l) k)) .state)
+        (cond b (memoryOn (l .image) (l .state) (l .rx) k segment) (l .rx))))
+    go true e = take-passed l k segment bytes (done-clear (sizes l) k (configOf (l .image) k .tcp) e)
     go false e = passed
 
 -- THE WALK ENTRY: no record changes
-pub walk-records : (image : List ℕ) (s : State) (rx tx k : ℕ) (datagram : List ℕ) (place : ℕ) → walkOf image s rx tx k datagram place .state .connections ≡ s .connections
+pub walk-records : (l : Lent) (k : ℕ) (datagram : List ℕ) (place : ℕ) → walkOf l k datagram place .state .connections ≡ l .state .connections
 unfolding walkOf walkOn
-walk-records image s rx tx k datagram place = go (isDone (walkAnswer image s rx tx k datagram place))
+walk-records l k datagram place = go (isDone (walkAnswer l k datagram place))
   where
-    go : (b : Bool) → cond b (walkOn image s k datagram place) (noneWalked s place (walkAnswer image s rx tx k datagram place)) .state .connections ≡ s .connections
-    go true = walk-count-records (walkedAt image s k datagram place .outcome) s
+    go : (b : Bool) → cond b (walkOn (l .image) (l .state) k datagram place) (noneWalked (l .state) place (walkAnswer l k datagram place)) .state .connections ≡ l .state .connections
+    go true = walk-count-records (walkedAt (l .image) (l .state) k datagram place .outcome) (l .state)
     go false = refl
 
-pub walk-passed : (image : List ℕ) (s : State) (rx tx k : ℕ) (datagram : List ℕ) (place : ℕ) → Passed (lent image s rx tx) → Passed (lent image (walkOf image s rx tx k datagram place .state) rx tx)
-walk-passed image s rx tx k datagram place p =
-    record {
-      receive = p .receive;
-      send = p .send;
-      table = p .table;
-      sound = ap (recordsSound image) (walk-records image s rx tx k datagram place) ∙ p .sound;
-    }
+pub walk-passed : (l : Lent) (k : ℕ) (datagram : List ℕ) (place : ℕ) → Passed l → Passed (next l (walkOf l k datagram place .state))
+walk-passed l k datagram place p =
+    passed-next l (walkOf l k datagram place .state) p (ap (recordsSound (l .image)) (walk-records l k datagram place) ∙ p .sound)

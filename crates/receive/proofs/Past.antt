@@ -27,7 +27,7 @@ use Rattle.connection.specs.Connection.{zeroRecord}
 use Rattle.state.specs.declared.State.{State}
 use Rattle.state.specs.State.{recordAt}
 use Rattle.stream.specs.Stream.{lengthOf, Limits}
-use Rattle.gate.specs.Lent.{lent}
+use Rattle.gate.specs.Lent.{Lent, Loan, sizes}
 use Rattle.gate.specs.Sound.{routed, soundAt}
 use Rattle.gate.specs.Gate.{Passed}
 use Rattle.gate.proofs.Records.{row-sound, row-routed, record-at}
@@ -69,7 +69,13 @@ pub record Whole (part : Part) : Type 0 where
   pub shape : shaped part ≡ true
   pub fits : lengthOf part ≤ 1464
 
-module _ (image : List ℕ) (s : State) (rx tx : ℕ) (passed : Passed (lent image s rx tx)) (n : ℕ) (there : n < rowsOf image Connections) where
+module _ (l : Lent) (passed : Passed l) (n : ℕ) (there : n < rowsOf (l .image) Connections) where
+  abbrev image : List ℕ
+  image = l .image
+
+  abbrev s : State
+  s = l .state
+
   pub part-whole : Whole (recordAt s n .part)
   part-whole = go (decLt n (length (s .connections)))
     where
@@ -89,12 +95,12 @@ pub stretch-length : (n : ℕ) (rx : List ℕ) → n < 16 → length rx ≡ 2342
 stretch-length n rx h e = length-take-le 1464 (drop (n * 1464) rx) (omega (arith, length-drop (n * 1464) rx))
 
 -- SO A TAKE MAY BE MADE
-pub passed-takes : (image : List ℕ) (s : State) (rx : List ℕ) (tx n : ℕ) → Passed (lent image s (length rx) tx) → n < rowsOf image Connections → Takes image s rx n
-passed-takes image s rx tx n passed there =
-    let w : Whole (recordAt s n .part) = part-whole image s (length rx) tx passed n there in
-    let h : n < 16 = below-sixteen image (passed .table) n there in
+pub passed-takes : (l : Loan) (n : ℕ) → Passed (sizes l) → n < rowsOf (l .image) Connections → Takes (l .image) (l .state) (l .rx) n
+passed-takes l n passed there =
+    let w : Whole (recordAt (l .state) n .part) = part-whole (sizes l) passed n there in
+    let h : n < 16 = below-sixteen (l .image) (passed .table) n there in
     record {
       small = h;
       room = passed .receive;
-      fit = record { shape = w .shape; fits = w .fits; room = stretch-length n rx h (passed .receive); limits = limits image (passed .table) };
+      fit = record { shape = w .shape; fits = w .fits; room = stretch-length n (l .rx) h (passed .receive); limits = limits (l .image) (passed .table) };
     }

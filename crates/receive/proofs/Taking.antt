@@ -27,6 +27,7 @@ use Rattle.state.specs.Memory.{stretch}
 use Rattle.receive.specs.declared.Answer.{Answer}
 use Rattle.receive.specs.declared.Answer.the-variants.{Done}
 use Rattle.receive.specs.declared.SegmentTaken.{SegmentTaken}
+use Rattle.gate.specs.Lent.{Loan, sizes}
 use Rattle.receive.specs.Answer.{isDone}
 use Rattle.receive.specs.Segment.{dropsAfter, countTake, takenAt, stretchAt, takeOn, memoryOn, Takes, noneTaken, segmentAnswer, segmentOf, memoryOf, payloadOf, payloadStands}
 use Rattle.receive.proofs.Answers.{Clear, done-clear}
@@ -68,17 +69,17 @@ unfolding payloadStands
 payload-there p segment q rx n outcome route id inside at size eo own ew o ep r er =
     rw eo (er ∙ ap₂ (λ (x : ℕ × ℕ) (l : List ℕ). payloadPlace p segment x l inside at size) ep ew)
 
--- PAST ALL REFUSALS: the take on the lent part of receive memory
+-- PAST ALL REFUSALS: the take on the part part of receive memory
 module _ (image : List ℕ) (s : State) (rx : List ℕ) (n : ℕ) (segment : List ℕ) (takes : Takes image s rx n) (routes : List ℕ) (er : routes ≡ bodyOf image Routes) where
-  abbrev lent : List ℕ
-  lent = take (n * 1464 + 1464 - n * 1464) (drop (n * 1464) rx)
+  abbrev part : List ℕ
+  part = take (n * 1464 + 1464 - n * 1464) (drop (n * 1464) rx)
 
-  pub lent-fit : Fit routes (recordAt s n .part) lent
-  lent-fit =
-      subst (λ (l : List ℕ). Fit l (recordAt s n .part) lent) (sym er)
+  pub part-fit : Fit routes (recordAt s n .part) part
+  part-fit =
+      subst (λ (l : List ℕ). Fit l (recordAt s n .part) part) (sym er)
       (subst (Fit (bodyOf image Routes) (recordAt s n .part)) (sym (stretch-all n rx)) (takes .fit))
 
-  pub take-is : (t : Taken) (c : Connection) (drops : ℕ) → t ≡ takenOf routes n (recordAt s n .switches) (recordAt s n .part) lent segment
+  pub take-is : (t : Taken) (c : Connection) (drops : ℕ) → t ≡ takenOf routes n (recordAt s n .switches) (recordAt s n .part) part segment
       → c ≡ withPart (t .part) (recordAt s n) → drops ≡ dropsAfter (t .outcome) (countOf true s)
       → record { answer = Done; read = t .read; outcome = t .outcome; state = withCount true drops (withRecord n c s) } ≡ takeOn image s rx n segment
   unfolding takeOn
@@ -90,7 +91,7 @@ module _ (image : List ℕ) (s : State) (rx : List ℕ) (n : ℕ) (segment : Lis
       record { answer = Done; read = u .read; outcome = u .outcome; state = countTake (u .outcome) (withRecord n (withPart (u .part) (recordAt s n)) s) })
       same
 
-  pub memory-is : ((i : ℕ) → getD segment i 0 < 256) → (m : List ℕ) → m ≡ rxAfter routes n (recordAt s n .switches) (recordAt s n .part) lent segment
+  pub memory-is : ((i : ℕ) → getD segment i 0 < 256) → (m : List ℕ) → m ≡ rxAfter routes n (recordAt s n .switches) (recordAt s n .part) part segment
       → putMid (n * 1464) (n * 1464 + 1464 - n * 1464) rx m ≡ memoryOn image s rx n segment
   unfolding memoryOn
   memory-is bytes m em =
@@ -100,28 +101,28 @@ module _ (image : List ℕ) (s : State) (rx : List ℕ) (n : ℕ) (segment : Lis
       ap (putMid (n * 1464) (n * 1464 + 1464 - n * 1464) rx) same ∙ mid-laid n rx (stretchAt image s rx n segment) (takes .small) (takes .room) l
 
 -- THE ENTRY: done, or refused
-module _ (image : List ℕ) (s : State) (rx : List ℕ) (tx n : ℕ) (segment : List ℕ)
-    (answer : Answer) (ea : answer ≡ segmentAnswer image s (length rx) tx n) (done : Bool) (ed : done ≡ isDone answer) where
-  same-done : {b : Bool} → done ≡ b → isDone (segmentAnswer image s (length rx) tx n) ≡ b
+module _ (l : Loan) (n : ℕ) (segment : List ℕ)
+    (answer : Answer) (ea : answer ≡ segmentAnswer (sizes l) n) (done : Bool) (ed : done ≡ isDone answer) where
+  same-done : {b : Bool} → done ≡ b → isDone (segmentAnswer (sizes l) n) ≡ b
   same-done p = ap isDone (sym ea) ∙ sym ed ∙ p
 
-  pub may-take : done ≡ true → Takes image s rx n
+  pub may-take : done ≡ true → Takes (l .image) (l .state) (l .rx) n
   may-take p =
-      let k : Clear image s (length rx) tx n (configOf image n .tcp) = done-clear image s (length rx) tx n (configOf image n .tcp) (same-done p) in
-      passed-takes image s rx tx n (k .passed) (k .there)
+      let k : Clear (sizes l) n (configOf (l .image) n .tcp) = done-clear (sizes l) n (configOf (l .image) n .tcp) (same-done p) in
+      passed-takes l n (k .passed) (k .there)
 
-  pub segment-done : done ≡ true → (t : SegmentTaken) → t ≡ takeOn image s rx n segment → t ≡ segmentOf image s rx tx n segment
+  pub segment-done : done ≡ true → (t : SegmentTaken) → t ≡ takeOn (l .image) (l .state) (l .rx) n segment → t ≡ segmentOf l n segment
   unfolding segmentOf
   segment-done p t e = rw (same-done p) e
 
-  pub memory-done : done ≡ true → (m : List ℕ) → m ≡ memoryOn image s rx n segment → m ≡ memoryOf image s rx tx n segment
+  pub memory-done : done ≡ true → (m : List ℕ) → m ≡ memoryOn (l .image) (l .state) (l .rx) n segment → m ≡ memoryOf l n segment
   unfolding memoryOf
   memory-done p m e = rw (same-done p) e
 
-  pub segment-none : done ≡ false → noneTaken s answer ≡ segmentOf image s rx tx n segment
+  pub segment-none : done ≡ false → noneTaken (l .state) answer ≡ segmentOf l n segment
   unfolding segmentOf
-  segment-none p = rw (same-done p) (ap (noneTaken s) ea)
+  segment-none p = rw (same-done p) (ap (noneTaken (l .state)) ea)
 
-  pub memory-none : done ≡ false → rx ≡ memoryOf image s rx tx n segment
+  pub memory-none : done ≡ false → l .rx ≡ memoryOf l n segment
   unfolding memoryOf
   memory-none p = rw (same-done p)

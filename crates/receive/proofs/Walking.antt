@@ -13,6 +13,7 @@ use Rattle.state.specs.State.{recordAt}
 use Rattle.state.specs.Fresh.{configOf}
 use Rattle.datagram.specs.declared.Walked.{Walked}
 use Rattle.datagram.specs.Datagram.{walkedOf}
+use Rattle.gate.specs.Lent.{Lent}
 use Rattle.receive.specs.declared.Answer.{Answer}
 use Rattle.receive.specs.declared.Answer.the-variants.{Done}
 use Rattle.receive.specs.declared.DatagramWalked.{DatagramWalked}
@@ -32,23 +33,23 @@ walk-is image s n datagram place routes er w after ew ea =
     ∙ ap (λ (u : Walked). record { answer = Done; outcome = u .outcome; next = u .next; state = countWalk (u .outcome) s }) same
 
 -- THE ENTRY: done, or refused
-module _ (image : List ℕ) (s : State) (rx tx n : ℕ) (datagram : List ℕ) (place : ℕ) (config : Config) (ec : config ≡ configOf image n)
-    (answer : Answer) (ea : answer ≡ answerOf image s rx tx n (not (config .tcp) && leb place (length datagram))) (done : Bool) (ed : done ≡ isDone answer) where
-  same-answer : answer ≡ walkAnswer image s rx tx n datagram place
-  same-answer = ea ∙ ap (λ (g : Config). answerOf image s rx tx n (not (g .tcp) && leb place (length datagram))) ec
+module _ (l : Lent) (n : ℕ) (datagram : List ℕ) (place : ℕ) (config : Config) (ec : config ≡ configOf (l .image) n)
+    (answer : Answer) (ea : answer ≡ answerOf l n (not (config .tcp) && leb place (length datagram))) (done : Bool) (ed : done ≡ isDone answer) where
+  same-answer : answer ≡ walkAnswer l n datagram place
+  same-answer = ea ∙ ap (λ (g : Config). answerOf l n (not (g .tcp) && leb place (length datagram))) ec
 
-  same-done : {b : Bool} → done ≡ b → isDone (walkAnswer image s rx tx n datagram place) ≡ b
+  same-done : {b : Bool} → done ≡ b → isDone (walkAnswer l n datagram place) ≡ b
   same-done p = ap isDone (sym same-answer) ∙ sym ed ∙ p
 
   pub may-walk : done ≡ true → n < 16
   may-walk p =
-      let k : Clear image s rx tx n (walkAllowed image n datagram place) = done-clear image s rx tx n (walkAllowed image n datagram place) (same-done p) in
-      below-sixteen image (k .passed .table) n (k .there)
+      let k : Clear l n (walkAllowed (l .image) n datagram place) = done-clear l n (walkAllowed (l .image) n datagram place) (same-done p) in
+      below-sixteen (l .image) (k .passed .table) n (k .there)
 
-  pub walk-done : done ≡ true → (w : DatagramWalked) → w ≡ walkOn image s n datagram place → w ≡ walkOf image s rx tx n datagram place
+  pub walk-done : done ≡ true → (w : DatagramWalked) → w ≡ walkOn (l .image) (l .state) n datagram place → w ≡ walkOf l n datagram place
   unfolding walkOf
   walk-done p w e = rw (same-done p) e
 
-  pub walk-none : done ≡ false → noneWalked s place answer ≡ walkOf image s rx tx n datagram place
+  pub walk-none : done ≡ false → noneWalked (l .state) place answer ≡ walkOf l n datagram place
   unfolding walkOf
-  walk-none p = rw (same-done p) (ap (noneWalked s place) same-answer)
+  walk-none p = rw (same-done p) (ap (noneWalked (l .state) place) same-answer)

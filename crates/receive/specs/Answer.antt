@@ -1,13 +1,11 @@
 -- What a segment take and a walk are answered: the gate (11, 12, 2), then 3, then 4. Assumes nothing: these are definitions.
 use Prim.Native.Nat.{ℕ}
 use mathlib.Core.Bool.{Bool, true, false, cond}
-use mathlib.Core.List.{List}
 use Rattle.connection.specs.declared.Connection.{Connection}
 use Rattle.connection.specs.declared.Refusal.the-variants.{Denied}
 use Rattle.connection.specs.Event.{receiving, refusalNumber}
-use Rattle.state.specs.declared.State.{State}
 use Rattle.state.specs.State.{recordAt}
-use Rattle.gate.specs.Lent.{lent}
+use Rattle.gate.specs.Lent.{Lent}
 use Rattle.gate.specs.Gate.{gateAt, through}
 use Rattle.receive.specs.declared.Answer.{Answer}
 use Rattle.receive.specs.declared.Answer.the-variants.{Done, Refused, NotReceiving}
@@ -27,7 +25,6 @@ isDone NotReceiving = false
 unfoldable pub judgedOf : Bool → Connection → Answer
 judgedOf allowed c = cond allowed (cond (receiving c) Done NotReceiving) (Refused Denied)
 
--- "Checks run 11, 12, 2, 3, then the event's own order": lent rx and tx bytes of memory
-unfoldable pub answerOf : List ℕ → State → ℕ → ℕ → ℕ → Bool → Answer
-answerOf image s rx tx connection allowed =
-    through (gateAt (lent image s rx tx) connection) Refused (judgedOf allowed (recordAt s connection))
+-- "Checks run 11, 12, 2, 3, then the event's own order"
+unfoldable pub answerOf : Lent → ℕ → Bool → Answer
+answerOf l connection allowed = through (gateAt l connection) Refused (judgedOf allowed (recordAt (l .state) connection))

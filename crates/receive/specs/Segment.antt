@@ -18,6 +18,7 @@ use Rattle.stream.specs.declared.Outcome.the-variants.{More, Pdu, Drop}
 use Rattle.stream.specs.declared.Taken.{Taken}
 use Rattle.stream.specs.Stream.{takenOf, rxAfter, payloadAt, payloadPlace, Fit}
 use Rattle.state.specs.Memory.{stretch}
+use Rattle.gate.specs.Lent.{Lent, Loan, sizes}
 use Rattle.receive.specs.declared.Answer.{Answer}
 use Rattle.receive.specs.declared.Answer.the-variants.{Done}
 use Rattle.receive.specs.declared.SegmentTaken.{SegmentTaken}
@@ -66,20 +67,20 @@ abbrev pub noneTaken : State → Answer → SegmentTaken
 noneTaken s a = record { answer = a; read = 0; outcome = More; state = s }
 
 -- "Segment: TCP, else 3"
-abbrev pub segmentAnswer : List ℕ → State → ℕ → ℕ → ℕ → Answer
-segmentAnswer image s rx tx connection = answerOf image s rx tx connection (configOf image connection .tcp)
+abbrev pub segmentAnswer : Lent → ℕ → Answer
+segmentAnswer l connection = answerOf l connection (configOf (l .image) connection .tcp)
 
--- THE SEGMENT TAKE, lent the receive memory rx and tx bytes of send memory
-unfoldable pub segmentOf : List ℕ → State → List ℕ → ℕ → ℕ → List ℕ → SegmentTaken
-segmentOf image s rx tx connection segment =
-    cond (isDone (segmentAnswer image s (length rx) tx connection))
-    (takeOn image s rx connection segment)
-    (noneTaken s (segmentAnswer image s (length rx) tx connection))
+-- THE SEGMENT TAKE
+unfoldable pub segmentOf : Loan → ℕ → List ℕ → SegmentTaken
+segmentOf l connection segment =
+    cond (isDone (segmentAnswer (sizes l) connection))
+    (takeOn (l .image) (l .state) (l .rx) connection segment)
+    (noneTaken (l .state) (segmentAnswer (sizes l) connection))
 
 -- RECEIVE MEMORY AFTER IT: "All lent memory stays in every refusal"
-unfoldable pub memoryOf : List ℕ → State → List ℕ → ℕ → ℕ → List ℕ → List ℕ
-memoryOf image s rx tx connection segment =
-    cond (isDone (segmentAnswer image s (length rx) tx connection)) (memoryOn image s rx connection segment) rx
+unfoldable pub memoryOf : Loan → ℕ → List ℕ → List ℕ
+memoryOf l connection segment =
+    cond (isDone (segmentAnswer (sizes l) connection)) (memoryOn (l .image) (l .state) (l .rx) connection segment) (l .rx)
 
 -- "all other lent bytes stay": when connection k takes, every other stretch of receive memory stays, and so do every other record and
 -- UDP's count

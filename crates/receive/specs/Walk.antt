@@ -13,6 +13,7 @@ use Rattle.datagram.specs.declared.Outcome.{Outcome}
 use Rattle.datagram.specs.declared.Outcome.the-variants.{End, Pdu, Drop}
 use Rattle.datagram.specs.declared.Walked.{Walked}
 use Rattle.datagram.specs.Datagram.{walkedOf}
+use Rattle.gate.specs.Lent.{Lent}
 use Rattle.receive.specs.declared.Answer.{Answer}
 use Rattle.receive.specs.declared.Answer.the-variants.{Done}
 use Rattle.receive.specs.declared.DatagramWalked.{DatagramWalked}
@@ -47,12 +48,12 @@ noneWalked s place a = record { answer = a; outcome = End; next = place; state =
 abbrev pub walkAllowed : List ℕ → ℕ → List ℕ → ℕ → Bool
 walkAllowed image connection datagram place = not (configOf image connection .tcp) && leb place (length datagram)
 
-abbrev pub walkAnswer : List ℕ → State → ℕ → ℕ → ℕ → List ℕ → ℕ → Answer
-walkAnswer image s rx tx connection datagram place = answerOf image s rx tx connection (walkAllowed image connection datagram place)
+abbrev pub walkAnswer : Lent → ℕ → List ℕ → ℕ → Answer
+walkAnswer l connection datagram place = answerOf l connection (walkAllowed (l .image) connection datagram place)
 
--- THE WALK, lent rx and tx bytes of memory
-unfoldable pub walkOf : List ℕ → State → ℕ → ℕ → ℕ → List ℕ → ℕ → DatagramWalked
-walkOf image s rx tx connection datagram place =
-    cond (isDone (walkAnswer image s rx tx connection datagram place))
-    (walkOn image s connection datagram place)
-    (noneWalked s place (walkAnswer image s rx tx connection datagram place))
+-- THE WALK
+unfoldable pub walkOf : Lent → ℕ → List ℕ → ℕ → DatagramWalked
+walkOf l connection datagram place =
+    cond (isDone (walkAnswer l connection datagram place))
+    (walkOn (l .image) (l .state) connection datagram place)
+    (noneWalked (l .state) place (walkAnswer l connection datagram place))

@@ -10,6 +10,7 @@ ghost use Rattle.state.specs.Memory.{stretch};
 ghost use Rattle.receive.specs.Answer as Is;
 ghost use Rattle.receive.specs.Segment as Seg;
 ghost use Rattle.receive.specs.Walk as Wk;
+ghost use Rattle.gate.specs.Lent.{lent, loan, lentBy};
 use connection::Connection;
 use connection::Refusal;
 use connection::is_online;
@@ -72,7 +73,7 @@ fn judge(allowed: bool, c: Connection) -> Answer
 
 // The gate (11, 12, 2), then 3, then 4.
 fn answer_at(image: &[u8], state: State, rx: usize, tx: usize, n: usize, allowed: bool) -> Answer
-    ensures { λ r. ⌜ r ≡ Is.answerOf (now (image .entry)) state rx tx n allowed ⌝ }
+    ensures { λ r. ⌜ r ≡ Is.answerOf (lent (now (image .entry)) state rx tx) n allowed ⌝ }
 {
     let asked = ask_at(image, state, rx, tx, n);
     match asked {
@@ -86,7 +87,7 @@ fn answer_at(image: &[u8], state: State, rx: usize, tx: usize, n: usize, allowed
 
 // What a take on a connection is answered.
 pub fn may_take(image: &[u8], state: State, rx: usize, tx: usize, connection: u8) -> Answer
-    ensures { λ r. ⌜ r ≡ Seg.segmentAnswer (now (image .entry)) state rx tx connection ⌝ }
+    ensures { λ r. ⌜ r ≡ Seg.segmentAnswer (lent (now (image .entry)) state rx tx) connection ⌝ }
 {
     let n = connection as usize;
     let config = config_of(image, n);
@@ -161,8 +162,8 @@ pub fn segment_take(
     connection: u8,
     segment: &[u8],
 ) -> SegmentTaken
-    ensures { λ r. ⌜ r ≡ Seg.segmentOf (now (image .entry)) state (now (rx .entry)) (length (now (tx .entry))) connection (now (segment .entry)) ⌝ }
-    ensures { λ _. ⌜ now (rx .exit) ≡ Seg.memoryOf (now (image .entry)) state (now (rx .entry)) (length (now (tx .entry))) connection (now (segment .entry)) ⌝ }
+    ensures { λ r. ⌜ r ≡ Seg.segmentOf (loan (now (image .entry)) state (now (rx .entry)) (now (tx .entry))) connection (now (segment .entry)) ⌝ }
+    ensures { λ _. ⌜ now (rx .exit) ≡ Seg.memoryOf (loan (now (image .entry)) state (now (rx .entry)) (now (tx .entry))) connection (now (segment .entry)) ⌝ }
 {
     let answer = may_take(image, state, rx.len(), tx.len(), connection);
     let done = is_done(answer);
@@ -274,7 +275,7 @@ pub fn walk_datagram(
     datagram: &[u8],
     place: usize,
 ) -> DatagramWalked
-    ensures { λ r. ⌜ r ≡ Wk.walkOf (now (image .entry)) state (length (now (rx .entry))) (length (now (tx .entry))) connection (now (datagram .entry)) place ⌝ }
+    ensures { λ r. ⌜ r ≡ Wk.walkOf (lentBy (now (image .entry)) state (now (rx .entry)) (now (tx .entry))) connection (now (datagram .entry)) place ⌝ }
 {
     let n = connection as usize;
     let config = config_of(image, n);

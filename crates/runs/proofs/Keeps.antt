@@ -3,7 +3,7 @@
 -- Assumes nothing.
 use Prim.Native.Nat.{ℕ, _-_}
 use mathlib.Core.Path.{_≡_, refl, sym, ap, _∙_}
-use mathlib.Core.Bool.{Bool, true, false, true≢false, false≢true}
+use mathlib.Core.Bool.{Bool, true, false, cond, true≢false, false≢true}
 use mathlib.Core.List.{List, []}
 use lib.ListN.{getD, set, take as front}
 use lib.Seq.{take-take}
@@ -14,11 +14,12 @@ use Rattle.part.specs.declared.Part.{Part}
 use Rattle.part.specs.declared.Part.the-variants.{Header, Payload, Skip}
 use Rattle.connection.specs.declared.Connection.{Connection}
 use Rattle.connection.specs.declared.Config.{Config}
+use Rattle.part.specs.Part.{ready}
 use Rattle.connection.specs.declared.Event.{Event as Change}
-use Rattle.connection.specs.declared.Event.the-variants.{Open, Close, Connected, Lost, SetRemote, Switch}
 use Rattle.connection.specs.Connection.{isOnline}
-use Rattle.connection.specs.Event.{after}
+use Rattle.connection.specs.Event.{after, empties}
 use Rattle.feed.specs.Feed.{cell, payload}
+use Rattle.connection.proofs.Leaves.{after-leaves}
 use Rattle.connection.proofs.Ticks.{step-either}
 use Rattle.waiting.specs.Waiting.{takeOf}
 use Rattle.waiting.proofs.Taken.{take-part, take-mode}
@@ -47,12 +48,26 @@ kept-follow c h p m q =
 
 -- the six events of the record alone
 kept-after : (e : Change) (g : Config) (h : Held) → Quiet h → Kept h (follow (after e g (h .connection)) h)
-kept-after Open g h q = kept-follow (after Open g (h .connection)) h refl refl q
-kept-after Close g h q = kept-follow (after Close g (h .connection)) h refl refl q
-kept-after Connected g h q = record { going = λ _. follows (after Connected g (h .connection)) h refl; gone = λ off. absurd (true≢false off) }
-kept-after Lost g h q = record { going = λ on. absurd (false≢true on); gone = λ _. refl }
-kept-after (SetRemote r) g h q = kept-follow (after (SetRemote r) g (h .connection)) h refl refl q
-kept-after (Switch n b) g h q = kept-follow (after (Switch n b) g (h .connection)) h refl refl q
+kept-after e g h q = go (empties e) refl (after-leaves e g (h .connection) .part)
+  where
+    d : Connection
+    d = after e g (h .connection)
+
+    go : (b : Bool) → empties e ≡ b → d .part ≡ cond b ready (h .connection .part) → Kept h (follow d h)
+    go true n p =
+        record {
+          going = λ on. absurd (false≢true (sym (after-leaves e g (h .connection) .down n) ∙ on));
+          gone = λ _. cell-follow (d .part) (h .received) ∙ ap (λ (t : Part). cellOf t (h .received)) p;
+        }
+    go false n p =
+        record {
+          going = λ _. follows d h p;
+          gone = λ off. follows d h p ∙ q (down n off (isOnline (h .connection .mode)) refl);
+        }
+      where
+        down : empties e ≡ false → isOnline (d .mode) ≡ false → (b : Bool) → isOnline (h .connection .mode) ≡ b → b ≡ false
+        down n off true was = absurd (true≢false (sym (after-leaves e g (h .connection) .up n was) ∙ off))
+        down n off false was = refl
 
 -- what an event is, if no segment
 pub data Other : Own → Type 0 where

@@ -1,5 +1,5 @@
--- DEMAND 3: runs that count as the same end in the same world, and each connection has handed out the same PDUs in the same
--- order; whatever the table says, whatever the world at the start, whatever events of a whole group or module do.
+-- DEMAND 3: runs that count as the same end in the same world, and each connection has given the same outcomes in the same
+-- order, PDUs and drops; whatever the table says, whatever the world at the start, whatever events of a whole group or module do.
 -- Assumes nothing.
 use Prim.Native.Nat.{ℕ, _<_, _≤_}
 use mathlib.Core.Path.{_≡_, refl, sym, ap, ap₂, _∙_}
@@ -11,8 +11,8 @@ use lib.Dec.{eqb, ltb}
 use native.Mathlib.Decide.{decLt}
 use native.Mathlib.Omega.{arith}
 use borrow.Author.Tests.{eqb-true}
-use Rattle.feed.specs.Feed.{Routes, Cell, segment as segmentOf, Pdu, pdus, drops}
-use Rattle.feed.proofs.Cut.{cut as cut-segment, pdus-append, drops-append}
+use Rattle.feed.specs.Feed.{Routes, Cell, segment as segmentOf, drops, Out}
+use Rattle.feed.proofs.Cut.{cut as cut-segment, drops-append}
 use Rattle.world.specs.World.{Held, World, blank, cellAt, withCell}
 use Rattle.world.specs.Events.{Own, segment, Whole, Event, on}
 use Rattle.connection.specs.Event.{receiving}
@@ -119,7 +119,7 @@ module _ (T : Table) where
       ap (left T w i) (at-cut w i x y) ∙ left-following w i (at T w i (segment x)) (at T (left T w i (at T w i (segment x))) i (segment y))
 
 -- of two different numbers at most one is k, so the order of what they hand out does not matter
-one-of : (i j k : ℕ) (X Y Z : List Pdu) → (i ≡ j → ⊥) → cond (eqb i k) X [] ++ (cond (eqb j k) Y [] ++ Z) ≡ cond (eqb j k) Y [] ++ (cond (eqb i k) X [] ++ Z)
+one-of : (i j k : ℕ) (X Y Z : List Out) → (i ≡ j → ⊥) → cond (eqb i k) X [] ++ (cond (eqb j k) Y [] ++ Z) ≡ cond (eqb j k) Y [] ++ (cond (eqb i k) X [] ++ Z)
 one-of i j k X Y Z ne = go (eqb i k) (eqb j k) refl refl
   where
     go : (p q : Bool) → eqb i k ≡ p → eqb j k ≡ q → cond p X [] ++ (cond q Y [] ++ Z) ≡ cond q Y [] ++ (cond p X [] ++ Z)
@@ -128,7 +128,7 @@ one-of i j k X Y Z ne = go (eqb i k) (eqb j k) refl refl
     go false true ei ej = refl
     go false false ei ej = refl
 
-both-of : (b : Bool) (X Y Z : List Pdu) → cond b (X ++ Y) [] ++ Z ≡ cond b X [] ++ (cond b Y [] ++ Z)
+both-of : (b : Bool) (X Y Z : List Out) → cond b (X ++ Y) [] ++ Z ≡ cond b X [] ++ (cond b Y [] ++ Z)
 both-of true X Y Z = append-assoc X Y Z
 both-of false X Y Z = refl
 
@@ -147,19 +147,18 @@ module _ (T : Table) (whole : Whole → World → World) where
       let A : Acted = at T w i a in
       let B : Acted = at T w j b in
       let v : World = left T (left T w j B) i (at T (left T w j B) i a) in
-      ap₂ (λ (q : Acted) (v′ : World). cond (eqb i k) (pdus (A .list)) [] ++ (cond (eqb j k) (pdus (q .list)) [] ++ heard T whole k v′ es))
+      ap₂ (λ (q : Acted) (v′ : World). cond (eqb i k) (A .list) [] ++ (cond (eqb j k) (q .list) [] ++ heard T whole k v′ es))
       (at-other T w i j A b ne) (swap-left T w i j a b ne)
-      ∙ one-of i j k (pdus (A .list)) (pdus (B .list)) (heard T whole k v es) ne
-      ∙ ap (λ (q : Acted). cond (eqb j k) (pdus (B .list)) [] ++ (cond (eqb i k) (pdus (q .list)) [] ++ heard T whole k v es)) (sym (at-other T w j i B a (λ e. ne (sym e))))
+      ∙ one-of i j k (A .list) (B .list) (heard T whole k v es) ne
+      ∙ ap (λ (q : Acted). cond (eqb j k) (B .list) [] ++ (cond (eqb i k) (q .list) [] ++ heard T whole k v es)) (sym (at-other T w j i B a (λ e. ne (sym e))))
 
   cut-heard : (k : ℕ) (w : World) (i : ℕ) (x y : List ℕ) (es : List Event) → heard T whole k w (on i (segment (x ++ y)) ∷ es) ≡ heard T whole k w (on i (segment x) ∷ on i (segment y) ∷ es)
   unfolding heard hands step
   cut-heard k w i x y es =
       let A : Acted = at T w i (segment x) in
       let B : Acted = at T (left T w i A) i (segment y) in
-      ap₂ (λ (q : List Pdu) (v : World). cond (eqb i k) q [] ++ heard T whole k v es)
-      (ap (λ (q : Acted). pdus (q .list)) (at-cut T w i x y) ∙ pdus-append (A .list) (B .list)) (cut-left T w i x y)
-      ∙ both-of (eqb i k) (pdus (A .list)) (pdus (B .list)) (heard T whole k (left T (left T w i A) i B) es)
+      ap₂ (λ (q : List Out) (v : World). cond (eqb i k) q [] ++ heard T whole k v es) (ap (λ (q : Acted). q .list) (at-cut T w i x y)) (cut-left T w i x y)
+      ∙ both-of (eqb i k) (A .list) (B .list) (heard T whole k (left T (left T w i A) i B) es)
 
   -- THE SAME END
   pub same-end : (w : World) {es fs : List Event} → Same es fs → run T whole w es ≡ run T whole w fs
@@ -171,12 +170,12 @@ module _ (T : Table) (whole : Whole → World → World) where
   same-end w (later e h) = same-end (step T whole w e) h
   same-end w (both h g) = same-end w h ∙ same-end w g
 
-  -- THE SAME PDUS, IN THE SAME ORDER
+  -- THE SAME OUTCOMES, IN THE SAME ORDER: the PDUs and the drops
   pub same-heard : (k : ℕ) (w : World) {es fs : List Event} → Same es fs → heard T whole k w es ≡ heard T whole k w fs
   unfolding heard
   same-heard k w (swap i j a b es ne) = swap-heard k w i j a b es ne
   same-heard k w (cut i x y es) = cut-heard k w i x y es
   same-heard k w (join i x y es) = sym (cut-heard k w i x y es)
   same-heard k w (same es) = refl
-  same-heard k w (later e h) = ap (λ (ps : List Pdu). hands T whole k w e ++ ps) (same-heard k (step T whole w e) h)
+  same-heard k w (later e h) = ap (λ (os : List Out). hands T whole k w e ++ os) (same-heard k (step T whole w e) h)
   same-heard k w (both h g) = same-heard k w h ∙ same-heard k w g

@@ -13,12 +13,12 @@ use native.Mathlib.Omega.{arith}
 use borrow.Author.Tests.{eq-eqb, ne-eqb}
 use Rattle.lists.proofs.Both.{and-left, and-right}
 use Rattle.connection.specs.Connection.{isOnline}
-use Rattle.feed.specs.Feed.{Routes, Cell, ready, Ran, ran, segment as segmentOf, Pdu, pdus}
+use Rattle.feed.specs.Feed.{Routes, Cell, ready, Ran, ran, segment as segmentOf, pdus, Out}
 use Rattle.feed.proofs.Cut.{pdus-append}
 use Rattle.world.specs.World.{Held, World, blank, heldAt, cellAt}
 use Rattle.world.specs.Events.{Own, change, segment, walk, take, Whole, Event, on, all}
 use Rattle.connection.specs.Event.{receiving}
-use Rattle.world.specs.Step.{Table, Acted, acted, streamed, routesAt, acts, at, step, hands, heard}
+use Rattle.world.specs.Step.{Table, Acted, acted, streamed, routesAt, acts, at, step, hands, heard, compared}
 use Rattle.world.proofs.Cells.{snug-in, snug-segment, cell-back}
 use Rattle.lengths.specs.Listed.{Marked, mark, bytesOf, readTo, readOut, Bytes}
 use Rattle.lengths.proofs.Bytes.{bytes-append, bytes-mark}
@@ -54,7 +54,7 @@ module _ (T : Table) (whole : Whole → World → World) (k : ℕ) (tcp : T .con
   -- an event says nothing to the stream of connection k, or its bytes are read
   data Turn (w : World) (e : Event) : Type 0 where
     silent : hands T whole k w e ≡ [] → reads T whole k w e ≡ [] → Kept (heldAt w k) (heldAt (next w e) k) → Turn w e
-    read : (ms : List Marked) → hands T whole k w e ≡ pdus (readOut (T .routes k) (cellAt (heldAt w k)) ms)
+    read : (ms : List Marked) → hands T whole k w e ≡ readOut (T .routes k) (cellAt (heldAt w k)) ms
         → reads T whole k w e ≡ ms
         → cellAt (heldAt (next w e) k) ≡ readTo (T .routes k) (cellAt (heldAt w k)) ms
         → online w k ≡ true → online (next w e) k ≡ true → Turn w e
@@ -80,9 +80,9 @@ module _ (T : Table) (whole : Whole → World → World) (k : ℕ) (tcp : T .con
   reads-none w _ (a-take room) = refl
 
   turn-own : (w : World) (e : Own) → Other e → Quiet (heldAt w k) → Turn w (on k e)
-  unfolding hands step pdus
+  unfolding hands step
   turn-own w e o q =
-      silent (rw (eq-eqb k k refl) (ap pdus (acts-nothing T k tcp e o (heldAt w k) (ltb k (T .rows)) refl))) (reads-none w e o)
+      silent (rw (eq-eqb k k refl) (acts-nothing T k tcp e o (heldAt w k) (ltb k (T .rows)) refl)) (reads-none w e o)
       (kept-set (w .held) k (at T w k e .to) q (kept-acts T k tcp e o (heldAt w k) (ltb k (T .rows)) refl q))
 
   -- a segment: refused, or read
@@ -101,7 +101,7 @@ module _ (T : Table) (whole : Whole → World → World) (k : ℕ) (tcp : T .con
   readable w = ltb k (T .rows) && (T .config k .tcp && receiving (heldAt w k .connection))
 
   turn-segment : (w : World) (bs : List ℕ) (r : Bool) → readable w ≡ r → Quiet (heldAt w k) → Turn w (on k (segment bs))
-  unfolding hands step pdus
+  unfolding hands step
   turn-segment w bs true r q =
       let h : Held = heldAt w k in
       let t : ltb k (T .rows) ≡ true = and-left (ltb k (T .rows)) _ r in
@@ -113,7 +113,7 @@ module _ (T : Table) (whole : Whole → World → World) (k : ℕ) (tcp : T .con
       let a : at T w k (segment bs) ≡ streamed h (segmentOf (routesAt T k h) (cellAt h) bs) = acts-read h bs t u in
       let s : heldAt (next w (on k (segment bs))) k ≡ at T w k (segment bs) .to = stays T w k bs (decLt k (length (w .held))) in
       read ms
-      (rw (eq-eqb k k refl) (ap (λ (x : Acted). pdus (x .list)) a ∙ ap (λ (x : Ran). pdus (x .list)) f))
+      (rw (eq-eqb k k refl) (ap (λ (x : Acted). x .list) a ∙ ap (λ (x : Ran). x .list) f))
       (rw (eq-eqb k k refl, r))
       (ap cellAt (s ∙ ap (λ (x : Acted). x .to) a)
       ∙ cell-back (segmentOf (routesAt T k h) (cellAt h) bs .to) (snug-segment (routesAt T k h) (cellAt h) bs (snug-in (h .connection .part) (h .received)))
@@ -123,7 +123,7 @@ module _ (T : Table) (whole : Whole → World → World) (k : ℕ) (tcp : T .con
   turn-segment w bs false r q =
       let h : Held = heldAt w k in
       let a : at T w k (segment bs) ≡ acted h [] = acts-refused h bs (ltb k (T .rows)) refl r in
-      silent (rw (eq-eqb k k refl) (ap (λ (x : Acted). pdus (x .list)) a)) (rw (eq-eqb k k refl, r))
+      silent (rw (eq-eqb k k refl) (ap (λ (x : Acted). x .list) a)) (rw (eq-eqb k k refl, r))
       (subst (Kept h) (sym (stays T w k bs (decLt k (length (w .held))) ∙ ap (λ (x : Acted). x .to) a)) (kept-same h q))
 
   turn-at : (w : World) (e : Own) → Quiet (heldAt w k) → Turn w (on k e)
@@ -152,13 +152,13 @@ module _ (T : Table) (whole : Whole → World → World) (k : ℕ) (tcp : T .con
   abbrev Q : ℕ → Routes
   Q = T .routes k
 
-  -- the PDUs of streams, a byte at a time
-  unfoldable readLater : List (List Marked) → List Pdu
+  -- the outcomes of streams, a byte at a time
+  unfoldable readLater : List (List Marked) → List Out
   readLater [] = []
-  readLater (s ∷ ss) = pdus (readOut Q ready s) ++ readLater ss
+  readLater (s ∷ ss) = readOut Q ready s ++ readLater ss
 
-  unfoldable readIn : Cell → Streams → List Pdu
-  readIn c s = pdus (readOut Q c (s .first)) ++ readLater (s .later)
+  unfoldable readIn : Cell → Streams → List Out
+  readIn c s = readOut Q c (s .first) ++ readLater (s .later)
 
   -- an event that says nothing: the period goes on, or ends here
   never : (x : Bool) → (x && not true) ≡ false
@@ -167,37 +167,35 @@ module _ (T : Table) (whole : Whole → World → World) (k : ℕ) (tcp : T .con
 
   on-silent : (h h′ : Held) (s : Streams) (b b′ : Bool) → isOnline (h .connection .mode) ≡ b → isOnline (h′ .connection .mode) ≡ b′ → Quiet h → Kept h h′
       → readIn (cellAt h′) s ≡ readIn (cellAt h) (longer (b && not b′) [] s)
-  unfolding readIn readLater readOut pdus
+  unfolding readIn readLater readOut
   on-silent h h′ s b true e e′ q kept =
       ap (λ (c : Cell). readIn c s) (kept .going e′) ∙ ap (λ (x : Bool). readIn (cellAt h) (longer x [] s)) (sym (never b))
   on-silent h h′ s true false e e′ q kept = ap (λ (c : Cell). readIn c s) (kept .gone e′)
   on-silent h h′ s false false e e′ q kept = ap (λ (c : Cell). readIn c s) (kept .gone e′ ∙ sym (q e))
 
   -- bytes that are read: they stand in front of what the period reads later
-  on-read : (c c′ : Cell) (ms : List Marked) (s : Streams) → c′ ≡ readTo Q c ms → pdus (readOut Q c ms) ++ readIn c′ s ≡ readIn c (longer false ms s)
+  on-read : (c c′ : Cell) (ms : List Marked) (s : Streams) → c′ ≡ readTo Q c ms → readOut Q c ms ++ readIn c′ s ≡ readIn c (longer false ms s)
   unfolding readIn
   on-read c c′ ms s e =
-      let more : List Pdu = readLater (s .later) in
-      sym (append-assoc (pdus (readOut Q c ms)) (pdus (readOut Q c′ (s .first))) more)
-      ∙ ap (λ (ps : List Pdu). ps ++ more)
-      (ap (λ (d : Cell). pdus (readOut Q c ms) ++ pdus (readOut Q d (s .first))) e
-      ∙ sym (pdus-append (readOut Q c ms) (readOut Q (readTo Q c ms) (s .first)))
-      ∙ ap pdus (sym (out-append Q c ms (s .first))))
+      let more : List Out = readLater (s .later) in
+      sym (append-assoc (readOut Q c ms) (readOut Q c′ (s .first)) more)
+      ∙ ap (λ (os : List Out). os ++ more)
+      (ap (λ (d : Cell). readOut Q c ms ++ readOut Q d (s .first)) e ∙ sym (out-append Q c ms (s .first)))
 
   one-turn : (w : World) (e : Event) (s : Streams) → Turn w e → Quiet (heldAt w k)
       → hands T whole k w e ++ readIn (cellAt (heldAt (next w e) k)) s ≡ readIn (cellAt (heldAt w k)) (longer (ends T whole k w e) (reads T whole k w e) s)
   one-turn w e s (silent given bytes kept) q =
-      ap (λ (ps : List Pdu). ps ++ readIn (cellAt (heldAt (next w e) k)) s) given
+      ap (λ (os : List Out). os ++ readIn (cellAt (heldAt (next w e) k)) s) given
       ∙ on-silent (heldAt w k) (heldAt (next w e) k) s (online w k) (online (next w e) k) refl refl q kept
       ∙ ap (λ (ms : List Marked). readIn (cellAt (heldAt w k)) (longer (ends T whole k w e) ms s)) (sym bytes)
   one-turn w e s (read ms given bytes to before behind) q =
       let stop : ends T whole k w e ≡ false = ap₂ (λ (x y : Bool). x && not y) before behind in
-      ap (λ (ps : List Pdu). ps ++ readIn (cellAt (heldAt (next w e) k)) s) given
+      ap (λ (os : List Out). os ++ readIn (cellAt (heldAt (next w e) k)) s) given
       ∙ on-read (cellAt (heldAt w k)) (cellAt (heldAt (next w e) k)) ms s to
       ∙ ap₂ (λ (x : Bool) (l : List Marked). readIn (cellAt (heldAt w k)) (longer x l s)) (sym stop) (sym bytes)
 
   nothing-read : (c : Cell) → [] ≡ readIn c (streams [] [])
-  unfolding readIn readLater readOut pdus
+  unfolding readIn readLater readOut
   nothing-read c = refl
 
   -- the list, a byte at a time
@@ -206,7 +204,7 @@ module _ (T : Table) (whole : Whole → World → World) (k : ℕ) (tcp : T .con
   heard-read w [] q = nothing-read (cellAt (heldAt w k))
   heard-read w (e ∷ es) q =
       let t : Turn w e = turn w e q in
-      ap (λ (ps : List Pdu). hands T whole k w e ++ ps) (heard-read (next w e) es (turn-quiet w e t))
+      ap (λ (os : List Out). hands T whole k w e ++ os) (heard-read (next w e) es (turn-quiet w e t))
       ∙ one-turn w e (streamsOf T whole k (next w e) es) t q
 
   -- .. and by lengths: the streams are bytes
@@ -232,16 +230,18 @@ module _ (T : Table) (whole : Whole → World → World) (k : ℕ) (tcp : T .con
   streams-bytes w (e ∷ es) (b, bs) =
       longer-bytes (ends T whole k w e) (reads T whole k w e) (streamsOf T whole k (next w e) es) (reads-bytes w e b) (streams-bytes (next w e) es bs)
 
-  later-listed : (ss : List (List Marked)) → LaterBytes ss → readLater ss ≡ listedLater Q ss
-  unfolding readLater listedLater
+  later-listed : (ss : List (List Marked)) → LaterBytes ss → compared (readLater ss) ≡ listedLater Q ss
+  unfolding readLater listedLater pdus
   later-listed [] b = refl
-  later-listed (s ∷ ss) (b, bs) = ap₂ _++_ (ready-list Q s b) (later-listed ss bs)
+  later-listed (s ∷ ss) (b, bs) = pdus-append (readOut Q ready s) (readLater ss) ∙ ap₂ _++_ (ready-list Q s b) (later-listed ss bs)
 
-  -- THE LIST: whatever the run, what a TCP connection has handed out is what its streams hold by lengths
+  -- THE LIST: whatever the run, of what a TCP connection has given demand 3 compares what its streams hold by lengths
   pub heard-listed : (w : World) (es : List Event) → Rests (heldAt w k) → RunBytes es
-      → heard T whole k w es ≡ listedIn (T .routes k) (cellAt (heldAt w k)) (streamsOf T whole k w es)
+      → compared (heard T whole k w es) ≡ listedIn (T .routes k) (cellAt (heldAt w k)) (streamsOf T whole k w es)
   unfolding readIn listedIn
   heard-listed w es r b =
       let s : Streams = streamsOf T whole k w es in
       let sb : StreamBytes s = streams-bytes w es b in
-      heard-read w es (r .quiet) ∙ ap₂ _++_ (reading Q (cellAt (heldAt w k)) (s .first) (r .shape) (sb .0)) (later-listed (s .later) (sb .1))
+      ap compared (heard-read w es (r .quiet))
+      ∙ pdus-append (readOut Q (cellAt (heldAt w k)) (s .first)) (readLater (s .later))
+      ∙ ap₂ _++_ (reading Q (cellAt (heldAt w k)) (s .first) (r .shape) (sb .0)) (later-listed (s .later) (sb .1))

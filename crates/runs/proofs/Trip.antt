@@ -4,11 +4,11 @@
 -- Assumes nothing.
 use Prim.Native.Nat.{ℕ}
 use mathlib.Core.Path.{_≡_, refl, sym, ap, _∙_}
-use mathlib.Core.List.{List, [], _∷_, _++_, append-nil, flatten}
+use mathlib.Core.List.{List, [], _∷_, _++_, append-nil, flatten, map}
 use borrow.Author.Tests.{eq-eqb}
-use Rattle.feed.specs.Feed.{Routes, Cell, ready, Ran, segment as segmentOf, segments, Pdu, pdus}
+use Rattle.feed.specs.Feed.{Routes, Cell, ready, Ran, segment as segmentOf, segments, Pdu, asOut}
 use Rattle.feed.specs.Frame.{Sent, frames, Routed}
-use Rattle.feed.proofs.Trip.{round-trip, pdus-back}
+use Rattle.feed.proofs.Trip.{round-trip}
 use Rattle.world.specs.World.{World, heldAt}
 use Rattle.world.specs.Events.{segment, Whole, Event, on}
 use Rattle.world.specs.Step.{Table, Acted, routesAt, acts, at, hands, heard}
@@ -35,21 +35,22 @@ module _ (T : Table) (whole : Whole → World → World) (w : World) (k : ℕ) (
       rw (r .there)
       (ap (λ (a : Acted). a .list) (does-read T k (heldAt w k) bs (rw (r .tcp) (r .receives))) ∙ ap (λ (c : Cell). segmentOf R c bs .list) (r .at-header))
 
-  one-segment : {ss : List Sent} {ps : List Pdu} (bs : List ℕ) → Routed R ss ps → bs ≡ frames ss → heard T whole k w (on k (segment bs) ∷ []) ≡ ps
+  one-segment : {ss : List Sent} {ps : List Pdu} (bs : List ℕ) → Routed R ss ps → bs ≡ frames ss → heard T whole k w (on k (segment bs) ∷ []) ≡ map asOut ps
   unfolding heard hands segments flatten
   one-segment {ss} {ps} bs h e =
       rw (eq-eqb k k refl)
-      (append-nil (pdus (at T w k (segment bs) .list))
-      ∙ ap pdus (at-read bs ∙ sym (append-nil (segmentOf R ready bs .list)) ∙ ap (λ (q : Ran). q .list) (round-trip R (bs ∷ []) h (append-nil bs ∙ e)))
-      ∙ pdus-back ps)
+      (append-nil (at T w k (segment bs) .list)
+      ∙ at-read bs
+      ∙ sym (append-nil (segmentOf R ready bs .list))
+      ∙ ap (λ (q : Ran). q .list) (round-trip R (bs ∷ []) h (append-nil bs ∙ e)))
 
-  none-read : pdus (segments R ready [] .list) ≡ []
-  unfolding segments pdus
+  none-read : segments R ready [] .list ≡ []
+  unfolding segments
   none-read = refl
 
-  -- ANY PIECES
-  pub trip : {ss : List Sent} {ps : List Pdu} (pieces : List (List ℕ)) → Routed (routesAt T k (heldAt w k)) ss ps → flatten pieces ≡ frames ss → heard T whole k w (asSegments k pieces) ≡ ps
+  -- ANY PIECES: just these PDUs, and no drop
+  pub trip : {ss : List Sent} {ps : List Pdu} (pieces : List (List ℕ)) → Routed (routesAt T k (heldAt w k)) ss ps → flatten pieces ≡ frames ss → heard T whole k w (asSegments k pieces) ≡ map asOut ps
   unfolding heard
   trip {ss} {ps} [] h e =
-      sym none-read ∙ ap (λ (q : Ran). pdus (q .list)) (round-trip R [] h e) ∙ pdus-back ps
+      sym none-read ∙ ap (λ (q : Ran). q .list) (round-trip R [] h e)
   trip {ss} {ps} (p ∷ pieces) h e = same-heard T whole k w (pieces-same k p pieces) ∙ one-segment (flatten (p ∷ pieces)) h e

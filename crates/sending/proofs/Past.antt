@@ -9,7 +9,7 @@ use Rattle.layout.specs.declared.Kind.the-variants.{Connection as Connections, 
 use Rattle.layout.proofs.Parts.{body-rows}
 use Rattle.table.specs.Accepts.{Accepts}
 use Rattle.table.proofs.Facts.{accepted-facts}
-use Rattle.gate.specs.Lent.{lent}
+use Rattle.gate.specs.Lent.{Lent}
 use Rattle.gate.specs.declared.Gate.{Gate}
 use Rattle.gate.specs.declared.Gate.the-variants.{Pass}
 use Rattle.gate.specs.Gate.{gateOf}
@@ -40,9 +40,8 @@ ready-from image a =
       apart = λ i j l h. a .destinationsApart i j l (counted image a j h);
     }
 
-module _ (image : List ℕ) (s : State) (rx tx : ℕ) where
-  pub past-gate : (g : Gate) → g ≡ gateOf (lent image s rx tx) → g ≡ Pass → Ready image × (tx ≡ 23552)
-  past-gate g e p = let q = gate-passed (lent image s rx tx) (sym e ∙ p) in (ready-from image (accepted-facts image (q .table)), q .send)
+pub past-gate : (l : Lent) (g : Gate) → g ≡ gateOf l → g ≡ Pass → Ready (l .image) × (l .tx ≡ 23552)
+past-gate l g e p = let q = gate-passed l (sym e ∙ p) in (ready-from (l .image) (accepted-facts (l .image) (q .table)), q .send)
 
 -- past the gate, what the code makes of one record is the definition's
 module _ (image : List ℕ) (s : State) (n room : ℕ) where

@@ -4,7 +4,7 @@ use Prim.Native.Nat.{ℕ}
 use mathlib.Core.List.{List}
 use lib.ListN.{length}
 use Rattle.connection.specs.declared.Refusal.{Refusal}
-use Rattle.gate.specs.Lent.{lent}
+use Rattle.gate.specs.Lent.{Loan, sizes}
 use Rattle.gate.specs.Gate.{gateOf, gateAt, through}
 use Rattle.send.specs.declared.Transmission.the-variants.{Refused as NotSent}
 use Rattle.send.specs.declared.Transmitted.{Transmitted}
@@ -19,14 +19,14 @@ use Rattle.sending.specs.declared.Taken.{Taken}
 abbrev pub notSent : State → Refusal → Transmitted
 notSent s r = record { answer = NotSent r; state = s }
 
--- a transmit of a payload for a PDU, lent rx bytes of receive memory, and send memory
-module _ (image : List ℕ) (s : State) (rx : ℕ) (tx : List ℕ) (pdu : ℕ) (payload : List ℕ) where
+-- a transmit of a payload for a PDU
+module _ (l : Loan) (pdu : ℕ) (payload : List ℕ) where
   unfoldable pub sendOf : Transmitted
-  sendOf = through (gateOf (lent image s rx (length tx))) (notSent s) (transmittedOf image s pdu payload tx)
+  sendOf = through (gateOf (sizes l)) (notSent (l .state)) (transmittedOf (l .image) (l .state) pdu payload (l .tx))
 
   -- send memory afterwards
   unfoldable pub sentMemory : List ℕ
-  sentMemory = through (gateOf (lent image s rx (length tx))) (λ r. tx) (transmitOf image s pdu payload tx .memory)
+  sentMemory = through (gateOf (sizes l)) (λ r. l .tx) (transmitOf (l .image) (l .state) pdu payload (l .tx) .memory)
 
 abbrev pub notTaken : State → Refusal → Taken
 notTaken s r = record { answer = NotTaken r; state = s }
@@ -40,10 +40,10 @@ takePast image s n room =
     }
 
 -- taking the waiting bytes of connection n
-module _ (image : List ℕ) (s : State) (rx : ℕ) (tx : List ℕ) (n : ℕ) (out : List ℕ) where
+module _ (l : Loan) (n : ℕ) (out : List ℕ) where
   unfoldable pub takenOf : Taken
-  takenOf = through (gateAt (lent image s rx (length tx)) n) (notTaken s) (takePast image s n (length out))
+  takenOf = through (gateAt (sizes l) n) (notTaken (l .state)) (takePast (l .image) (l .state) n (length out))
 
   -- the out buffer afterwards
   unfoldable pub takenOut : List ℕ
-  takenOut = through (gateAt (lent image s rx (length tx)) n) (λ r. out) (outOf (recordAt s n) (waitingOf tx n (recordAt s n .used)) out)
+  takenOut = through (gateAt (sizes l) n) (λ r. out) (outOf (recordAt (l .state) n) (waitingOf (l .tx) n (recordAt (l .state) n .used)) out)

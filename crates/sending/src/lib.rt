@@ -1,8 +1,8 @@
 // The entry points of sending: a transmit, and taking the waiting bytes of a connection. Each is lent image, state and both
 // memories, and answers any of them. Assumes nothing: no entry relies on its caller.
 ghost use mathlib.Core.Path.{_≡_};
-ghost use lib.ListN.{length};
 ghost use Rattle.sending.specs.Sending.{sendOf, sentMemory, takenOf, takenOut};
+ghost use Rattle.gate.specs.Lent.{loan};
 use gate::Gate;
 use send::Transmission;
 use send::Transmitted;
@@ -24,8 +24,8 @@ pub fn transmit(
     pdu: u16,
     payload: &[u8],
 ) -> Transmitted
-    ensures { λ r. ⌜ r ≡ sendOf (now (image .entry)) state (length (now (rx .entry))) (now (tx .entry)) pdu (now (payload .entry)) ⌝ }
-    ensures { λ _. ⌜ now (tx .exit) ≡ sentMemory (now (image .entry)) state (length (now (rx .entry))) (now (tx .entry)) pdu (now (payload .entry)) ⌝ }
+    ensures { λ r. ⌜ r ≡ sendOf (loan (now (image .entry)) state (now (rx .entry)) (now (tx .entry))) pdu (now (payload .entry)) ⌝ }
+    ensures { λ _. ⌜ now (tx .exit) ≡ sentMemory (loan (now (image .entry)) state (now (rx .entry)) (now (tx .entry))) pdu (now (payload .entry)) ⌝ }
 {
     let asked = gate::ask(image, state, rx.len(), tx.len());
     match asked {
@@ -46,8 +46,8 @@ pub fn take_waiting(
     connection: u8,
     out: &mut [u8],
 ) -> Taken
-    ensures { λ r. ⌜ r ≡ takenOf (now (image .entry)) state (length (now (rx .entry))) (now (tx .entry)) connection (now (out .entry)) ⌝ }
-    ensures { λ _. ⌜ now (out .exit) ≡ takenOut (now (image .entry)) state (length (now (rx .entry))) (now (tx .entry)) connection (now (out .entry)) ⌝ }
+    ensures { λ r. ⌜ r ≡ takenOf (loan (now (image .entry)) state (now (rx .entry)) (now (tx .entry))) connection (now (out .entry)) ⌝ }
+    ensures { λ _. ⌜ now (out .exit) ≡ takenOut (loan (now (image .entry)) state (now (rx .entry)) (now (tx .entry))) connection (now (out .entry)) ⌝ }
 {
     let n = connection as usize;
     let asked = gate::ask_at(image, state, rx.len(), tx.len(), n);

@@ -24,12 +24,12 @@ use Rattle.state.specs.State.{recordAt}
 use Rattle.state.specs.Fresh.{configOf}
 use Rattle.feed.specs.Frame.{frame}
 use Rattle.feed.specs.On.{isOn}
-use Rattle.gate.specs.Lent.{lent}
+use Rattle.gate.specs.Lent.{sizes}
 use Rattle.gate.specs.declared.Gate.{Gate}
 use Rattle.gate.specs.declared.Gate.the-variants.{Pass}
 use Rattle.gate.specs.Gate.{gateOf, through}
 use Rattle.gate.specs.Sound.{soundAt, recordsSound, soundState}
-use Rattle.gate.proofs.Pass.{gate-passed, passed-gate}
+use Rattle.gate.proofs.Pass.{sound-passed, passed-gate}
 use Rattle.destination.specs.Destination.{refusalOf, lookOf}
 use Rattle.send.specs.declared.Transmission.{Transmission}
 use Rattle.send.specs.declared.Transmission.the-variants.{Stored, RefusedAt}
@@ -40,7 +40,7 @@ use Rattle.sending.specs.Sending.{notSent, sendOf, sentMemory}
 use Rattle.waits.specs.Waits.{waits, framesFrom, addedTo}
 use Rattle.turns.proofs.Entries.{transmit-turn}
 use Rattle.sending_edges.specs.Valves.{valves, setpoint, both}
-use Rattle.sending_edges.specs.Setpoint.{TwoValves, Room, Full, Both, Neither, AllOrNone}
+use Rattle.sending_edges.specs.Setpoint.{valvesWith, TwoValves, Room, Full, Both, Neither, AllOrNone}
 use Rattle.sending_edges.proofs.Transmits.{nothing-stored}
 
 -- ---- what a destination that is on says to a payload that it allows: 0 with room, 8 without
@@ -51,7 +51,7 @@ module _ (len : ℕ) (d : DestinationRow) (c : Connection) (on : isOn (d .groups
   looks b e = rw (on, ap isOnline online, stays, le-ltb _ _ short, e)
 
 -- ---- the two rows of the table
-module _ (s : State) (rx : ℕ) (tx payload : List ℕ) (v : TwoValves s rx tx payload) where
+module _ (s : State) (rx tx payload : List ℕ) (v : TwoValves s rx tx payload) where
   abbrev len : ℕ
   len = length payload
 
@@ -80,19 +80,19 @@ unfolding verdictOf every badFrom
 first-says look a = rw a (ap (λ (n : ℕ). RefusedAt n 0) a)
 
 -- ---- past the gate
-module _ (s : State) (rx : ℕ) (tx payload : List ℕ) (v : TwoValves s rx tx payload) where
-  gate : gateOf (lent valves s rx (length tx)) ≡ Pass
-  gate = passed-gate (lent valves s rx (length tx)) (v .passed)
+module _ (s : State) (rx tx payload : List ℕ) (v : TwoValves s rx tx payload) where
+  gate : gateOf (sizes (valvesWith s rx tx)) ≡ Pass
+  gate = passed-gate (sizes (valvesWith s rx tx)) (v .passed)
 
-  sent-is : sendOf valves s rx tx 9 payload ≡ transmittedOf valves s 9 payload tx
+  sent-is : sendOf (valvesWith s rx tx) 9 payload ≡ transmittedOf valves s 9 payload tx
   unfolding sendOf
   sent-is = ap (λ (g : Gate). through g (notSent s) (transmittedOf valves s 9 payload tx)) gate
 
-  memory-is : sentMemory valves s rx tx 9 payload ≡ transmitOf valves s 9 payload tx .memory
+  memory-is : sentMemory (valvesWith s rx tx) 9 payload ≡ transmitOf valves s 9 payload tx .memory
   unfolding sentMemory
   memory-is = ap (λ (g : Gate). through g (λ r. tx) (transmitOf valves s 9 payload tx .memory)) gate
 
-  answer-is : (t : Transmission) → checkOf valves s 9 (length payload) ≡ t → sendOf valves s rx tx 9 payload .answer ≡ t
+  answer-is : (t : Transmission) → checkOf valves s 9 (length payload) ≡ t → sendOf (valvesWith s rx tx) 9 payload .answer ≡ t
   answer-is t e = ap (λ (x : Transmitted). x .answer) sent-is ∙ e
 
   check-is : (t : Transmission) → verdictOf (lookAt valves s 9 (length payload)) 2 ≡ t → checkOf valves s 9 (length payload) ≡ t
@@ -101,10 +101,10 @@ module _ (s : State) (rx : ℕ) (tx payload : List ℕ) (v : TwoValves s rx tx p
 
   -- where it is stored, each connection gets its frames
   grows : checkOf valves s 9 (length payload) ≡ Stored → (k : ℕ)
-      → waits (sendOf valves s rx tx 9 payload .state) (sentMemory valves s rx tx 9 payload) k ≡ waits s tx k ++ framesFrom valves s 9 payload k (destinations valves) 0
+      → waits (sendOf (valvesWith s rx tx) 9 payload .state) (sentMemory (valvesWith s rx tx) 9 payload) k ≡ waits s tx k ++ framesFrom valves s 9 payload k (destinations valves) 0
   unfolding addedTo
   grows e k =
-      transmit-turn valves s rx tx 9 payload (v .sixteen) (v .passed .sound) k
+      transmit-turn (valvesWith s rx tx) 9 payload (v .sixteen) (v .passed .sound) k
       ∙ ap (λ (g : Gate). waits s tx k ++ through g (λ r. []) (addedTo valves s 9 payload k)) gate
       ∙ ap (λ (t : Transmission). waits s tx k ++ cond (isStored t) (framesFrom valves s 9 payload k (destinations valves) 0) []) e
 
@@ -147,14 +147,14 @@ module _ (s : State) (rx : ℕ) (tx payload : List ℕ) (v : TwoValves s rx tx p
       full k h a = row s rx tx payload v k h true (lt-ltb _ _ a)
 
 -- SUCH STATES THERE ARE: the last byte that fits at the second valve; one more; and one more at the first
-passes : (gateOf (lent valves (both 0 1462) 23424 23552) ≡ Pass) × (gateOf (lent valves (both 0 1463) 23424 23552) ≡ Pass) × (gateOf (lent valves (both 1463 0) 23424 23552) ≡ Pass)
-unfolding valves be badFrom every rowsOf bodyBytes startOf endOf rowAt partOf bodyOf rowIn groupRow connectionRow destinationRow groupGood connectionGood routeGood destinationGood sizeIn routesShare destinationsShare share clearIn goodIn headGood entryGood rule then entriesPlace headPlace allRowsPlace checkTable configOf soundOf zeroOf soundAt recordsSound soundState gateOf
+passes : (soundState valves (both 0 1462) ≡ true) × (soundState valves (both 0 1463) ≡ true) × (soundState valves (both 1463 0) ≡ true)
+unfolding valves be badFrom every rowsOf bodyBytes startOf endOf rowAt partOf bodyOf rowIn groupRow connectionRow destinationRow groupGood connectionGood routeGood destinationGood sizeIn routesShare destinationsShare share clearIn goodIn headGood entryGood rule then entriesPlace headPlace allRowsPlace checkTable configOf soundOf zeroOf soundAt recordsSound soundState
 passes = (refl, refl, refl)
 
-stands : (a b : ℕ) → gateOf (lent valves (both a b) 23424 23552) ≡ Pass → (tx : List ℕ) → length tx ≡ 23552 → TwoValves (both a b) 23424 tx setpoint
-stands a b e tx long =
+stands : (a b : ℕ) → soundState valves (both a b) ≡ true → (rx tx : List ℕ) → length rx ≡ 23424 → length tx ≡ 23552 → TwoValves (both a b) rx tx setpoint
+stands a b e rx tx received long =
     record {
-      passed = gate-passed (lent valves (both a b) 23424 (length tx)) (ap (λ (n : ℕ). gateOf (lent valves (both a b) 23424 n)) long ∙ e);
+      passed = sound-passed (sizes (valvesWith (both a b) rx tx)) received long e;
       sixteen = refl;
       online = λ k h. ups k h;
       stays = λ k h. rests k h;
@@ -171,5 +171,6 @@ stands a b e tx long =
     rests (suc zero) h = refl
     rests (suc (suc k)) h = absurd (omega arith)
 
-pub a-case : (tx : List ℕ) → length tx ≡ 23552 → TwoValves (both 0 1462) 23424 tx setpoint × TwoValves (both 0 1463) 23424 tx setpoint × TwoValves (both 1463 0) 23424 tx setpoint
-a-case tx long = (stands 0 1462 (passes .0) tx long, stands 0 1463 (passes .1) tx long, stands 1463 0 (passes .2) tx long)
+pub a-case : (rx tx : List ℕ) → length rx ≡ 23424 → length tx ≡ 23552
+    → TwoValves (both 0 1462) rx tx setpoint × TwoValves (both 0 1463) rx tx setpoint × TwoValves (both 1463 0) rx tx setpoint
+a-case rx tx received long = (stands 0 1462 (passes .0) rx tx received long, stands 0 1463 (passes .1) rx tx received long, stands 1463 0 (passes .2) rx tx received long)

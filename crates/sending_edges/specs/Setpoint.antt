@@ -9,7 +9,7 @@ use Rattle.connection.specs.declared.Mode.the-variants.{Online}
 use Rattle.state.specs.declared.State.{State}
 use Rattle.state.specs.State.{recordAt}
 use Rattle.feed.specs.Frame.{frame}
-use Rattle.gate.specs.Lent.{lent}
+use Rattle.gate.specs.Lent.{Loan, loan, sizes}
 use Rattle.gate.specs.Gate.{Passed}
 use Rattle.send.specs.declared.Transmission.{Transmission}
 use Rattle.send.specs.declared.Transmission.the-variants.{Stored, RefusedAt}
@@ -17,15 +17,19 @@ use Rattle.sending.specs.Sending.{sendOf, sentMemory}
 use Rattle.waits.specs.Waits.{waits}
 use Rattle.sending_edges.specs.Valves.{valves}
 
+-- what a call over the valves' table is lent
+abbrev pub valvesWith : State → List ℕ → List ℕ → Loan
+valvesWith s rx tx = loan valves s rx tx
+
 -- a sound state over the valves' table, memory of the right lengths, both valves online and not closing, a payload of at most 2 bytes
-pub record TwoValves (s : State) (rx : ℕ) (tx payload : List ℕ) : Type 0 where
-  pub passed : Passed (lent valves s rx (length tx))
+pub record TwoValves (s : State) (rx tx payload : List ℕ) : Type 0 where
+  pub passed : Passed (sizes (valvesWith s rx tx))
   pub sixteen : length (s .connections) ≡ 16
   pub online : (k : ℕ) → k < 2 → recordAt s k .mode ≡ Online
   pub stays : (k : ℕ) → k < 2 → recordAt s k .«close_wanted» ≡ false
   pub short : length payload ≤ 2
 
-module _ (s : State) (rx : ℕ) (tx payload : List ℕ) where
+module _ (s : State) (rx tx payload : List ℕ) where
   -- valve k has room: "used + 8 + length" does not exceed the send size; or it has none
   abbrev pub Room : ℕ → Type 0
   Room k = recordAt s k .used + 8 + length payload ≤ 1472
@@ -35,10 +39,10 @@ module _ (s : State) (rx : ℕ) (tx payload : List ℕ) where
 
   -- after the transmit of PDU 9: the answer, and the bytes that wait on valve k
   abbrev pub answered : Transmission
-  answered = sendOf valves s rx tx 9 payload .answer
+  answered = sendOf (valvesWith s rx tx) 9 payload .answer
 
   abbrev pub waitsThen : ℕ → List ℕ
-  waitsThen k = waits (sendOf valves s rx tx 9 payload .state) (sentMemory valves s rx tx 9 payload) k
+  waitsThen k = waits (sendOf (valvesWith s rx tx) 9 payload .state) (sentMemory (valvesWith s rx tx) 9 payload) k
 
   -- room at both: each has its own frame behind what waited
   pub record Both : Type 0 where
@@ -49,8 +53,8 @@ module _ (s : State) (rx : ℕ) (tx payload : List ℕ) where
   -- destination d refuses with 8: the whole state and all of send memory stay
   pub record Neither (d : ℕ) : Type 0 where
     pub answer : answered ≡ RefusedAt 8 d
-    pub state : sendOf valves s rx tx 9 payload .state ≡ s
-    pub memory : sentMemory valves s rx tx 9 payload ≡ tx
+    pub state : sendOf (valvesWith s rx tx) 9 payload .state ≡ s
+    pub memory : sentMemory (valvesWith s rx tx) 9 payload ≡ tx
 
   -- THE STATEMENT: room at both; the second full; the first full
   pub record AllOrNone : Type 0 where

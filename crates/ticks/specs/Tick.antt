@@ -14,7 +14,7 @@ use Rattle.lists.specs.Fold.{foldFrom}
 use Rattle.state.specs.declared.State.{State}
 use Rattle.state.specs.State.{withRecords}
 use Rattle.state.specs.Fresh.{configOf}
-use Rattle.gate.specs.Lent.{lent}
+use Rattle.gate.specs.Lent.{Lent}
 use Rattle.gate.specs.Gate.{gateOf, through}
 use Rattle.ticks.specs.declared.Ticked.{Ticked}
 
@@ -42,11 +42,10 @@ abbrev pub unticked : State → Refusal → Ticked
 unticked s r = record { answer = Refused r; state = s }
 
 -- a tick: 11, 12, else done
-unfoldable pub tickEvent : List ℕ → State → ℕ → ℕ → Ticked
-tickEvent image s rx tx =
-    through (gateOf (lent image s rx tx)) (unticked s) (record { answer = Done; state = tickedTo image (rowsOf image Connections) s })
+unfoldable pub tickEvent : Lent → Ticked
+tickEvent l = through (gateOf l) (unticked (l .state)) (record { answer = Done; state = tickedTo (l .image) (rowsOf (l .image) Connections) (l .state) })
 
 -- `count` ticks under one check
-unfoldable pub ticksEvent : List ℕ → State → ℕ → ℕ → ℕ → Ticked
-ticksEvent image s rx tx count =
-    through (gateOf (lent image s rx tx)) (unticked s) (record { answer = Done; state = ticksTo image (rowsOf image Connections) count s })
+unfoldable pub ticksEvent : Lent → ℕ → Ticked
+ticksEvent l count =
+    through (gateOf l) (unticked (l .state)) (record { answer = Done; state = ticksTo (l .image) (rowsOf (l .image) Connections) count (l .state) })

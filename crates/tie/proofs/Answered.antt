@@ -10,7 +10,7 @@ use Rattle.layout.specs.declared.Kind.the-variants.{Connection as Connections}
 use Rattle.connection.specs.declared.Refusal.the-variants.{Denied}
 use Rattle.state.specs.declared.State.{State}
 use Rattle.state.specs.State.{recordAt}
-use Rattle.gate.specs.Lent.{lent}
+use Rattle.gate.specs.Lent.{Lent}
 use Rattle.gate.specs.declared.Gate.{Gate}
 use Rattle.gate.specs.declared.Gate.the-variants.{Pass}
 use Rattle.gate.specs.Gate.{gateAt, thenThere, through, Passed}
@@ -19,13 +19,15 @@ use Rattle.receive.specs.declared.Answer.the-variants.{Done, Refused, NotReceiv
 use Rattle.receive.specs.Answer.{isDone, judgedOf, answerOf}
 use Rattle.connection.specs.Event.{receiving}
 
-pub done-is : (image : List ℕ) (s : State) (rx tx k : ℕ) (allowed : Bool) → Passed (lent image s rx tx)
-    → isDone (answerOf image s rx tx k allowed) ≡ (ltb k (rowsOf image Connections) && (allowed && receiving (recordAt s k)))
+pub done-is : (l : Lent) (k : ℕ) (allowed : Bool) → Passed l
+    → isDone (answerOf l k allowed) ≡ (ltb k (rowsOf (l .image) Connections) && (allowed && receiving (recordAt (l .state) k)))
 unfolding answerOf judgedOf gateAt
-done-is image s rx tx k allowed p =
-    ap (λ (g : Gate). isDone (through (thenThere (ltb k (rowsOf image Connections)) g) Refused (cond allowed (cond (receiving (recordAt s k)) Done NotReceiving) (Refused Denied))))
-    (passed-gate (lent image s rx tx) p)
-    ∙ go (ltb k (rowsOf image Connections)) allowed (receiving (recordAt s k))
+done-is l k allowed p =
+    ap
+    (λ (g : Gate).
+    isDone (through (thenThere (ltb k (rowsOf (l .image) Connections)) g) Refused (cond allowed (cond (receiving (recordAt (l .state) k)) Done NotReceiving) (Refused Denied))))
+    (passed-gate l p)
+    ∙ go (ltb k (rowsOf (l .image) Connections)) allowed (receiving (recordAt (l .state) k))
   where
     go : (t a r : Bool) → isDone (through (thenThere t Pass) Refused (cond a (cond r Done NotReceiving) (Refused Denied))) ≡ (t && (a && r))
     go true true true = refl

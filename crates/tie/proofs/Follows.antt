@@ -18,7 +18,7 @@ use Rattle.state.specs.declared.State.{State}
 use Rattle.state.specs.State.{recordAt, withRecord}
 use Rattle.state.specs.Fresh.{configOf}
 use Rattle.state.proofs.Records.{put-back}
-use Rattle.gate.specs.Lent.{lent}
+use Rattle.gate.specs.Lent.{Loan, sizes}
 use Rattle.gate.specs.declared.Gate.{Gate}
 use Rattle.gate.specs.declared.Gate.the-variants.{Refused}
 use Rattle.gate.specs.Gate.{gateAt, through, Passed}
@@ -46,20 +46,32 @@ told-state image s n e = go (known e) (allowed e (configOf image n) (recordAt s 
     go true false p q = rw (p, q) (sym (put-back s n))
     go true true p q = rw (p, q)
 
-module _ (image : List ℕ) (s : State) (rx tx : List ℕ) (whole : Whole → World → World) (passed : Passed (lent image s (length rx) (length tx))) where
+module _ (l : Loan) (whole : Whole → World → World) (passed : Passed (sizes l)) where
+  abbrev image : List ℕ
+  image = l .image
+
+  abbrev s : State
+  s = l .state
+
+  abbrev rx : List ℕ
+  rx = l .rx
+
+  abbrev tx : List ℕ
+  tx = l .tx
+
   abbrev w : World
   w = viewOf s rx tx
 
   -- past the gate, or not there
-  passes : {A : Type 0} (refused : Refusal → A) (event : A) (k : ℕ) → ltb k (rowsOf image Connections) ≡ true → through (gateAt (lent image s (length rx) (length tx)) k) refused event ≡ event
+  passes : {A : Type 0} (refused : Refusal → A) (event : A) (k : ℕ) → ltb k (rowsOf image Connections) ≡ true → through (gateAt (sizes l) k) refused event ≡ event
   passes refused event k h =
-      ap (λ (g : Gate). through g refused event) (passed-gate-at (lent image s (length rx) (length tx)) k passed (ltb-true k (rowsOf image Connections) h))
+      ap (λ (g : Gate). through g refused event) (passed-gate-at (sizes l) k passed (ltb-true k (rowsOf image Connections) h))
 
-  missing : (k : ℕ) → ltb k (rowsOf image Connections) ≡ false → gateAt (lent image s (length rx) (length tx)) k ≡ Refused Missing
+  missing : (k : ℕ) → ltb k (rowsOf image Connections) ≡ false → gateAt (sizes l) k ≡ Refused Missing
   unfolding gateAt
-  missing k h = rw (passed-gate (lent image s (length rx) (length tx)) passed, h)
+  missing k h = rw (passed-gate (sizes l) passed, h)
 
-  misses : {A : Type 0} (refused : Refusal → A) (event : A) (k : ℕ) → ltb k (rowsOf image Connections) ≡ false → through (gateAt (lent image s (length rx) (length tx)) k) refused event ≡ refused Missing
+  misses : {A : Type 0} (refused : Refusal → A) (event : A) (k : ℕ) → ltb k (rowsOf image Connections) ≡ false → through (gateAt (sizes l) k) refused event ≡ refused Missing
   misses refused event k h = ap (λ (g : Gate). through g refused event) (missing k h)
 
   -- the world's side
@@ -98,19 +110,19 @@ module _ (image : List ℕ) (s : State) (rx tx : List ℕ) (whole : Whole → Wo
   does-take k room h = refl
 
   -- OPEN, CLOSE, CONNECTED, LOST, SET REMOTE, SWITCH
-  pub change-view : (k : ℕ) (e : Change) → viewOf (eventOf image s (length rx) (length tx) k e .state) rx tx ≡ step (tableOf image) whole w (on k (change e))
+  pub change-view : (k : ℕ) (e : Change) → viewOf (eventOf (sizes l) k e .state) rx tx ≡ step (tableOf image) whole w (on k (change e))
   unfolding eventOf
   change-view k e =
-      made-view k (change e) (λ (c : Connection). stepOf e (configOf image k) c .connection) (eventOf image s (length rx) (length tx) k e .state) (does-change k e)
+      made-view k (change e) (λ (c : Connection). stepOf e (configOf image k) c .connection) (eventOf (sizes l) k e .state) (does-change k e)
       (step-less e (configOf image k) (recordAt s k))
       (λ h. ap (λ (t : Told). t .state) (passes (refusedBy s) (changeOf image s k e) k h) ∙ told-state image s k e)
       (λ h. ap (λ (t : Told). t .state) (misses (refusedBy s) (changeOf image s k e) k h))
 
   -- TAKING THE WAITING BYTES into an out buffer
-  pub take-view : (k : ℕ) (out : List ℕ) → viewOf (takenOf image s (length rx) tx k out .state) rx tx ≡ step (tableOf image) whole w (on k (take (length out)))
+  pub take-view : (k : ℕ) (out : List ℕ) → viewOf (takenOf l k out .state) rx tx ≡ step (tableOf image) whole w (on k (take (length out)))
   unfolding takenOf
   take-view k out =
-      made-view k (take (length out)) (takeOf (configOf image k) (length out)) (takenOf image s (length rx) tx k out .state) (does-take k (length out))
+      made-view k (take (length out)) (takeOf (configOf image k) (length out)) (takenOf l k out .state) (does-take k (length out))
       (take-less (configOf image k) (length out) (recordAt s k))
       (λ h. ap (λ (t : Taken). t .state) (passes (notTaken s) (takePast image s k (length out)) k h))
       (λ h. ap (λ (t : Taken). t .state) (misses (notTaken s) (takePast image s k (length out)) k h))

@@ -9,8 +9,9 @@ use lib.ListN.{length, replicate, length-set}
 use Rattle.lists.proofs.Fold.{fold-keeps}
 use Rattle.rows.specs.Rows.{destinationOf}
 use Rattle.state.specs.declared.State.{State}
-use Rattle.gate.specs.Lent.{lent}
+use Rattle.gate.specs.Lent.{next}
 use Rattle.gate.specs.Gate.{gateOf, Passed}
+use Rattle.gate.proofs.Pass.{passed-sent}
 use Rattle.keeps.proofs.Keeps.{event-passed, switch-all-passed, read-passed, clear-passed, tick-passed}
 use Rattle.keeps.proofs.Past.{past-or}
 use Rattle.keeps.proofs.Arrived.{arrival-passed}
@@ -47,7 +48,7 @@ use Rattle.world.proofs.View.{view-length}
 use Rattle.runs.specs.Streams.{EventBytes}
 use Rattle.tie.specs.Table.{tableOf}
 use Rattle.tie.specs.Whole.{wholeOf}
-use Rattle.tie.specs.Machine.{Machine, machine, lentTo, seen}
+use Rattle.tie.specs.Machine.{Machine, machine, lentTo, loanTo, seen}
 use Rattle.tie.specs.Run.{afterOwn, afterWhole, afterEvent, Good}
 use Rattle.tie.proofs.Segments.{segment-passed}
 use Rattle.tie.proofs.Steps.{own-view}
@@ -62,12 +63,12 @@ records-left image m m′ k e h =
     ∙ view-length (m .rx) (m .tx) 0 (m .state .connections)
 
 own-passed : (image : List ℕ) (m : Machine) (k : ℕ) (e : Own) → EventBytes (on k e) → Good image m
-    → Passed (lent image (afterOwn image k e m .state) (length (afterOwn image k e m .rx)) (length (afterOwn image k e m .tx)))
+    → Passed (lentTo image (afterOwn image k e m))
 unfolding afterOwn
-own-passed image m k (change e) b g = event-passed (lent image (m .state) (length (m .rx)) (length (m .tx))) (g .passed) k e
+own-passed image m k (change e) b g = event-passed (lentTo image m) (g .passed) k e
 own-passed image m k (segment bytes) b g = segment-passed image k m bytes (g .passed) b (wholeOf image)
-own-passed image m k (walk d p) b g = walk-passed image (m .state) (length (m .rx)) (length (m .tx)) k d p (g .passed)
-own-passed image m k (take room) b g = taken-passed image (m .state) (length (m .rx)) (m .tx) k (replicate room 0) (g .passed)
+own-passed image m k (walk d p) b g = walk-passed (lentTo image m) k d p (g .passed)
+own-passed image m k (take room) b g = taken-passed (loanTo image m) k (replicate room 0) (g .passed)
 
 own-good : (image : List ℕ) (m : Machine) (k : ℕ) (e : Own) → EventBytes (on k e) → Good image m → Good image (afterOwn image k e m)
 own-good image m k e b g =
@@ -78,17 +79,11 @@ module _ (image : List ℕ) (m : Machine) (g : Good image m) where
   abbrev s : State
   s = m .state
 
-  abbrev rx : ℕ
-  rx = length (m .rx)
-
-  abbrev tx : ℕ
-  tx = length (m .tx)
-
   abbrev Sixteen : State → Type 0
   Sixteen t = length (t .connections) ≡ 16
 
   -- a machine with the same memories
-  with-state : (t : State) → Passed (lent image t rx tx) → Sixteen t → Good image (machine t (m .rx) (m .tx))
+  with-state : (t : State) → Passed (next (lentTo image m) t) → Sixteen t → Good image (machine t (m .rx) (m .tx))
   with-state t p n = record { passed = p; sixteen = n }
 
   arrival-good : (a : Bool) (group : ℕ) (source : Remote) → Good image (machine (arrivalOf (lentTo image m) a group source .state) (m .rx) (m .tx))
@@ -99,39 +94,39 @@ module _ (image : List ℕ) (m : Machine) (g : Good image m) where
       (past-or (λ (t : Arrived). Sixteen (t .state)) (gateOf (lentTo image m)) (refusedBy s) (arriveOf image s a group source) (λ r. g .sixteen)
       (λ _. meeting-length s (arriveOf image s a group source .state) source (arrive-is image s a group source) ∙ g .sixteen))
 
-  tick-good : Good image (machine (tickEvent image s rx tx .state) (m .rx) (m .tx))
+  tick-good : Good image (machine (tickEvent (lentTo image m) .state) (m .rx) (m .tx))
   unfolding tickEvent tickedTo
   tick-good =
-      with-state (tickEvent image s rx tx .state) (tick-passed (lent image s rx tx) (g .passed))
-      (past-or (λ (t : Ticked). Sixteen (t .state)) (gateOf (lent image s rx tx)) (unticked s) (record { answer = Done; state = tickedTo image (rowsOf image Connections) s }) (λ r. g .sixteen)
+      with-state (tickEvent (lentTo image m) .state) (tick-passed (lentTo image m) (g .passed))
+      (past-or (λ (t : Ticked). Sixteen (t .state)) (gateOf (lentTo image m)) (unticked s) (record { answer = Done; state = tickedTo image (rowsOf image Connections) s }) (λ r. g .sixteen)
       (λ _. each-length (tickAt image) 0 (rowsOf image Connections) (s .connections) ∙ g .sixteen))
 
-  switches-good : (n : ℕ) (b : Bool) → Good image (machine (switchAllOf image s rx tx n b .state) (m .rx) (m .tx))
+  switches-good : (n : ℕ) (b : Bool) → Good image (machine (switchAllOf (lentTo image m) n b .state) (m .rx) (m .tx))
   unfolding switchAllOf switchedAll
   switches-good n b =
-      with-state (switchAllOf image s rx tx n b .state) (switch-all-passed (lent image s rx tx) (g .passed) n b)
-      (past-or (λ (t : Told). Sixteen (t .state)) (gateOf (lent image s rx tx)) (notTold s)
+      with-state (switchAllOf (lentTo image m) n b .state) (switch-all-passed (lentTo image m) (g .passed) n b)
+      (past-or (λ (t : Told). Sixteen (t .state)) (gateOf (lentTo image m)) (notTold s)
       (cond (ltb n 32) (record { answer = Done; state = switchedAll (rowsOf image Connections) n b s }) (notTold s Missing)) (λ r. g .sixteen) (λ _. go (ltb n 32)))
     where
       go : (x : Bool) → Sixteen (cond x (record { answer = Done; state = switchedAll (rowsOf image Connections) n b s }) (notTold s Missing) .state)
       go true = each-length (switchAt n b) 0 (rowsOf image Connections) (s .connections) ∙ g .sixteen
       go false = g .sixteen
 
-  read-good : (p : ℕ) → Good image (machine (readOf image s rx tx p .state) (m .rx) (m .tx))
+  read-good : (p : ℕ) → Good image (machine (readOf (lentTo image m) p .state) (m .rx) (m .tx))
   unfolding readOf
   read-good p =
-      with-state (readOf image s rx tx p .state) (read-passed (lent image s rx tx) (g .passed) p)
-      (past-or (λ (t : Counted). Sixteen (t .state)) (gateOf (lent image s rx tx)) (uncounted s) (readPast s p) (λ r. g .sixteen) (λ _. ap (λ (t : State). length (t .connections)) (read-state s p) ∙ g .sixteen))
+      with-state (readOf (lentTo image m) p .state) (read-passed (lentTo image m) (g .passed) p)
+      (past-or (λ (t : Counted). Sixteen (t .state)) (gateOf (lentTo image m)) (uncounted s) (readPast s p) (λ r. g .sixteen) (λ _. ap (λ (t : State). length (t .connections)) (read-state s p) ∙ g .sixteen))
 
-  clear-good : (p : ℕ) → Good image (machine (clearOf image s rx tx p .state) (m .rx) (m .tx))
+  clear-good : (p : ℕ) → Good image (machine (clearOf (lentTo image m) p .state) (m .rx) (m .tx))
   unfolding clearOf
   clear-good p =
-      with-state (clearOf image s rx tx p .state) (clear-passed (lent image s rx tx) (g .passed) p)
-      (past-or (λ (t : Counted). Sixteen (t .state)) (gateOf (lent image s rx tx)) (uncounted s) (clearPast s p) (λ r. g .sixteen) (λ _. ap length (clear-records s p) ∙ g .sixteen))
+      with-state (clearOf (lentTo image m) p .state) (clear-passed (lentTo image m) (g .passed) p)
+      (past-or (λ (t : Counted). Sixteen (t .state)) (gateOf (lentTo image m)) (uncounted s) (clearPast s p) (λ r. g .sixteen) (λ _. ap length (clear-records s p) ∙ g .sixteen))
 
   -- a transmit: as many records, and send memory as long as it was
   abbrev Sized : Sending → Type 0
-  Sized x = Sixteen (x .state) × (length (x .memory) ≡ tx)
+  Sized x = Sixteen (x .state) × (length (x .memory) ≡ length (m .tx))
 
   store-sized : (pdu : ℕ) (payload : List ℕ) (i : ℕ) (x : Sending) → Sized x → Sized (storeOf image s pdu payload x i)
   unfolding storeOf
@@ -150,23 +145,19 @@ module _ (image : List ℕ) (m : Machine) (g : Good image m) where
           fold-keeps (storeOf image s pdu payload) Sized (destinations image) 0 (sending s (m .tx)) (λ i x low high p. store-sized pdu payload i x p) (g .sixteen, refl)
       go false = (g .sixteen, refl)
 
-  send-sized : (pdu : ℕ) (payload : List ℕ) → Sixteen (sendOf image s rx (m .tx) pdu payload .state) × (length (sentMemory image s rx (m .tx) pdu payload) ≡ tx)
+  send-sized : (pdu : ℕ) (payload : List ℕ) → Sixteen (sendOf (loanTo image m) pdu payload .state) × (length (sentMemory (loanTo image m) pdu payload) ≡ length (m .tx))
   unfolding sendOf sentMemory
   send-sized pdu payload = (
-    past-or (λ (t : Transmitted). Sixteen (t .state)) (gateOf (lent image s rx tx)) (notSent s) (transmittedOf image s pdu payload (m .tx)) (λ r. g .sixteen) (λ _. sent-sized pdu payload .0),
-    past-or (λ (l : List ℕ). length l ≡ tx) (gateOf (lent image s rx tx)) (λ r. m .tx) (transmitOf image s pdu payload (m .tx) .memory) (λ r. refl) (λ _. sent-sized pdu payload .1),
+    past-or (λ (t : Transmitted). Sixteen (t .state)) (gateOf (lentTo image m)) (notSent s) (transmittedOf image s pdu payload (m .tx)) (λ r. g .sixteen) (λ _. sent-sized pdu payload .0),
+    past-or (λ (l : List ℕ). length l ≡ length (m .tx)) (gateOf (lentTo image m)) (λ r. m .tx) (transmitOf image s pdu payload (m .tx) .memory) (λ r. refl) (λ _. sent-sized pdu payload .1),
   )
 
-  transmit-good : (pdu : ℕ) (payload : List ℕ) → Good image (machine (sendOf image s rx (m .tx) pdu payload .state) (m .rx) (sentMemory image s rx (m .tx) pdu payload))
+  transmit-good : (pdu : ℕ) (payload : List ℕ) → Good image (machine (sendOf (loanTo image m) pdu payload .state) (m .rx) (sentMemory (loanTo image m) pdu payload))
   transmit-good pdu payload =
       record {
         passed =
-            record {
-              receive = g .passed .receive;
-              send = send-sized pdu payload .1 ∙ g .passed .send;
-              table = g .passed .table;
-              sound = transmit-keeps image s rx (m .tx) pdu payload (g .sixteen) (g .passed .sound);
-            };
+            passed-sent (loanTo image m) (sendOf (loanTo image m) pdu payload .state) (g .passed) (transmit-keeps (loanTo image m) pdu payload (g .sixteen) (g .passed .sound))
+            (sentMemory (loanTo image m) pdu payload) (send-sized pdu payload .1);
         sixteen = send-sized pdu payload .0;
       }
 

@@ -9,9 +9,10 @@ use Rattle.connection.specs.declared.Connection.{Connection}
 use Rattle.connection.specs.declared.Config.{Config}
 use Rattle.connection.specs.declared.Remote.{Remote}
 use Rattle.connection.specs.declared.Event.{Event as Change}
-use Rattle.connection.specs.declared.Event.the-variants.{Open, Close, Connected, Lost, SetRemote, Switch}
+use Rattle.part.specs.Part.{ready}
 use Rattle.connection.specs.Connection.{metOf, switchedOf, closedOf, tickOf}
-use Rattle.connection.specs.Event.{after, stepOf}
+use Rattle.connection.specs.Event.{after, empties, stepOf}
+use Rattle.connection.proofs.Leaves.{after-leaves}
 use Rattle.connection.proofs.Ticks.{Tick, closes, goes-on, tick-is, step-either}
 use Rattle.waiting.specs.Waiting.{takeOf}
 use Rattle.waiting.proofs.Taken.{take-part, take-used}
@@ -27,12 +28,11 @@ none-less c d p u = record { received = omega arith; waiting = omega arith }
 
 -- the six events of the record alone
 after-less : (e : Change) (g : Config) (c : Connection) → Less (after e g c) c
-after-less Open g c = same-less (after Open g c) c refl refl
-after-less Close g c = same-less (after Close g c) c refl refl
-after-less Connected g c = same-less (after Connected g c) c refl refl
-after-less Lost g c = none-less (after Lost g c) c refl refl
-after-less (SetRemote r) g c = same-less (after (SetRemote r) g c) c refl refl
-after-less (Switch n b) g c = same-less (after (Switch n b) g c) c refl refl
+after-less e g c = go (empties e) (after-leaves e g c .part) (after-leaves e g c .used)
+  where
+    go : (b : Bool) → after e g c .part ≡ cond b ready (c .part) → after e g c .used ≡ cond b 0 (c .used) → Less (after e g c) c
+    go true p u = none-less (after e g c) c (ap heldBy p) u
+    go false p u = same-less (after e g c) c p u
 
 pub step-less : (e : Change) (g : Config) (c : Connection) → Less (stepOf e g c .connection) c
 step-less e g c = step-either e g c (λ (d : Connection). Less d c) (λ _. less-same c) (λ _. after-less e g c)

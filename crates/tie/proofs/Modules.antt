@@ -14,7 +14,7 @@ use Rattle.connection.specs.declared.Refusal.{Refusal}
 use Rattle.connection.specs.declared.Refusal.the-variants.{Missing}
 use Rattle.state.specs.declared.State.{State}
 use Rattle.state.specs.Fresh.{configOf}
-use Rattle.gate.specs.Lent.{lent}
+use Rattle.gate.specs.Lent.{Loan, sizes}
 use Rattle.gate.specs.declared.Gate.{Gate}
 use Rattle.gate.specs.Gate.{gateOf, through, Passed}
 use Rattle.gate.proofs.Pass.{passed-gate}
@@ -40,7 +40,19 @@ use Rattle.tie.proofs.Arrivals.{arrive-is, meeting-fewer}
 leaves-view : (f : State → State) (s : State) (rx tx : List ℕ) → Fewer (f s .connections) (s .connections) → viewOf (f s) rx tx ≡ leaves (f (stateOf (viewOf s rx tx))) (viewOf s rx tx)
 leaves-view f s rx tx h = view-leaves s (f s) rx tx h ∙ ap (λ (t : State). leaves (f t) (viewOf s rx tx)) (sym (state-view s rx tx))
 
-module _ (image : List ℕ) (s : State) (rx tx : List ℕ) where
+module _ (l : Loan) where
+  abbrev image : List ℕ
+  image = l .image
+
+  abbrev s : State
+  s = l .state
+
+  abbrev rx : List ℕ
+  rx = l .rx
+
+  abbrev tx : List ℕ
+  tx = l .tx
+
   abbrev w : World
   w = viewOf s rx tx
 
@@ -51,12 +63,12 @@ module _ (image : List ℕ) (s : State) (rx tx : List ℕ) where
       (meeting-fewer s (arriveOf image s a group source .state) source (arrive-is image s a group source))
 
   -- past the gate
-  pub past : {A : Type 0} (refused : Refusal → A) (event : A) → Passed (lent image s (length rx) (length tx)) → through (gateOf (lent image s (length rx) (length tx))) refused event ≡ event
-  past refused event p = ap (λ (g : Gate). through g refused event) (passed-gate (lent image s (length rx) (length tx)) p)
+  pub past : {A : Type 0} (refused : Refusal → A) (event : A) → Passed (sizes l) → through (gateOf (sizes l)) refused event ≡ event
+  past refused event p = ap (λ (g : Gate). through g refused event) (passed-gate (sizes l) p)
 
   -- a tick
-  pub tick-view : Passed (lent image s (length rx) (length tx))
-      → viewOf (tickEvent image s (length rx) (length tx) .state) rx tx ≡ step (tableOf image) (wholeOf image) w (all tick)
+  pub tick-view : Passed (sizes l)
+      → viewOf (tickEvent (sizes l) .state) rx tx ≡ step (tableOf image) (wholeOf image) w (all tick)
   unfolding tickEvent step tickedTo
   tick-view p =
       ap (λ (t : Ticked). viewOf (t .state) rx tx) (past (unticked s) (record { answer = Done; state = tickedTo image (rowsOf image Connections) s }) p)
@@ -64,8 +76,8 @@ module _ (image : List ℕ) (s : State) (rx tx : List ℕ) where
       (fewer-each (tickAt image) (λ k c. tick-less (configOf image k) c) 0 (rowsOf image Connections) (s .connections))
 
   -- a switch on all connections
-  pub switch-all-view : (n : ℕ) (b : Bool) → Passed (lent image s (length rx) (length tx))
-      → viewOf (switchAllOf image s (length rx) (length tx) n b .state) rx tx ≡ step (tableOf image) (wholeOf image) w (all (switchAll n b))
+  pub switch-all-view : (n : ℕ) (b : Bool) → Passed (sizes l)
+      → viewOf (switchAllOf (sizes l) n b .state) rx tx ≡ step (tableOf image) (wholeOf image) w (all (switchAll n b))
   unfolding switchAllOf step switchedAll
   switch-all-view n b p =
       ap (λ (t : Told). viewOf (t .state) rx tx)
@@ -80,13 +92,13 @@ module _ (image : List ℕ) (s : State) (rx tx : List ℕ) where
       go false = refl
 
   -- a count read, and read and cleared
-  pub read-view : (protocol : ℕ) → Passed (lent image s (length rx) (length tx))
-      → viewOf (readOf image s (length rx) (length tx) protocol .state) rx tx ≡ step (tableOf image) (wholeOf image) w (all (readCount protocol))
+  pub read-view : (protocol : ℕ) → Passed (sizes l)
+      → viewOf (readOf (sizes l) protocol .state) rx tx ≡ step (tableOf image) (wholeOf image) w (all (readCount protocol))
   unfolding readOf step
   read-view n p = ap (λ (t : Counted). viewOf (t .state) rx tx) (past (uncounted s) (readPast s n) p) ∙ ap (λ (t : State). viewOf t rx tx) (read-state s n)
 
-  pub clear-view : (protocol : ℕ) → Passed (lent image s (length rx) (length tx))
-      → viewOf (clearOf image s (length rx) (length tx) protocol .state) rx tx ≡ step (tableOf image) (wholeOf image) w (all (clearCount protocol))
+  pub clear-view : (protocol : ℕ) → Passed (sizes l)
+      → viewOf (clearOf (sizes l) protocol .state) rx tx ≡ step (tableOf image) (wholeOf image) w (all (clearCount protocol))
   unfolding clearOf step
   clear-view n p =
       ap (λ (t : Counted). viewOf (t .state) rx tx) (past (uncounted s) (clearPast s n) p)

@@ -14,10 +14,9 @@ use Rattle.layout.specs.declared.Kind.the-variants.{Connection as Connections}
 use Rattle.connection.specs.declared.Connection.{Connection}
 use Rattle.state.specs.State.{recordAt}
 use Rattle.state.specs.Fresh.{configOf}
-use Rattle.feed.specs.Feed.{segment as segmentOf, pdus}
+use Rattle.feed.specs.Feed.{segment as segmentOf}
 use Rattle.lengths.specs.Listed.{Bytes}
 use Rattle.lengths.proofs.Bytes.{bytes-drop}
-use Rattle.gate.specs.Lent.{lent}
 use Rattle.gate.specs.Gate.{Passed}
 use Rattle.receive.specs.declared.Answer.{Answer}
 use Rattle.receive.specs.declared.SegmentTaken.{SegmentTaken}
@@ -30,22 +29,22 @@ use Rattle.world.specs.Step.{Acted, acted, streamed, acts, at, left, step}
 use Rattle.world.proofs.View.{view-record}
 use Rattle.runs.proofs.Same.{does-read, does-refused}
 use Rattle.tie.specs.Table.{tableOf}
-use Rattle.tie.specs.Machine.{Machine, seen, taken, afterOne, restOf, told, toldBy, goesOn, afterTakes, toldTakes, afterSegment, toldSegment}
+use Rattle.tie.specs.Machine.{Machine, loanTo, lentTo, seen, taken, afterOne, restOf, told, toldBy, goesOn, afterTakes, toldTakes, afterSegment, toldSegment}
 use Rattle.tie.proofs.Left.{left-nothing}
 use Rattle.tie.proofs.Answered.{done-is}
 use Rattle.tie.proofs.Take.{Open, open-after}
 use Rattle.tie.proofs.Takes.{R, C, takes-view, takes-told}
 
 -- A TAKE THAT IS REFUSED: nothing is read, nothing changes, and the event ends
-module _ (image : List ℕ) (m : Machine) (k : ℕ) (bs : List ℕ) (not-done : isDone (segmentAnswer image (m .state) (length (m .rx)) (length (m .tx)) k) ≡ false) where
+module _ (image : List ℕ) (m : Machine) (k : ℕ) (bs : List ℕ) (not-done : isDone (segmentAnswer (lentTo image m) k) ≡ false) where
   abbrev refusal : Answer
-  refusal = segmentAnswer image (m .state) (length (m .rx)) (length (m .tx)) k
+  refusal = segmentAnswer (lentTo image m) k
 
   none-taken : taken image k m bs ≡ noneTaken (m .state) refusal
   unfolding segmentTaken
   none-taken = rw not-done
 
-  same-memory : memoryOf image (m .state) (m .rx) (length (m .tx)) k bs ≡ m .rx
+  same-memory : memoryOf (loanTo image m) k bs ≡ m .rx
   unfolding memoryOf
   same-memory = rw not-done
 
@@ -79,12 +78,12 @@ module _ (image : List ℕ) (k : ℕ) where
       go true p = p
       go false p = open-after image k m bs o b
 
-  module _ (m : Machine) (bs : List ℕ) (passed : Passed (lent image (m .state) (length (m .rx)) (length (m .tx)))) (bytes : Bytes bs) (whole : Whole → World → World) where
+  module _ (m : Machine) (bs : List ℕ) (passed : Passed (lentTo image m)) (bytes : Bytes bs) (whole : Whole → World → World) where
     abbrev c : Connection
     c = recordAt (m .state) k
 
     abbrev answer : Answer
-    answer = segmentAnswer image (m .state) (length (m .rx)) (length (m .tx)) k
+    answer = segmentAnswer (lentTo image m) k
 
     -- there, TCP, online and no close wanted
     abbrev readable : Bool
@@ -101,7 +100,7 @@ module _ (image : List ℕ) (k : ℕ) where
         }
 
     refused : readable ≡ false → isDone answer ≡ false
-    refused e = done-is image (m .state) (length (m .rx)) (length (m .tx)) k (configOf image k .tcp) passed ∙ e
+    refused e = done-is (lentTo image m) k (configOf image k .tcp) passed ∙ e
 
     -- the world's side
     seen-c : heldAt (seen m) k .connection ≡ c
@@ -132,18 +131,18 @@ module _ (image : List ℕ) (k : ℕ) where
             ∙ ap (left (tableOf image) (seen m) k) (sym (at-refused (ltb k (rowsOf image Connections)) refl e))
 
     -- WHAT IT HANDS OUT
-    pub segment-told : toldSegment image k m bs ≡ pdus (at (tableOf image) (seen m) k (segment bs) .list)
-    unfolding segmentOf pdus
+    pub segment-told : toldSegment image k m bs ≡ at (tableOf image) (seen m) k (segment bs) .list
+    unfolding segmentOf
     segment-told = go readable refl
       where
-        go : (b : Bool) → readable ≡ b → toldSegment image k m bs ≡ pdus (at (tableOf image) (seen m) k (segment bs) .list)
-        go true e = takes-told image k (suc (length bs)) m bs (opened e) bytes (omega arith) ∙ ap (λ (a : Acted). pdus (a .list)) (sym (at-open e))
-        go false e = none-told image m k bs (refused e) ∙ ap (λ (a : Acted). pdus (a .list)) (sym (at-refused (ltb k (rowsOf image Connections)) refl e))
+        go : (b : Bool) → readable ≡ b → toldSegment image k m bs ≡ at (tableOf image) (seen m) k (segment bs) .list
+        go true e = takes-told image k (suc (length bs)) m bs (opened e) bytes (omega arith) ∙ ap (λ (a : Acted). a .list) (sym (at-open e))
+        go false e = none-told image m k bs (refused e) ∙ ap (λ (a : Acted). a .list) (sym (at-refused (ltb k (rowsOf image Connections)) refl e))
 
     -- SOUND STAYS SOUND
-    pub segment-passed : Passed (lent image (afterSegment image k m bs .state) (length (afterSegment image k m bs .rx)) (length (afterSegment image k m bs .tx)))
+    pub segment-passed : Passed (lentTo image (afterSegment image k m bs))
     segment-passed = go readable refl
       where
-        go : (b : Bool) → readable ≡ b → Passed (lent image (afterSegment image k m bs .state) (length (afterSegment image k m bs .rx)) (length (afterSegment image k m bs .tx)))
+        go : (b : Bool) → readable ≡ b → Passed (lentTo image (afterSegment image k m bs))
         go true e = takes-open (suc (length bs)) m bs (opened e) bytes .passed
-        go false e = subst (λ (n : Machine). Passed (lent image (n .state) (length (n .rx)) (length (n .tx)))) (sym (no-segment image m k bs (refused e))) passed
+        go false e = subst (λ (n : Machine). Passed (lentTo image n)) (sym (no-segment image m k bs (refused e))) passed

@@ -10,7 +10,7 @@ use Rattle.layout.specs.Layout.{rowsOf}
 use Rattle.layout.specs.declared.Kind.the-variants.{Connection as Connections}
 use Rattle.connection.specs.declared.Remote.{Remote}
 use Rattle.state.specs.declared.State.{State}
-use Rattle.feed.specs.Feed.{Pdu, pdus}
+use Rattle.feed.specs.Feed.{Out}
 use Rattle.table.proofs.Facts.{accepted-facts}
 use Rattle.choose.specs.declared.Arrived.{Arrived}
 use Rattle.choose.specs.Choose.{refusedBy, arriveOf}
@@ -25,7 +25,7 @@ use Rattle.runs.specs.Streams.{EventBytes}
 use Rattle.tie.specs.Table.{tableOf}
 use Rattle.tie.specs.Whole.{wholeOf}
 use Rattle.tie.specs.Send.{transmitIn}
-use Rattle.tie.specs.Machine.{Machine, lentTo, seen}
+use Rattle.tie.specs.Machine.{Machine, loanTo, lentTo, seen}
 use Rattle.tie.specs.Run.{afterOwn, afterWhole, afterEvent, given, Good}
 use Rattle.tie.proofs.Follows.{change-view, take-view}
 use Rattle.tie.proofs.Segments.{segment-view, segment-told}
@@ -48,33 +48,33 @@ module _ (image : List ℕ) (m : Machine) (good : Good image m) where
 
   arrival-view : (a : Bool) (group : ℕ) (source : Remote) → viewOf (arrivalOf (lentTo image m) a group source .state) rx tx ≡ leaves (arriveOf image (stateOf (seen m)) a group source .state) (seen m)
   unfolding arrivalOf
-  arrival-view a group source = ap (λ (t : Arrived). viewOf (t .state) rx tx) (past image s rx tx (refusedBy s) (arriveOf image s a group source) (good .passed)) ∙ arrive-view image s rx tx a group source
+  arrival-view a group source = ap (λ (t : Arrived). viewOf (t .state) rx tx) (past (loanTo image m) (refusedBy s) (arriveOf image s a group source) (good .passed)) ∙ arrive-view (loanTo image m) a group source
 
-  send-view : (pdu : ℕ) (payload : List ℕ) → viewOf (sendOf image s (length rx) tx pdu payload .state) rx (sentMemory image s (length rx) tx pdu payload) ≡ transmitIn image pdu payload (seen m)
+  send-view : (pdu : ℕ) (payload : List ℕ) → viewOf (sendOf (loanTo image m) pdu payload .state) rx (sentMemory (loanTo image m) pdu payload) ≡ transmitIn image pdu payload (seen m)
   unfolding sendOf sentMemory
   send-view pdu payload =
-      ap₂ (λ (t : Transmitted) (z : List ℕ). viewOf (t .state) rx z) (past image s rx tx (notSent s) (transmittedOf image s pdu payload tx) (good .passed)) (past image s rx tx (λ r. tx) (transmitOf image s pdu payload tx .memory) (good .passed))
+      ap₂ (λ (t : Transmitted) (z : List ℕ). viewOf (t .state) rx z) (past (loanTo image m) (notSent s) (transmittedOf image s pdu payload tx) (good .passed)) (past (loanTo image m) (λ r. tx) (transmitOf image s pdu payload tx .memory) (good .passed))
       ∙ transmit-view image rx tx payload s pdu (good .passed .send) (good .sixteen) (accepted-facts image (good .passed .table)) (good .passed .sound)
 
   -- ONE EVENT OF A CONNECTION
   pub own-view : (k : ℕ) (e : Own) → EventBytes (on k e) → seen (afterOwn image k e m) ≡ step (tableOf image) (wholeOf image) (seen m) (on k e)
   unfolding afterOwn
-  own-view k (change e) b = change-view image s rx tx W (good .passed) k e
+  own-view k (change e) b = change-view (loanTo image m) W (good .passed) k e
   own-view k (segment bytes) b = segment-view image k m bytes (good .passed) b W
-  own-view k (walk d p) b = walk-view image s rx tx k d p (good .passed) W
+  own-view k (walk d p) b = walk-view (loanTo image m) k d p (good .passed) W
   own-view k (take room) b =
-      take-view image s rx tx W (good .passed) k (replicate room 0) ∙ ap (λ (n : ℕ). step (tableOf image) W (seen m) (on k (take n))) (length-replicate room 0)
+      take-view (loanTo image m) W (good .passed) k (replicate room 0) ∙ ap (λ (n : ℕ). step (tableOf image) W (seen m) (on k (take n))) (length-replicate room 0)
 
   -- ONE OF A GROUP OR THE MODULE
   whole-view : (e : Whole) → seen (afterWhole image e m) ≡ step (tableOf image) W (seen m) (all e)
   unfolding afterWhole step
   whole-view (datagram group source) = arrival-view false group source
   whole-view (accept group source) = arrival-view true group source
-  whole-view tick = tick-view image s rx tx (good .passed)
+  whole-view tick = tick-view (loanTo image m) (good .passed)
   whole-view (transmit pdu payload) = send-view pdu payload
-  whole-view (switchAll n b) = switch-all-view image s rx tx n b (good .passed)
-  whole-view (readCount p) = read-view image s rx tx p (good .passed)
-  whole-view (clearCount p) = clear-view image s rx tx p (good .passed)
+  whole-view (switchAll n b) = switch-all-view (loanTo image m) n b (good .passed)
+  whole-view (readCount p) = read-view (loanTo image m) p (good .passed)
+  whole-view (clearCount p) = clear-view (loanTo image m) p (good .passed)
 
   -- ANY EVENT
   pub event-view : (e : Event) → EventBytes e → seen (afterEvent image e m) ≡ step (tableOf image) (wholeOf image) (seen m) e
@@ -84,18 +84,18 @@ module _ (image : List ℕ) (m : Machine) (good : Good image m) where
 
   -- WHAT THE CALLER IS GIVEN
   no-list : (k i : ℕ) (e : Own) → ((h : Held) → does (tableOf image) i e h .list ≡ []) → [] ≡ hands (tableOf image) W k (seen m) (on i e)
-  unfolding hands acts pdus
+  unfolding hands acts
   no-list k i e none = go (eqb i k) (ltb i (rowsOf image Connections))
     where
-      go : (x y : Bool) → [] ≡ cond x (pdus (cond y (does (tableOf image) i e (heldAt (seen m) i)) (acted (heldAt (seen m) i) []) .list)) []
-      go true true = ap pdus (sym (none (heldAt (seen m) i)))
+      go : (x y : Bool) → [] ≡ cond x (cond y (does (tableOf image) i e (heldAt (seen m) i)) (acted (heldAt (seen m) i) []) .list) []
+      go true true = sym (none (heldAt (seen m) i))
       go true false = refl
       go false y = refl
 
   pub event-given : (k : ℕ) (e : Event) → EventBytes e → given image k e m ≡ hands (tableOf image) (wholeOf image) k (seen m) e
   unfolding given hands does
   event-given k (on i (change e)) b = no-list k i (change e) (λ h. refl)
-  event-given k (on i (segment bytes)) b = ap (λ (ps : List Pdu). cond (eqb i k) ps []) (segment-told image i m bytes (good .passed) b W)
-  event-given k (on i (walk d p)) b = ap (λ (ps : List Pdu). cond (eqb i k) ps []) (walk-told image s rx tx i d p (good .passed) W)
+  event-given k (on i (segment bytes)) b = ap (λ (os : List Out). cond (eqb i k) os []) (segment-told image i m bytes (good .passed) b W)
+  event-given k (on i (walk d p)) b = ap (λ (os : List Out). cond (eqb i k) os []) (walk-told (loanTo image m) i d p (good .passed) W)
   event-given k (on i (take room)) b = no-list k i (take room) (λ h. refl)
   event-given k (all e) b = refl

@@ -16,14 +16,14 @@ use Rattle.connection.specs.Connection.{withPart}
 use Rattle.state.specs.declared.State.{State}
 use Rattle.state.specs.State.{recordAt, withRecord}
 use Rattle.state.specs.Fresh.{configOf}
-use Rattle.feed.specs.Feed.{Out, nothing, pdu, dropped, emit, Took, takeB, handed as given, pdus, drops}
+use Rattle.feed.specs.Feed.{Out, nothing, pdu, dropped, emit, Took, takeB, drops}
 use Rattle.feed.proofs.Cut.{take-rest}
 use Rattle.lengths.specs.Listed.{Bytes}
 use Rattle.stream.specs.Stream.{cellOf, partFrom, heldIn, inSegment, outcomeOf, tookOf, takenOf, payloadAt}
 use Rattle.stream.proofs.Leaves.{leaves-cell, leaves-length, handed}
 use Rattle.route.specs.Route.{lookupOf}
-use Rattle.gate.specs.Lent.{lent}
 use Rattle.gate.proofs.Pass.{passed-gate-at}
+use Rattle.gate.specs.Lent.{sizes, received}
 use Rattle.receive.specs.declared.SegmentTaken.{SegmentTaken}
 use Rattle.receive.specs.Answer.{isDone, judgedOf, answerOf}
 use Rattle.receive.specs.Segment.{countTake, takenAt, stretchAt, takeOn, memoryOn, Takes, segmentAnswer, segmentOf, memoryOf, payloadOf}
@@ -37,12 +37,12 @@ use Rattle.world.proofs.View.{view-length, view-at}
 use Rattle.state.proofs.Stretch.{stretch-apart, stretch-own}
 use Rattle.runs.proofs.Keeps.{cell-follow}
 use Rattle.tie.specs.Table.{tableOf}
-use Rattle.tie.specs.Machine.{Machine, seen, taken, afterOne, restOf, told, toldBy}
+use Rattle.tie.specs.Machine.{Machine, loanTo, lentTo, seen, taken, afterOne, restOf, told, toldBy}
 use Rattle.tie.proofs.Left.{dropsOf, view-left}
 
 -- a machine whose connection k takes segments: nothing refuses a take on it
 abbrev pub Open : List ℕ → ℕ → Machine → Type 0
-Open image k m = Clear image (m .state) (length (m .rx)) (length (m .tx)) k (configOf image k .tcp)
+Open image k m = Clear (lentTo image m) k (configOf image k .tcp)
 
 -- the bytes that a part holds are those of its cell
 held-bytes : (p : Part) (st : List ℕ) → take (heldBy p) st ≡ heldIn (cellOf p st)
@@ -85,18 +85,18 @@ module _ (image : List ℕ) (k : ℕ) (m : Machine) (segment : List ℕ) (o : Op
   c′ = withPart (partFrom (tookAt .to)) c
 
   takes : Takes image s rx k
-  takes = passed-takes image s rx (length tx) k (o .passed) (o .there)
+  takes = passed-takes (loanTo image m) k (o .passed) (o .there)
 
   -- nothing refuses it
-  done : isDone (segmentAnswer image s (length rx) (length tx) k) ≡ true
+  done : isDone (segmentAnswer (lentTo image m) k) ≡ true
   unfolding answerOf judgedOf
-  done = rw (passed-gate-at (lent image s (length rx) (length tx)) k (o .passed) (o .there), o .allows, o .receives)
+  done = rw (passed-gate-at (lentTo image m) k (o .passed) (o .there), o .allows, o .receives)
 
   taken-is : taken image k m segment ≡ takeOn image s rx k segment
   unfolding segmentOf
   taken-is = rw done
 
-  memory-is : memoryOf image s rx (length tx) k segment ≡ memoryOn image s rx k segment
+  memory-is : memoryOf (loanTo image m) k segment ≡ memoryOn image s rx k segment
   unfolding memoryOf
   memory-is = rw done
 
@@ -125,15 +125,15 @@ module _ (image : List ℕ) (k : ℕ) (m : Machine) (segment : List ℕ) (o : Op
   others = stretch-apart 1464 k rx (k * 1464) (stretchAt image s rx k segment) (omega arith) (omega (arith, long))
 
   -- the record with its held bytes
-  received : take (heldBy (partFrom (tookAt .to))) (stretch 1464 k (memoryOn image s rx k segment)) ≡ heldIn (tookAt .to)
+  bytes-held : take (heldBy (partFrom (tookAt .to))) (stretch 1464 k (memoryOn image s rx k segment)) ≡ heldIn (tookAt .to)
   unfolding takenOf tookOf
-  received =
+  bytes-held =
       ap (take (heldBy (partFrom (tookAt .to)))) own
       ∙ held-bytes (partFrom (tookAt .to)) (stretchAt image s rx k segment)
       ∙ ap heldIn (leaves-cell routes k (c .switches) (c .part) st segment (takes .fit) bytes)
 
   held-is : heldOf (memoryOn image s rx k segment) tx k c′ ≡ withCell (tookAt .to) (heldOf rx tx k c)
-  held-is = ap (λ (l : List ℕ). record { connection = c′; received = l; waiting = take (c .used) (stretch 1472 k tx) }) received
+  held-is = ap (λ (l : List ℕ). record { connection = c′; received = l; waiting = take (c .used) (stretch 1472 k tx) }) bytes-held
 
   -- WHAT IT LEAVES
   pub one-view : seen (afterOne image k m segment) ≡ left (tableOf image) (seen m) k (acted (withCell (tookAt .to) (heldAt (seen m) k)) (emit (tookAt .out) []))
@@ -152,12 +152,12 @@ module _ (image : List ℕ) (k : ℕ) (m : Machine) (segment : List ℕ) (o : Op
 
   -- WHAT IT HANDS OUT
   told-is : (out : Out) → tookAt .out ≡ out
-      → told image k (payloadOf segment (memoryOn image s rx k segment) k (takenAt image s rx k segment .outcome)) (takenAt image s rx k segment .outcome) ≡ pdus (emit out [])
-  unfolding takenOf tookOf pdus payloadOf
+      → told image k (payloadOf segment (memoryOn image s rx k segment) k (takenAt image s rx k segment .outcome)) (takenAt image s rx k segment .outcome) ≡ emit out []
+  unfolding takenOf tookOf payloadOf
   told-is nothing e = rw e
   told-is (pdu r p) e =
       rw e
-      (ap (λ (l : List ℕ). given r l ∷ [])
+      (ap (λ (l : List ℕ). pdu r l ∷ [])
       (ap
       (λ (z : List ℕ).
       payloadAt segment z (inSegment (cellOf (c .part) st)) (cond (inSegment (cellOf (c .part) st)) (length segment - length (tookAt .rest) - length p) 0) (length p))
@@ -165,7 +165,7 @@ module _ (image : List ℕ) (k : ℕ) (m : Machine) (segment : List ℕ) (o : Op
       ∙ handed routes k (c .switches) (c .part) st segment (takes .fit) bytes r p e))
   told-is (dropped q i n) e = rw e
 
-  pub one-told : toldBy image k m segment ≡ pdus (emit (tookAt .out) [])
+  pub one-told : toldBy image k m segment ≡ emit (tookAt .out) []
   unfolding takeOn
   one-told =
       ap₂ (λ (t : SegmentTaken) (z : List ℕ). told image k (payloadOf segment z k (t .outcome)) (t .outcome)) taken-is memory-is ∙ told-is (tookAt .out) refl
@@ -173,9 +173,9 @@ module _ (image : List ℕ) (k : ℕ) (m : Machine) (segment : List ℕ) (o : Op
   -- and nothing refuses the next one
   pub open-after : Open image k (afterOne image k m segment)
   open-after =
-      subst (λ (x : SegmentTaken). Clear image (x .state) (length (memoryOf image s rx (length tx) k segment)) (length tx) k (configOf image k .tcp)) (sym taken-is)
-      (subst (λ (r : List ℕ). Clear image (takeOn image s rx k segment .state) (length r) (length tx) k (configOf image k .tcp)) (sym memory-is)
-      (take-clear image s rx (length tx) k segment bytes o))
+      subst (λ (x : SegmentTaken). Clear (sizes (received (loanTo image m) (x .state) (memoryOf (loanTo image m) k segment))) k (configOf image k .tcp)) (sym taken-is)
+      (subst (λ (r : List ℕ). Clear (sizes (received (loanTo image m) (takeOn image s rx k segment .state) r)) k (configOf image k .tcp)) (sym memory-is)
+      (take-clear (loanTo image m) k segment bytes o))
 
   pub held-after : heldAt (left (tableOf image) (seen m) k (acted (withCell (tookAt .to) (heldAt (seen m) k)) (emit (tookAt .out) []))) k ≡ withCell (tookAt .to) (heldAt (seen m) k)
   held-after = getD-set-same (seen m .held) k (withCell (tookAt .to) (heldAt (seen m) k)) blank (omega (arith, in-range s k (o .receives), view-length rx tx 0 (s .connections)))

@@ -6,8 +6,8 @@ use mathlib.Core.Bool.{Bool, true, cond}
 use mathlib.Core.List.{List, [], _∷_, _++_, append-nil}
 use native.Mathlib.Omega.{arith}
 use lib.ListN.{length}
-use Rattle.feed.specs.Feed.{Routes, Cell, Out, emit, Took, takeB, Ran, joined, takes, Pdu, pdus}
-use Rattle.feed.proofs.Cut.{emit-append, take-less, pdus-append}
+use Rattle.feed.specs.Feed.{Routes, Cell, Out, emit, Took, takeB, Ran, joined, takes}
+use Rattle.feed.proofs.Cut.{emit-append, take-less}
 use Rattle.lengths.specs.Listed.{Bytes}
 use Rattle.lengths.proofs.Bytes.{bytes-drop}
 use Rattle.layout.specs.Layout.{bodyOf}
@@ -101,13 +101,13 @@ module _ (image : List ℕ) (k : ℕ) where
 
   -- .. and what they hand out
   pub takes-told : (f : ℕ) (m : Machine) (segment : List ℕ) → Open image k m → Bytes segment → length segment < f
-      → toldTakes image k f m segment ≡ pdus (takes (R m) f (C m) segment .list)
+      → toldTakes image k f m segment ≡ takes (R m) f (C m) segment .list
   unfolding toldTakes takes
   takes-told zero m segment o bytes lt = absurd (omega arith)
   takes-told (suc f) m segment o bytes lt =
       ap₂ (λ (b : Bool) (rest : List ℕ). toldBy image k m segment ++ cond (goesOn image k b rest) (toldTakes image k f m′ rest) []) (answer-done image k m segment o bytes) (rest-same m segment o bytes)
-      ∙ ap (λ (ps : List Pdu). ps ++ cond (goesOn image k true (t .rest)) (toldTakes image k f m′ (t .rest)) [])
-      (one-told image k m segment o bytes ∙ ap (λ (u : Took). pdus (emit (u .out) [])) (sym (took-is m segment o bytes)))
+      ∙ ap (λ (os : List Out). os ++ cond (goesOn image k true (t .rest)) (toldTakes image k f m′ (t .rest)) [])
+      (one-told image k m segment o bytes ∙ ap (λ (u : Took). emit (u .out) []) (sym (took-is m segment o bytes)))
       ∙ go (λ rest lt′ b. takes-told f m′ rest (open-after image k m segment o bytes) b lt′) (t .rest) (omega (arith, take-less (R m) (C m) segment))
       (subst Bytes (rest-same m segment o bytes) (bytes-drop (taken image k m segment .read) segment bytes))
     where
@@ -117,11 +117,10 @@ module _ (image : List ℕ) (k : ℕ) where
       t : Took
       t = takeB (R m) (C m) segment
 
-      go : ((rest : List ℕ) → length rest < f → Bytes rest → toldTakes image k f m′ rest ≡ pdus (takes (R m′) f (C m′) rest .list))
+      go : ((rest : List ℕ) → length rest < f → Bytes rest → toldTakes image k f m′ rest ≡ takes (R m′) f (C m′) rest .list)
           → (rest : List ℕ) → length rest ≤ length segment - 1 → Bytes rest
-          → pdus (emit (t .out) []) ++ cond (goesOn image k true rest) (toldTakes image k f m′ rest) [] ≡ pdus (joined (t .to) (t .out) rest (takes (R m) f (t .to) rest) .list)
-      go more [] le b = append-nil (pdus (emit (t .out) []))
+          → emit (t .out) [] ++ cond (goesOn image k true rest) (toldTakes image k f m′ rest) [] ≡ joined (t .to) (t .out) rest (takes (R m) f (t .to) rest) .list
+      go more [] le b = append-nil (emit (t .out) [])
       go more (x ∷ xs) le b =
-          ap (λ (ps : List Pdu). pdus (emit (t .out) []) ++ ps) (more (x ∷ xs) (omega arith) b ∙ ap (λ (q : Ran). pdus (q .list)) (later-takes m segment o bytes f (x ∷ xs)))
-          ∙ sym (pdus-append (emit (t .out) []) (takes (R m) f (t .to) (x ∷ xs) .list))
-          ∙ ap pdus (emit-append (t .out) [] (takes (R m) f (t .to) (x ∷ xs) .list))
+          ap (λ (os : List Out). emit (t .out) [] ++ os) (more (x ∷ xs) (omega arith) b ∙ ap (λ (q : Ran). q .list) (later-takes m segment o bytes f (x ∷ xs)))
+          ∙ emit-append (t .out) [] (takes (R m) f (t .to) (x ∷ xs) .list)

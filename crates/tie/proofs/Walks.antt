@@ -15,11 +15,11 @@ use Rattle.connection.specs.Connection.{zeroRecord}
 use Rattle.state.specs.declared.State.{State}
 use Rattle.state.specs.State.{recordAt, withRecord}
 use Rattle.state.specs.Fresh.{configOf}
-use Rattle.feed.specs.Feed.{pdus, drops}
+use Rattle.feed.specs.Feed.{drops}
 use Rattle.walk.specs.Walk.{Found, the-end, a-pdu, a-drop, walkAt, told}
 use Rattle.route.specs.Route.{lookupOf}
 use Rattle.datagram.specs.Datagram.{outcomeOf, walkedOf}
-use Rattle.gate.specs.Lent.{lent}
+use Rattle.gate.specs.Lent.{Loan, sizes}
 use Rattle.gate.specs.Gate.{Passed}
 use Rattle.receive.specs.Answer.{isDone}
 use Rattle.receive.specs.Walk.{countWalk, walkOn, walkAllowed, walkAnswer, walkOf}
@@ -41,7 +41,19 @@ count-is the-end d s = refl
 count-is (a-pdu r p n i) d s = refl
 count-is (a-drop k i n) d s = refl
 
-module _ (image : List ℕ) (s : State) (rx tx : List ℕ) (k : ℕ) (d : List ℕ) (place : ℕ) (passed : Passed (lent image s (length rx) (length tx))) (whole : Whole → World → World) where
+module _ (l : Loan) (k : ℕ) (d : List ℕ) (place : ℕ) (passed : Passed (sizes l)) (whole : Whole → World → World) where
+  abbrev image : List ℕ
+  image = l .image
+
+  abbrev s : State
+  s = l .state
+
+  abbrev rx : List ℕ
+  rx = l .rx
+
+  abbrev tx : List ℕ
+  tx = l .tx
+
   abbrev w : World
   w = viewOf s rx tx
 
@@ -55,10 +67,10 @@ module _ (image : List ℕ) (s : State) (rx tx : List ℕ) (k : ℕ) (d : List �
   abbrev readable : Bool
   readable = ltb k (rowsOf image Connections) && (allowed && receiving (recordAt s k))
 
-  is-done : isDone (walkAnswer image s (length rx) (length tx) k d place) ≡ readable
-  is-done = done-is image s (length rx) (length tx) k allowed passed
+  is-done : isDone (walkAnswer (sizes l) k d place) ≡ readable
+  is-done = done-is (sizes l) k allowed passed
 
-  walk-state : (b : Bool) → readable ≡ b → walkOf image s (length rx) (length tx) k d place .state ≡ cond b (dropsOf false (drops (told d found [])) s) s
+  walk-state : (b : Bool) → readable ≡ b → walkOf (sizes l) k d place .state ≡ cond b (dropsOf false (drops (told d found [])) s) s
   unfolding walkOf walkOn walkedOf
   walk-state true e = rw (is-done ∙ e) (count-is found d s)
   walk-state false e = rw (is-done ∙ e)
@@ -86,11 +98,11 @@ module _ (image : List ℕ) (s : State) (rx tx : List ℕ) (k : ℕ) (d : List �
       ∙ view-left (tableOf image) s rx tx rx tx k (λ j ne. refl) (λ j ne. refl) (recordAt s k) (told d found [])
       ∙ ap (λ (h : Held). left (tableOf image) w k (acted h (told d found []))) (sym (view-at s rx tx k))
 
-  pub walk-view : viewOf (walkOf image s (length rx) (length tx) k d place .state) rx tx ≡ step (tableOf image) whole w (on k (walk d place))
+  pub walk-view : viewOf (walkOf (sizes l) k d place .state) rx tx ≡ step (tableOf image) whole w (on k (walk d place))
   unfolding step
   walk-view = go readable refl
     where
-      go : (b : Bool) → readable ≡ b → viewOf (walkOf image s (length rx) (length tx) k d place .state) rx tx ≡ left (tableOf image) w k (acts (tableOf image) k (walk d place) (heldAt w k))
+      go : (b : Bool) → readable ≡ b → viewOf (walkOf (sizes l) k d place .state) rx tx ≡ left (tableOf image) w k (acts (tableOf image) k (walk d place) (heldAt w k))
       go true e =
           let a : allowed ≡ true = and-left allowed _ (and-right (ltb k (rowsOf image Connections)) _ e) in
           ap (λ (t : State). viewOf t rx tx) (walk-state true e)
@@ -102,21 +114,19 @@ module _ (image : List ℕ) (s : State) (rx tx : List ℕ) (k : ℕ) (d : List �
           ∙ ap (left (tableOf image) w k) (sym (acts-refused (ltb k (rowsOf image Connections)) refl e))
 
   -- WHAT IT HANDS OUT
-  told-found : (f : Found) → toldWalk d (outcomeOf f) ≡ pdus (told d f [])
-  unfolding pdus
+  told-found : (f : Found) → toldWalk d (outcomeOf f) ≡ told d f []
   told-found the-end = refl
   told-found (a-pdu r p n i) = refl
   told-found (a-drop q i n) = refl
 
-  walk-out : (b : Bool) → readable ≡ b → walkOf image s (length rx) (length tx) k d place .outcome ≡ cond b (outcomeOf found) End
+  walk-out : (b : Bool) → readable ≡ b → walkOf (sizes l) k d place .outcome ≡ cond b (outcomeOf found) End
   unfolding walkOf walkOn walkedOf
   walk-out true e = rw (is-done ∙ e)
   walk-out false e = rw (is-done ∙ e)
 
-  pub walk-told : toldWalk d (walkOf image s (length rx) (length tx) k d place .outcome) ≡ pdus (at (tableOf image) w k (walk d place) .list)
-  unfolding pdus
+  pub walk-told : toldWalk d (walkOf (sizes l) k d place .outcome) ≡ at (tableOf image) w k (walk d place) .list
   walk-told = go readable refl
     where
-      go : (b : Bool) → readable ≡ b → toldWalk d (walkOf image s (length rx) (length tx) k d place .outcome) ≡ pdus (at (tableOf image) w k (walk d place) .list)
-      go true e = ap (toldWalk d) (walk-out true e) ∙ told-found found ∙ ap (λ (a : Acted). pdus (a .list)) (sym (acts-made e))
-      go false e = ap (toldWalk d) (walk-out false e) ∙ ap (λ (a : Acted). pdus (a .list)) (sym (acts-refused (ltb k (rowsOf image Connections)) refl e))
+      go : (b : Bool) → readable ≡ b → toldWalk d (walkOf (sizes l) k d place .outcome) ≡ at (tableOf image) w k (walk d place) .list
+      go true e = ap (toldWalk d) (walk-out true e) ∙ told-found found ∙ ap (λ (a : Acted). a .list) (sym (acts-made e))
+      go false e = ap (toldWalk d) (walk-out false e) ∙ ap (λ (a : Acted). a .list) (sym (acts-refused (ltb k (rowsOf image Connections)) refl e))

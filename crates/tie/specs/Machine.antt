@@ -5,9 +5,9 @@ use Prim.Native.Nat.{ℕ, zero, suc}
 use mathlib.Core.Bool.{Bool, false, cond}
 use mathlib.Core.List.{List, [], _∷_, _++_}
 use lib.ListN.{length, drop}
-use Rattle.feed.specs.Feed.{Pdu, handed}
+use Rattle.feed.specs.Feed.{Out, pdu, dropped}
 use Rattle.state.specs.declared.State.{State}
-use Rattle.gate.specs.Lent.{Lent, lentBy}
+use Rattle.gate.specs.Lent.{Lent, Loan, loan, sizes}
 use Rattle.stream.specs.declared.Outcome.{Outcome}
 use Rattle.stream.specs.declared.Outcome.the-variants as Found
 use Rattle.receive.specs.declared.SegmentTaken.{SegmentTaken}
@@ -24,8 +24,11 @@ abbrev pub machine : State → List ℕ → List ℕ → Machine
 machine s rx tx = record { state = s; rx = rx; tx = tx }
 
 -- what the next call is lent
+abbrev pub loanTo : List ℕ → Machine → Loan
+loanTo image m = loan image (m .state) (m .rx) (m .tx)
+
 abbrev pub lentTo : List ℕ → Machine → Lent
-lentTo image m = lentBy image (m .state) (m .rx) (m .tx)
+lentTo image m = sizes (loanTo image m)
 
 -- what it holds
 abbrev pub seen : Machine → World
@@ -34,22 +37,22 @@ seen m = viewOf (m .state) (m .rx) (m .tx)
 -- ONE TAKE on connection k
 module _ (image : List ℕ) (k : ℕ) where
   abbrev pub taken : Machine → List ℕ → SegmentTaken
-  taken m segment = segmentOf image (m .state) (m .rx) (length (m .tx)) k segment
+  taken m segment = segmentOf (loanTo image m) k segment
 
   abbrev pub afterOne : Machine → List ℕ → Machine
-  afterOne m segment = machine (taken m segment .state) (memoryOf image (m .state) (m .rx) (length (m .tx)) k segment) (m .tx)
+  afterOne m segment = machine (taken m segment .state) (memoryOf (loanTo image m) k segment) (m .tx)
 
   -- the bytes that it leaves of the segment
   abbrev pub restOf : Machine → List ℕ → List ℕ
   restOf m segment = drop (taken m segment .read) segment
 
-  -- the PDU that it hands out, with the payload that the caller is given
-  abbrev pub told : List ℕ → Outcome → List Pdu
+  -- what it found: a PDU, with the payload that the caller is given, or a drop
+  abbrev pub told : List ℕ → Outcome → List Out
   told payload Found.More = []
-  told payload (Found.Pdu route id inside at n) = handed route payload ∷ []
-  told payload (Found.Drop reason id n) = []
+  told payload (Found.Pdu route id inside at n) = pdu route payload ∷ []
+  told payload (Found.Drop reason id n) = dropped reason id n ∷ []
 
-  abbrev pub toldBy : Machine → List ℕ → List Pdu
+  abbrev pub toldBy : Machine → List ℕ → List Out
   toldBy m segment = told (payloadOf segment (afterOne m segment .rx) k (taken m segment .outcome)) (taken m segment .outcome)
 
   -- A SEGMENT EVENT: "the caller's takes over one segment until all is read, one take at least"; a take that is refused ends it. At
@@ -63,7 +66,7 @@ module _ (image : List ℕ) (k : ℕ) where
   afterTakes (suc f) m segment =
       cond (goesOn (isDone (taken m segment .answer)) (restOf m segment)) (afterTakes f (afterOne m segment) (restOf m segment)) (afterOne m segment)
 
-  unfoldable pub toldTakes : ℕ → Machine → List ℕ → List Pdu
+  unfoldable pub toldTakes : ℕ → Machine → List ℕ → List Out
   toldTakes zero m segment = []
   toldTakes (suc f) m segment =
       toldBy m segment ++ cond (goesOn (isDone (taken m segment .answer)) (restOf m segment)) (toldTakes f (afterOne m segment) (restOf m segment)) []
@@ -72,5 +75,5 @@ module _ (image : List ℕ) (k : ℕ) where
   abbrev pub afterSegment : Machine → List ℕ → Machine
   afterSegment m segment = afterTakes (suc (length segment)) m segment
 
-  abbrev pub toldSegment : Machine → List ℕ → List Pdu
+  abbrev pub toldSegment : Machine → List ℕ → List Out
   toldSegment m segment = toldTakes (suc (length segment)) m segment

@@ -6,7 +6,7 @@ use mathlib.Core.Bool.{cond}
 use mathlib.Core.List.{List, [], _∷_, _++_}
 use lib.Dec.{eqb}
 use lib.ListN.{length, drop, replicate, take as front}
-use Rattle.feed.specs.Feed.{Pdu, handed}
+use Rattle.feed.specs.Feed.{Out, pdu, dropped}
 use Rattle.datagram.specs.declared.Outcome.{Outcome as Step}
 use Rattle.datagram.specs.declared.Outcome.the-variants as Met
 use Rattle.gate.specs.Gate.{Passed}
@@ -18,43 +18,43 @@ use Rattle.arrivals.specs.Arrivals.{datagramOf, acceptOf}
 use Rattle.receive.specs.Walk.{walkOf}
 use Rattle.sending.specs.Sending.{sendOf, sentMemory, takenOf}
 use Rattle.world.specs.Events.{Own, change, segment, walk, take, Whole, datagram, accept, tick, transmit, switchAll, readCount, clearCount, Event, on, all}
-use Rattle.tie.specs.Machine.{Machine, machine, lentTo, afterSegment, toldSegment}
+use Rattle.tie.specs.Machine.{Machine, machine, lentTo, loanTo, afterSegment, toldSegment}
 
--- THE PDU OF A WALK, with the payload that stands at its place
-abbrev pub toldWalk : List ℕ → Step → List Pdu
+-- WHAT A WALK FOUND: a PDU, with the payload that stands at its place, or a drop
+abbrev pub toldWalk : List ℕ → Step → List Out
 toldWalk d Met.End = []
-toldWalk d (Met.Pdu route id place n) = handed route (front n (drop place d)) ∷ []
-toldWalk d (Met.Drop reason id n) = []
+toldWalk d (Met.Pdu route id place n) = pdu route (front n (drop place d)) ∷ []
+toldWalk d (Met.Drop reason id n) = dropped reason id n ∷ []
 
 -- ONE EVENT
 module _ (image : List ℕ) where
   -- of connection k. An out buffer of that room: what stands in it does not matter
   unfoldable pub afterOwn : ℕ → Own → Machine → Machine
-  afterOwn k (change e) m = machine (eventOf image (m .state) (length (m .rx)) (length (m .tx)) k e .state) (m .rx) (m .tx)
+  afterOwn k (change e) m = machine (eventOf (lentTo image m) k e .state) (m .rx) (m .tx)
   afterOwn k (segment bytes) m = afterSegment image k m bytes
-  afterOwn k (walk d place) m = machine (walkOf image (m .state) (length (m .rx)) (length (m .tx)) k d place .state) (m .rx) (m .tx)
-  afterOwn k (take room) m = machine (takenOf image (m .state) (length (m .rx)) (m .tx) k (replicate room 0) .state) (m .rx) (m .tx)
+  afterOwn k (walk d place) m = machine (walkOf (lentTo image m) k d place .state) (m .rx) (m .tx)
+  afterOwn k (take room) m = machine (takenOf (loanTo image m) k (replicate room 0) .state) (m .rx) (m .tx)
 
   -- of a whole group or module
   unfoldable pub afterWhole : Whole → Machine → Machine
   afterWhole (datagram group source) m = machine (datagramOf (lentTo image m) group source .state) (m .rx) (m .tx)
   afterWhole (accept group source) m = machine (acceptOf (lentTo image m) group source .state) (m .rx) (m .tx)
-  afterWhole tick m = machine (tickEvent image (m .state) (length (m .rx)) (length (m .tx)) .state) (m .rx) (m .tx)
-  afterWhole (transmit pdu payload) m =
-      machine (sendOf image (m .state) (length (m .rx)) (m .tx) pdu payload .state) (m .rx) (sentMemory image (m .state) (length (m .rx)) (m .tx) pdu payload)
-  afterWhole (switchAll number position) m = machine (switchAllOf image (m .state) (length (m .rx)) (length (m .tx)) number position .state) (m .rx) (m .tx)
-  afterWhole (readCount protocol) m = machine (readOf image (m .state) (length (m .rx)) (length (m .tx)) protocol .state) (m .rx) (m .tx)
-  afterWhole (clearCount protocol) m = machine (clearOf image (m .state) (length (m .rx)) (length (m .tx)) protocol .state) (m .rx) (m .tx)
+  afterWhole tick m = machine (tickEvent (lentTo image m) .state) (m .rx) (m .tx)
+  afterWhole (transmit number payload) m =
+      machine (sendOf (loanTo image m) number payload .state) (m .rx) (sentMemory (loanTo image m) number payload)
+  afterWhole (switchAll number position) m = machine (switchAllOf (lentTo image m) number position .state) (m .rx) (m .tx)
+  afterWhole (readCount protocol) m = machine (readOf (lentTo image m) protocol .state) (m .rx) (m .tx)
+  afterWhole (clearCount protocol) m = machine (clearOf (lentTo image m) protocol .state) (m .rx) (m .tx)
 
   unfoldable pub afterEvent : Event → Machine → Machine
   afterEvent (on k e) m = afterOwn k e m
   afterEvent (all e) m = afterWhole e m
 
-  -- the PDUs that the caller is given for connection k
-  unfoldable pub given : ℕ → Event → Machine → List Pdu
+  -- the outcomes that the caller is given for connection k: PDUs, and drops with their reason, id and length
+  unfoldable pub given : ℕ → Event → Machine → List Out
   given k (on i (change e)) m = []
   given k (on i (segment bytes)) m = cond (eqb i k) (toldSegment image i m bytes) []
-  given k (on i (walk d place)) m = cond (eqb i k) (toldWalk d (walkOf image (m .state) (length (m .rx)) (length (m .tx)) i d place .outcome)) []
+  given k (on i (walk d place)) m = cond (eqb i k) (toldWalk d (walkOf (lentTo image m) i d place .outcome)) []
   given k (on i (take room)) m = []
   given k (all e) m = []
 
@@ -63,7 +63,7 @@ module _ (image : List ℕ) where
   afterRun m [] = m
   afterRun m (e ∷ es) = afterRun (afterEvent e m) es
 
-  unfoldable pub givenIn : ℕ → Machine → List Event → List Pdu
+  unfoldable pub givenIn : ℕ → Machine → List Event → List Out
   givenIn k m [] = []
   givenIn k m (e ∷ es) = given k e m ++ givenIn k (afterEvent e m) es
 

@@ -7,16 +7,16 @@ use Rattle.connection.specs.declared.Mode.{Mode}
 use Rattle.connection.specs.declared.Mode.the-variants.{Offline, Reconnect, Online}
 use Rattle.connection.specs.declared.Connection.{Connection}
 use Rattle.connection.specs.declared.Config.{Config}
-use Rattle.connection.specs.declared.Refusal.the-variants.{Missing, Denied}
+use Rattle.connection.specs.declared.Refusal.the-variants.{Denied}
 use Rattle.connection.specs.declared.Answer.the-variants.{Done}
 use Rattle.connection.specs.declared.Event.{Event}
 use Rattle.connection.specs.declared.Event.the-variants.{Open, Close, Connected, Lost, SetRemote, Switch}
 use Rattle.connection.specs.Connection.{isOffline, isReconnect, isOnline, wildcard, withMode, withSend, become, closedOf, startOf, reachOf, runOf, tickOf}
-use Rattle.connection.specs.Event.{known, allowed, after, refusedBy, stepOf}
+use Rattle.connection.specs.Event.{allowed, after, refusedBy, stepOf}
 use Rattle.connection.specs.Sound.{Sound}
-use Rattle.lists.proofs.Both.{impossible}
-use Rattle.lists.proofs.Both.{and-left, and-right, and-both}
-use Rattle.transitions.specs.Table.{Place, at, placeOf, Happening, opens, closes, connects, loses, sets, switches, ticks, happeningOf, modeNumber, table, firstIn, move}
+use Rattle.connection.proofs.Ticks.{step-either}
+use Rattle.lists.proofs.Both.{impossible, and-left, and-right, and-both}
+use Rattle.transitions.specs.Table.{Place, at, placeOf, Happening, opens, closes, connects, loses, stays, ticks, happeningOf, modeNumber, table, firstIn, move}
 
 -- the two steps of a tick that goes on
 abbrev startP : Bool → Place → Place
@@ -31,8 +31,7 @@ effect opens t a w m o k = cond (not a && isOffline m && not k) (at m true k) (a
 effect closes t a w m o k = cond (not a && (o || not (isOffline m))) (at m false true) (at m o k)
 effect connects t a w m o k = cond (t && isReconnect m && not k && not w) (at Online o k) (at m o k)
 effect loses t a w m o k = cond (t && isOnline m) (at Reconnect o k) (at m o k)
-effect sets t a w m o k = at m o k
-effect switches t a w m o k = at m o k
+effect stays t a w m o k = at m o k
 effect ticks t a w m o k = cond k (at Offline false false) (reachP t w (startP a (at m o k)))
 
 -- the rules on wishes
@@ -50,7 +49,7 @@ modes : (Mode → Bool) → Bool
 modes p = p Offline && p Reconnect && p Online
 
 happenings : (Happening → Bool) → Bool
-happenings p = p opens && p closes && p connects && p loses && p sets && p switches && p ticks
+happenings p = p opens && p closes && p connects && p loses && p stays && p ticks
 
 agrees : Happening → Bool → Bool → Bool → Mode → Bool → Bool → Bool
 agrees h t a w m o k = not (ruled t a m o k) || same (effect h t a w m o k) (move h t a w (at m o k))
@@ -78,14 +77,11 @@ of-happening : (p : Happening → Bool) → happenings p ≡ true → (h : Happe
 unfolding happenings
 of-happening p e h = go h
   where
-    six : (p opens && p closes && p connects && p loses && p sets && p switches) ≡ true
-    six = and-left (p opens && p closes && p connects && p loses && p sets && p switches) (p ticks) e
-
-    five : (p opens && p closes && p connects && p loses && p sets) ≡ true
-    five = and-left (p opens && p closes && p connects && p loses && p sets) (p switches) six
+    five : (p opens && p closes && p connects && p loses && p stays) ≡ true
+    five = and-left (p opens && p closes && p connects && p loses && p stays) (p ticks) e
 
     four : (p opens && p closes && p connects && p loses) ≡ true
-    four = and-left (p opens && p closes && p connects && p loses) (p sets) five
+    four = and-left (p opens && p closes && p connects && p loses) (p stays) five
 
     three : (p opens && p closes && p connects) ≡ true
     three = and-left (p opens && p closes && p connects) (p loses) four
@@ -98,9 +94,8 @@ of-happening p e h = go h
     go closes = and-right (p opens) (p closes) two
     go connects = and-right (p opens && p closes) (p connects) three
     go loses = and-right (p opens && p closes && p connects) (p loses) four
-    go sets = and-right (p opens && p closes && p connects && p loses) (p sets) five
-    go switches = and-right (p opens && p closes && p connects && p loses && p sets) (p switches) six
-    go ticks = and-right (p opens && p closes && p connects && p loses && p sets && p switches) (p ticks) e
+    go stays = and-right (p opens && p closes && p connects && p loses) (p stays) five
+    go ticks = and-right (p opens && p closes && p connects && p loses && p stays) (p ticks) e
 
 bool-is : (a b : Bool) → Bool·beq a b ≡ true → a ≡ b
 bool-is true true e = refl
@@ -150,6 +145,10 @@ decided : (b : Bool) (c d : Connection) → placeOf (cond (not b) (refusedBy Den
 decided true c d = refl
 decided false c d = refl
 
+-- an event that leaves mode and wishes, allowed or not
+stays-put : (e : Event) (g : Config) (c : Connection) → placeOf (after e g c) ≡ placeOf c → placeOf (stepOf e g c .connection) ≡ placeOf c
+stays-put e g c p = step-either e g c (λ (d : Connection). placeOf d ≡ placeOf c) (λ _. refl) (λ _. p)
+
 step-effect : (e : Event) (g : Config) (c : Connection)
     → placeOf (stepOf e g c .connection) ≡ effect (happeningOf e) (g .tcp) (g .automatic) (wildcard (c .remote)) (c .mode) (c .«open_wanted») (c .«close_wanted»)
 unfolding stepOf effect
@@ -157,16 +156,8 @@ step-effect Open g c = decided (allowed Open g c) c (after Open g c)
 step-effect Close g c = decided (allowed Close g c) c (after Close g c)
 step-effect Connected g c = decided (allowed Connected g c) c (after Connected g c)
 step-effect Lost g c = decided (allowed Lost g c) c (after Lost g c)
-step-effect (SetRemote r) g c = go (allowed (SetRemote r) g c)
-  where
-    go : (b : Bool) → placeOf (cond (not b) (refusedBy Denied c) (record { answer = Done; connection = after (SetRemote r) g c }) .connection) ≡ placeOf c
-    go true = refl
-    go false = refl
-step-effect (Switch n on) g c = go (known (Switch n on))
-  where
-    go : (b : Bool) → placeOf (cond (not b) (refusedBy Missing c) (record { answer = Done; connection = after (Switch n on) g c }) .connection) ≡ placeOf c
-    go true = refl
-    go false = refl
+step-effect (SetRemote r) g c = stays-put (SetRemote r) g c refl
+step-effect (Switch n on) g c = stays-put (Switch n on) g c refl
 
 start-place : (g : Config) (c : Connection) → placeOf (startOf g c) ≡ startP (g .automatic) (placeOf c)
 unfolding startOf

@@ -19,14 +19,13 @@ pub data Place : Type 0 where
 abbrev pub placeOf : Connection → Place
 placeOf c = at (c .mode) (c .«open_wanted») (c .«close_wanted»)
 
--- what happens to a connection
+-- what happens to a connection; set remote and a switch leave mode and wishes, as every event does that no row is of
 pub data Happening : Type 0 where
   opens : Happening
   closes : Happening
   connects : Happening
   loses : Happening
-  sets : Happening
-  switches : Happening
+  stays : Happening
   ticks : Happening
 
 abbrev pub happeningOf : Event → Happening
@@ -34,8 +33,8 @@ happeningOf Open = opens
 happeningOf Close = closes
 happeningOf Connected = connects
 happeningOf Lost = loses
-happeningOf (SetRemote r) = sets
-happeningOf (Switch n on) = switches
+happeningOf (SetRemote r) = stays
+happeningOf (Switch n on) = stays
 
 -- what a column asks
 pub data Asks : Type 0 where
@@ -72,8 +71,7 @@ number opens = 1
 number closes = 2
 number connects = 3
 number loses = 4
-number sets = 5
-number switches = 6
+number stays = 5
 number ticks = 0
 
 abbrev pub meets : Asks → Bool → Bool

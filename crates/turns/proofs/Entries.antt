@@ -11,7 +11,7 @@ use borrow.Author.Tests.{le-ltb}
 use Rattle.connection.specs.declared.Refusal.{Refusal}
 use Rattle.table.specs.Accepts.{Accepts}
 use Rattle.table.proofs.Facts.{accepted-facts}
-use Rattle.gate.specs.Lent.{lent}
+use Rattle.gate.specs.Lent.{Loan, sizes}
 use Rattle.gate.specs.declared.Gate.{Gate}
 use Rattle.gate.specs.declared.Gate.the-variants.{Pass, Refused}
 use Rattle.gate.specs.Gate.{gateOf, gateAt, through}
@@ -31,23 +31,29 @@ use Rattle.waits.proofs.Held.{waits-after}
 use Rattle.keeps.proofs.Transmitted.{all-fit}
 
 -- a transmit, seen from connection k
-pub transmit-turn : (image : List ℕ) (s : State) (rx : ℕ) (tx : List ℕ) (pdu : ℕ) (payload : List ℕ) → length (s .connections) ≡ 16 → recordsSound image (s .connections) ≡ true → (k : ℕ)
-    → waits (sendOf image s rx tx pdu payload .state) (sentMemory image s rx tx pdu payload) k
-    ≡ turned (adds (through (gateOf (lent image s rx (length tx))) (λ r. []) (addedTo image s pdu payload k))) (waits s tx k)
+pub transmit-turn : (l : Loan) (pdu : ℕ) (payload : List ℕ) → length (l .state .connections) ≡ 16 → recordsSound (l .image) (l .state .connections) ≡ true → (k : ℕ)
+    → waits (sendOf l pdu payload .state) (sentMemory l pdu payload) k
+    ≡ turned (adds (through (gateOf (sizes l)) (λ r. []) (addedTo (l .image) (l .state) pdu payload k))) (waits (l .state) (l .tx) k)
 unfolding sendOf sentMemory transmitOf addedTo
-transmit-turn image s rx tx pdu payload sixteen h k = go (gateOf (lent image s rx (length tx))) refl
+transmit-turn l pdu payload sixteen h k = go (gateOf (sizes l)) refl
   where
-    inner : Accepts image → length tx ≡ 23552 → (b : Bool) → isStored (checkOf image s pdu (length payload)) ≡ b
-        → waits (cond b (storeAll image s pdu payload tx) (sending s tx) .state) (cond b (storeAll image s pdu payload tx) (sending s tx) .memory) k
-        ≡ waits s tx k ++ cond b (framesFrom image s pdu payload k (destinations image) 0) []
-    inner a long true e = waits-after image (ready-from image a) s pdu payload tx sixteen long (all-fit image a s h) e k
-    inner a long false e = sym (append-nil (waits s tx k))
+    inner : Accepts (l .image) → length (l .tx) ≡ 23552 → (b : Bool) → isStored (checkOf (l .image) (l .state) pdu (length payload)) ≡ b
+        → waits (cond b (storeAll (l .image) (l .state) pdu payload (l .tx)) (sending (l .state) (l .tx)) .state)
+        (cond b (storeAll (l .image) (l .state) pdu payload (l .tx)) (sending (l .state) (l .tx)) .memory) k
+        ≡ waits (l .state) (l .tx) k ++ cond b (framesFrom (l .image) (l .state) pdu payload k (destinations (l .image)) 0) []
+    inner a long true e = waits-after (l .image) (ready-from (l .image) a) (l .state) pdu payload (l .tx) sixteen long (all-fit (l .image) a (l .state) h) e k
+    inner a long false e = sym (append-nil (waits (l .state) (l .tx) k))
 
-    go : (q : Gate) → gateOf (lent image s rx (length tx)) ≡ q
-        → waits (through q (notSent s) (transmittedOf image s pdu payload tx) .state) (through q (λ (r : Refusal). tx) (transmitOf image s pdu payload tx .memory)) k
-        ≡ waits s tx k ++ through q (λ (r : Refusal). []) (cond (isStored (checkOf image s pdu (length payload))) (framesFrom image s pdu payload k (destinations image) 0) [])
-    go (Refused r) e = sym (append-nil (waits s tx k))
-    go Pass e = let p = gate-passed (lent image s rx (length tx)) e in inner (accepted-facts image (p .table)) (p .send) (isStored (checkOf image s pdu (length payload))) refl
+    go : (q : Gate) → gateOf (sizes l) ≡ q
+        → waits (through q (notSent (l .state)) (transmittedOf (l .image) (l .state) pdu payload (l .tx)) .state)
+        (through q (λ (r : Refusal). l .tx) (transmitOf (l .image) (l .state) pdu payload (l .tx) .memory)) k
+        ≡ waits (l .state) (l .tx) k
+        ++ through q (λ (r : Refusal). [])
+        (cond (isStored (checkOf (l .image) (l .state) pdu (length payload))) (framesFrom (l .image) (l .state) pdu payload k (destinations (l .image)) 0) [])
+    go (Refused r) e = sym (append-nil (waits (l .state) (l .tx) k))
+    go Pass e =
+        let p = gate-passed (sizes l) e in
+        inner (accepted-facts (l .image) (p .table)) (p .send) (isStored (checkOf (l .image) (l .state) pdu (length payload))) refl
 
 -- so many bytes wait as are used
 pub waits-length : (tx : List ℕ) (n used : ℕ) → n < 16 → length tx ≡ 23552 → used ≤ 1472 → length (waitingOf tx n used) ≡ used
@@ -55,18 +61,18 @@ unfolding waitingOf
 waits-length tx n used l long fits = length-take-le used (drop (n * 1472) tx) (omega (arith, length-drop (n * 1472) tx))
 
 -- past the gate, where they fit: what waited stands at the front of the out buffer, and the bytes after it stay
-pub taken-bytes : (image : List ℕ) (s : State) (rx : ℕ) (tx : List ℕ) (n : ℕ) (out : List ℕ) → recordsSound image (s .connections) ≡ true
-    → gateAt (lent image s rx (length tx)) n ≡ Pass → recordAt s n .used ≤ length out
-    → takenOut image s rx tx n out ≡ waits s tx n ++ drop (recordAt s n .used) out
+pub taken-bytes : (l : Loan) (n : ℕ) (out : List ℕ) → recordsSound (l .image) (l .state .connections) ≡ true → gateAt (sizes l) n ≡ Pass
+    → recordAt (l .state) n .used ≤ length out
+    → takenOut l n out ≡ waits (l .state) (l .tx) n ++ drop (recordAt (l .state) n .used) out
 unfolding takenOut outOf
-taken-bytes image s rx tx n out h e room = rw (e, le-ltb _ _ room) fronted
+taken-bytes l n out h e room = rw (e, le-ltb _ _ room) fronted
   where
-    m : length (waits s tx n) ≡ recordAt s n .used
+    m : length (waits (l .state) (l .tx) n) ≡ recordAt (l .state) n .used
     m =
-        let p = gate-at-passed (lent image s rx (length tx)) n e .0 in
-        waits-length tx n (recordAt s n .used) (in-sixteen (lent image s rx (length tx)) n e) (p .send) (all-fit image (accepted-facts image (p .table)) s h n)
+        let p = gate-at-passed (sizes l) n e .0 in
+        waits-length (l .tx) n (recordAt (l .state) n .used) (in-sixteen (sizes l) n e) (p .send) (all-fit (l .image) (accepted-facts (l .image) (p .table)) (l .state) h n)
 
-    fronted : lay out 0 (waits s tx n) ≡ waits s tx n ++ drop (recordAt s n .used) out
+    fronted : lay out 0 (waits (l .state) (l .tx) n) ≡ waits (l .state) (l .tx) n ++ drop (recordAt (l .state) n .used) out
     fronted =
-        let z : 0 + length (waits s tx n) ≡ recordAt s n .used = omega (arith, m) in
-        lay-fits out 0 (waits s tx n) (omega (arith, m)) ∙ ap (λ (u : ℕ). waits s tx n ++ drop u out) z
+        let z : 0 + length (waits (l .state) (l .tx) n) ≡ recordAt (l .state) n .used = omega (arith, m) in
+        lay-fits out 0 (waits (l .state) (l .tx) n) (omega (arith, m)) ∙ ap (λ (u : ℕ). waits (l .state) (l .tx) n ++ drop u out) z

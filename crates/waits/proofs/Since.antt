@@ -13,7 +13,7 @@ waits-since (adds bytes ∷ ts) w = waits-since ts (w ++ bytes) ∙ go (anyEmpti
     go : (b : Bool) → cond b (since ts) ((w ++ bytes) ++ since ts) ≡ cond b (cond b (since ts) (bytes ++ since ts)) (w ++ cond b (since ts) (bytes ++ since ts))
     go true = refl
     go false = append-assoc w bytes (since ts)
-waits-since (empties ∷ ts) w = waits-since ts [] ∙ go (anyEmpties ts)
+waits-since (empties why ∷ ts) w = waits-since ts [] ∙ go (anyEmpties ts)
   where
     go : (b : Bool) → cond b (since ts) ([] ++ since ts) ≡ since ts
     go true = refl

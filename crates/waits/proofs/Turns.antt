@@ -1,15 +1,15 @@
 -- How many bytes wait after an event on a record: a closing tick and a loss leave none, every other one as many as before. (A take: crate
 -- waiting, proofs/Taken `take-used`.) Assumes nothing.
 use mathlib.Core.Path.{_≡_, refl}
-use mathlib.Core.Bool.{true, false, cond, _&&_}
+use mathlib.Core.Bool.{Bool, true, false, cond, _&&_}
 use Rattle.connection.specs.declared.Config.{Config}
 use Rattle.connection.specs.declared.Connection.{Connection}
 use Rattle.connection.specs.declared.Event.{Event}
-use Rattle.connection.specs.declared.Event.the-variants.{Open, Close, Connected, Lost, SetRemote, Switch}
 use Rattle.connection.specs.Connection.{tickOf}
-use Rattle.connection.specs.Event.{known, allowed, after, stepOf}
+use Rattle.connection.specs.Event.{known, allowed, after, empties as drops, stepOf}
+use Rattle.connection.proofs.Leaves.{after-leaves}
 use Rattle.connection.proofs.Ticks.{Tick, closes, goes-on, tick-is, step-either}
-use Rattle.waits.specs.Waits.{loses}
+use Rattle.waits.specs.Waits.{loses, Cause, Emptied, isEmptied, emptiedIf, onlyIf}
 
 -- a tick: a closing one empties
 pub tick-used : (g : Config) (c : Connection) → tickOf g c .used ≡ cond (c .«close_wanted») 0 (c .used)
@@ -21,20 +21,23 @@ tick-used g c = go (tickOf g c) (tick-is g c)
 
 -- a connection event: an allowed loss empties
 pub step-used : (e : Event) (g : Config) (c : Connection) → stepOf e g c .connection .used ≡ cond (loses e g c) 0 (c .used)
-step-used e g c = step-either e g c (λ (d : Connection). d .used ≡ cond (loses e g c) 0 (c .used)) (refused e) (made e)
+step-used e g c =
+    step-either e g c (λ (d : Connection). d .used ≡ cond (loses e g c) 0 (c .used)) (refused (drops e) (known e && allowed e g c))
+    (λ a. made (drops e) refl a (after-leaves e g c .used))
   where
-    refused : (e : Event) → (known e && allowed e g c) ≡ false → c .used ≡ cond (loses e g c) 0 (c .used)
-    refused Open q = refl
-    refused Close q = refl
-    refused Connected q = refl
-    refused Lost q = rw q
-    refused (SetRemote r) q = refl
-    refused (Switch n on) q = refl
+    refused : (x y : Bool) → y ≡ false → c .used ≡ cond (x && y) 0 (c .used)
+    refused true y q = rw q
+    refused false y q = refl
 
-    made : (e : Event) → allowed e g c ≡ true → after e g c .used ≡ cond (loses e g c) 0 (c .used)
-    made Open q = refl
-    made Close q = refl
-    made Connected q = refl
-    made Lost q = rw q
-    made (SetRemote r) q = refl
-    made (Switch n on) q = refl
+    made : (x : Bool) → drops e ≡ x → allowed e g c ≡ true → after e g c .used ≡ cond x 0 (c .used) → after e g c .used ≡ cond (x && (known e && allowed e g c)) 0 (c .used)
+    made true n a u = rw (after-leaves e g c .there n, a) u
+    made false n a u = u
+
+-- whether an event empties, without its cause
+pub if-emptied : (b : Bool) (why : Cause) → isEmptied (emptiedIf b why) ≡ b
+if-emptied true why = refl
+if-emptied false why = refl
+
+pub only-emptied : (b : Bool) (x : Emptied) → isEmptied (onlyIf b x) ≡ (b && isEmptied x)
+only-emptied true x = refl
+only-emptied false x = refl

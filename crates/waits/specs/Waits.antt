@@ -7,8 +7,7 @@ use lib.ListN.{length}
 use Rattle.connection.specs.declared.Config.{Config}
 use Rattle.connection.specs.declared.Connection.{Connection}
 use Rattle.connection.specs.declared.Event.{Event}
-use Rattle.connection.specs.declared.Event.the-variants.{Open, Close, Connected, Lost, SetRemote, Switch}
-use Rattle.connection.specs.Event.{lostAllowed}
+use Rattle.connection.specs.Event.{known, allowed, empties as drops}
 use Rattle.feed.specs.Frame.{frame}
 use Rattle.rows.specs.Rows.{destinationOf}
 use Rattle.state.specs.declared.State.{State}
@@ -36,14 +35,40 @@ module _ (image : List ℕ) (s : State) (pdu : ℕ) (payload : List ℕ) (k : �
   unfoldable pub addedTo : List ℕ
   addedTo = cond (isStored (checkOf image s pdu (length payload))) (framesFrom (destinations image) 0) []
 
--- what an event makes of the waiting bytes: it adds some, or none; or it empties them (a non-empty take, a closing tick, a loss)
+-- WHY the waiting bytes are gone: a non-empty take has given them out; a closing tick has dropped them, or a loss
+pub data Cause : Type 0 where
+  was-taken : Cause
+  was-closed : Cause
+  was-lost : Cause
+
+-- whether an event empties them, and why
+pub data Emptied : Type 0 where
+  not-emptied : Emptied
+  emptied : Cause → Emptied
+
+abbrev pub isEmptied : Emptied → Bool
+isEmptied not-emptied = false
+isEmptied (emptied why) = true
+
+-- an event that empties where a test holds; one that may empty only where a test holds
+abbrev pub emptiedIf : Bool → Cause → Emptied
+emptiedIf b why = cond b (emptied why) not-emptied
+
+abbrev pub onlyIf : Bool → Emptied → Emptied
+onlyIf b x = cond b x not-emptied
+
+-- what an event makes of the waiting bytes: it adds some, or none; or it empties them, for a cause
 pub data Turn : Type 0 where
   adds : List ℕ → Turn
-  empties : Turn
+  empties : Cause → Turn
+
+abbrev pub turnBy : Emptied → List ℕ → Turn
+turnBy not-emptied bytes = adds bytes
+turnBy (emptied why) bytes = empties why
 
 abbrev pub turned : Turn → List ℕ → List ℕ
 turned (adds bytes) w = w ++ bytes
-turned empties w = []
+turned (empties why) w = []
 
 -- one event after the other
 abbrev pub afterAll : List Turn → List ℕ → List ℕ
@@ -54,19 +79,14 @@ afterAll (t ∷ ts) w = afterAll ts (turned t w)
 abbrev pub anyEmpties : List Turn → Bool
 anyEmpties [] = false
 anyEmpties (adds bytes ∷ ts) = anyEmpties ts
-anyEmpties (empties ∷ ts) = true
+anyEmpties (empties why ∷ ts) = true
 
 -- all that they add since the last that empties
 abbrev pub since : List Turn → List ℕ
 since [] = []
 since (adds bytes ∷ ts) = cond (anyEmpties ts) (since ts) (bytes ++ since ts)
-since (empties ∷ ts) = since ts
+since (empties why ∷ ts) = since ts
 
 -- which connection events empty the waiting bytes: a loss that is allowed
 abbrev pub loses : Event → Config → Connection → Bool
-loses Open g c = false
-loses Close g c = false
-loses Connected g c = false
-loses Lost g c = lostAllowed g c
-loses (SetRemote r) g c = false
-loses (Switch n on) g c = false
+loses e g c = drops e && (known e && allowed e g c)

@@ -30,6 +30,10 @@ abbrev pub countsIf : Bool → ℕ → ℕ → ℕ
 countsIf true drops n = counts drops n
 countsIf false drops n = n
 
+-- WHAT DEMAND 3 COMPARES of the outcomes that a connection has given in a run: for now its PDUs
+abbrev pub compared : List Out → List Pdu
+compared os = pdus os
+
 -- what an event makes of its connection, and the outcomes that it gives
 pub record Acted : Type 0 where
   pub to : Held
@@ -85,11 +89,11 @@ module _ (T : Table) where
     run w [] = w
     run w (e ∷ es) = run (step w e) es
 
-    -- the PDUs that connection k hands out at an event, and in a run
-    unfoldable pub hands : ℕ → World → Event → List Pdu
-    hands k w (on i e) = cond (eqb i k) (pdus (at w i e .list)) []
+    -- the outcomes that connection k gives at an event, and in a run: PDUs, and drops with their reason, id and length
+    unfoldable pub hands : ℕ → World → Event → List Out
+    hands k w (on i e) = cond (eqb i k) (at w i e .list) []
     hands k w (all e) = []
 
-    unfoldable pub heard : ℕ → World → List Event → List Pdu
+    unfoldable pub heard : ℕ → World → List Event → List Out
     heard k w [] = []
     heard k w (e ∷ es) = hands k w e ++ heard k (step w e) es

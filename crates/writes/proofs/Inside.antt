@@ -25,7 +25,6 @@ use Rattle.stream.proofs.Takes.{payload-fit, accepted-short}
 use Rattle.stream.proofs.Leaves.{Sane, Told, PartHolds, part-sane, take-sane}
 use Rattle.receive.specs.Segment.{segmentOf}
 use Rattle.table.proofs.Facts.{accepted-facts}
-use Rattle.gate.specs.Lent.{lent}
 use Rattle.gate.specs.declared.Gate.{Gate}
 use Rattle.gate.specs.declared.Gate.the-variants.{Pass, Refused}
 use Rattle.gate.specs.Gate.{gateOf, through}
@@ -36,7 +35,7 @@ use Rattle.send.proofs.Room.{clear-roomy}
 use Rattle.sending.specs.Sending.{notSent, sendOf}
 use Rattle.sending.proofs.Past.{ready-from}
 use Rattle.world.specs.World.{heldBy}
-use Rattle.tie.specs.Machine.{Machine, taken, afterOne}
+use Rattle.tie.specs.Machine.{Machine, lentTo, loanTo, taken, afterOne}
 use Rattle.writes.specs.Writes.{Within, addedBy, holds, TakeWrites, SegmentWrites, now, later, FrameWrites}
 use Rattle.writes.proofs.Segment.{answered, takes, outcome-is, record-is}
 
@@ -100,20 +99,20 @@ module _ (image : List ℕ) (k i : ℕ) where
 
 -- SEND MEMORY: the frame at destination row d of a stored transmit
 module _ (image : List ℕ) (m : Machine) (pdu : ℕ) (payload : List ℕ) where
-  stored-past : isStored (sendOf image (m .state) (length (m .rx)) (m .tx) pdu payload .answer) ≡ true
-      → (gateOf (lent image (m .state) (length (m .rx)) (length (m .tx))) ≡ Pass) × (isStored (checkOf image (m .state) pdu (length payload)) ≡ true)
+  stored-past : isStored (sendOf (loanTo image m) pdu payload .answer) ≡ true
+      → (gateOf (lentTo image m) ≡ Pass) × (isStored (checkOf image (m .state) pdu (length payload)) ≡ true)
   unfolding sendOf
-  stored-past = go (gateOf (lent image (m .state) (length (m .rx)) (length (m .tx))))
+  stored-past = go (gateOf (lentTo image m))
     where
       go : (g : Gate) → isStored (through g (notSent (m .state)) (transmittedOf image (m .state) pdu payload (m .tx)) .answer) ≡ true
           → (g ≡ Pass) × (isStored (checkOf image (m .state) pdu (length payload)) ≡ true)
       go Pass e = (refl, e)
       go (Refused r) e = impossible e
 
-  pub frame-inside : (d i : ℕ) → isStored (sendOf image (m .state) (length (m .rx)) (m .tx) pdu payload .answer) ≡ true
+  pub frame-inside : (d i : ℕ) → isStored (sendOf (loanTo image m) pdu payload .answer) ≡ true
       → d < destinations image → wantedAt image (m .state) pdu payload d ≡ true → FrameWrites image m d payload i
       → Within (destinationOf image d .connection * 1472) 1472 i
   frame-inside d i stored l wanted w =
       let p = stored-past stored in
-      let ready : Ready image = ready-from image (accepted-facts image (gate-passed (lent image (m .state) (length (m .rx)) (length (m .tx))) (p .0) .table)) in
+      let ready : Ready image = ready-from image (accepted-facts image (gate-passed (lentTo image m) (p .0) .table)) in
       (omega (arith, w), omega (arith, w, clear-roomy image (m .state) pdu payload (p .1) ready d l wanted))

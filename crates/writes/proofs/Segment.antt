@@ -25,7 +25,7 @@ use Rattle.receive.proofs.Answers.{Clear, done-clear}
 use Rattle.receive.proofs.Past.{passed-takes}
 use Rattle.receive.proofs.Keeps.{in-range, count-records}
 use Rattle.world.specs.World.{heldBy}
-use Rattle.tie.specs.Machine.{Machine, taken, afterOne, restOf, goesOn, afterTakes}
+use Rattle.tie.specs.Machine.{Machine, lentTo, loanTo, taken, afterOne, restOf, goesOn, afterTakes}
 use Rattle.writes.specs.Writes.{Within, addedBy, holds, TakeWrites, SegmentWrites, now, later}
 use Rattle.writes.proofs.Laid.{part-other}
 use Rattle.writes.proofs.Take.{Lays, take-lays}
@@ -37,15 +37,15 @@ module _ (image : List ℕ) (k : ℕ) where
     s = m .state
 
     abbrev pub answered : Bool
-    answered = isDone (segmentAnswer image s (length (m .rx)) (length (m .tx)) k)
+    answered = isDone (segmentAnswer (lentTo image m) k)
 
     -- that is made
     module _ (done : answered ≡ true) where
-      clear : Clear image s (length (m .rx)) (length (m .tx)) k (configOf image k .tcp)
-      clear = done-clear image s (length (m .rx)) (length (m .tx)) k (configOf image k .tcp) done
+      clear : Clear (lentTo image m) k (configOf image k .tcp)
+      clear = done-clear (lentTo image m) k (configOf image k .tcp) done
 
       pub takes : Takes image s (m .rx) k
-      takes = passed-takes image s (m .rx) (length (m .tx)) k (clear .passed) (clear .there)
+      takes = passed-takes (loanTo image m) k (clear .passed) (clear .there)
 
       abbrev pub after : Connection
       after = withPart (takenAt image s (m .rx) k bytes .part) (recordAt s k)

@@ -14,7 +14,6 @@ use Rattle.rows.specs.Rows.{destinationOf}
 use Rattle.connection.specs.declared.Connection.{Connection}
 use Rattle.state.specs.declared.State.{State}
 use Rattle.state.specs.State.{recordAt}
-use Rattle.gate.specs.Lent.{lent}
 use Rattle.gate.specs.declared.Gate.{Gate}
 use Rattle.gate.specs.declared.Gate.the-variants.{Pass, Refused}
 use Rattle.gate.specs.Gate.{gateOf, through}
@@ -27,16 +26,13 @@ use Rattle.sending.specs.Sending.{sendOf, sentMemory}
 use Rattle.sending.proofs.Past.{ready-from}
 use Rattle.waits.proofs.Append.{append-other, append-long}
 use Rattle.world.specs.Events.{transmit, all}
-use Rattle.tie.specs.Machine.{Machine}
+use Rattle.tie.specs.Machine.{Machine, lentTo, loanTo}
 use Rattle.writes.specs.Writes.{Within, FrameWrites, WritesTx, appends}
 use Rattle.writes.proofs.Laid.{lay-other}
 
 module _ (image : List ℕ) (m : Machine) (pdu : ℕ) (payload : List ℕ) where
   abbrev s : State
   s = m .state
-
-  abbrev rx : ℕ
-  rx = length (m .rx)
 
   abbrev dest : ℕ → ℕ
   dest d = destinationOf image d .connection
@@ -75,20 +71,20 @@ module _ (image : List ℕ) (m : Machine) (pdu : ℕ) (payload : List ℕ) where
         fold-goes (storeOf image s pdu payload) Kept (destinations image) 0 (sending s (m .tx)) (λ d x l u kept. store-kept not d x (omega arith) kept) (refl, λ j l u q. refl) .0
 
   -- THE EVENT
-  pub sent-stays : (i : ℕ) → (WritesTx image m (all (transmit pdu payload)) i → ⊥) → byteAt (sentMemory image s rx (m .tx) pdu payload) i ≡ byteAt (m .tx) i
+  pub sent-stays : (i : ℕ) → (WritesTx image m (all (transmit pdu payload)) i → ⊥) → byteAt (sentMemory (loanTo image m) pdu payload) i ≡ byteAt (m .tx) i
   unfolding sentMemory transmitOf sendOf
-  sent-stays i not = gate (gateOf (lent image s rx (length (m .tx)))) refl
+  sent-stays i not = gate (gateOf (lentTo image m)) refl
     where
       check : Transmission
       check = checkOf image s pdu (length payload)
 
-      past : gateOf (lent image s rx (length (m .tx))) ≡ Pass → (b : Bool) → isStored check ≡ b → byteAt (cond b (storeAll image s pdu payload (m .tx)) (sending s (m .tx)) .memory) i ≡ byteAt (m .tx) i
+      past : gateOf (lentTo image m) ≡ Pass → (b : Bool) → isStored check ≡ b → byteAt (cond b (storeAll image s pdu payload (m .tx)) (sending s (m .tx)) .memory) i ≡ byteAt (m .tx) i
       past g false e = refl
       past g true e =
-          stored-kept (ready-from image (accepted-facts image (gate-passed (lent image s rx (length (m .tx))) g .table))) i
+          stored-kept (ready-from image (accepted-facts image (gate-passed (lentTo image m) g .table))) i
           (λ d l w at. not (appends pdu payload d i (rw g e) l w at))
 
-      gate : (g : Gate) → gateOf (lent image s rx (length (m .tx))) ≡ g → byteAt (through g (λ r. m .tx) (cond (isStored check) (storeAll image s pdu payload (m .tx)) (sending s (m .tx)) .memory)) i ≡ byteAt (m .tx) i
+      gate : (g : Gate) → gateOf (lentTo image m) ≡ g → byteAt (through g (λ r. m .tx) (cond (isStored check) (storeAll image s pdu payload (m .tx)) (sending s (m .tx)) .memory)) i ≡ byteAt (m .tx) i
       gate Pass e = past e (isStored check) refl
       gate (Refused r) e = refl
 
@@ -101,9 +97,9 @@ module _ (image : List ℕ) (m : Machine) (pdu : ℕ) (payload : List ℕ) where
       go true = append-long (destinationOf image d) payload x
       go false = refl
 
-  pub sent-long : length (sentMemory image s rx (m .tx) pdu payload) ≡ length (m .tx)
+  pub sent-long : length (sentMemory (loanTo image m) pdu payload) ≡ length (m .tx)
   unfolding sentMemory transmitOf storeAll
-  sent-long = go (gateOf (lent image s rx (length (m .tx)))) (isStored (checkOf image s pdu (length payload)))
+  sent-long = go (gateOf (lentTo image m)) (isStored (checkOf image s pdu (length payload)))
     where
       go : (g : Gate) (b : Bool) → length (through g (λ r. m .tx) (cond b (storeAll image s pdu payload (m .tx)) (sending s (m .tx)) .memory)) ≡ length (m .tx)
       go Pass true =

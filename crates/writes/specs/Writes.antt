@@ -17,7 +17,7 @@ use Rattle.send.specs.Send.{destinations, wantedAt}
 use Rattle.sending.specs.Sending.{sendOf}
 use Rattle.world.specs.World.{heldBy}
 use Rattle.world.specs.Events.{segment, transmit, Event, on, all}
-use Rattle.tie.specs.Machine.{Machine, taken, afterOne, restOf, goesOn}
+use Rattle.tie.specs.Machine.{Machine, loanTo, taken, afterOne, restOf, goesOn}
 use Rattle.tie.specs.Run.{afterEvent}
 
 -- place i is one of the n from `at` on
@@ -60,7 +60,7 @@ module _ (image : List ℕ) (m : Machine) where
   -- AN EVENT WRITES PLACE i OF SEND MEMORY: "the bytes a transmit appends", where it is stored, one frame at each destination of the PDU that
   -- is switched on at the call (no two destinations share PDU and connection: at most one frame on each connection)
   pub data WritesTx : Event → ℕ → Type 0 where
-    appends : (pdu : ℕ) (payload : List ℕ) (d i : ℕ) → isStored (sendOf image (m .state) (length (m .rx)) (m .tx) pdu payload .answer) ≡ true
+    appends : (pdu : ℕ) (payload : List ℕ) (d i : ℕ) → isStored (sendOf (loanTo image m) pdu payload .answer) ≡ true
         → d < destinations image → wantedAt image (m .state) pdu payload d ≡ true → FrameWrites d payload i → WritesTx (all (transmit pdu payload)) i
 
 -- THE STATEMENT: "all other lent bytes stay", and both memories are as long as they were

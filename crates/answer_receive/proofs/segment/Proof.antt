@@ -3,6 +3,7 @@ use mathlib.Core.Path.{refl}
 use native.Mathlib.Omega.{arith}
 use lib.ListN.{length}
 use borrow.Author.Needs.{needs}
+use Rattle.gate.specs.Lent.{loan}
 use Rattle.answer_receive.specs.Segment.{allTakes}
 use Rattle.answer_receive.proofs.Room.{all-fit, segment-roomy, segment-long, segment-small}
 use Rattle.answer_receive.proofs.Run.{all-told}
@@ -12,7 +13,7 @@ use Rattle.answer_receive.proofs.segment.Tie as tie
 returns : tie.Need-returns
 returns c =
     let a = c .before .before .before .before .before .before .args in
-    rw (segment-long (a .image .now) (a .state) (a .rx .now) (a .tx .now) (a .out .now) (a .connection) (a .segment .now) (c .if1 .taken)) (refl, (refl, refl))
+    rw (segment-long (loan (a .image .now) (a .state) (a .rx .now) (a .tx .now)) (a .out .now) (a .connection) (a .segment .now) (c .if1 .taken)) (refl, (refl, refl))
 
 mul-if2 : tie.Need-mul-if2
 mul-if2 c = omega (arith, c .if1 .left)
@@ -23,7 +24,7 @@ add-if2 c = omega (arith, c .if1 .left)
 returns-2 : tie.Need-returns-2
 returns-2 c =
     let a = c .before .before .before .before .before .before .before .args in
-    rw (segment-small (a .image .now) (a .state) (a .rx .now) (a .tx .now) (a .out .now) (a .connection) (a .segment .now) (c .before .if1 .left) (c .if2 .taken))
+    rw (segment-small (loan (a .image .now) (a .state) (a .rx .now) (a .tx .now)) (a .out .now) (a .connection) (a .segment .now) (c .before .if1 .left) (c .if2 .taken))
     (refl, (refl, refl))
 
 take-all-requires : tie.Need-take-all-requires
@@ -45,9 +46,9 @@ returns-3 c =
     let a = i .before .before .before .before .before .before .before .args in
     let h = k .take-all .ensures in
     let p = c .before .before .put-takes .ensures in
-    rw (segment-roomy (a .image .now) (a .state) (a .rx .now) (a .tx .now) (a .out .now) (a .connection) (a .segment .now) (i .before .if1 .left) (i .if2 .left))
-    (all-told (allTakes (a .image .now) (length (a .tx .now)) (a .connection) (a .segment .now) (a .state) (a .rx .now)) (a .tx .now) (a .out .now)
-    (omega (arith, i .if2 .left, all-fit (a .image .now) (length (a .tx .now)) (a .connection) (a .segment .now) (a .state) (a .rx .now))) (h .0) (h .1 .0) (h .1 .1) (p .0) (p .1))
+    rw (segment-roomy (loan (a .image .now) (a .state) (a .rx .now) (a .tx .now)) (a .out .now) (a .connection) (a .segment .now) (i .before .if1 .left) (i .if2 .left))
+    (all-told (allTakes (loan (a .image .now) (a .state) (a .rx .now) (a .tx .now)) (a .connection) (a .segment .now)) (a .tx .now) (a .out .now)
+    (omega (arith, i .if2 .left, all-fit (loan (a .image .now) (a .state) (a .rx .now) (a .tx .now)) (a .connection) (a .segment .now))) (h .0) (h .1 .0) (h .1 .1) (p .0) (p .1))
 
 pub segment-spec : {M : Type 1} → statement M
 segment-spec =

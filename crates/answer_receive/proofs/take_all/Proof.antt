@@ -5,6 +5,7 @@ use lib.ListN.{length}
 use native.Mathlib.Omega.{arith}
 use borrow.Author.Needs.{needs}
 use borrow.Author.Tests.{not-true, not-false}
+use Rattle.gate.specs.Lent.{loan, lentBy}
 use Rattle.answer_receive.proofs.Run.{refused-first}
 use Rattle.answer_receive.proofs.Turned.{gate-open, AtTurn, turn-start, turn-goes, turn-on, turn-ends, turn-count, put-together}
 use Rattle.answer_receive.proofs.take_all.Statement.{statement}
@@ -14,7 +15,7 @@ use Rattle.answer_receive.proofs.take_all.Lts as lts
 
 abbrev Inv-loop : tie.InvT-loop
 Inv-loop image rx₀ tx connection segment out₀ state answer done n c routes turn₀ rx out turn =
-    AtTurn image (length tx) connection segment state rx₀ out₀ turn rx out × ((length rx ≡ length rx₀) × (length out ≡ length out₀))
+    AtTurn (loan image state rx₀ tx) connection segment out₀ turn rx out × ((length rx ≡ length rx₀) × (length out ≡ length out₀))
 
 abbrev μ-loop : tie.MeasureT-loop
 μ-loop image rx₀ tx connection segment out₀ state answer done n c routes turn₀ rx out turn = length segment - turn .count
@@ -29,7 +30,7 @@ returns : tie.Need-returns Inv-loop μ-loop
 returns c =
     let m = c .before .before in
     let a = m .before .before .before .before .before .before .args in
-    refused-first (a .image .now) (length (a .tx .now)) (a .connection) (a .segment .now) (a .t2) (a .rx .now) (a .out .now)
+    refused-first (loan (a .image .now) (a .t2) (a .rx .now) (a .tx .now)) (a .connection) (a .segment .now) (a .out .now)
     (m .may-take .result) (m .may-take .ensures) (sym (c .before .is-done .ensures) ∙ not-true _ (c .if1 .taken))
 
 mul-c : tie.Need-mul-c Inv-loop μ-loop
@@ -37,7 +38,7 @@ mul-c c =
     let b = c .before .before .before .before .before .before .before .before in
     let a = b .args in
     let done = sym (c .before .is-done .ensures) ∙ not-false _ (c .if1 .left) in
-    let o = gate-open (a .image .now) (a .t2) (length (a .rx .now)) (length (a .tx .now)) (a .connection) (c .before .before .may-take .ensures) done in
+    let o = gate-open (lentBy (a .image .now) (a .t2) (a .rx .now) (a .tx .now)) (a .connection) (c .before .before .may-take .ensures) done in
     omega (arith, o .small)
 
 element-copy-out-c : tie.Need-element-copy-out-c Inv-loop μ-loop
@@ -45,7 +46,7 @@ element-copy-out-c c =
     let b = c .before .before .before .before .before .before .before .before in
     let a = b .args in
     let done = sym (c .before .is-done .ensures) ∙ not-false _ (c .if1 .left) in
-    let o = gate-open (a .image .now) (a .t2) (length (a .rx .now)) (length (a .tx .now)) (a .connection) (c .before .before .may-take .ensures) done in
+    let o = gate-open (lentBy (a .image .now) (a .t2) (a .rx .now) (a .tx .now)) (a .connection) (c .before .before .may-take .ensures) done in
     o .small
 
 body-of-requires : tie.Need-body-of-requires Inv-loop μ-loop
@@ -57,8 +58,8 @@ loop-holds c =
     let b = e .before .before .before .before .before .before .before .before in
     let a = b .args in
     let done = sym (e .before .is-done .ensures) ∙ not-false _ (e .if1 .left) in
-    let o = gate-open (a .image .now) (a .t2) (length (a .rx .now)) (length (a .tx .now)) (a .connection) (e .before .before .may-take .ensures) done in
-    (turn-start (a .image .now) (length (a .tx .now)) (a .connection) (a .segment .now) (a .t2) (a .rx .now) (a .out .now) (b .pre) (o .clear), (refl, refl))
+    let o = gate-open (lentBy (a .image .now) (a .t2) (a .rx .now) (a .tx .now)) (a .connection) (e .before .before .may-take .ensures) done in
+    (turn-start (loan (a .image .now) (a .t2) (a .rx .now) (a .tx .now)) (a .connection) (a .segment .now) (a .out .now) (b .pre) (o .clear), (refl, refl))
 
 take-once-requires : tie.Need-take-once-requires Inv-loop μ-loop
 take-once-requires c κs =
@@ -67,8 +68,8 @@ take-once-requires c κs =
     let b = e .before .before .before .before .before .before .before .before in
     let a = b .args in
     let done = sym (e .before .is-done .ensures) ∙ not-false _ (e .if1 .left) in
-    let o = gate-open (a .image .now) (a .t2) (length (a .rx .now)) (length (a .tx .now)) (a .connection) (e .before .before .may-take .ensures) done in
-    turn-goes (a .image .now) (length (a .tx .now)) (a .connection) (a .segment .now) (a .t2) (a .rx .now) (a .out .now)
+    let o = gate-open (lentBy (a .image .now) (a .t2) (a .rx .now) (a .tx .now)) (a .connection) (e .before .before .may-take .ensures) done in
+    turn-goes (loan (a .image .now) (a .t2) (a .rx .now) (a .tx .now)) (a .connection) (a .segment .now) (a .out .now)
     (o .there) (l .loop .turn) (l .loop .rx) (l .loop .out) (l .loop .inv .0) (l .before .body-of .ensures .0)
 
 with-part-requires : tie.Need-with-part-requires Inv-loop μ-loop
@@ -80,7 +81,7 @@ mul-t36 c =
     let b = e .before .before .before .before .before .before .before .before in
     let a = b .args in
     let done = sym (e .before .is-done .ensures) ∙ not-false _ (e .if1 .left) in
-    let o = gate-open (a .image .now) (a .t2) (length (a .rx .now)) (length (a .tx .now)) (a .connection) (e .before .before .may-take .ensures) done in
+    let o = gate-open (lentBy (a .image .now) (a .t2) (a .rx .now) (a .tx .now)) (a .connection) (e .before .before .may-take .ensures) done in
     omega (arith, o .small)
 
 element-set-from-next : tie.Need-element-set-from-next Inv-loop μ-loop
@@ -89,7 +90,7 @@ element-set-from-next c =
     let b = e .before .before .before .before .before .before .before .before in
     let a = b .args in
     let done = sym (e .before .is-done .ensures) ∙ not-false _ (e .if1 .left) in
-    let o = gate-open (a .image .now) (a .t2) (length (a .rx .now)) (length (a .tx .now)) (a .connection) (e .before .before .may-take .ensures) done in
+    let o = gate-open (lentBy (a .image .now) (a .t2) (a .rx .now) (a .tx .now)) (a .connection) (e .before .before .may-take .ensures) done in
     o .small
 
 same-length : tie.Need-same-length Inv-loop μ-loop
@@ -107,9 +108,9 @@ returns-2 c =
     let b = e .before .before .before .before .before .before .before .before in
     let a = b .args in
     let done = sym (e .before .is-done .ensures) ∙ not-false _ (e .if1 .left) in
-    let o = gate-open (a .image .now) (a .t2) (length (a .rx .now)) (length (a .tx .now)) (a .connection) (e .before .before .may-take .ensures) done in
-    put-together (a .image .now) (length (a .tx .now)) (a .connection) (a .segment .now) (a .t2) (a .rx .now) (a .out .now) (t .take-once .result)
-    (turn-ends (a .image .now) (length (a .tx .now)) (a .connection) (a .segment .now) (a .t2) (a .rx .now) (a .out .now)
+    let o = gate-open (lentBy (a .image .now) (a .t2) (a .rx .now) (a .tx .now)) (a .connection) (e .before .before .may-take .ensures) done in
+    put-together (loan (a .image .now) (a .t2) (a .rx .now) (a .tx .now)) (a .connection) (a .segment .now) (a .out .now) (t .take-once .result)
+    (turn-ends (loan (a .image .now) (a .t2) (a .rx .now) (a .tx .now)) (a .connection) (a .segment .now) (a .out .now)
     (o .there) (l .loop .turn) (l .loop .rx) (l .loop .out) (l .loop .inv .0) (l .before .body-of .ensures .0) (h .0) (h .1 .0) (h .1 .1) (c .before .if2 .taken))
     done (c .with-part .ensures)
 
@@ -122,10 +123,10 @@ loop-less c =
     let b = e .before .before .before .before .before .before .before .before in
     let a = b .args in
     let done = sym (e .before .is-done .ensures) ∙ not-false _ (e .if1 .left) in
-    let o = gate-open (a .image .now) (a .t2) (length (a .rx .now)) (length (a .tx .now)) (a .connection) (e .before .before .may-take .ensures) done in
-    let g = turn-on (a .image .now) (length (a .tx .now)) (a .connection) (a .segment .now) (a .t2) (a .rx .now) (a .out .now)
+    let o = gate-open (lentBy (a .image .now) (a .t2) (a .rx .now) (a .tx .now)) (a .connection) (e .before .before .may-take .ensures) done in
+    let g = turn-on (loan (a .image .now) (a .t2) (a .rx .now) (a .tx .now)) (a .connection) (a .segment .now) (a .out .now)
     (o .there) (l .loop .turn) (l .loop .rx) (l .loop .out) (l .loop .inv .0) (l .before .body-of .ensures .0) (h .0) (h .1 .0) (h .1 .1) (λ i. e .before .before .before .before .shared-slice-known3 .given i .fits) (omega (arith, c .if2 .left)) in
-    let n = turn-count (a .image .now) (length (a .tx .now)) (a .connection) (a .segment .now) (a .t2) (a .rx .now) (a .out .now)
+    let n = turn-count (loan (a .image .now) (a .t2) (a .rx .now) (a .tx .now)) (a .connection) (a .segment .now) (a .out .now)
     (o .there) (l .loop .turn) (l .loop .rx) (l .loop .out) (l .loop .inv .0) (l .before .body-of .ensures .0) (h .0) (h .1 .0) (h .1 .1) in
     omega (arith, l .loop .inv .0 .low, g .low, c .if2 .left, n)
 
@@ -138,8 +139,8 @@ loop-again c = (
       let b = e .before .before .before .before .before .before .before .before in
       let a = b .args in
       let done = sym (e .before .is-done .ensures) ∙ not-false _ (e .if1 .left) in
-      let o = gate-open (a .image .now) (a .t2) (length (a .rx .now)) (length (a .tx .now)) (a .connection) (e .before .before .may-take .ensures) done in
-      turn-on (a .image .now) (length (a .tx .now)) (a .connection) (a .segment .now) (a .t2) (a .rx .now) (a .out .now)
+      let o = gate-open (lentBy (a .image .now) (a .t2) (a .rx .now) (a .tx .now)) (a .connection) (e .before .before .may-take .ensures) done in
+      turn-on (loan (a .image .now) (a .t2) (a .rx .now) (a .tx .now)) (a .connection) (a .segment .now) (a .out .now)
       (o .there) (l .loop .turn) (l .loop .rx) (l .loop .out) (l .loop .inv .0) (l .before .body-of .ensures .0) (h .0) (h .1 .0) (h .1 .1) (λ i. e .before .before .before .before .shared-slice-known3 .given i .fits) (omega (arith, c .if2 .left)),
   (omega arith, omega arith),
 )

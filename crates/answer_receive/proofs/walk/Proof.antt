@@ -1,5 +1,6 @@
 -- `answer_receive::walk` meets its contract. Assumes nothing.
 use mathlib.Core.Path.{refl, ap}
+use Rattle.gate.specs.Lent.{loan}
 use Rattle.answering.proofs.Reply.{reply}
 use Rattle.receive.specs.declared.DatagramWalked.{DatagramWalked}
 use Rattle.answer_receive.specs.Walk.{walkedBytes}
@@ -11,7 +12,7 @@ use Rattle.answer_receive.proofs.walk.Tie as tie
 returns : tie.Need-returns
 returns c =
     let a = c .before .before .before .before .before .before .args in
-    rw (walk-long (a .image .now) (a .state) (a .rx .now) (a .tx .now) (a .out .now) (a .connection) (a .place) (a .datagram .now) (c .if1 .taken)) (refl, refl)
+    rw (walk-long (loan (a .image .now) (a .state) (a .rx .now) (a .tx .now)) (a .out .now) (a .connection) (a .place) (a .datagram .now) (c .if1 .taken)) (refl, refl)
 
 walk-datagram-requires : tie.Need-walk-datagram-requires
 walk-datagram-requires c κs = search needs
@@ -28,7 +29,7 @@ returns-2 c =
     let a = i .before .before .before .before .before .before .args in
     let h = c .before .before .before .before .before .walk-datagram .ensures in
     let p = c .before .before .put-walked .ensures in
-    rw (walk-short (a .image .now) (a .state) (a .rx .now) (a .tx .now) (a .out .now) (a .connection) (a .place) (a .datagram .now) (i .if1 .left))
+    rw (walk-short (loan (a .image .now) (a .state) (a .rx .now) (a .tx .now)) (a .out .now) (a .connection) (a .place) (a .datagram .now) (i .if1 .left))
     (reply (a .out .now) (p .0) (p .1) (ap walkedBytes h) (ap (λ (t : DatagramWalked). t .state) h))
 
 pub walk-spec : {M : Type 1} → statement M

@@ -5,6 +5,7 @@ use mathlib.Core.List.{List}
 use lib.ListN.{length, take, replicate, length-replicate}
 use lib.Seq.{length-take-le}
 use native.Mathlib.Omega.{arith}
+use Rattle.gate.specs.Lent.{loan}
 use Rattle.answering.specs.Answers.{dispatched}
 use Rattle.answer_send.specs.Send.{takeInto, takeEffect}
 use borrow.Author.Needs.{needs}
@@ -28,7 +29,7 @@ same-length c = search needs
 
 returns : tie.Need-returns
 unfolding takeEffect
-returns c = let a = c .before .before .before .before .before .before .before .before .before .before .before .args in let t = c .before .before .before .take-into .ensures in let e = c .before .before .before .before .before .before .room-of .ensures .0 in (t .0 ∙ ap (λ (k : ℕ). dispatched (takeInto (a .image .now) (a .state) (a .rx .now) (a .tx .now) (a .out .now) (a .connection) (take k (replicate 1472 0)))) e, t .1 ∙ ap (λ (k : ℕ). takeInto (a .image .now) (a .state) (a .rx .now) (a .tx .now) (a .out .now) (a .connection) (take k (replicate 1472 0)) .out) e)
+returns c = let a = c .before .before .before .before .before .before .before .before .before .before .before .args in let t = c .before .before .before .take-into .ensures in let e = c .before .before .before .before .before .before .room-of .ensures .0 in (t .0 ∙ ap (λ (k : ℕ). dispatched (takeInto (loan (a .image .now) (a .state) (a .rx .now) (a .tx .now)) (a .out .now) (a .connection) (take k (replicate 1472 0)))) e, t .1 ∙ ap (λ (k : ℕ). takeInto (loan (a .image .now) (a .state) (a .rx .now) (a .tx .now)) (a .out .now) (a .connection) (take k (replicate 1472 0)) .out) e)
 
 pub take-waiting-spec : {M : Type 1} → statement M
 take-waiting-spec =

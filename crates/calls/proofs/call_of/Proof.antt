@@ -125,21 +125,36 @@ is-plain-requires-7 c κs = search needs
 fitted-requires-16 : tie.Need-fitted-requires-16
 fitted-requires-16 c κs = search needs
 
+own-requires : tie.Need-own-requires
+own-requires c κs = search needs
+
+own-requires-2 : tie.Need-own-requires-2
+own-requires-2 c κs = search needs
+
+own-requires-3 : tie.Need-own-requires-3
+own-requires-3 c κs = search needs
+
+own-requires-4 : tie.Need-own-requires-4
+own-requires-4 c κs = search needs
+
+own-requires-5 : tie.Need-own-requires-5
+own-requires-5 c κs = search needs
+
 returns : tie.Need-returns
 unfolding callOf
 returns c = rw (c .before .before .match .keys1) (cc)
 
 returns-2 : tie.Need-returns-2
 unfolding callOf
-returns-2 c = rw (c .before .before .match .keys2) (cc)
+returns-2 c = rw (c .before .before .before .match .keys2) (cc)
 
 returns-3 : tie.Need-returns-3
 unfolding callOf
-returns-3 c = rw (c .before .before .match .keys3) (cc)
+returns-3 c = rw (c .before .before .before .match .keys3) (cc)
 
 returns-4 : tie.Need-returns-4
 unfolding callOf
-returns-4 c = rw (c .before .before .match .keys4) (cc)
+returns-4 c = rw (c .before .before .before .match .keys4) (cc)
 
 returns-5 : tie.Need-returns-5
 unfolding callOf
@@ -147,11 +162,11 @@ returns-5 c = rw (c .before .before .match .keys5) (cc)
 
 returns-6 : tie.Need-returns-6
 unfolding callOf
-returns-6 c = rw (c .before .before .match .keys6) (cc)
+returns-6 c = rw (c .before .before .before .match .keys6) (cc)
 
 returns-7 : tie.Need-returns-7
 unfolding callOf
-returns-7 c = rw (c .before .before .before .before .match .keys7) (cc)
+returns-7 c = rw (c .before .before .before .before .before .match .keys7) (cc)
 
 returns-8 : tie.Need-returns-8
 unfolding callOf
@@ -204,18 +219,23 @@ call-of-spec =
     four-bytes-requires-2
     fitted-requires
     is-plain-requires
+    own-requires
     fitted-requires-2
     is-plain-requires-2
+    own-requires-2
     fitted-requires-3
     is-plain-requires-3
+    own-requires-3
     fitted-requires-4
     is-plain-requires-4
     fitted-requires-5
     is-addressed-requires
+    own-requires-4
     fitted-requires-6
     is-positioned-requires
     one-byte-requires-2
     be8-requires
+    own-requires-5
     fitted-requires-7
     is-counted-requires
     fitted-requires-8

@@ -1,5 +1,6 @@
 -- `dispatch::answer_call` meets its contract. Assumes nothing.
 use mathlib.Core.Path.{refl}
+use Rattle.gate.specs.Lent.{loan}
 use Rattle.dispatch.specs.Dispatch.{effectOf}
 use Rattle.answer_events.specs.Events.{ownEffect, lostEffect, ticksEffect, switchAllEffect, readEffect, clearEffect}
 use Rattle.answer_receive.proofs.Room.{segment-sent, walk-kept}
@@ -29,35 +30,11 @@ own-requires c κs = search needs
 enum-known-call-3 : tie.Need-enum-known-call-3
 enum-known-call-3 c = search needs
 
-own-requires-2 : tie.Need-own-requires-2
-own-requires-2 c κs = search needs
-
-enum-known-call-4 : tie.Need-enum-known-call-4
-enum-known-call-4 c = search needs
-
-own-requires-3 : tie.Need-own-requires-3
-own-requires-3 c κs = search needs
-
-enum-known-call-5 : tie.Need-enum-known-call-5
-enum-known-call-5 c = search needs
-
 lost-requires : tie.Need-lost-requires
 lost-requires c κs = search needs
 
-enum-known-call-6 : tie.Need-enum-known-call-6
-enum-known-call-6 c = search needs
-
-own-requires-4 : tie.Need-own-requires-4
-own-requires-4 c κs = search needs
-
-enum-known-call-7 : tie.Need-enum-known-call-7
-enum-known-call-7 c = search needs
-
-own-requires-5 : tie.Need-own-requires-5
-own-requires-5 c κs = search needs
-
-enum-known-call-8 : tie.Need-enum-known-call-8
-enum-known-call-8 c = search needs
+enum-known-call-4 : tie.Need-enum-known-call-4
+enum-known-call-4 c = search needs
 
 bytes-from-requires : tie.Need-bytes-from-requires
 bytes-from-requires c κs = search needs
@@ -65,8 +42,8 @@ bytes-from-requires c κs = search needs
 segment-requires : tie.Need-segment-requires
 segment-requires c κs = search needs
 
-enum-known-call-9 : tie.Need-enum-known-call-9
-enum-known-call-9 c = search needs
+enum-known-call-5 : tie.Need-enum-known-call-5
+enum-known-call-5 c = search needs
 
 cast-walk : tie.Need-cast-walk
 cast-walk c = search needs
@@ -77,26 +54,26 @@ bytes-from-requires-2 c κs = search needs
 walk-requires : tie.Need-walk-requires
 walk-requires c κs = search needs
 
-enum-known-call-10 : tie.Need-enum-known-call-10
-enum-known-call-10 c = search needs
+enum-known-call-6 : tie.Need-enum-known-call-6
+enum-known-call-6 c = search needs
 
 take-waiting-requires : tie.Need-take-waiting-requires
 take-waiting-requires c κs = search needs
 
-enum-known-call-11 : tie.Need-enum-known-call-11
-enum-known-call-11 c = search needs
+enum-known-call-7 : tie.Need-enum-known-call-7
+enum-known-call-7 c = search needs
 
 datagram-requires : tie.Need-datagram-requires
 datagram-requires c κs = search needs
 
-enum-known-call-12 : tie.Need-enum-known-call-12
-enum-known-call-12 c = search needs
+enum-known-call-8 : tie.Need-enum-known-call-8
+enum-known-call-8 c = search needs
 
 accept-requires : tie.Need-accept-requires
 accept-requires c κs = search needs
 
-enum-known-call-13 : tie.Need-enum-known-call-13
-enum-known-call-13 c = search needs
+enum-known-call-9 : tie.Need-enum-known-call-9
+enum-known-call-9 c = search needs
 
 bytes-from-requires-3 : tie.Need-bytes-from-requires-3
 bytes-from-requires-3 c κs = search needs
@@ -104,20 +81,20 @@ bytes-from-requires-3 c κs = search needs
 transmit-requires : tie.Need-transmit-requires
 transmit-requires c κs = search needs
 
-enum-known-call-14 : tie.Need-enum-known-call-14
-enum-known-call-14 c = search needs
+enum-known-call-10 : tie.Need-enum-known-call-10
+enum-known-call-10 c = search needs
 
 switch-all-requires : tie.Need-switch-all-requires
 switch-all-requires c κs = search needs
 
-enum-known-call-15 : tie.Need-enum-known-call-15
-enum-known-call-15 c = search needs
+enum-known-call-11 : tie.Need-enum-known-call-11
+enum-known-call-11 c = search needs
 
 read-count-requires : tie.Need-read-count-requires
 read-count-requires c κs = search needs
 
-enum-known-call-16 : tie.Need-enum-known-call-16
-enum-known-call-16 c = search needs
+enum-known-call-12 : tie.Need-enum-known-call-12
+enum-known-call-12 c = search needs
 
 clear-count-requires : tie.Need-clear-count-requires
 clear-count-requires c κs = search needs
@@ -166,8 +143,8 @@ same-length-9 : tie.Need-same-length-9
 same-length-9 c = search needs
 
 returns-5 : tie.Need-returns-5
-unfolding effectOf ownEffect
-returns-5 c = let p = c .before .before .own2 .ensures in rw (c .before .before .before .before .before .before .before .call3 .given .1) (p .0, (refl, (refl, p .1)))
+unfolding effectOf lostEffect
+returns-5 c = let p = c .before .before .lost .ensures in rw (c .before .before .before .before .before .before .before .call3 .given .1) (p .0, (refl, (refl, p .1)))
 
 same-length-10 : tie.Need-same-length-10
 same-length-10 c = search needs
@@ -179,8 +156,8 @@ same-length-12 : tie.Need-same-length-12
 same-length-12 c = search needs
 
 returns-6 : tie.Need-returns-6
-unfolding effectOf ownEffect
-returns-6 c = let p = c .before .before .own3 .ensures in rw (c .before .before .before .before .before .before .before .call4 .given .1) (p .0, (refl, (refl, p .1)))
+unfolding effectOf
+returns-6 c = let a = c .before .before .before .before .before .before .before .before .before .before .before .before .before .before .before .before .before .args in let p = c .before .before .before .before .segment .ensures in rw (c .before .before .before .before .before .before .before .before .before .before .call4 .given .1, ← c .before .before .before .before .before .before .bytes-from .ensures .0) (p .0, (p .1 .0, (segment-sent (loan (a .image .now) (a .state) (a .rx .now) (a .tx .now)) _ _ _, p .1 .1)))
 
 same-length-13 : tie.Need-same-length-13
 same-length-13 c = search needs
@@ -192,8 +169,8 @@ same-length-15 : tie.Need-same-length-15
 same-length-15 c = search needs
 
 returns-7 : tie.Need-returns-7
-unfolding effectOf lostEffect
-returns-7 c = let p = c .before .before .lost .ensures in rw (c .before .before .before .before .before .before .before .call5 .given .1) (p .0, (refl, (refl, p .1)))
+unfolding effectOf
+returns-7 c = let p = c .before .before .walk .ensures in let w = walk-kept _ _ _ _ _ in rw (c .before .before .before .before .before .before .before .before .call5 .given .1, ← c .before .before .before .before .bytes-from2 .ensures .0) (p .0, (w .0, (w .1, p .1)))
 
 same-length-16 : tie.Need-same-length-16
 same-length-16 c = search needs
@@ -205,8 +182,8 @@ same-length-18 : tie.Need-same-length-18
 same-length-18 c = search needs
 
 returns-8 : tie.Need-returns-8
-unfolding effectOf ownEffect
-returns-8 c = let p = c .before .before .own4 .ensures in rw (c .before .before .before .before .before .before .before .call6 .given .1) (p .0, (refl, (refl, p .1)))
+unfolding effectOf takeEffect
+returns-8 c = let p = c .before .before .take-waiting .ensures in rw (c .before .before .before .before .before .before .before .call6 .given .1) (p .0, (refl, (refl, p .1)))
 
 same-length-19 : tie.Need-same-length-19
 same-length-19 c = search needs
@@ -218,8 +195,8 @@ same-length-21 : tie.Need-same-length-21
 same-length-21 c = search needs
 
 returns-9 : tie.Need-returns-9
-unfolding effectOf ownEffect
-returns-9 c = let p = c .before .before .own5 .ensures in rw (c .before .before .before .before .before .before .before .call7 .given .1) (p .0, (refl, (refl, p .1)))
+unfolding effectOf datagramEffect
+returns-9 c = let p = c .before .before .datagram .ensures in rw (c .before .before .before .before .before .before .before .call7 .given .1) (p .0, (refl, (refl, p .1)))
 
 same-length-22 : tie.Need-same-length-22
 same-length-22 c = search needs
@@ -231,8 +208,8 @@ same-length-24 : tie.Need-same-length-24
 same-length-24 c = search needs
 
 returns-10 : tie.Need-returns-10
-unfolding effectOf
-returns-10 c = let a = c .before .before .before .before .before .before .before .before .before .before .before .before .before .before .before .before .before .args in let p = c .before .before .before .before .segment .ensures in rw (c .before .before .before .before .before .before .before .before .before .before .call8 .given .1, ← c .before .before .before .before .before .before .bytes-from .ensures .0) (p .0, (p .1 .0, (segment-sent _ _ _ (a .tx .now) _ _ _, p .1 .1)))
+unfolding effectOf acceptEffect
+returns-10 c = let p = c .before .before .accept .ensures in rw (c .before .before .before .before .before .before .before .call8 .given .1) (p .0, (refl, (refl, p .1)))
 
 same-length-25 : tie.Need-same-length-25
 same-length-25 c = search needs
@@ -244,8 +221,8 @@ same-length-27 : tie.Need-same-length-27
 same-length-27 c = search needs
 
 returns-11 : tie.Need-returns-11
-unfolding effectOf
-returns-11 c = let p = c .before .before .walk .ensures in let w = walk-kept _ _ _ _ _ _ _ _ in rw (c .before .before .before .before .before .before .before .before .call9 .given .1, ← c .before .before .before .before .bytes-from2 .ensures .0) (p .0, (w .0, (w .1, p .1)))
+unfolding effectOf transmitEffect
+returns-11 c = let p = c .before .before .before .before .transmit .ensures in rw (c .before .before .before .before .before .before .before .before .before .before .call9 .given .1, ← c .before .before .before .before .before .before .bytes-from3 .ensures .0) (p .0, (refl, (p .1 .0, p .1 .1)))
 
 same-length-28 : tie.Need-same-length-28
 same-length-28 c = search needs
@@ -257,8 +234,8 @@ same-length-30 : tie.Need-same-length-30
 same-length-30 c = search needs
 
 returns-12 : tie.Need-returns-12
-unfolding effectOf takeEffect
-returns-12 c = let p = c .before .before .take-waiting .ensures in rw (c .before .before .before .before .before .before .before .call10 .given .1) (p .0, (refl, (refl, p .1)))
+unfolding effectOf switchAllEffect
+returns-12 c = let p = c .before .before .switch-all .ensures in rw (c .before .before .before .before .before .before .before .call10 .given .1) (p .0, (refl, (refl, p .1)))
 
 same-length-31 : tie.Need-same-length-31
 same-length-31 c = search needs
@@ -270,8 +247,8 @@ same-length-33 : tie.Need-same-length-33
 same-length-33 c = search needs
 
 returns-13 : tie.Need-returns-13
-unfolding effectOf datagramEffect
-returns-13 c = let p = c .before .before .datagram .ensures in rw (c .before .before .before .before .before .before .before .call11 .given .1) (p .0, (refl, (refl, p .1)))
+unfolding effectOf readEffect
+returns-13 c = let p = c .before .before .read-count .ensures in rw (c .before .before .before .before .before .before .before .call11 .given .1) (p .0, (refl, (refl, p .1)))
 
 same-length-34 : tie.Need-same-length-34
 same-length-34 c = search needs
@@ -283,60 +260,8 @@ same-length-36 : tie.Need-same-length-36
 same-length-36 c = search needs
 
 returns-14 : tie.Need-returns-14
-unfolding effectOf acceptEffect
-returns-14 c = let p = c .before .before .accept .ensures in rw (c .before .before .before .before .before .before .before .call12 .given .1) (p .0, (refl, (refl, p .1)))
-
-same-length-37 : tie.Need-same-length-37
-same-length-37 c = search needs
-
-same-length-38 : tie.Need-same-length-38
-same-length-38 c = search needs
-
-same-length-39 : tie.Need-same-length-39
-same-length-39 c = search needs
-
-returns-15 : tie.Need-returns-15
-unfolding effectOf transmitEffect
-returns-15 c = let p = c .before .before .before .before .transmit .ensures in rw (c .before .before .before .before .before .before .before .before .before .before .call13 .given .1, ← c .before .before .before .before .before .before .bytes-from3 .ensures .0) (p .0, (refl, (p .1 .0, p .1 .1)))
-
-same-length-40 : tie.Need-same-length-40
-same-length-40 c = search needs
-
-same-length-41 : tie.Need-same-length-41
-same-length-41 c = search needs
-
-same-length-42 : tie.Need-same-length-42
-same-length-42 c = search needs
-
-returns-16 : tie.Need-returns-16
-unfolding effectOf switchAllEffect
-returns-16 c = let p = c .before .before .switch-all .ensures in rw (c .before .before .before .before .before .before .before .call14 .given .1) (p .0, (refl, (refl, p .1)))
-
-same-length-43 : tie.Need-same-length-43
-same-length-43 c = search needs
-
-same-length-44 : tie.Need-same-length-44
-same-length-44 c = search needs
-
-same-length-45 : tie.Need-same-length-45
-same-length-45 c = search needs
-
-returns-17 : tie.Need-returns-17
-unfolding effectOf readEffect
-returns-17 c = let p = c .before .before .read-count .ensures in rw (c .before .before .before .before .before .before .before .call15 .given .1) (p .0, (refl, (refl, p .1)))
-
-same-length-46 : tie.Need-same-length-46
-same-length-46 c = search needs
-
-same-length-47 : tie.Need-same-length-47
-same-length-47 c = search needs
-
-same-length-48 : tie.Need-same-length-48
-same-length-48 c = search needs
-
-returns-18 : tie.Need-returns-18
 unfolding effectOf clearEffect
-returns-18 c = let p = c .before .before .clear-count .ensures in rw (c .before .before .before .before .before .before .before .call16 .given .1) (p .0, (refl, (refl, p .1)))
+returns-14 c = let p = c .before .before .clear-count .ensures in rw (c .before .before .before .before .before .before .before .call12 .given .1) (p .0, (refl, (refl, p .1)))
 
 pub answer-call-spec : {M : Type 1} → statement M
 answer-call-spec =
@@ -349,36 +274,28 @@ answer-call-spec =
     enum-known-call-2
     own-requires
     enum-known-call-3
-    own-requires-2
-    enum-known-call-4
-    own-requires-3
-    enum-known-call-5
     lost-requires
-    enum-known-call-6
-    own-requires-4
-    enum-known-call-7
-    own-requires-5
-    enum-known-call-8
+    enum-known-call-4
     bytes-from-requires
     segment-requires
-    enum-known-call-9
+    enum-known-call-5
     cast-walk
     bytes-from-requires-2
     walk-requires
-    enum-known-call-10
+    enum-known-call-6
     take-waiting-requires
-    enum-known-call-11
+    enum-known-call-7
     datagram-requires
-    enum-known-call-12
+    enum-known-call-8
     accept-requires
-    enum-known-call-13
+    enum-known-call-9
     bytes-from-requires-3
     transmit-requires
-    enum-known-call-14
+    enum-known-call-10
     switch-all-requires
-    enum-known-call-15
+    enum-known-call-11
     read-count-requires
-    enum-known-call-16
+    enum-known-call-12
     clear-count-requires
     returns
     returns-2
@@ -429,20 +346,4 @@ answer-call-spec =
     same-length-34
     same-length-35
     same-length-36
-    returns-14
-    same-length-37
-    same-length-38
-    same-length-39
-    returns-15
-    same-length-40
-    same-length-41
-    same-length-42
-    returns-16
-    same-length-43
-    same-length-44
-    same-length-45
-    returns-17
-    same-length-46
-    same-length-47
-    same-length-48
-    returns-18)
+    returns-14)

@@ -44,6 +44,7 @@ use denote.Exit.{yes}
 use denote.Triple.Clauses.{ensured, lasts}
 use Rattle.state.specs.declared.State.{State}
 use Rattle.receive.specs.declared.DatagramWalked.{DatagramWalked}
+use Rattle.gate.specs.Lent.{lentBy}
 use Rattle.reader.specs.Reader.{answerAt}
 use Rattle.reader.specs.declared.DatagramReader.{DatagramReader}
 use Rattle.reader.proofs.DatagramReader as T
@@ -105,7 +106,7 @@ module _ {M : Type 1} (𝓤 : URA M) (H : Heap 𝓤) (A : Atoms 𝓤) (W : Given
   tv = sliceVal (tx .ptr) (length (tx .now))
 
   abbrev found : DatagramWalked
-  found = answerAt d (now im) st (length (now rx)) (length (now tx)) c
+  found = answerAt d (lentBy (now im) st (now rx) (now tx)) c
 
   abbrev xs : DatagramReader × (RefT (List ℕ) × (State × (RefT (List ℕ) × (RefT (List ℕ) × (ℕ × Unit {0})))))
   xs = (d, (im, (st, (rx, (tx, (c, tt))))))

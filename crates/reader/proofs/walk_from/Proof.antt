@@ -40,6 +40,7 @@ use denote.Triple.Clauses.{ensured, lasts}
 use Rattle.state.specs.declared.State.{State}
 use Rattle.receive.specs.declared.DatagramWalked.{DatagramWalked}
 use Rattle.receive.specs.Walk as Wk
+use Rattle.gate.specs.Lent.{lentBy}
 use Rattle.reader.specs.Reader.{opened, movedTo, answerAt}
 use Rattle.reader.specs.declared.DatagramReader.{DatagramReader}
 use Rattle.reader.proofs.DatagramReader as T
@@ -107,10 +108,10 @@ module _ {M : Type 1} (𝓤 : URA M) (H : Heap 𝓤) (A : Atoms 𝓤) (W : Given
 
   -- the answer for a reader, and the answer here
   abbrev answered : DatagramReader → DatagramWalked
-  answered r = answerAt r (now im) st (length (now rx)) (length (now tx)) c
+  answered r = answerAt r (lentBy (now im) st (now rx) (now tx)) c
 
   abbrev found : DatagramWalked
-  found = Wk.walkOf (now im) st (length (now rx)) (length (now tx)) c (now s) p
+  found = Wk.walkOf (lentBy (now im) st (now rx) (now tx)) c (now s) p
 
   -- the struct's type as a local of a body has it
   abbrev αᵉ : NamedLft

@@ -26,7 +26,7 @@ small c =
     let g = c .before .before in
     let a = g .before .before .args in
     let p : Passed (lent (a .image .now) (a .t2) (a .rx) (a .tx)) × (a .n < rowsOf (a .image .now) Connections) =
-    asked-there (a .image .now) (a .t2) (a .rx) (a .tx) (a .n) (a .allowed) (g .ask-at .result) (g .ask-at .ensures) (c .enum-told .given .1) in
+    asked-there (lent (a .image .now) (a .t2) (a .rx) (a .tx)) (a .n) (a .allowed) (g .ask-at .result) (g .ask-at .ensures) (c .enum-told .given .1) in
     below-sixteen (a .image .now) (p .0 .table) (a .n) (p .1)
 
 mul-c : tie.Need-mul-c
@@ -41,13 +41,13 @@ judge-requires c κs = search needs
 returns : tie.Need-returns
 returns c =
     let g = c .before .before .before in
-    answer-refused _ _ _ _ _ _ (g .ask-at .result) (g .ask-at .ensures) _ (c .before .asked .given .1)
+    answer-refused _ _ _ (g .ask-at .result) (g .ask-at .ensures) _ (c .before .asked .given .1)
 
 returns-2 : tie.Need-returns-2
 returns-2 c =
     let e = c .before .before in
     let g = e .before .before in
-    answer-judged _ _ _ _ _ _ (g .ask-at .result) (g .ask-at .ensures) (c .judge .result) (e .enum-told .given .1) (c .judge .ensures)
+    answer-judged _ _ _ (g .ask-at .result) (g .ask-at .ensures) (c .judge .result) (e .enum-told .given .1) (c .judge .ensures)
 
 pub answer-at-spec : {M : Type 1} → statement M
 answer-at-spec =

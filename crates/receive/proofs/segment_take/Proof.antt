@@ -1,5 +1,5 @@
 -- `receive::segment_take` meets its contract. Assumes nothing.
-use lib.ListN.{length}
+use Rattle.gate.specs.Lent.{loan}
 use Rattle.receive.proofs.Taking.{may-take, segment-done, memory-done, segment-none, memory-none}
 use borrow.Author.Needs.{needs}
 use Rattle.receive.proofs.segment_take.Statement.{statement}
@@ -17,7 +17,7 @@ take-on-requires c κs =
     let d = h .before in
     let n = d .before in
     let a = n .before .before .before .before .before .args in
-    may-take (a .image .now) (a .state) (a .rx .now) (length (a .tx .now)) (a .connection) (a .segment .now)
+    may-take (loan (a .image .now) (a .state) (a .rx .now) (a .tx .now)) (a .connection) (a .segment .now)
     (n .may-take .result) (n .may-take .ensures) (d .is-done .result) (d .is-done .ensures) (h .if1 .taken)
 
 same-length : tie.Need-same-length
@@ -30,9 +30,9 @@ returns c =
     let d = h .before in
     let n = d .before in
     let a = n .before .before .before .before .before .args in (
-      segment-done (a .image .now) (a .state) (a .rx .now) (length (a .tx .now)) (a .connection) (a .segment .now)
+      segment-done (loan (a .image .now) (a .state) (a .rx .now) (a .tx .now)) (a .connection) (a .segment .now)
           (n .may-take .result) (n .may-take .ensures) (d .is-done .result) (d .is-done .ensures) (h .if1 .taken) (o .take-on .result) (o .take-on .ensures .0),
-      memory-done (a .image .now) (a .state) (a .rx .now) (length (a .tx .now)) (a .connection) (a .segment .now)
+      memory-done (loan (a .image .now) (a .state) (a .rx .now) (a .tx .now)) (a .connection) (a .segment .now)
           (n .may-take .result) (n .may-take .ensures) (d .is-done .result) (d .is-done .ensures) (h .if1 .taken) (o .take-on .last .1 .1 .0) (o .take-on .ensures .1),
     )
 
@@ -41,9 +41,9 @@ returns-2 c =
     let d = c .before in
     let n = d .before in
     let a = n .before .before .before .before .before .args in (
-      segment-none (a .image .now) (a .state) (a .rx .now) (length (a .tx .now)) (a .connection) (a .segment .now)
+      segment-none (loan (a .image .now) (a .state) (a .rx .now) (a .tx .now)) (a .connection) (a .segment .now)
           (n .may-take .result) (n .may-take .ensures) (d .is-done .result) (d .is-done .ensures) (c .if1 .left),
-      memory-none (a .image .now) (a .state) (a .rx .now) (length (a .tx .now)) (a .connection) (a .segment .now)
+      memory-none (loan (a .image .now) (a .state) (a .rx .now) (a .tx .now)) (a .connection) (a .segment .now)
           (n .may-take .result) (n .may-take .ensures) (d .is-done .result) (d .is-done .ensures) (c .if1 .left),
     )
 

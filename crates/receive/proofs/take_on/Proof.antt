@@ -1,6 +1,6 @@
 -- `receive::take_on` meets its contract. Assumes nothing.
 use native.Mathlib.Omega.{arith}
-use Rattle.receive.proofs.Taking.{lent-fit, take-is, memory-is}
+use Rattle.receive.proofs.Taking.{part-fit, take-is, memory-is}
 use borrow.Author.Needs.{needs}
 use Rattle.receive.proofs.take_on.Statement.{statement}
 use Rattle.receive.proofs.take_on.Tie as tie
@@ -34,7 +34,7 @@ take-requires c κs =
     let b = c .before in
     let s = b .before .before .before .before .before in
     let a = s .args in
-    lent-fit (a .image .now) (a .t2) (a .rx .now) (a .connection) (a .segment .now) (s .pre) (b .body-of .result .now) (b .body-of .ensures .0)
+    part-fit (a .image .now) (a .t2) (a .rx .now) (a .connection) (a .segment .now) (s .pre) (b .body-of .result .now) (b .body-of .ensures .0)
 
 with-part-requires : tie.Need-with-part-requires
 with-part-requires c κs = search needs

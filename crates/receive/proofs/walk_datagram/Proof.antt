@@ -1,5 +1,5 @@
 -- `receive::walk_datagram` meets its contract. Assumes nothing.
-use lib.ListN.{length}
+use Rattle.gate.specs.Lent.{lentBy}
 use Rattle.receive.proofs.Walking.{may-walk, walk-done, walk-none}
 use borrow.Author.Needs.{needs}
 use Rattle.receive.proofs.walk_datagram.Statement.{statement}
@@ -20,7 +20,7 @@ walk-on-requires c κs =
     let n = d .before in
     let g = n .before .before in
     let a = g .before .before .before .before .before .args in
-    may-walk (a .image .now) (a .state) (length (a .rx .now)) (length (a .tx .now)) (a .connection) (a .datagram .now) (a .place) (g .config-of .result) (g .config-of .ensures)
+    may-walk (lentBy (a .image .now) (a .state) (a .rx .now) (a .tx .now)) (a .connection) (a .datagram .now) (a .place) (g .config-of .result) (g .config-of .ensures)
     (n .answer-at .result) (n .answer-at .ensures) (d .is-done .result) (d .is-done .ensures) (c .if1 .taken)
 
 returns : tie.Need-returns
@@ -30,7 +30,7 @@ returns c =
     let n = d .before in
     let g = n .before .before in
     let a = g .before .before .before .before .before .args in
-    walk-done (a .image .now) (a .state) (length (a .rx .now)) (length (a .tx .now)) (a .connection) (a .datagram .now) (a .place) (g .config-of .result) (g .config-of .ensures)
+    walk-done (lentBy (a .image .now) (a .state) (a .rx .now) (a .tx .now)) (a .connection) (a .datagram .now) (a .place) (g .config-of .result) (g .config-of .ensures)
     (n .answer-at .result) (n .answer-at .ensures) (d .is-done .result) (d .is-done .ensures) (h .if1 .taken) (c .walk-on .result) (c .walk-on .ensures)
 
 returns-2 : tie.Need-returns-2
@@ -39,7 +39,7 @@ returns-2 c =
     let n = d .before in
     let g = n .before .before in
     let a = g .before .before .before .before .before .args in
-    walk-none (a .image .now) (a .state) (length (a .rx .now)) (length (a .tx .now)) (a .connection) (a .datagram .now) (a .place) (g .config-of .result) (g .config-of .ensures)
+    walk-none (lentBy (a .image .now) (a .state) (a .rx .now) (a .tx .now)) (a .connection) (a .datagram .now) (a .place) (g .config-of .result) (g .config-of .ensures)
     (n .answer-at .result) (n .answer-at .ensures) (d .is-done .result) (d .is-done .ensures) (c .if1 .left)
 
 pub walk-datagram-spec : {M : Type 1} → statement M

@@ -15,7 +15,7 @@ enum-told : tie.Need-enum-told
 enum-told c = search needs
 
 transmit-requires : tie.Need-transmit-requires
-transmit-requires c κs = past-gate _ _ _ _ _ (c .before .before .before .ask .ensures) (c .before .enum-told .given .1)
+transmit-requires c κs = past-gate _ _ (c .before .before .before .ask .ensures) (c .before .enum-told .given .1)
 
 returns : tie.Need-returns
 unfolding sendOf sentMemory
