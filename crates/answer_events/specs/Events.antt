@@ -17,11 +17,11 @@ use Rattle.events.specs.Count.{readOf, clearOf}
 use Rattle.ticks.specs.declared.Ticked.{Ticked}
 use Rattle.ticks.specs.Tick.{ticksEvent}
 use Rattle.gate.specs.Lent.{Loan, sizes}
-use Rattle.answering.specs.Answers.{Effect, answers, refusal, done, doneWith}
+use Rattle.answering.specs.Answers.{Effect, answers, refusal, doneAlone, doneWith}
 
 -- "any other: nothing"
 abbrev pub toldBytes : Answer → List ℕ
-toldBytes Done = done
+toldBytes Done = doneAlone
 toldBytes (Refused r) = refusal r
 
 -- "lost: failed (1): 0, kept"
@@ -40,34 +40,34 @@ countBytes (Count v) = doneWith 4 v
 countBytes (Uncounted r) = refusal r
 
 -- what each leaves: the state that its entry point gives, both memories as they were
-abbrev pub told : Told → List ℕ → List ℕ → List ℕ → Effect
-told t rx tx out = answers (toldBytes (t .answer)) (t .state) rx tx out
+abbrev pub toldEffect : Told → List ℕ → List ℕ → List ℕ → Effect
+toldEffect t rx tx out = answers (toldBytes (t .answer)) (t .state) rx tx out
 
-abbrev pub lost : Loss → List ℕ → List ℕ → List ℕ → Effect
-lost t rx tx out = answers (lossBytes (t .answer)) (t .state) rx tx out
+abbrev pub lossEffect : Loss → List ℕ → List ℕ → List ℕ → Effect
+lossEffect t rx tx out = answers (lossBytes (t .answer)) (t .state) rx tx out
 
 abbrev pub ticked : Ticked → List ℕ → List ℕ → List ℕ → Effect
 ticked t rx tx out = answers (ticksBytes (t .answer)) (t .state) rx tx out
 
-abbrev pub counted : Counted → List ℕ → List ℕ → List ℕ → Effect
-counted t rx tx out = answers (countBytes (t .answer)) (t .state) rx tx out
+abbrev pub countedEffect : Counted → List ℕ → List ℕ → List ℕ → Effect
+countedEffect t rx tx out = answers (countBytes (t .answer)) (t .state) rx tx out
 
 module _ (l : Loan) (out : List ℕ) where
   -- open, close, connected, set remote, switch
   unfoldable pub ownEffect : ℕ → Event → Effect
-  ownEffect connection event = told (eventOf (sizes l) connection event) (l .rx) (l .tx) out
+  ownEffect connection event = toldEffect (eventOf (sizes l) connection event) (l .rx) (l .tx) out
 
   unfoldable pub lostEffect : ℕ → Effect
-  lostEffect connection = lost (lossOf (sizes l) connection) (l .rx) (l .tx) out
+  lostEffect connection = lossEffect (lossOf (sizes l) connection) (l .rx) (l .tx) out
 
   unfoldable pub ticksEffect : ℕ → Effect
   ticksEffect count = ticked (ticksEvent (sizes l) count) (l .rx) (l .tx) out
 
   unfoldable pub switchAllEffect : ℕ → Bool → Effect
-  switchAllEffect number on = told (switchAllOf (sizes l) number on) (l .rx) (l .tx) out
+  switchAllEffect number on = toldEffect (switchAllOf (sizes l) number on) (l .rx) (l .tx) out
 
   unfoldable pub readEffect : ℕ → Effect
-  readEffect protocol = counted (readOf (sizes l) protocol) (l .rx) (l .tx) out
+  readEffect protocol = countedEffect (readOf (sizes l) protocol) (l .rx) (l .tx) out
 
   unfoldable pub clearEffect : ℕ → Effect
-  clearEffect protocol = counted (clearOf (sizes l) protocol) (l .rx) (l .tx) out
+  clearEffect protocol = countedEffect (clearOf (sizes l) protocol) (l .rx) (l .tx) out

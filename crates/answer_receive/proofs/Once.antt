@@ -31,17 +31,17 @@ use Rattle.receive.specs.Answer.{isDone}
 use Rattle.receive.specs.Segment.{dropsAfter, countTake, takenAt, takeOn, memoryOn, segmentAnswer, payloadOf}
 use Rattle.gate.specs.Lent.{Loan, sizes, received}
 use Rattle.answer_receive.specs.declared.Turn.{Turn}
-use Rattle.answer_receive.specs.Segment.{takeBytes, bytesOf, takeAt, memoryAt, bytesAt}
-use Rattle.answer_receive.specs.Turn.{takenFrom, memoryFrom, bytesFrom, turnOf, Goes, joined}
+use Rattle.answer_receive.specs.Segment.{takeBytes, bytesIfDone, takeAt, memoryAt, bytesAt}
+use Rattle.answer_receive.specs.Turn.{takenFrom, memoryFrom, bytesFrom, takeTurn, Goes, joined}
 use Rattle.answer_receive.proofs.Room.{taken-is, memory-is}
 
 -- a refused take has no bytes, another has them
-pub refused-none : (a : Answer) (x : List ℕ) → isDone a ≡ false → [] ≡ bytesOf a x
+pub refused-none : (a : Answer) (x : List ℕ) → isDone a ≡ false → [] ≡ bytesIfDone a x
 refused-none Done x e = let z : _≡_ {A = ℕ} 0 1 = cc in absurd (omega arith)
 refused-none (Refused r) x e = refl
 refused-none NotReceiving x e = refl
 
-pub done-all : (a : Answer) (x : List ℕ) → isDone a ≡ true → x ≡ bytesOf a x
+pub done-all : (a : Answer) (x : List ℕ) → isDone a ≡ true → x ≡ bytesIfDone a x
 done-all Done x e = refl
 done-all (Refused r) x e = let z : _≡_ {A = ℕ} 0 1 = cc in absurd (omega arith)
 done-all NotReceiving x e = let z : _≡_ {A = ℕ} 0 1 = cc in absurd (omega arith)
@@ -109,7 +109,7 @@ module _ (l : Loan) (k : ℕ) (segment : List ℕ) (t : Turn) (rx : List ℕ) (t
   pub turn-bytes : bytesAt (received l at-turn rx) k segment (t .at) ≡ bytesFrom (bodyOf image Routes) (recordAt s k .switches) k segment t rx
   unfolding bytesAt
   turn-bytes =
-      ap₂ (λ (u : SegmentTaken) (m : List ℕ). bytesOf (u .answer) (takeBytes (t .at) (u .read) (u .outcome) (payloadOf (drop (t .at) segment) m k (u .outcome))))
+      ap₂ (λ (u : SegmentTaken) (m : List ℕ). bytesIfDone (u .answer) (takeBytes (t .at) (u .read) (u .outcome) (payloadOf (drop (t .at) segment) m k (u .outcome))))
       turn-taken turn-memory
 
 -- ONE TURN, on the lent part of receive memory
@@ -139,7 +139,7 @@ module _ (routes : List ℕ) (switches k : ℕ) (segment : List ℕ) (t : Turn) 
           → place ≡ placeAfter out (t .place) (takeBytes (t .at) (u .read) (u .outcome) payload)
           → out′ ≡ lay out (t .place) (takeBytes (t .at) (u .read) (u .outcome) payload)
           → drops ≡ dropsAfter (u .outcome) (t .drops)
-          → (record { part = u .part; drops = drops; at = t .at + u .read; place = place; count = t .count + 1 } ≡ turnOf routes switches k segment t rx out)
+          → (record { part = u .part; drops = drops; at = t .at + u .read; place = place; count = t .count + 1 } ≡ takeTurn routes switches k segment t rx out)
           × ((putMid (k * 1464) (k * 1464 + 1464 - k * 1464) rx m ≡ memoryFrom routes switches k segment t rx)
           × (out′ ≡ lay out (t .place) (bytesFrom routes switches k segment t rx)))
       turn-is {payload} {place} {drops} {out′} ep el eo ed =

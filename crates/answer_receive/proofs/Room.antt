@@ -1,4 +1,4 @@
--- THE WHOLE ANSWER OF A SEGMENT EVENT FITS: whatever the takes find, it has no more bytes than `roomFor` says, and an out buffer of so
+-- THE WHOLE ANSWER OF A SEGMENT EVENT FITS: whatever the takes find, it has no more bytes than `answerRoom` says, and an out buffer of so
 -- many is not refused. A take after another is never refused. And what is refused for its length. Assumes nothing.
 use Prim.Native.Nat.{ℕ, zero, suc, _+_, _-_, _*_, _≤_, _<_}
 use mathlib.Core.Path.{_≡_, refl, sym, ap, ap₂, _∙_, subst}
@@ -31,24 +31,24 @@ use Rattle.state.specs.Memory.{stretch}
 use Rattle.receive.specs.declared.Answer.{Answer}
 use Rattle.receive.specs.declared.Answer.the-variants.{Done, Refused, NotReceiving}
 use Rattle.receive.specs.declared.SegmentTaken.{SegmentTaken}
-use Rattle.receive.specs.Answer.{isDone, judgedOf, answerOf}
+use Rattle.receive.specs.Answer.{isDone, judgedOf, judgedAnswer}
 use Rattle.receive.specs.Segment.{takenAt, takeOn, memoryOn, noneTaken, segmentAnswer, segmentOf, memoryOf, payloadOf}
 use Rattle.receive.proofs.Answers.{Clear, done-clear}
 use Rattle.receive.proofs.Keeps.{in-range, count-records, take-clear}
 use Rattle.answering.specs.declared.Verdict.the-variants.{Unfit, Small}
 use Rattle.answering.specs.Answers.{Effect, untouched, doneWith}
 use Rattle.answering.proofs.Chain.{length-found}
-use Rattle.answer_receive.specs.Long.{longest, tooLong}
-use Rattle.answer_receive.specs.Walk.{walked, walkEffect}
-use Rattle.answer_receive.specs.Segment.{lends, takeBytes, bytesOf, Run, begun, takeAt, memoryAt, bytesAt, step, goesOn, runOf, allTakes, eventBytes, leaves, roomFor, segmentEffect}
+use Rattle.answer_receive.specs.Long.{longestBody, tooLong}
+use Rattle.answer_receive.specs.Walk.{walkedEffect, walkEffect}
+use Rattle.answer_receive.specs.Segment.{lends, takeBytes, bytesIfDone, Progress, begun, takeAt, memoryAt, bytesAt, oneTake, takeFollows, takesUpTo, allTakes, eventBytes, takesEffect, answerRoom, segmentEffect}
 use Rattle.answer_receive.proofs.Size.{most, most-all, most-least, take-most, take-stops, spent-within, spent-stops}
 
 -- what nothing refuses is done
-clear-done : (l : Lent) (k : ℕ) (allowed : Bool) → Clear l k allowed → isDone (answerOf l k allowed) ≡ true
-unfolding answerOf judgedOf
+clear-done : (l : Lent) (k : ℕ) (allowed : Bool) → Clear l k allowed → isDone (judgedAnswer l k allowed) ≡ true
+unfolding judgedAnswer judgedOf
 clear-done l k allowed c = rw (passed-gate-at l k (c .passed) (c .there), c .allows, c .receives) refl
 
-bytes-of-within : (a : Answer) (x : List ℕ) → length (bytesOf a x) ≤ length x
+bytes-of-within : (a : Answer) (x : List ℕ) → length (bytesIfDone a x) ≤ length x
 bytes-of-within Done x = omega arith
 bytes-of-within (Refused r) x = omega arith
 bytes-of-within NotReceiving x = omega arith
@@ -68,7 +68,7 @@ module _ (l : Loan) (k : ℕ) (seg : List ℕ) where
   answer = segmentAnswer (sizes l) k
 
   abbrev bytesFrom : ℕ → List ℕ → SegmentTaken → List ℕ
-  bytesFrom from m t = bytesOf (t .answer) (takeBytes from (t .read) (t .outcome) (payloadOf seg m k (t .outcome)))
+  bytesFrom from m t = bytesIfDone (t .answer) (takeBytes from (t .read) (t .outcome) (payloadOf seg m k (t .outcome)))
 
   pub taken-is : isDone answer ≡ true → segmentOf l k seg ≡ takeOn image s rx k seg
   unfolding segmentOf
@@ -172,15 +172,15 @@ module _ (l : Loan) (k : ℕ) (segment : List ℕ) (at : ℕ) where
 
 module _ (l : Loan) (k : ℕ) (segment : List ℕ) where
   -- from anywhere on
-  run-fits : (n : ℕ) (r : Run) → length (runOf l k segment n r .bytes) ≤ length (r .bytes) + most (recordAt (r .state) k .part) + 3 * (length segment - r .at)
-  unfolding runOf step
+  run-fits : (n : ℕ) (r : Progress) → length (takesUpTo l k segment n r .bytes) ≤ length (r .bytes) + most (recordAt (r .state) k .part) + 3 * (length segment - r .at)
+  unfolding takesUpTo oneTake
   run-fits zero r = omega (arith, length-append (r .bytes) (bytesAt (lends l k segment r) k segment (r .at)), bytes-within (lends l k segment r) k segment (r .at))
-  run-fits (suc n) r = go (goesOn l k segment (step l k segment r)) refl (run-fits n (step l k segment r))
+  run-fits (suc n) r = go (takeFollows l k segment (oneTake l k segment r)) refl (run-fits n (oneTake l k segment r))
     where
-      go : (b : Bool) → goesOn l k segment (step l k segment r) ≡ b
-          → length (runOf l k segment n (step l k segment r) .bytes)
-          ≤ length (step l k segment r .bytes) + most (recordAt (step l k segment r .state) k .part) + 3 * (length segment - step l k segment r .at)
-          → length (cond b (runOf l k segment n (step l k segment r)) (step l k segment r) .bytes)
+      go : (b : Bool) → takeFollows l k segment (oneTake l k segment r) ≡ b
+          → length (takesUpTo l k segment n (oneTake l k segment r) .bytes)
+          ≤ length (oneTake l k segment r .bytes) + most (recordAt (oneTake l k segment r .state) k .part) + 3 * (length segment - oneTake l k segment r .at)
+          → length (cond b (takesUpTo l k segment n (oneTake l k segment r)) (oneTake l k segment r) .bytes)
           ≤ length (r .bytes) + most (recordAt (r .state) k .part) + 3 * (length segment - r .at)
       go true e h =
           omega (
@@ -193,42 +193,42 @@ module _ (l : Loan) (k : ℕ) (segment : List ℕ) where
       go false e h = omega (arith, length-append (r .bytes) (bytesAt (lends l k segment r) k segment (r .at)), bytes-within (lends l k segment r) k segment (r .at))
 
   -- THE WHOLE ANSWER
-  pub all-fit : 4 + length (allTakes l k segment .bytes) ≤ roomFor segment
-  all-fit = omega (arith, run-fits (length segment) (begun (l .state) (l .rx)), most-all (recordAt (l .state) k .part))
+  pub takes-fit : 4 + length (allTakes l k segment .bytes) ≤ answerRoom segment
+  takes-fit = omega (arith, run-fits (length segment) (begun (l .state) (l .rx)), most-all (recordAt (l .state) k .part))
 
-  event-size : (a : Answer) (count : ℕ) (bytes : List ℕ) → 4 + length bytes ≤ roomFor segment → length (eventBytes a count bytes) ≤ roomFor segment
+  event-size : (a : Answer) (count : ℕ) (bytes : List ℕ) → 4 + length bytes ≤ answerRoom segment → length (eventBytes a count bytes) ≤ answerRoom segment
   event-size Done count bytes h = omega (arith, h, length-append (doneWith 2 count) bytes, length-append (spell 2 0) (spell 2 count), length-spell 2 0, length-spell 2 count)
   event-size (Refused r) count bytes h = omega (arith, length-append (spell 2 (refusalNumber r)) (spell 4 0), length-spell 2 (refusalNumber r), length-spell 4 0)
   event-size NotReceiving count bytes h = omega (arith, length-append (spell 2 4) (spell 4 0), length-spell 2 4, length-spell 4 0)
 
-  pub event-fits : length (eventBytes (allTakes l k segment .answer) (allTakes l k segment .count) (allTakes l k segment .bytes)) ≤ roomFor segment
-  event-fits = event-size (allTakes l k segment .answer) (allTakes l k segment .count) (allTakes l k segment .bytes) all-fit
+  pub event-fits : length (eventBytes (allTakes l k segment .answer) (allTakes l k segment .count) (allTakes l k segment .bytes)) ≤ answerRoom segment
+  event-fits = event-size (allTakes l k segment .answer) (allTakes l k segment .count) (allTakes l k segment .bytes) takes-fit
 
 -- A SEGMENT THAT IS NOT TOO LONG, AND AN OUT BUFFER WITH THAT ROOM, ARE NOT REFUSED
 module _ (l : Loan) (out : List ℕ) (k : ℕ) (segment : List ℕ) where
   abbrev taken : Effect
-  taken = leaves (allTakes l k segment) (l .tx) out
+  taken = takesEffect (allTakes l k segment) (l .tx) out
 
   abbrev judged : Bool → Bool → Effect
   judged long short = cond long (untouched Unfit (l .state) (l .rx) (l .tx) out) (cond short (untouched Small (l .state) (l .rx) (l .tx) out) taken)
 
-  segment-judged : (long short : Bool) → tooLong segment ≡ long → ltb (length out) (roomFor segment) ≡ short → segmentEffect l out k segment ≡ judged long short
+  segment-judged : (long short : Bool) → tooLong segment ≡ long → ltb (length out) (answerRoom segment) ≡ short → segmentEffect l out k segment ≡ judged long short
   unfolding segmentEffect
   segment-judged long short e f = ap₂ judged e f
 
-  pub segment-roomy : length segment ≤ longest → roomFor segment ≤ length out → segmentEffect l out k segment ≡ taken
-  segment-roomy short roomy = segment-judged false false (le-ltb longest (length segment) short) (le-ltb (length out) (roomFor segment) roomy)
+  pub segment-roomy : length segment ≤ longestBody → answerRoom segment ≤ length out → segmentEffect l out k segment ≡ taken
+  segment-roomy short roomy = segment-judged false false (le-ltb longestBody (length segment) short) (le-ltb (length out) (answerRoom segment) roomy)
 
-  pub segment-long : longest < length segment → segmentEffect l out k segment ≡ untouched Unfit (l .state) (l .rx) (l .tx) out
-  segment-long long = segment-judged true (ltb (length out) (roomFor segment)) (lt-ltb longest (length segment) long) refl
+  pub segment-long : longestBody < length segment → segmentEffect l out k segment ≡ untouched Unfit (l .state) (l .rx) (l .tx) out
+  segment-long long = segment-judged true (ltb (length out) (answerRoom segment)) (lt-ltb longestBody (length segment) long) refl
 
-  pub segment-small : length segment ≤ longest → length out < roomFor segment → segmentEffect l out k segment ≡ untouched Small (l .state) (l .rx) (l .tx) out
-  segment-small short small = segment-judged false true (le-ltb longest (length segment) short) (lt-ltb (length out) (roomFor segment) small)
+  pub segment-small : length segment ≤ longestBody → length out < answerRoom segment → segmentEffect l out k segment ≡ untouched Small (l .state) (l .rx) (l .tx) out
+  segment-small short small = segment-judged false true (le-ltb longestBody (length segment) short) (lt-ltb (length out) (answerRoom segment) small)
 
   -- refused or not, send memory stays
   pub segment-sent : l .tx ≡ segmentEffect l out k segment .tx
   unfolding segmentEffect
-  segment-sent = go (tooLong segment) (ltb (length out) (roomFor segment))
+  segment-sent = go (tooLong segment) (ltb (length out) (answerRoom segment))
     where
       go : (long short : Bool) → l .tx ≡ judged long short .tx
       go true short = refl
@@ -238,15 +238,15 @@ module _ (l : Loan) (out : List ℕ) (k : ℕ) (segment : List ℕ) where
 -- .. and so a datagram
 module _ (l : Loan) (out : List ℕ) (k place : ℕ) (datagram : List ℕ) where
   abbrev either : Bool → Effect
-  either long = cond long (untouched Unfit (l .state) (l .rx) (l .tx) out) (walked l out k place datagram)
+  either long = cond long (untouched Unfit (l .state) (l .rx) (l .tx) out) (walkedEffect l out k place datagram)
 
-  pub walk-short : length datagram ≤ longest → walkEffect l out k place datagram ≡ walked l out k place datagram
+  pub walk-short : length datagram ≤ longestBody → walkEffect l out k place datagram ≡ walkedEffect l out k place datagram
   unfolding walkEffect
-  walk-short short = rw (le-ltb longest (length datagram) short)
+  walk-short short = rw (le-ltb longestBody (length datagram) short)
 
-  pub walk-long : longest < length datagram → walkEffect l out k place datagram ≡ untouched Unfit (l .state) (l .rx) (l .tx) out
+  pub walk-long : longestBody < length datagram → walkEffect l out k place datagram ≡ untouched Unfit (l .state) (l .rx) (l .tx) out
   unfolding walkEffect
-  walk-long long = rw (lt-ltb longest (length datagram) long)
+  walk-long long = rw (lt-ltb longestBody (length datagram) long)
 
   -- refused or not, both memories stay
   pub walk-kept : (l .rx ≡ walkEffect l out k place datagram .rx) × (l .tx ≡ walkEffect l out k place datagram .tx)

@@ -33,9 +33,9 @@ use Rattle.answering.specs.declared.Verdict.the-variants.{Done as Written}
 use Rattle.answering.specs.declared.Dispatched.{Dispatched}
 use Rattle.answering.specs.Answers.{dispatched, doneWith}
 use Rattle.answer_receive.specs.declared.Takes.{Takes}
-use Rattle.answer_receive.specs.Long.{longest}
-use Rattle.answer_receive.specs.Segment.{lends, bytesOf, Run, begun, takeAt, memoryAt, bytesAt, step, goesOn, runOf, allTakes, eventBytes, leaves, roomFor}
-use Rattle.answer_receive.specs.Turn.{takenBytes, takesOf, frontOf, lengthOf}
+use Rattle.answer_receive.specs.Long.{longestBody}
+use Rattle.answer_receive.specs.Segment.{lends, bytesIfDone, Progress, begun, takeAt, memoryAt, bytesAt, oneTake, takeFollows, takesUpTo, allTakes, eventBytes, takesEffect, answerRoom}
+use Rattle.answer_receive.specs.Turn.{takenBytes, takesOf, frontOf, answerLength}
 use Rattle.answer_receive.proofs.Once.{refused-none, done-all}
 use Rattle.answer_receive.proofs.Size.{most, most-all}
 use Rattle.gate.specs.Lent.{Loan, sizes, received}
@@ -71,34 +71,34 @@ is-done (Refused r) e = absurd (false≢true e)
 is-done NotReceiving e = absurd (false≢true e)
 
 -- how far the loop is: the run with the records, memory, bytes and places as they are
-abbrev pub runAt : State → List ℕ → List ℕ → ℕ → ℕ → Run
+abbrev pub runAt : State → List ℕ → List ℕ → ℕ → ℕ → Progress
 runAt s rx bytes count at = record { answer = Done; state = s; rx = rx; bytes = bytes; count = count; at = at }
 
 module _ (l : Loan) (connection : ℕ) (segment : List ℕ) where
-  stops : (n : ℕ) (r : Run) → goesOn l connection segment (step l connection segment r) ≡ false → runOf l connection segment n r ≡ step l connection segment r
-  unfolding runOf
+  stops : (n : ℕ) (r : Progress) → takeFollows l connection segment (oneTake l connection segment r) ≡ false → takesUpTo l connection segment n r ≡ oneTake l connection segment r
+  unfolding takesUpTo
   stops zero r e = refl
   stops (suc n) r e = rw e
 
-  more : (n : ℕ) (r : Run) → goesOn l connection segment (step l connection segment r) ≡ true → runOf l connection segment (suc n) r ≡ runOf l connection segment n (step l connection segment r)
-  unfolding runOf
+  more : (n : ℕ) (r : Progress) → takeFollows l connection segment (oneTake l connection segment r) ≡ true → takesUpTo l connection segment (suc n) r ≡ takesUpTo l connection segment n (oneTake l connection segment r)
+  unfolding takesUpTo
   more n r e = rw e
 
   -- A LATER TAKE IS NEVER REFUSED: the event's answer is that of its first take
-  run-done : Bytes segment → (n : ℕ) (r : Run) → isDone (segmentAnswer (sizes (lends l connection segment r)) connection) ≡ true → isDone (runOf l connection segment n r .answer) ≡ true
-  unfolding runOf step
+  run-done : Bytes segment → (n : ℕ) (r : Progress) → isDone (segmentAnswer (sizes (lends l connection segment r)) connection) ≡ true → isDone (takesUpTo l connection segment n r .answer) ≡ true
+  unfolding takesUpTo oneTake
   run-done small zero r d = answer-is (lends l connection segment r) connection (drop (r .at) segment) ∙ d
   run-done small (suc n) r d =
-      go (goesOn l connection segment (step l connection segment r))
-      (run-done small n (step l connection segment r) (bytes-next (lends l connection segment r) connection segment (r .at) small (answer-is (lends l connection segment r) connection (drop (r .at) segment) ∙ d)))
+      go (takeFollows l connection segment (oneTake l connection segment r))
+      (run-done small n (oneTake l connection segment r) (bytes-next (lends l connection segment r) connection segment (r .at) small (answer-is (lends l connection segment r) connection (drop (r .at) segment) ∙ d)))
     where
-      go : (b : Bool) → isDone (runOf l connection segment n (step l connection segment r) .answer) ≡ true
-          → isDone (cond b (runOf l connection segment n (step l connection segment r)) (step l connection segment r) .answer) ≡ true
+      go : (b : Bool) → isDone (takesUpTo l connection segment n (oneTake l connection segment r) .answer) ≡ true
+          → isDone (cond b (takesUpTo l connection segment n (oneTake l connection segment r)) (oneTake l connection segment r) .answer) ≡ true
       go true h = h
       go false h = answer-is (lends l connection segment r) connection (drop (r .at) segment) ∙ d
 
   pub first-answer : Bytes segment → allTakes l connection segment .answer ≡ takeAt l connection segment 0 .answer
-  unfolding step
+  unfolding oneTake
   first-answer small = go (isDone (takeAt l connection segment 0 .answer)) refl
     where
       go : (b : Bool) → isDone (takeAt l connection segment 0 .answer) ≡ b → allTakes l connection segment .answer ≡ takeAt l connection segment 0 .answer
@@ -106,20 +106,20 @@ module _ (l : Loan) (connection : ℕ) (segment : List ℕ) where
           is-done (allTakes l connection segment .answer)
           (run-done small (length segment) (begun (l .state) (l .rx)) (sym (answer-is l connection (drop 0 segment)) ∙ e))
           ∙ sym (is-done (takeAt l connection segment 0 .answer) e)
-      go false e = ap (λ (r : Run). r .answer) (stops (length segment) (begun (l .state) (l .rx)) (and-first (isDone (takeAt l connection segment 0 .answer)) _ e))
+      go false e = ap (λ (r : Progress). r .answer) (stops (length segment) (begun (l .state) (l .rx)) (and-first (isDone (takeAt l connection segment 0 .answer)) _ e))
 
   -- EACH TAKE BEFORE ANOTHER READS A BYTE: so there are no more takes than bytes
-  run-count : (n : ℕ) (r : Run) → r .count ≤ r .at → r .at < length segment → runOf l connection segment n r .count ≤ length segment
-  unfolding runOf step
+  run-count : (n : ℕ) (r : Progress) → r .count ≤ r .at → r .at < length segment → takesUpTo l connection segment n r .count ≤ length segment
+  unfolding takesUpTo oneTake
   run-count zero r low inside = omega (arith, low, inside)
-  run-count (suc n) r low inside = go (goesOn l connection segment (step l connection segment r)) refl (run-count n (step l connection segment r))
+  run-count (suc n) r low inside = go (takeFollows l connection segment (oneTake l connection segment r)) refl (run-count n (oneTake l connection segment r))
     where
       t : SegmentTaken
       t = takeAt (lends l connection segment r) connection segment (r .at)
 
-      go : (b : Bool) → goesOn l connection segment (step l connection segment r) ≡ b
-          → (r .count + 1 ≤ r .at + t .read → r .at + t .read < length segment → runOf l connection segment n (step l connection segment r) .count ≤ length segment)
-          → cond b (runOf l connection segment n (step l connection segment r)) (step l connection segment r) .count ≤ length segment
+      go : (b : Bool) → takeFollows l connection segment (oneTake l connection segment r) ≡ b
+          → (r .count + 1 ≤ r .at + t .read → r .at + t .read < length segment → takesUpTo l connection segment n (oneTake l connection segment r) .count ≤ length segment)
+          → cond b (takesUpTo l connection segment n (oneTake l connection segment r)) (oneTake l connection segment r) .count ≤ length segment
       go true e h =
           let done : isDone (t .answer) ≡ true = and-left (isDone (t .answer)) (ltb (r .at + t .read) (length segment)) e in
           let left : r .at + t .read < length segment = ltb-true (r .at + t .read) (length segment) (and-right (isDone (t .answer)) (ltb (r .at + t .read) (length segment)) e) in
@@ -129,9 +129,9 @@ module _ (l : Loan) (connection : ℕ) (segment : List ℕ) where
 
   -- the answer of the last take is not asked for the next
   blind : (n : ℕ) (a : Answer) (s : State) (rx bytes : List ℕ) (count at : ℕ)
-      → runOf l connection segment n (runAt s rx bytes count at)
-      ≡ runOf l connection segment n (record { answer = a; state = s; rx = rx; bytes = bytes; count = count; at = at })
-  unfolding runOf step
+      → takesUpTo l connection segment n (runAt s rx bytes count at)
+      ≡ takesUpTo l connection segment n (record { answer = a; state = s; rx = rx; bytes = bytes; count = count; at = at })
+  unfolding takesUpTo oneTake
   blind zero a s rx bytes count at = refl
   blind (suc n) a s rx bytes count at = refl
 
@@ -139,7 +139,7 @@ module _ (l : Loan) (connection : ℕ) (segment : List ℕ) where
   -- is room for those to come, and the next take is not refused
   pub record Going (out₀ : List ℕ) (s : State) (rx out : List ℕ) (place count at : ℕ) : Type 0 where
     pub bytes : List ℕ
-    pub same : runOf l connection segment (length segment - count) (runAt s rx bytes count at) ≡ allTakes l connection segment
+    pub same : takesUpTo l connection segment (length segment - count) (runAt s rx bytes count at) ≡ allTakes l connection segment
     pub low : count ≤ at
     pub within : at ≤ length segment
     pub wrote : out ≡ lay out₀ 4 bytes
@@ -147,11 +147,11 @@ module _ (l : Loan) (connection : ℕ) (segment : List ℕ) where
     pub spare : place + most (recordAt s connection .part) + 3 * (length segment - at) ≤ length out₀
     pub clear : isDone (segmentAnswer (sizes (received l s rx)) connection) ≡ true
 
-  pub going-start : (out : List ℕ) → roomFor segment ≤ length out → isDone (segmentAnswer (sizes l) connection) ≡ true → Going out (l .state) (l .rx) out 4 0 0
+  pub going-start : (out : List ℕ) → answerRoom segment ≤ length out → isDone (segmentAnswer (sizes l) connection) ≡ true → Going out (l .state) (l .rx) out 4 0 0
   going-start out h d =
       record {
         bytes = [];
-        same = ap (λ (n : ℕ). runOf l connection segment n (begun (l .state) (l .rx))) (omega arith);
+        same = ap (λ (n : ℕ). takesUpTo l connection segment n (begun (l .state) (l .rx))) (omega arith);
         low = omega arith;
         within = omega arith;
         wrote = sym (lay-nothing out 4);
@@ -193,7 +193,7 @@ module _ (l : Loan) (connection : ℕ) (segment : List ℕ) where
       -- where bytes are left
       pub going-on : Bytes segment → at + taken .read < length segment
           → Going out₀ (taken .state) (memoryAt (received l s rx) connection segment at) (lay out place more-bytes) (placeAfter out place more-bytes) (count + 1) (at + taken .read)
-      unfolding step
+      unfolding oneTake
       going-on small left =
           let dropped = length-drop at segment in
           let some = read-some (received l s rx) connection (drop at segment) done (omega arith) in
@@ -203,7 +203,7 @@ module _ (l : Loan) (connection : ℕ) (segment : List ℕ) where
             same =
                 blind (length segment - (count + 1)) (taken .answer) (taken .state) (memoryAt (received l s rx) connection segment at) (g .bytes ++ more-bytes) (count + 1) (at + taken .read)
                 ∙ sym (more (length segment - (count + 1)) (runAt s rx (g .bytes) count at) (and-both done (lt-ltb _ _ left)))
-                ∙ ap (λ (k : ℕ). runOf l connection segment k (runAt s rx (g .bytes) count at)) (sym n)
+                ∙ ap (λ (k : ℕ). takesUpTo l connection segment k (runAt s rx (g .bytes) count at)) (sym n)
                 ∙ g .same;
             low = omega (arith, g .low);
             within = omega arith;
@@ -226,13 +226,13 @@ module _ (l : Loan) (connection : ℕ) (segment : List ℕ) where
           → (record { answer = Done; count = count + 1; place = placeAfter out place more-bytes; state = taken .state } ≡ takesOf (allTakes l connection segment))
           × ((memoryAt (received l s rx) connection segment at ≡ allTakes l connection segment .rx)
           × (lay out place more-bytes ≡ lay out₀ 4 (takenBytes (allTakes l connection segment))))
-      unfolding step
+      unfolding oneTake
       going-end left =
-          let r : step l connection segment (runAt s rx (g .bytes) count at) ≡ allTakes l connection segment =
+          let r : oneTake l connection segment (runAt s rx (g .bytes) count at) ≡ allTakes l connection segment =
           sym (stops (length segment - count) (runAt s rx (g .bytes) count at) (and-second (isDone (taken .answer)) _ (le-ltb _ _ left))) ∙ g .same in
-          let b : g .bytes ++ more-bytes ≡ bytesOf (taken .answer) (g .bytes ++ more-bytes) = done-all (taken .answer) (g .bytes ++ more-bytes) done in (
+          let b : g .bytes ++ more-bytes ≡ bytesIfDone (taken .answer) (g .bytes ++ more-bytes) = done-all (taken .answer) (g .bytes ++ more-bytes) done in (
             ap₂ (λ (a : Answer) (p : ℕ). kept a (count + 1) p (taken .state)) (sym (is-done (taken .answer) done)) (all-placed ∙ ap (λ (x : List ℕ). 4 + length x) b) ∙ ap takesOf r,
-            (ap (λ (u : Run). u .rx) r, all-wrote ∙ ap (lay out₀ 4) b ∙ ap (λ (u : Run). lay out₀ 4 (takenBytes u)) r),
+            (ap (λ (u : Progress). u .rx) r, all-wrote ∙ ap (lay out₀ 4) b ∙ ap (λ (u : Progress). lay out₀ 4 (takenBytes u)) r),
           )
         where
           kept : Answer → ℕ → ℕ → State → Takes
@@ -242,21 +242,21 @@ module _ (l : Loan) (connection : ℕ) (segment : List ℕ) where
   pub refused-first : (out : List ℕ) (a : Answer) → a ≡ segmentAnswer (sizes l) connection → isDone a ≡ false
       → (record { answer = a; count = 1; place = 4; state = l .state } ≡ takesOf (allTakes l connection segment))
       × ((l .rx ≡ allTakes l connection segment .rx) × (out ≡ lay out 4 (takenBytes (allTakes l connection segment))))
-  unfolding step
+  unfolding oneTake
   refused-first out a e no-take =
       let f : isDone (segmentAnswer (sizes l) connection) ≡ false = ap isDone (sym e) ∙ no-take in
       let d : isDone (takeAt l connection segment 0 .answer) ≡ false = answer-is l connection (drop 0 segment) ∙ f in
-      let r : step l connection segment (begun (l .state) (l .rx)) ≡ allTakes l connection segment =
+      let r : oneTake l connection segment (begun (l .state) (l .rx)) ≡ allTakes l connection segment =
       sym (stops (length segment) (begun (l .state) (l .rx)) (and-first (isDone (takeAt l connection segment 0 .answer)) _ d)) in
-      let n : [] ≡ bytesOf (takeAt l connection segment 0 .answer) ([] ++ bytesAt l connection segment 0) =
+      let n : [] ≡ bytesIfDone (takeAt l connection segment 0 .answer) ([] ++ bytesAt l connection segment 0) =
       refused-none (takeAt l connection segment 0 .answer) ([] ++ bytesAt l connection segment 0) d in (
         ap (λ (x : Answer). kept x [] (l .state)) e
             ∙ ap (λ (t : SegmentTaken). kept (t .answer) [] (t .state)) (sym (none-is l connection (drop 0 segment) f))
             ∙ ap (λ (x : List ℕ). kept (takeAt l connection segment 0 .answer) x (takeAt l connection segment 0 .state)) n
             ∙ ap takesOf r,
         (
-          memory-stays l connection (drop 0 segment) f ∙ ap (λ (u : Run). u .rx) r,
-          sym (lay-nothing out 4) ∙ ap (lay out 4) n ∙ ap (λ (u : Run). lay out 4 (takenBytes u)) r,
+          memory-stays l connection (drop 0 segment) f ∙ ap (λ (u : Progress). u .rx) r,
+          sym (lay-nothing out 4) ∙ ap (lay out 4) n ∙ ap (λ (u : Progress). lay out 4 (takenBytes u)) r,
         ),
       )
     where
@@ -264,8 +264,8 @@ module _ (l : Loan) (connection : ℕ) (segment : List ℕ) where
       kept x bytes u = record { answer = x; count = 1; place = 4 + length bytes; state = u }
 
 -- THE NUMBER OF TAKES over a segment that is not too long: an empty one has one take. So two bytes spell it
-pub count-fits : (l : Loan) (connection : ℕ) (segment : List ℕ) → length segment ≤ longest → allTakes l connection segment .count ≤ longest
-unfolding runOf step
+pub count-fits : (l : Loan) (connection : ℕ) (segment : List ℕ) → length segment ≤ longestBody → allTakes l connection segment .count ≤ longestBody
+unfolding takesUpTo oneTake
 count-fits l connection [] short = omega arith
 count-fits l connection (b ∷ bs) short =
     omega (arith, short, run-count l connection (b ∷ bs) (length (b ∷ bs)) (begun (l .state) (l .rx)) (omega arith) (omega arith))
@@ -286,12 +286,12 @@ lay-front d m x y e h =
     ∙ ap (λ (k : ℕ). x ++ y ++ drop k d) q
     ∙ sym (lay-fits d 0 (x ++ y) (omega arith))
 
-told-length : (a : Answer) (count : ℕ) (bytes : List ℕ) → lengthOf a (4 + length (bytesOf a bytes)) ≡ length (eventBytes a count bytes)
+told-length : (a : Answer) (count : ℕ) (bytes : List ℕ) → answerLength a (4 + length (bytesIfDone a bytes)) ≡ length (eventBytes a count bytes)
 told-length Done count bytes = simp (length-append, length-spell)
 told-length (Refused r) count bytes = refl
 told-length NotReceiving count bytes = refl
 
-told-out : (a : Answer) (count : ℕ) (bytes out : List ℕ) → 4 + length bytes ≤ length out → lay (lay out 4 (bytesOf a bytes)) 0 (frontOf a count) ≡ lay out 0 (eventBytes a count bytes)
+told-out : (a : Answer) (count : ℕ) (bytes out : List ℕ) → 4 + length bytes ≤ length out → lay (lay out 4 (bytesIfDone a bytes)) 0 (frontOf a count) ≡ lay out 0 (eventBytes a count bytes)
 told-out Done count bytes out h = lay-front out 4 (doneWith 2 count) bytes (simp (length-append, length-spell)) h
 told-out (Refused r) count bytes out h = ap (λ (o : List ℕ). lay o 0 (frontOf (Refused r) count)) (lay-nothing out 4)
 told-out NotReceiving count bytes out h = ap (λ (o : List ℕ). lay o 0 (frontOf NotReceiving count)) (lay-nothing out 4)
@@ -300,12 +300,12 @@ abbrev handed : ℕ → State → Dispatched
 handed n s = record { verdict = Written n; state = s }
 
 -- the takes' answer is put before their bytes, and handed back
-pub all-told : {k : Takes} {n : ℕ} {rx o o′ : List ℕ} (r : Run) (tx out : List ℕ) → 4 + length (r .bytes) ≤ length out
+pub all-told : {k : Takes} {n : ℕ} {rx o o′ : List ℕ} (r : Progress) (tx out : List ℕ) → 4 + length (r .bytes) ≤ length out
     → k ≡ takesOf r → rx ≡ r .rx → o ≡ lay out 4 (takenBytes r)
-    → n ≡ lengthOf (k .answer) (k .place) → o′ ≡ lay o 0 (frontOf (k .answer) (k .count))
-    → (handed n (k .state) ≡ dispatched (leaves r tx out)) × ((rx ≡ leaves r tx out .rx) × (o′ ≡ leaves r tx out .out))
+    → n ≡ answerLength (k .answer) (k .place) → o′ ≡ lay o 0 (frontOf (k .answer) (k .count))
+    → (handed n (k .state) ≡ dispatched (takesEffect r tx out)) × ((rx ≡ takesEffect r tx out .rx) × (o′ ≡ takesEffect r tx out .out))
 all-told {k} r tx out h e m w l f = (
-  ap₂ handed (l ∙ ap (λ (u : Takes). lengthOf (u .answer) (u .place)) e ∙ told-length (r .answer) (r .count) (r .bytes)) (ap (λ (u : Takes). u .state) e),
+  ap₂ handed (l ∙ ap (λ (u : Takes). answerLength (u .answer) (u .place)) e ∙ told-length (r .answer) (r .count) (r .bytes)) (ap (λ (u : Takes). u .state) e),
   (
     m,
     f

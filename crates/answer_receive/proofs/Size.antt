@@ -9,14 +9,14 @@ use lib.Dec.{leb}
 use lib.ListN.{length, take, drop, length-take, length-drop}
 use Rattle.feed.specs.declared.Decision.{Decision}
 use Rattle.feed.specs.declared.Decision.the-variants.{Accept, Refuse}
-use Rattle.feed.specs.Feed.{Routes, header, payload, skip, Cell, cell, Out, nothing, pdu, dropped, Fed, decided, done, feed, stops, Took, took, takeB, Ends, at-end, at-byte}
+use Rattle.feed.specs.Feed.{Routes, header, payload, skip, Cell, cell, Out, nothing, pdu, dropped, Fed, decided, pieceDone, feed, stops, Took, took, takeB, Ends, at-end, at-byte}
 use Rattle.feed.proofs.Cut.{take-ends}
 use Rattle.layout.specs.Layout.{partOf}
 use Rattle.part.specs.declared.Part.{Part}
 use Rattle.part.specs.declared.Part.the-variants.{Header, Payload, Skip}
 use Rattle.stream.specs.declared.Outcome.{Outcome}
 use Rattle.stream.specs.declared.Outcome.the-variants.{More, Pdu, Drop}
-use Rattle.stream.specs.Stream.{cellOf, partFrom, inSegment, outcomeOf}
+use Rattle.stream.specs.Stream.{cellOf, partFrom, inSegment, takeOutcome}
 use Rattle.state.specs.Memory.{stretch}
 use Rattle.receive.specs.Segment.{payloadOf}
 use Rattle.answering.proofs.Chain.{length-found}
@@ -52,7 +52,7 @@ wants (cell n (payload r h)) = 0
 wants (cell n skip) = 8
 
 stop-wants : (R : Routes) (c : Cell) (b : ℕ) → stops (feed R c b .out) ≡ true → wants c ≤ 1
-unfolding feed done
+unfolding feed pieceDone
 stop-wants R (cell zero (header v)) b s = omega arith
 stop-wants R (cell (suc zero) (header v)) b s = omega arith
 stop-wants R (cell (suc (suc n)) (header v)) b s = absurd (false≢true s)
@@ -62,7 +62,7 @@ stop-wants R (cell (suc zero) skip) b s = absurd (false≢true s)
 stop-wants R (cell (suc (suc n)) skip) b s = absurd (false≢true s)
 
 go-wants : (R : Routes) (c : Cell) (b : ℕ) → wants c ≤ 1 + wants (feed R c b .to)
-unfolding feed done
+unfolding feed pieceDone
 go-wants R (cell zero (header v)) b = omega arith
 go-wants R (cell (suc zero) (header v)) b = omega arith
 go-wants R (cell (suc (suc n)) (header v)) b = omega arith
@@ -92,7 +92,7 @@ decided-most (Refuse k) i zero s = refl
 decided-most (Refuse k) i (suc n) s = refl
 
 stop-most : (R : Routes) (c : Cell) (b : ℕ) → stops (feed R c b .out) ≡ true → most (partFrom (feed R c b .to)) ≡ 19
-unfolding feed done most
+unfolding feed pieceDone most
 stop-most R (cell zero k) b s = absurd (false≢true s)
 stop-most R (cell (suc zero) (header v)) b s = decided-most (R ((v * 256 + b) / 2 ^ 32) ((v * 256 + b) % 2 ^ 32)) ((v * 256 + b) / 2 ^ 32) ((v * 256 + b) % 2 ^ 32) s
 stop-most R (cell (suc zero) (payload r h)) b s = refl
@@ -138,7 +138,7 @@ module _ (from read : ℕ) (seg m : List ℕ) (k : ℕ) where
   any-size (Pdu route id false at n) = omega (arith, length-held read route id n (partOf (stretch 1464 k m) at n), part-within (stretch 1464 k m) at n, stretch-within k m)
   any-size (Drop reason id n) = omega (arith, length-found read 2 reason id n)
 
-  here-size : (ids : ℕ → ℕ) (o : Out) → length (bytes (outcomeOf ids true read o)) ≤ 19
+  here-size : (ids : ℕ → ℕ) (o : Out) → length (bytes (takeOutcome ids true read o)) ≤ 19
   here-size ids nothing = omega (arith, length-found read 0 0 0 0)
   here-size ids (pdu r p) = omega (arith, length-here read r (ids r) (length p) from (read - length p))
   here-size ids (dropped reason id n) = omega (arith, length-found read 2 reason id n)
@@ -149,20 +149,20 @@ module _ (from read : ℕ) (seg m : List ℕ) (k : ℕ) where
     took-of p = takeB R (cellOf p rx) seg
 
     abbrev spent : Part → ℕ
-    spent p = length (bytes (outcomeOf ids (inSegment (cellOf p rx)) read (took-of p .out)))
+    spent p = length (bytes (takeOutcome ids (inSegment (cellOf p rx)) read (took-of p .out)))
 
     pub spent-within : (p : Part) → spent p ≤ most p
     unfolding most
     spent-within (Header zero value) = here-size ids (took-of (Header zero value) .out)
-    spent-within (Header (suc held) value) = omega (arith, any-size (outcomeOf ids true read (took-of (Header (suc held) value) .out)))
-    spent-within (Payload route n held) = omega (arith, any-size (outcomeOf ids (inSegment (cellOf (Payload route n held) rx)) read (took-of (Payload route n held) .out)))
+    spent-within (Header (suc held) value) = omega (arith, any-size (takeOutcome ids true read (took-of (Header (suc held) value) .out)))
+    spent-within (Payload route n held) = omega (arith, any-size (takeOutcome ids (inSegment (cellOf (Payload route n held) rx)) read (took-of (Payload route n held) .out)))
     spent-within (Skip n) = here-size ids (took-of (Skip n) .out)
 
     pub spent-stops : (p : Part) → stops (took-of p .out) ≡ true → spent p + 19 + 3 * length (took-of p .rest) ≤ most p + 3 * length seg
     unfolding most
     spent-stops (Header zero value) s = omega (arith, here-size ids (took-of (Header zero value) .out), take-wants R (cellOf (Header zero value) rx) seg s)
     spent-stops (Header (suc held) value) s =
-        omega (arith, any-size (outcomeOf ids true read (took-of (Header (suc held) value) .out)), take-wants R (cellOf (Header (suc held) value) rx) seg s)
+        omega (arith, any-size (takeOutcome ids true read (took-of (Header (suc held) value) .out)), take-wants R (cellOf (Header (suc held) value) rx) seg s)
     spent-stops (Payload route n held) s =
-        omega (arith, any-size (outcomeOf ids (inSegment (cellOf (Payload route n held) rx)) read (took-of (Payload route n held) .out)), take-wants R (cellOf (Payload route n held) rx) seg s)
+        omega (arith, any-size (takeOutcome ids (inSegment (cellOf (Payload route n held) rx)) read (took-of (Payload route n held) .out)), take-wants R (cellOf (Payload route n held) rx) seg s)
     spent-stops (Skip n) s = omega (arith, here-size ids (took-of (Skip n) .out), take-wants R (cellOf (Skip n) rx) seg s)

@@ -26,8 +26,8 @@ use Rattle.receive.proofs.Past.{below-sixteen, passed-takes}
 use Rattle.receive.proofs.Keeps.{in-range}
 use Rattle.gate.specs.Lent.{Lent, Loan, sizes, received}
 use Rattle.answer_receive.specs.declared.Turn.{Turn}
-use Rattle.answer_receive.specs.Segment.{Run, takeAt, memoryAt, bytesAt, allTakes, roomFor}
-use Rattle.answer_receive.specs.Turn.{memoryFrom, bytesFrom, turnOf, Goes, joined, takenBytes, takesOf}
+use Rattle.answer_receive.specs.Segment.{Progress, takeAt, memoryAt, bytesAt, allTakes, answerRoom}
+use Rattle.answer_receive.specs.Turn.{memoryFrom, bytesFrom, takeTurn, Goes, joined, takenBytes, takesOf}
 use Rattle.answer_receive.proofs.Once.{joined-own, record-joined, turned, turn-taken, turn-memory, turn-bytes}
 use Rattle.answer_receive.proofs.Run.{is-done, Going, going-start, going-on, going-end}
 
@@ -54,7 +54,7 @@ module _ (l : Loan) (k : ℕ) (segment : List ℕ) (out₀ : List ℕ) where
   abbrev pub AtTurn : Turn → List ℕ → List ℕ → Type 0
   AtTurn t rx out = Going l k segment out₀ (joined s k (t .part) (t .drops)) rx out (t .place) (t .count) (t .at)
 
-  abbrev all : Run
+  abbrev all : Progress
   all = allTakes l k segment
 
   -- the event's end, after a turn
@@ -64,7 +64,7 @@ module _ (l : Loan) (k : ℕ) (segment : List ℕ) (out₀ : List ℕ) where
       × ((rx ≡ all .rx) × (out ≡ lay out₀ 4 (takenBytes all)))
 
   -- the first
-  pub turn-start : roomFor segment ≤ length out₀ → isDone (segmentAnswer (sizes l) k) ≡ true
+  pub turn-start : answerRoom segment ≤ length out₀ → isDone (segmentAnswer (sizes l) k) ≡ true
       → AtTurn (record { part = recordAt s k .part; drops = s .«tcp_drops»; at = 0; place = 4; count = 0 }) (l .rx) out₀
   turn-start room clear =
       subst (λ (x : State). Going l k segment out₀ x (l .rx) out₀ 4 0 0) (joined-own s k) (going-start l k segment out₀ room clear)
@@ -114,20 +114,20 @@ module _ (l : Loan) (k : ℕ) (segment : List ℕ) (out₀ : List ℕ) where
     read-is : takeAt (received l at-turn rx) k segment (t .at) .read ≡ turned l k segment t rx there (g .clear) .read
     read-is = ap (λ (u : SegmentTaken). u .read) (turn-taken l k segment t rx there (g .clear))
 
-    module _ {r : Turn} {rx′ out′ : List ℕ} (is : r ≡ turnOf routes switches k segment t rx out) (memory : rx′ ≡ memoryFrom routes switches k segment t rx)
+    module _ {r : Turn} {rx′ out′ : List ℕ} (is : r ≡ takeTurn routes switches k segment t rx out) (memory : rx′ ≡ memoryFrom routes switches k segment t rx)
         (wrote : out′ ≡ lay out (t .place) (bytesFrom routes switches k segment t rx)) where
       -- by the table's routes
       to : (P : Turn → List ℕ → List ℕ → Type 0)
-          → P (turnOf (bodyOf image Routes) switches k segment t rx out) (memoryFrom (bodyOf image Routes) switches k segment t rx)
+          → P (takeTurn (bodyOf image Routes) switches k segment t rx out) (memoryFrom (bodyOf image Routes) switches k segment t rx)
           (lay out (t .place) (bytesFrom (bodyOf image Routes) switches k segment t rx)) → P r rx′ out′
       to P p =
-          subst (λ (x : Turn). P x rx′ out′) (sym (is ∙ ap (λ (z : List ℕ). turnOf z switches k segment t rx out) er))
-          (subst (λ (m : List ℕ). P (turnOf (bodyOf image Routes) switches k segment t rx out) m out′) (sym (memory ∙ ap (λ (z : List ℕ). memoryFrom z switches k segment t rx) er))
-          (subst (P (turnOf (bodyOf image Routes) switches k segment t rx out) (memoryFrom (bodyOf image Routes) switches k segment t rx))
+          subst (λ (x : Turn). P x rx′ out′) (sym (is ∙ ap (λ (z : List ℕ). takeTurn z switches k segment t rx out) er))
+          (subst (λ (m : List ℕ). P (takeTurn (bodyOf image Routes) switches k segment t rx out) m out′) (sym (memory ∙ ap (λ (z : List ℕ). memoryFrom z switches k segment t rx) er))
+          (subst (P (takeTurn (bodyOf image Routes) switches k segment t rx out) (memoryFrom (bodyOf image Routes) switches k segment t rx))
           (sym (wrote ∙ ap (λ (z : List ℕ). lay out (t .place) (bytesFrom z switches k segment t rx)) er)) p))
 
       far : r .at ≡ t .at + takeAt (received l at-turn rx) k segment (t .at) .read
-      far = ap (λ (x : Turn). x .at) (is ∙ ap (λ (z : List ℕ). turnOf z switches k segment t rx out) er) ∙ ap (λ (n : ℕ). t .at + n) (sym read-is)
+      far = ap (λ (x : Turn). x .at) (is ∙ ap (λ (z : List ℕ). takeTurn z switches k segment t rx out) er) ∙ ap (λ (n : ℕ). t .at + n) (sym read-is)
 
       -- bytes are left
       pub turn-on : Bytes segment → r .at < length segment → AtTurn r rx′ out′

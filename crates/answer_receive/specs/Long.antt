@@ -6,9 +6,9 @@ use lib.Dec.{ltb}
 use lib.ListN.{length}
 
 -- an event's body has so many bytes at most
-abbrev pub longest : ℕ
-longest = 4096
+abbrev pub longestBody : ℕ
+longestBody = 4096
 
 -- a segment or a datagram that stands in no body
 abbrev pub tooLong : List ℕ → Bool
-tooLong bytes = ltb longest (length bytes)
+tooLong bytes = ltb longestBody (length bytes)

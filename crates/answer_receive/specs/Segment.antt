@@ -15,36 +15,36 @@ use Rattle.receive.specs.declared.SegmentTaken.{SegmentTaken}
 use Rattle.receive.specs.Answer.{isDone}
 use Rattle.receive.specs.Segment.{segmentOf, memoryOf, payloadOf}
 use Rattle.answering.specs.declared.Verdict.the-variants.{Unfit, Small}
-use Rattle.answering.specs.Answers.{Effect, answers, untouched, doneWith, found}
+use Rattle.answering.specs.Answers.{Effect, answers, untouched, doneWith, foundBytes}
 use Rattle.answer_receive.specs.Long.{tooLong}
 use Rattle.gate.specs.Lent.{Loan, received}
 use Rattle.answer_receive.specs.Walk.{orRefused}
 
 -- a PDU: "where its payload stood: 0 (1) and the place in the segment (4)", for a take that began at the place from of the segment ..
 abbrev pub hereBytes : ℕ → ℕ → ℕ → ℕ → ℕ → ℕ → List ℕ
-hereBytes read route id n from at = found read 1 route id n ++ spell 1 0 ++ spell 4 (from + at)
+hereBytes read route id n from at = foundBytes read 1 route id n ++ spell 1 0 ++ spell 4 (from + at)
 
 -- ".. or 1 (1) and the payload's bytes out of receive memory"
 abbrev pub heldBytes : ℕ → ℕ → ℕ → ℕ → List ℕ → List ℕ
-heldBytes read route id n payload = found read 1 route id n ++ spell 1 1 ++ payload
+heldBytes read route id n payload = foundBytes read 1 route id n ++ spell 1 1 ++ payload
 
 -- a take: "bytes read (4), kind (1: 0 more wanted, 1 PDU, 2 drop), route or reason (1), id (4), length (4); for more wanted these three
 -- are 0"
 abbrev pub takeBytes : ℕ → ℕ → Outcome → List ℕ → List ℕ
-takeBytes from read More payload = found read 0 0 0 0
+takeBytes from read More payload = foundBytes read 0 0 0 0
 takeBytes from read (Pdu route id true at n) payload = hereBytes read route id n from at
 takeBytes from read (Pdu route id false at n) payload = heldBytes read route id n payload
-takeBytes from read (Drop reason id n) payload = found read 2 reason id n
+takeBytes from read (Drop reason id n) payload = foundBytes read 2 reason id n
 
 -- a refused take has none
-abbrev pub bytesOf : Answer → List ℕ → List ℕ
-bytesOf Done bytes = bytes
-bytesOf (Refused r) bytes = []
-bytesOf NotReceiving bytes = []
+abbrev pub bytesIfDone : Answer → List ℕ → List ℕ
+bytesIfDone Done bytes = bytes
+bytesIfDone (Refused r) bytes = []
+bytesIfDone NotReceiving bytes = []
 
 -- HOW FAR A SEGMENT EVENT IS: the answer of its last take, state and receive memory after it, the bytes of the takes so far, how many
 -- takes, and the bytes read
-pub record Run : Type 0 where
+pub record Progress : Type 0 where
   pub answer : Answer
   pub state : State
   pub rx : List ℕ
@@ -53,7 +53,7 @@ pub record Run : Type 0 where
   pub at : ℕ
 
 -- before the first take
-abbrev pub begun : State → List ℕ → Run
+abbrev pub begun : State → List ℕ → Progress
 begun s rx = record { answer = Done; state = s; rx = rx; bytes = []; count = 0; at = 0 }
 
 -- THE TAKE over what is left of the segment, receive memory after it, and its bytes of the answer
@@ -66,16 +66,16 @@ module _ (l : Loan) (connection : ℕ) (segment : List ℕ) (at : ℕ) where
 
   unfoldable pub bytesAt : List ℕ
   bytesAt =
-      bytesOf (takeAt .answer) (takeBytes at (takeAt .read) (takeAt .outcome) (payloadOf (drop at segment) memoryAt connection (takeAt .outcome)))
+      bytesIfDone (takeAt .answer) (takeBytes at (takeAt .read) (takeAt .outcome) (payloadOf (drop at segment) memoryAt connection (takeAt .outcome)))
 
 module _ (l : Loan) (connection : ℕ) (segment : List ℕ) where
   -- what the next take of a run is lent
-  abbrev pub lends : Run → Loan
+  abbrev pub lends : Progress → Loan
   lends r = received l (r .state) (r .rx)
 
   -- one take more
-  unfoldable pub step : Run → Run
-  step r =
+  unfoldable pub oneTake : Progress → Progress
+  oneTake r =
       record {
         answer = takeAt (lends r) connection segment (r .at) .answer;
         state = takeAt (lends r) connection segment (r .at) .state;
@@ -86,34 +86,34 @@ module _ (l : Loan) (connection : ℕ) (segment : List ℕ) where
       }
 
   -- "until all is read": a take follows where bytes are left and this one was not refused
-  abbrev pub goesOn : Run → Bool
-  goesOn r = isDone (r .answer) && ltb (r .at) (length segment)
+  abbrev pub takeFollows : Progress → Bool
+  takeFollows r = isDone (r .answer) && ltb (r .at) (length segment)
 
   -- at most n takes after the next; each reads a byte, so as many as the segment has bytes are enough
-  unfoldable pub runOf : ℕ → Run → Run
-  runOf zero r = step r
-  runOf (suc n) r = cond (goesOn (step r)) (runOf n (step r)) (step r)
+  unfoldable pub takesUpTo : ℕ → Progress → Progress
+  takesUpTo zero r = oneTake r
+  takesUpTo (suc n) r = cond (takeFollows (oneTake r)) (takesUpTo n (oneTake r)) (oneTake r)
 
-  abbrev pub allTakes : Run
-  allTakes = runOf (length segment) (begun (l .state) (l .rx))
+  abbrev pub allTakes : Progress
+  allTakes = takesUpTo (length segment) (begun (l .state) (l .rx))
 
 -- "number of takes (2), then for every take" its bytes; "a refusal of the first take is the event's answer (later takes are never
 -- refused)": so the last take's answer is the first's (proofs/Run `first-answer`)
 abbrev pub eventBytes : Answer → ℕ → List ℕ → List ℕ
 eventBytes a count bytes = orRefused a (doneWith 2 count ++ bytes)
 
-abbrev pub leaves : Run → List ℕ → List ℕ → Effect
-leaves r tx out = answers (eventBytes (r .answer) (r .count) (r .bytes)) (r .state) (r .rx) tx out
+abbrev pub takesEffect : Progress → List ℕ → List ℕ → Effect
+takesEffect r tx out = answers (eventBytes (r .answer) (r .count) (r .bytes)) (r .state) (r .rx) tx out
 
 -- THE ROOM that the event's answer never exceeds, whatever the takes find (proofs/Room `event-fits`): a payload out of receive memory
 -- and what comes with it once, and three bytes for each of the segment
-abbrev pub roomFor : List ℕ → ℕ
-roomFor segment = 1502 + 3 * length segment
+abbrev pub answerRoom : List ℕ → ℕ
+answerRoom segment = 1502 + 3 * length segment
 
 -- WHAT A SEGMENT EVENT LEAVES: a segment that is too long, and then an out buffer that is too short, "is refused and changes nothing"; in
 -- any other the answer stands whole
 unfoldable pub segmentEffect : Loan → List ℕ → ℕ → List ℕ → Effect
 segmentEffect l out connection segment =
     cond (tooLong segment) (untouched Unfit (l .state) (l .rx) (l .tx) out)
-    (cond (ltb (length out) (roomFor segment)) (untouched Small (l .state) (l .rx) (l .tx) out)
-    (leaves (allTakes l connection segment) (l .tx) out))
+    (cond (ltb (length out) (answerRoom segment)) (untouched Small (l .state) (l .rx) (l .tx) out)
+    (takesEffect (allTakes l connection segment) (l .tx) out))

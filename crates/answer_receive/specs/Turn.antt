@@ -21,7 +21,7 @@ use Rattle.answering.specs.Answers.{refused, refusal, doneWith}
 use Rattle.answer_receive.specs.declared.Turn as turn
 use Rattle.answer_receive.specs.declared.Takes as takes
 use Rattle.answer_receive.specs.Walk.{orRefused}
-use Rattle.answer_receive.specs.Segment.{takeBytes, bytesOf, Run}
+use Rattle.answer_receive.specs.Segment.{takeBytes, bytesIfDone, Progress}
 
 -- PAST THE GATE, over the routes and the switches of a connection: the take over what is left of the segment, receive memory after it,
 -- and its bytes of the answer
@@ -36,8 +36,8 @@ module _ (routes : List ℕ) (switches connection : ℕ) (segment : List ℕ) (t
   bytesFrom = takeBytes (t .at) (takenFrom .read) (takenFrom .outcome) (payloadOf (drop (t .at) segment) memoryFrom connection (takenFrom .outcome))
 
   -- one take more
-  abbrev pub turnOf : List ℕ → turn.Turn
-  turnOf out =
+  abbrev pub takeTurn : List ℕ → turn.Turn
+  takeTurn out =
       record {
         part = takenFrom .part;
         drops = dropsAfter (takenFrom .outcome) (t .drops);
@@ -59,10 +59,10 @@ abbrev pub joined : State → ℕ → Part → ℕ → State
 joined s connection part drops = withCount true drops (withRecord connection (withPart part (recordAt s connection)) s)
 
 -- all of them: four bytes of the answer come before theirs, and of a refusal none follows
-abbrev pub takenBytes : Run → List ℕ
-takenBytes r = bytesOf (r .answer) (r .bytes)
+abbrev pub takenBytes : Progress → List ℕ
+takenBytes r = bytesIfDone (r .answer) (r .bytes)
 
-abbrev pub takesOf : Run → takes.Takes
+abbrev pub takesOf : Progress → takes.Takes
 takesOf r = record { answer = r .answer; count = r .count; place = 4 + length (takenBytes r); state = r .state }
 
 -- the number of takes before their bytes, or the refusal of the first
@@ -70,7 +70,7 @@ abbrev pub frontOf : Answer → ℕ → List ℕ
 frontOf a count = orRefused a (doneWith 2 count)
 
 -- the length of the answer: up to the place after the last take's bytes
-abbrev pub lengthOf : Answer → ℕ → ℕ
-lengthOf Done place = place
-lengthOf (Refused r) place = length (refusal r)
-lengthOf NotReceiving place = length (refused 4 0)
+abbrev pub answerLength : Answer → ℕ → ℕ
+answerLength Done place = place
+answerLength (Refused r) place = length (refusal r)
+answerLength NotReceiving place = length (refused 4 0)

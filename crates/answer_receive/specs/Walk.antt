@@ -11,7 +11,7 @@ use Rattle.receive.specs.declared.Answer.the-variants.{Done, Refused, NotReceiv
 use Rattle.receive.specs.declared.DatagramWalked.{DatagramWalked}
 use Rattle.receive.specs.Walk.{walkOf}
 use Rattle.answering.specs.declared.Verdict.the-variants.{Unfit}
-use Rattle.answering.specs.Answers.{Effect, answers, untouched, refused, refusal, done, found}
+use Rattle.answering.specs.Answers.{Effect, answers, untouched, refused, refusal, doneAlone, foundBytes}
 use Rattle.gate.specs.Lent.{Loan, sizes}
 use Rattle.answer_receive.specs.Long.{tooLong}
 
@@ -23,7 +23,7 @@ orRefused NotReceiving bytes = refused 4 0
 
 -- "next place (4), kind (1: 0 the end, 1 PDU, 2 drop), route or reason (1), id (4), length (4)"
 abbrev pub stepBytes : ℕ → ℕ → ℕ → ℕ → ℕ → List ℕ
-stepBytes next kind which id n = done ++ found next kind which id n
+stepBytes next kind which id n = doneAlone ++ foundBytes next kind which id n
 
 -- "For a PDU then the payload's place in the datagram (4)"
 abbrev pub pduBytes : ℕ → ℕ → ℕ → ℕ → ℕ → List ℕ
@@ -39,11 +39,11 @@ abbrev pub walkedBytes : DatagramWalked → List ℕ
 walkedBytes w = orRefused (w .answer) (walkBytes (w .next) (w .outcome))
 
 -- of any datagram
-abbrev pub walked : Loan → List ℕ → ℕ → ℕ → List ℕ → Effect
-walked l out connection place datagram =
+abbrev pub walkedEffect : Loan → List ℕ → ℕ → ℕ → List ℕ → Effect
+walkedEffect l out connection place datagram =
     answers (walkedBytes (walkOf (sizes l) connection datagram place)) (walkOf (sizes l) connection datagram place .state) (l .rx) (l .tx) out
 
 -- WHAT A WALK LEAVES: a datagram that is too long "is refused and changes nothing"
 unfoldable pub walkEffect : Loan → List ℕ → ℕ → ℕ → List ℕ → Effect
 walkEffect l out connection place datagram =
-    cond (tooLong datagram) (untouched Unfit (l .state) (l .rx) (l .tx) out) (walked l out connection place datagram)
+    cond (tooLong datagram) (untouched Unfit (l .state) (l .rx) (l .tx) out) (walkedEffect l out connection place datagram)

@@ -6,7 +6,7 @@ ghost use lib.ListN.{length};
 ghost use Rattle.wire.specs.Lay.{spell, lay};
 ghost use Rattle.pieces.specs.Pieces.{placeAfter};
 ghost use Rattle.receive.specs.Answer.{isDone};
-ghost use Rattle.answering.specs.Answers.{dispatched, found};
+ghost use Rattle.answering.specs.Answers.{dispatched, foundBytes};
 ghost use Rattle.answer_receive.specs.Walk as Wk;
 ghost use Rattle.answer_receive.specs.Segment as Seg;
 ghost use Rattle.answer_receive.specs.Turn as Turning;
@@ -138,8 +138,8 @@ fn put_sum(out: &mut [u8], at: usize, a: usize, b: usize)
 
 // What a take found, and no more: 14 bytes.
 fn put_row(out: &mut [u8], place: usize, read: usize, kind: u8, which: u8, id: u32, n: u32) -> usize
-    ensures { λ r. ⌜ r ≡ placeAfter (now (out .entry)) place (found read kind which id n) ⌝ }
-    ensures { λ _. ⌜ now (out .exit) ≡ lay (now (out .entry)) place (found read kind which id n) ⌝ }
+    ensures { λ r. ⌜ r ≡ placeAfter (now (out .entry)) place (foundBytes read kind which id n) ⌝ }
+    ensures { λ _. ⌜ now (out .exit) ≡ lay (now (out .entry)) place (foundBytes read kind which id n) ⌝ }
 {
     let next = after(out.len(), place, 14);
     put_found(out, place, read, kind, which, id, n);
@@ -260,7 +260,7 @@ fn take_once(
     out: &mut [u8],
 ) -> Turn
     requires { ⌜ Turning.Goes (now routes) connection (now segment) turn (now rx) ⌝ }
-    ensures { λ r. ⌜ r ≡ Turning.turnOf (now (routes .entry)) switches connection (now (segment .entry)) turn (now (rx .entry)) (now (out .entry)) ⌝ }
+    ensures { λ r. ⌜ r ≡ Turning.takeTurn (now (routes .entry)) switches connection (now (segment .entry)) turn (now (rx .entry)) (now (out .entry)) ⌝ }
     ensures { λ _. ⌜ now (rx .exit) ≡ Turning.memoryFrom (now (routes .entry)) switches connection (now (segment .entry)) turn (now (rx .entry)) ⌝ }
     ensures { λ _. ⌜ now (out .exit) ≡ lay (now (out .entry)) (turn .place) (Turning.bytesFrom (now (routes .entry)) switches connection (now (segment .entry)) turn (now (rx .entry))) ⌝ }
 {
@@ -308,7 +308,7 @@ fn take_all(
     segment: &[u8],
     out: &mut [u8],
 ) -> Takes
-    requires { ⌜ Seg.roomFor (now segment) ≤ length (now out) ⌝ }
+    requires { ⌜ Seg.answerRoom (now segment) ≤ length (now out) ⌝ }
     ensures { λ r. ⌜ r ≡ Turning.takesOf (Seg.allTakes (loan (now (image .entry)) state (now (rx .entry)) (now (tx .entry))) connection (now (segment .entry))) ⌝ }
     ensures { λ _. ⌜ now (rx .exit) ≡ Seg.allTakes (loan (now (image .entry)) state (now (rx .entry)) (now (tx .entry))) connection (now (segment .entry)) .rx ⌝ }
     ensures { λ _. ⌜ now (out .exit) ≡ lay (now (out .entry)) 4 (Turning.takenBytes (Seg.allTakes (loan (now (image .entry)) state (now (rx .entry)) (now (tx .entry))) connection (now (segment .entry)))) ⌝ }
@@ -353,7 +353,7 @@ fn take_all(
 
 // The number of takes before their bytes, or the refusal of the first.
 fn put_takes(out: &mut [u8], answer: Answer, count: usize, place: usize) -> usize
-    ensures { λ r. ⌜ r ≡ Turning.lengthOf answer place ⌝ }
+    ensures { λ r. ⌜ r ≡ Turning.answerLength answer place ⌝ }
     ensures { λ _. ⌜ now (out .exit) ≡ lay (now (out .entry)) 0 (Turning.frontOf answer count) ⌝ }
 {
     match answer {

@@ -12,9 +12,9 @@ use Rattle.send.specs.declared.Transmission.{Transmission}
 use Rattle.send.specs.declared.Transmission.the-variants.{Stored, Refused as NotSent, NoDestination, SwitchedOff, RefusedAt}
 use Rattle.waiting.specs.declared.Taking.{Taking}
 use Rattle.waiting.specs.declared.Taking.the-variants.{Bytes, Refused as NotTaken, Short}
-use Rattle.sending.specs.Sending.{sendOf, sentMemory, takenOf, takenOut}
+use Rattle.sending.specs.Sending.{sendOf, sentMemory, takenWaiting, takenOut}
 use Rattle.gate.specs.Lent.{Loan, sizes}
-use Rattle.answering.specs.Answers.{Effect, answers, refused, refusal, done, doneWith, waiting}
+use Rattle.answering.specs.Answers.{Effect, answers, refused, refusal, doneAlone, doneWith, waiting}
 
 -- "datagram, accept: connection (1)"
 abbrev pub arrivalBytes : Arrival → List ℕ
@@ -24,7 +24,7 @@ arrivalBytes Unmatched = refused 10 0
 
 -- "the destination's row number (4)" after 4, 7 and 8
 abbrev pub transmissionBytes : Transmission → List ℕ
-transmissionBytes Stored = done
+transmissionBytes Stored = doneAlone
 transmissionBytes (NotSent r) = refusal r
 transmissionBytes NoDestination = refused 5 0
 transmissionBytes SwitchedOff = refused 6 0
@@ -40,15 +40,15 @@ takingBytes Short buffer = refused 9 0
 abbrev pub roomOf : ℕ → ℕ
 roomOf room = min room 1472
 
-abbrev pub arrived : Arrived → List ℕ → List ℕ → List ℕ → Effect
-arrived a rx tx out = answers (arrivalBytes (a .answer)) (a .state) rx tx out
+abbrev pub arrivedEffect : Arrived → List ℕ → List ℕ → List ℕ → Effect
+arrivedEffect a rx tx out = answers (arrivalBytes (a .answer)) (a .state) rx tx out
 
 module _ (l : Loan) (out : List ℕ) where
   unfoldable pub datagramEffect : ℕ → Remote → Effect
-  datagramEffect group source = arrived (datagramOf (sizes l) group source) (l .rx) (l .tx) out
+  datagramEffect group source = arrivedEffect (datagramOf (sizes l) group source) (l .rx) (l .tx) out
 
   unfoldable pub acceptEffect : ℕ → Remote → Effect
-  acceptEffect group source = arrived (acceptOf (sizes l) group source) (l .rx) (l .tx) out
+  acceptEffect group source = arrivedEffect (acceptOf (sizes l) group source) (l .rx) (l .tx) out
 
   unfoldable pub transmitEffect : ℕ → List ℕ → Effect
   transmitEffect pdu payload =
@@ -58,8 +58,8 @@ module _ (l : Loan) (out : List ℕ) where
   -- with a buffer of the call's own
   abbrev pub takeInto : ℕ → List ℕ → Effect
   takeInto connection buffer =
-      answers (takingBytes (takenOf l connection buffer .answer) (takenOut l connection buffer))
-      (takenOf l connection buffer .state) (l .rx) (l .tx) out
+      answers (takingBytes (takenWaiting l connection buffer .answer) (takenOut l connection buffer))
+      (takenWaiting l connection buffer .state) (l .rx) (l .tx) out
 
   unfoldable pub takeEffect : ℕ → ℕ → Effect
   takeEffect connection room = takeInto connection (take (roomOf room) (replicate 1472 0))

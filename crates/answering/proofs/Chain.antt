@@ -9,7 +9,7 @@ use Rattle.wire.specs.Lay.{spell, lay}
 use Rattle.wire.proofs.Lay.{lay-lay, lay-out}
 use Rattle.wire.proofs.Spell.{spell-join, length-spell}
 use Rattle.connection.specs.declared.Remote.{Remote}
-use Rattle.answering.specs.Answers.{address, waiting, found}
+use Rattle.answering.specs.Answers.{address, waiting, foundBytes}
 
 -- what is written after x makes x longer
 pub then : {e f : List ℕ} (d : List ℕ) (at m : ℕ) (x y : List ℕ) → e ≡ lay d at x → f ≡ lay e m y → m ≡ at + length x → m + length y ≤ length d → f ≡ lay d at (x ++ y)
@@ -60,12 +60,12 @@ waiting-laid d r bytes p q s t fits =
     let p₃ = then d 0 6 (spell 2 0 ++ spell 4 (length bytes)) (address r) p₂ s (omega (arith, pair-length 2 4 0 (length bytes))) (omega (arith, length-address r)) in
     then d 0 25 (spell 2 0 ++ spell 4 (length bytes) ++ address r) bytes p₃ t (simp (length-append, length-spell)) (omega arith)
 
-pub length-found : (first kind which id n : ℕ) → length (found first kind which id n) ≡ 14
+pub length-found : (first kind which id n : ℕ) → length (foundBytes first kind which id n) ≡ 14
 length-found first kind which id n = simp (length-append, length-spell)
 
 pub found-laid : {e f g h i : List ℕ} (d : List ℕ) (at first kind which id n : ℕ) → e ≡ lay d at (spell 4 first) → f ≡ lay e (at + 4) (spell 1 kind)
     → g ≡ lay f (at + 5) (spell 1 which) → h ≡ lay g (at + 6) (spell 4 id) → i ≡ lay h (at + 10) (spell 4 n)
-    → at + 14 ≤ length d → i ≡ lay d at (found first kind which id n)
+    → at + 14 ≤ length d → i ≡ lay d at (foundBytes first kind which id n)
 found-laid d at first kind which id n p q s t u fits =
     let p₂ = then d at (at + 4) (spell 4 first) (spell 1 kind) p q (simp length-spell) (simp length-spell (omega arith)) in
     let p₃ = then d at (at + 5) (spell 4 first ++ spell 1 kind) (spell 1 which) p₂ s (simp (length-append, length-spell)) (simp length-spell (omega arith)) in

@@ -40,8 +40,8 @@ abbrev pub dispatched : Effect → Dispatched
 dispatched e = record { verdict = e .verdict; state = e .state }
 
 -- "any other: nothing"
-abbrev pub done : List ℕ
-done = spell 2 0
+abbrev pub doneAlone : List ℕ
+doneAlone = spell 2 0
 
 -- a value of w bytes after the answer number 0: failed connections (2), failed (1), connection (1), value (4)
 abbrev pub doneWith : ℕ → ℕ → List ℕ
@@ -56,5 +56,5 @@ abbrev pub waiting : Remote → List ℕ → List ℕ
 waiting r bytes = spell 2 0 ++ spell 4 (length bytes) ++ address r ++ bytes
 
 -- a take or a walk: "bytes read (4)" or "next place (4), kind (1), route or reason (1), id (4), length (4)"
-abbrev pub found : ℕ → ℕ → ℕ → ℕ → ℕ → List ℕ
-found first kind which id n = spell 4 first ++ spell 1 kind ++ spell 1 which ++ spell 4 id ++ spell 4 n
+abbrev pub foundBytes : ℕ → ℕ → ℕ → ℕ → ℕ → List ℕ
+foundBytes first kind which id n = spell 4 first ++ spell 1 kind ++ spell 1 which ++ spell 4 id ++ spell 4 n

@@ -67,8 +67,8 @@ pub fn put_refusal(out: &mut [u8], reason: Refusal) -> usize
 }
 
 pub fn put_done(out: &mut [u8]) -> usize
-    ensures { λ r. ⌜ r ≡ length Is.done ⌝ }
-    ensures { λ _. ⌜ now (out .exit) ≡ lay (now (out .entry)) 0 Is.done ⌝ }
+    ensures { λ r. ⌜ r ≡ length Is.doneAlone ⌝ }
+    ensures { λ _. ⌜ now (out .exit) ≡ lay (now (out .entry)) 0 Is.doneAlone ⌝ }
 {
     put16(out, 0, 0);
     2
@@ -157,7 +157,7 @@ pub fn put_waiting(out: &mut [u8], remote: Remote, bytes: &[u8]) -> usize
 
 // What a take or a walk found.
 pub fn put_found(out: &mut [u8], at: usize, first: usize, kind: u8, which: u8, id: u32, n: u32)
-    ensures { λ _. ⌜ now (out .exit) ≡ lay (now (out .entry)) at (Is.found first kind which id n) ⌝ }
+    ensures { λ _. ⌜ now (out .exit) ≡ lay (now (out .entry)) at (Is.foundBytes first kind which id n) ⌝ }
 {
     if out.len() < 14 {
         return;

@@ -6,10 +6,10 @@ use Rattle.connection.specs.declared.Remote.{Remote}
 use Rattle.gate.specs.Lent.{Lent}
 use Rattle.gate.specs.Gate.{gateOf, through}
 use Rattle.choose.specs.declared.Arrived.{Arrived}
-use Rattle.choose.specs.Choose.{refusedBy, arriveOf}
+use Rattle.choose.specs.Choose.{arrivalRefused, arriveOf}
 
 unfoldable pub arrivalOf : Lent → Bool → ℕ → Remote → Arrived
-arrivalOf l accept group source = through (gateOf l) (refusedBy (l .state)) (arriveOf (l .image) (l .state) accept group source)
+arrivalOf l accept group source = through (gateOf l) (arrivalRefused (l .state)) (arriveOf (l .image) (l .state) accept group source)
 
 -- "A datagram event names a UDP group and a source"
 abbrev pub datagramOf : Lent → ℕ → Remote → Arrived

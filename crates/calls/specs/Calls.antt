@@ -21,8 +21,8 @@ abbrev pub plain : List ℕ → ℕ → Bool
 plain body n = eqb (length body) n && eqb (be 1 body 0) 0
 
 -- a party, and at the place at a "length (4) .. of the bytes that follow it, which end the body"; 4,096 bytes at most
-abbrev pub counted : List ℕ → ℕ → Bool
-counted body at = eqb (be 4 body at + (at + 4)) (length body) && eqb (be 1 body 0) 0 && leb (length body) 4096
+abbrev pub lengthFits : List ℕ → ℕ → Bool
+lengthFits body at = eqb (be 4 body at + (at + 4)) (length body) && eqb (be 1 body 0) 0 && leb (length body) 4096
 
 -- "An address is family (1), which is 4; sixteen bytes (16), of which the first twelve are 0"
 abbrev pub addressFits : List ℕ → Bool
@@ -50,12 +50,12 @@ callOf n b =
     (cond (eqb n 4) (fitted (plain b 2) (Lost (be 1 b 1)))
     (cond (eqb n 5) (fitted (addressed b) (Own (be 1 b 1) (SetRemote (remoteIn (drop 2 b)))))
     (cond (eqb n 6) (fitted (positioned b 4 3) (Own (be 1 b 1) (Switch (be 1 b 2) (eqb (be 1 b 3) 1))))
-    (cond (eqb n 7) (fitted (counted b 2) (Segment (be 1 b 1) 6))
-    (cond (eqb n 8) (fitted (counted b 6) (Walk (be 1 b 1) (be 4 b 2) 10))
+    (cond (eqb n 7) (fitted (lengthFits b 2) (Segment (be 1 b 1) 6))
+    (cond (eqb n 8) (fitted (lengthFits b 6) (Walk (be 1 b 1) (be 4 b 2) 10))
     (cond (eqb n 9) (fitted (plain b 6) (TakeWaiting (be 1 b 1) (be 4 b 2)))
     (cond (eqb n 10) (fitted (addressed b) (Datagram (be 1 b 1) (remoteIn (drop 2 b))))
     (cond (eqb n 11) (fitted (addressed b) (Accept (be 1 b 1) (remoteIn (drop 2 b))))
-    (cond (eqb n 12) (fitted (counted b 3) (Transmit (be 2 b 1) 7))
+    (cond (eqb n 12) (fitted (lengthFits b 3) (Transmit (be 2 b 1) 7))
     (cond (eqb n 13) (fitted (positioned b 3 2) (SwitchAll (be 1 b 1) (eqb (be 1 b 2) 1)))
     (cond (eqb n 14) (fitted (plain b 2) (ReadCount (be 1 b 1)))
     (cond (eqb n 15) (fitted (plain b 2) (ClearCount (be 1 b 1)))

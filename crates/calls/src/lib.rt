@@ -94,7 +94,7 @@ fn is_plain(body: &[u8], n: usize) -> bool
 }
 
 fn is_counted(body: &[u8], at: u8) -> bool
-    ensures { λ r. ⌜ r ≡ Is.counted (now (body .entry)) at ⌝ }
+    ensures { λ r. ⌜ r ≡ Is.lengthFits (now (body .entry)) at ⌝ }
 {
     let place = at as usize;
     let long = body.len();

@@ -15,16 +15,16 @@ use Rattle.layout.specs.Layout.{rowsOf, bodyBytes, startOf, endOf, rowAt, partO
 use Rattle.rows.specs.Rows.{groupRow, connectionRow, routeRow, destinationRow}
 use Rattle.rows.specs.Rules.{groupGood, connectionGood, routeGood, destinationGood, sizeIn, routesShare, destinationsShare}
 use Rattle.scan.specs.Scan.{share, clearIn, goodIn}
-use Rattle.table.specs.Table.{headGood, entryGood, rule, then, entriesPlace, headPlace, allRowsPlace, checkTable}
-use Rattle.feed.specs.Feed.{done, feed, takeB}
+use Rattle.table.specs.Table.{headGood, entryGood, rule, thenCheck, entriesPlace, headPlace, allRowsPlace, checkTable}
+use Rattle.feed.specs.Feed.{pieceDone, feed, takeB}
 use Rattle.lengths.specs.Head.{headOf}
 use Rattle.walk.specs.Walk.{walkAt}
-use Rattle.connection.specs.Connection.{worth, switchOf, startOf as startsOf, reachOf, runOf, tickOf}
+use Rattle.connection.specs.Connection.{worth, switchOf, startedOf as startsOf, reachOf, runOf, tickOf}
 use Rattle.connection.specs.Event.{stepOf}
 use Rattle.connection.specs.Sound.{soundOf, zeroOf}
 use Rattle.state.specs.State.{counted}
 use Rattle.state.specs.Fresh.{configOf, freshState}
-use Rattle.feed.specs.On.{isOn}
+use Rattle.switches.specs.Switches.{isOn}
 use Rattle.route.specs.Route.{rowsIn, counts, rowFor, reasonIn, reasonOf, decisionOf, lookupOf}
 use Rattle.stream.specs.Stream.{tookOf, takenOf as takeFrom}
 use Rattle.datagram.specs.Datagram.{walkedOf}
@@ -37,19 +37,19 @@ use Rattle.ticks.specs.Tick.{tickedTo, ticksTo, tickEvent, ticksEvent}
 use Rattle.choose.specs.Best.{better, chosenOf}
 use Rattle.choose.specs.Choose.{rankOf, scoreOf, scoreAt, chosenIn, deniedOf, arriveOf}
 use Rattle.arrivals.specs.Arrivals.{arrivalOf}
-use Rattle.receive.specs.Answer.{judgedOf, answerOf}
+use Rattle.receive.specs.Answer.{judgedOf, judgedAnswer}
 use Rattle.receive.specs.Segment.{takeOn, segmentOf}
 use Rattle.receive.specs.Walk.{walkOn, walkOf}
 use Rattle.destination.specs.Destination.{refusalOf, lookOf, timerOf}
 use Rattle.send.specs.Verdict.{verdictOf}
 use Rattle.send.specs.Send.{appendOf, lookAt, checkOf, wantedAt, storeOf, storeAll, transmitOf}
 use Rattle.waiting.specs.Waiting.{takeOf}
-use Rattle.sending.specs.Sending.{sendOf, takenOf}
+use Rattle.sending.specs.Sending.{sendOf, takenWaiting}
 use Rattle.edges.specs.Table.{image}
 use Rattle.changes.specs.Changes.{Change, changes, idle, isWas, isBecomes, holds, Hold, Changes}
 
 pub changes-hold : Hold changes
-unfolding image be badFrom every foldFrom rowsOf bodyBytes startOf endOf rowAt partOf bodyOf rowIn groupRow connectionRow routeRow destinationRow groupGood connectionGood routeGood destinationGood sizeIn routesShare destinationsShare share clearIn goodIn headGood entryGood rule then entriesPlace headPlace allRowsPlace checkTable done feed takeB headOf walkAt worth switchOf startsOf reachOf runOf tickOf stepOf soundOf zeroOf counted configOf freshState isOn rowsIn counts rowFor reasonIn reasonOf decisionOf lookupOf tookOf takeFrom walkedOf soundAt recordsSound soundState gateOf gateAt toldOf changeOf eventOf lossOf switchedAll switchAllOf ofProtocol clearPast clearOf tickedTo ticksTo tickEvent ticksEvent better chosenOf rankOf scoreOf scoreAt chosenIn deniedOf arriveOf arrivalOf judgedOf answerOf takeOn segmentOf walkOn walkOf refusalOf lookOf timerOf verdictOf appendOf lookAt checkOf wantedAt storeOf storeAll transmitOf takeOf sendOf takenOf
+unfolding image be badFrom every foldFrom rowsOf bodyBytes startOf endOf rowAt partOf bodyOf rowIn groupRow connectionRow routeRow destinationRow groupGood connectionGood routeGood destinationGood sizeIn routesShare destinationsShare share clearIn goodIn headGood entryGood rule thenCheck entriesPlace headPlace allRowsPlace checkTable pieceDone feed takeB headOf walkAt worth switchOf startsOf reachOf runOf tickOf stepOf soundOf zeroOf counted configOf freshState isOn rowsIn counts rowFor reasonIn reasonOf decisionOf lookupOf tookOf takeFrom walkedOf soundAt recordsSound soundState gateOf gateAt toldOf changeOf eventOf lossOf switchedAll switchAllOf ofProtocol clearPast clearOf tickedTo ticksTo tickEvent ticksEvent better chosenOf rankOf scoreOf scoreAt chosenIn deniedOf arriveOf arrivalOf judgedOf judgedAnswer takeOn segmentOf walkOn walkOf refusalOf lookOf timerOf verdictOf appendOf lookAt checkOf wantedAt storeOf storeAll transmitOf takeOf sendOf takenWaiting
 changes-hold = refl
 
 -- a row that holds: its state is sound, and its event leaves another

@@ -28,7 +28,7 @@ use Rattle.choose.specs.Choose.{oneOf}
 use Rattle.arrivals.specs.Arrivals.{datagramOf, acceptOf}
 use Rattle.receive.specs.Segment.{segmentOf}
 use Rattle.receive.specs.Walk.{walkOf}
-use Rattle.sending.specs.Sending.{sendOf, takenOf}
+use Rattle.sending.specs.Sending.{sendOf, takenWaiting}
 use Rattle.transitions.specs.Table.{modeNumber}
 use Rattle.edges.specs.Table.{image, fresh, waitingFor, used, exact, lends, loans}
 use Rattle.edges.specs.Edges.{framed}
@@ -40,8 +40,8 @@ pub record Change : Type 0 where
   pub was : ℕ
   pub becomes : ℕ
 
-abbrev pub change : State → (State → State) → (State → ℕ) → ℕ → ℕ → Change
-change s e f n m = record { before = s; event = e; field = f; was = n; becomes = m }
+abbrev pub changing : State → (State → State) → (State → ℕ) → ℕ → ℕ → Change
+changing s e f n m = record { before = s; event = e; field = f; was = n; becomes = m }
 
 -- The numbers of connection k's record: its mode (0 offline, 1 reconnect, 2 online), its wishes and due mark (1 where they
 -- stand), and the others as they are.
@@ -57,8 +57,8 @@ closeWanted k s = oneOf (recordAt s k .«close_wanted»)
 abbrev pub port : ℕ → State → ℕ
 port k s = recordAt s k .remote .port
 
-abbrev pub switches : ℕ → State → ℕ
-switches k s = recordAt s k .switches
+abbrev pub switchWord : ℕ → State → ℕ
+switchWord k s = recordAt s k .switches
 
 abbrev pub usedBytes : ℕ → State → ℕ
 usedBytes k s = recordAt s k .used
@@ -75,8 +75,8 @@ headerBytes (Header held value) = held
 headerBytes (Payload route length held) = 0
 headerBytes (Skip bytes) = 0
 
-abbrev pub header : ℕ → State → ℕ
-header k s = headerBytes (recordAt s k .part)
+abbrev pub headerHeld : ℕ → State → ℕ
+headerHeld k s = headerBytes (recordAt s k .part)
 
 -- the drop counts
 abbrev pub udpDrops : State → ℕ
@@ -111,78 +111,78 @@ peer = record { address = 3232235527; port = 1000 }
 abbrev pub happens : ℕ → Event → State → State
 happens k e s = eventOf (lends s) k e .state
 
-abbrev pub lost : ℕ → State → State
-lost k s = lossOf (lends s) k .state
+abbrev pub lossLeaves : ℕ → State → State
+lossLeaves k s = lossOf (lends s) k .state
 
-abbrev pub tick : State → State
-tick s = tickEvent (lends s) .state
+abbrev pub tickLeaves : State → State
+tickLeaves s = tickEvent (lends s) .state
 
-abbrev pub ticks : ℕ → State → State
-ticks count s = ticksEvent (lends s) count .state
+abbrev pub ticksLeave : ℕ → State → State
+ticksLeave count s = ticksEvent (lends s) count .state
 
-abbrev pub datagram : ℕ → Remote → State → State
-datagram group source s = datagramOf (lends s) group source .state
+abbrev pub datagramLeaves : ℕ → Remote → State → State
+datagramLeaves group source s = datagramOf (lends s) group source .state
 
-abbrev pub accept : ℕ → Remote → State → State
-accept group source s = acceptOf (lends s) group source .state
+abbrev pub acceptLeaves : ℕ → Remote → State → State
+acceptLeaves group source s = acceptOf (lends s) group source .state
 
-abbrev pub segment : ℕ → List ℕ → State → State
-segment k bytes s = segmentOf (loans s) k bytes .state
+abbrev pub segmentLeaves : ℕ → List ℕ → State → State
+segmentLeaves k bytes s = segmentOf (loans s) k bytes .state
 
-abbrev pub walk : ℕ → List ℕ → State → State
-walk k bytes s = walkOf (lends s) k bytes 0 .state
+abbrev pub walkLeaves : ℕ → List ℕ → State → State
+walkLeaves k bytes s = walkOf (lends s) k bytes 0 .state
 
-abbrev pub transmit : ℕ → List ℕ → State → State
-transmit pdu payload s = sendOf (loans s) pdu payload .state
+abbrev pub transmitLeaves : ℕ → List ℕ → State → State
+transmitLeaves pdu payload s = sendOf (loans s) pdu payload .state
 
-abbrev pub takeWaiting : ℕ → ℕ → State → State
-takeWaiting k room s = takenOf (loans s) k (replicate room 0) .state
+abbrev pub takingLeaves : ℕ → ℕ → State → State
+takingLeaves k room s = takenWaiting (loans s) k (replicate room 0) .state
 
-abbrev pub switchAll : ℕ → Bool → State → State
-switchAll number on s = switchAllOf (lends s) number on .state
+abbrev pub switchAllLeaves : ℕ → Bool → State → State
+switchAllLeaves number on s = switchAllOf (lends s) number on .state
 
-abbrev pub clear : ℕ → State → State
-clear protocol s = clearOf (lends s) protocol .state
+abbrev pub clearLeaves : ℕ → State → State
+clearLeaves protocol s = clearOf (lends s) protocol .state
 
 abbrev pub changes : List Change
 changes =
     -- open, close, connected, lost
-    change fresh (happens 0 Open) (openWanted 0) 0 1
-    ∷ change (stands 0 Offline true false) (happens 0 Close) (openWanted 0) 1 0
-    ∷ change (stands 2 Online false false) (happens 2 Close) (closeWanted 2) 0 1
-    ∷ change (stands 2 Reconnect false false) (happens 2 Connected) (mode 2) 1 2
-    ∷ change (used 10) (lost 2) (usedBytes 2) 10 0
-    ∷ change (used 10) (lost 2) (mode 2) 2 1
+    changing fresh (happens 0 Open) (openWanted 0) 0 1
+    ∷ changing (stands 0 Offline true false) (happens 0 Close) (openWanted 0) 1 0
+    ∷ changing (stands 2 Online false false) (happens 2 Close) (closeWanted 2) 0 1
+    ∷ changing (stands 2 Reconnect false false) (happens 2 Connected) (mode 2) 1 2
+    ∷ changing (used 10) (lossLeaves 2) (usedBytes 2) 10 0
+    ∷ changing (used 10) (lossLeaves 2) (mode 2) 2 1
     -- set remote; one routing group of one connection on, and off
-    ∷ change fresh (happens 0 (SetRemote exact)) (port 0) 0 1000
-    ∷ change fresh (happens 2 (Switch 31 true)) (switches 2) 0 2147483648
-    ∷ change (with 2 (withSwitches 3)) (happens 2 (Switch 1 false)) (switches 2) 3 1
+    ∷ changing fresh (happens 0 (SetRemote exact)) (port 0) 0 1000
+    ∷ changing fresh (happens 2 (Switch 31 true)) (switchWord 2) 0 2147483648
+    ∷ changing (with 2 (withSwitches 3)) (happens 2 (Switch 1 false)) (switchWord 2) 3 1
     -- a tick: close wanted, open wanted, UDP without wildcard, a running timer, and one that ends; many ticks
-    ∷ change (stands 2 Online false true) tick (mode 2) 2 0
-    ∷ change (stands 0 Offline true false) tick (mode 0) 0 1
-    ∷ change (stands 1 Reconnect false false) tick (mode 1) 1 2
-    ∷ change (running 5) tick (timer 2) 5 4
-    ∷ change (running 1) tick (due 2) 0 1
-    ∷ change (running 5) (ticks 5) (due 2) 0 1
+    ∷ changing (stands 2 Online false true) tickLeaves (mode 2) 2 0
+    ∷ changing (stands 0 Offline true false) tickLeaves (mode 0) 0 1
+    ∷ changing (stands 1 Reconnect false false) tickLeaves (mode 1) 1 2
+    ∷ changing (running 5) tickLeaves (timer 2) 5 4
+    ∷ changing (running 1) tickLeaves (due 2) 0 1
+    ∷ changing (running 5) (ticksLeave 5) (due 2) 0 1
     -- a datagram, an accept
-    ∷ change waitingFor (datagram 0 exact) (mode 1) 1 2
-    ∷ change (stands 2 Reconnect false false) (accept 1 peer) (mode 2) 1 2
+    ∷ changing waitingFor (datagramLeaves 0 exact) (mode 1) 1 2
+    ∷ changing (stands 2 Reconnect false false) (acceptLeaves 1 peer) (mode 2) 1 2
     -- a take of half a header; of a header that is dropped; a step of a walk that drops
-    ∷ change (stands 2 Online false false) (segment 2 (take 3 (framed 1 0 []))) (header 2) 0 3
-    ∷ change (stands 2 Online false false) (segment 2 (framed 9 0 [])) tcpDrops 0 1
-    ∷ change met (walk 0 (take 7 (framed 1 0 []))) udpDrops 0 1
+    ∷ changing (stands 2 Online false false) (segmentLeaves 2 (take 3 (framed 1 0 []))) (headerHeld 2) 0 3
+    ∷ changing (stands 2 Online false false) (segmentLeaves 2 (framed 9 0 [])) tcpDrops 0 1
+    ∷ changing met (walkLeaves 0 (take 7 (framed 1 0 []))) udpDrops 0 1
     -- a transmit, and taking the waiting bytes
-    ∷ change (used 10) (transmit 9 (1 ∷ 2 ∷ [])) (usedBytes 2) 10 20
-    ∷ change (used 10) (takeWaiting 2 10) (usedBytes 2) 10 0
+    ∷ changing (used 10) (transmitLeaves 9 (1 ∷ 2 ∷ [])) (usedBytes 2) 10 20
+    ∷ changing (used 10) (takingLeaves 2 10) (usedBytes 2) 10 0
     -- one routing group of all connections; reading and clearing a count of each protocol
-    ∷ change fresh (switchAll 4 true) (switches 1) 0 16
-    ∷ change (withCount false 7 fresh) (clear 1) udpDrops 7 0
-    ∷ change (withCount true 7 fresh) (clear 2) tcpDrops 7 0
+    ∷ changing fresh (switchAllLeaves 4 true) (switchWord 1) 0 16
+    ∷ changing (withCount false 7 fresh) (clearLeaves 1) udpDrops 7 0
+    ∷ changing (withCount true 7 fresh) (clearLeaves 2) tcpDrops 7 0
     ∷ []
 
 -- past the last row: an event that leaves every state as it was
 abbrev pub idle : Change
-idle = change fresh (λ s. s) tcpDrops 0 0
+idle = changing fresh (λ s. s) tcpDrops 0 0
 
 -- the state is sound, over an accepted table; its field is one number before the event, another one after it
 abbrev pub isWas : Change → Bool

@@ -19,10 +19,10 @@ use Rattle.choose.specs.declared.Chosen.{Chosen}
 use Rattle.choose.specs.declared.Chosen.the-variants.{Nobody, At}
 use Rattle.choose.specs.declared.Arrival.the-variants.{Met, Unmatched}
 use Rattle.choose.specs.declared.Arrived.{Arrived}
-use Rattle.choose.specs.Choose.{chosenIn, meet, refusedBy, protocolOf, deniedOf, arriveOf}
+use Rattle.choose.specs.Choose.{chosenIn, meet, arrivalRefused, protocolOf, deniedOf, arriveOf}
 
 module _ (image : List ℕ) (s : State) (accept : Bool) (group : ℕ) (source : Remote) (groups : ℕ) (eg : groups ≡ rowsOf image Group) where
-  pub arrive-missing : groups ≤ group → refusedBy s Missing ≡ arriveOf image s accept group source
+  pub arrive-missing : groups ≤ group → arrivalRefused s Missing ≡ arriveOf image s accept group source
   unfolding arriveOf
   arrive-missing h = rw (← eg, le-leb _ _ h)
 
@@ -34,7 +34,7 @@ module _ (image : List ℕ) (s : State) (accept : Bool) (group : ℕ) (source : 
         ap₂ (λ (r : GroupRow) (w : Bool). not (eqb (r .protocol) protocol) || w) er ew
         ∙ ap (λ (n : ℕ). not (eqb (groupOf image group .protocol) n) || wildcard source) ep
 
-    pub arrive-denied : (not (eqb (row .protocol) protocol) || wild) ≡ true → refusedBy s Denied ≡ arriveOf image s accept group source
+    pub arrive-denied : (not (eqb (row .protocol) protocol) || wild) ≡ true → arrivalRefused s Denied ≡ arriveOf image s accept group source
     unfolding arriveOf
     arrive-denied t = rw (← eg, lt-leb _ _ there, ← denied-is, t)
 

@@ -36,13 +36,13 @@ abbrev pub matches : Fields → Fields → Bool
 matches equal wild = (equal .address || wild .address) && (equal .port || wild .port)
 
 -- "Members count if reconnect or online without close wanted"; an accept: "over members in reconnect without close wanted"
-abbrev pub counts : Bool → Connection → Bool
-counts accept c = (isReconnect (c .mode) || (not accept && isOnline (c .mode))) && not (c .«close_wanted»)
+abbrev pub memberCounts : Bool → Connection → Bool
+memberCounts accept c = (isReconnect (c .mode) || (not accept && isOnline (c .mode))) && not (c .«close_wanted»)
 
 -- a member's rank and 1 more; 0 for one that does not count or match, and for a record that is no member
 unfoldable pub scoreOf : Bool → Remote → Bool → Connection → ℕ
 scoreOf accept source member c =
-    cond (member && counts accept c && matches (equalFields (c .remote) source) (wildFields (c .remote)))
+    cond (member && memberCounts accept c && matches (equalFields (c .remote) source) (wildFields (c .remote)))
     (1 + rankOf (equalFields (c .remote) source))
     0
 
@@ -64,8 +64,8 @@ meet s source Nobody = record { answer = Unmatched; state = s }
 meet s source (At k) =
     record { answer = Met k; state = withRecord k (metOf source (recordAt s k)) s }
 
-abbrev pub refusedBy : State → Refusal → Arrived
-refusedBy s r = record { answer = Refused r; state = s }
+abbrev pub arrivalRefused : State → Refusal → Arrived
+arrivalRefused s r = record { answer = Refused r; state = s }
 
 -- a datagram names a UDP group, an accept a TCP group
 abbrev pub protocolOf : Bool → ℕ
@@ -78,8 +78,8 @@ deniedOf image accept group source = not (eqb (groupOf image group .protocol) (p
 -- a datagram (accept false) or an accept (accept true): 2, 3, then 10 or the chosen connection
 unfoldable pub arriveOf : List ℕ → State → Bool → ℕ → Remote → Arrived
 arriveOf image s accept group source =
-    cond (leb (rowsOf image Group) group) (refusedBy s Missing)
-    (cond (deniedOf image accept group source) (refusedBy s Denied)
+    cond (leb (rowsOf image Group) group) (arrivalRefused s Missing)
+    (cond (deniedOf image accept group source) (arrivalRefused s Denied)
     (meet s source (chosenIn image s accept group source)))
 
 -- document 01's number of an answer

@@ -15,8 +15,8 @@ use Rattle.connection.specs.declared.Connection.{Connection}
 use Rattle.connection.specs.declared.Config.{Config}
 use Rattle.connection.specs.declared.Event.{Event}
 use Rattle.connection.specs.declared.Event.the-variants.{Open, Close, Connected, Lost, SetRemote, Switch}
-use Rattle.connection.specs.Connection.{isOffline, isReconnect, isOnline, wildcard, withMode, withSwitches, withPart, withSend, freshOf, become, openOf, closeOf, connectedOf, lostOf, remoteOf, metOf, closedOf, startOf, reachOf, runOf, tickOf}
-use Rattle.connection.specs.Event.{openAllowed, closeAllowed, connectedAllowed, lostAllowed, remoteAllowed, allowed, after, stepOf}
+use Rattle.connection.specs.Connection.{isOffline, isReconnect, isOnline, wildcard, withMode, withSwitches, withPart, withSend, freshOf, become, openOf, closeOf, connectedOf, lostOf, remoteOf, metOf, closedOf, startedOf, reachOf, runOf, tickOf}
+use Rattle.connection.specs.Event.{openAllowed, closeAllowed, connectedAllowed, lostAllowed, remoteAllowed, allowed, recordAfter, stepOf}
 use Rattle.connection.specs.Sound.{Sound}
 use Rattle.connection.proofs.Ticks.{step-either, started}
 
@@ -192,7 +192,7 @@ module _ (g : Config) (c : Connection) (s : Sound g c) where
       }
 
   -- every event that is allowed
-  pub after-keeps : (e : Event) → allowed e g c ≡ true → Sound g (after e g c)
+  pub after-keeps : (e : Event) → allowed e g c ≡ true → Sound g (recordAfter e g c)
   after-keeps Open a = open-keeps a
   after-keeps Close a = close-keeps a
   after-keeps Connected a = connected-keeps a
@@ -205,8 +205,8 @@ module _ (g : Config) (c : Connection) (s : Sound g c) where
   step-keeps e = step-either e g c (Sound g) (λ _. s) (after-keeps e)
 
   -- the three steps of a tick that goes on
-  pub start-keeps : Sound g (startOf g c)
-  unfolding startOf
+  pub start-keeps : Sound g (startedOf g c)
+  unfolding startedOf
   start-keeps = go (isOffline (c .mode) && (c .«open_wanted» || g .automatic)) refl
     where
       go : (b : Bool) → (isOffline (c .mode) && (c .«open_wanted» || g .automatic)) ≡ b → Sound g (cond b (withMode Reconnect false (c .«close_wanted») c) c)
@@ -259,6 +259,6 @@ pub tick-keeps : (g : Config) (c : Connection) → Sound g c → Sound g (tickOf
 unfolding tickOf
 tick-keeps g c s = go (c .«close_wanted») refl
   where
-    go : (b : Bool) → c .«close_wanted» ≡ b → Sound g (cond b (closedOf g c) (runOf (reachOf g (startOf g c))))
+    go : (b : Bool) → c .«close_wanted» ≡ b → Sound g (cond b (closedOf g c) (runOf (reachOf g (startedOf g c))))
     go true e = switches-keep g (freshOf g) (fresh-sound g) (c .switches)
-    go false e = run-keeps g (reachOf g (startOf g c)) (reach-keeps g (startOf g c) (start-keeps g c s) (started g c .wish ∙ e))
+    go false e = run-keeps g (reachOf g (startedOf g c)) (reach-keeps g (startedOf g c) (start-keeps g c s) (started g c .wish ∙ e))

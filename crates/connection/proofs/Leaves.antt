@@ -8,14 +8,14 @@ use Rattle.connection.specs.declared.Config.{Config}
 use Rattle.connection.specs.declared.Event.{Event}
 use Rattle.connection.specs.declared.Event.the-variants.{Open, Close, Connected, Lost, SetRemote, Switch}
 use Rattle.connection.specs.Connection.{isOnline}
-use Rattle.connection.specs.Event.{known, allowed, after, empties, deniable}
+use Rattle.connection.specs.Event.{known, allowed, recordAfter, empties, deniable}
 
 pub record Leaves (e : Event) (g : Config) (c : Connection) : Type 0 where
-  pub part : after e g c .part ≡ cond (empties e) ready (c .part)
-  pub used : after e g c .used ≡ cond (empties e) 0 (c .used)
-  pub up : empties e ≡ false → isOnline (c .mode) ≡ true → isOnline (after e g c .mode) ≡ true
+  pub part : recordAfter e g c .part ≡ cond (empties e) ready (c .part)
+  pub used : recordAfter e g c .used ≡ cond (empties e) 0 (c .used)
+  pub up : empties e ≡ false → isOnline (c .mode) ≡ true → isOnline (recordAfter e g c .mode) ≡ true
   pub there : empties e ≡ true → known e ≡ true
-  pub down : empties e ≡ true → isOnline (after e g c .mode) ≡ false
+  pub down : empties e ≡ true → isOnline (recordAfter e g c .mode) ≡ false
 
 pub after-leaves : (e : Event) (g : Config) (c : Connection) → Leaves e g c
 after-leaves Open g c = record { part = refl; used = refl; up = λ _ h. h; there = λ n. impossible n; down = λ n. impossible n }

@@ -10,27 +10,27 @@ use Rattle.connection.specs.declared.Config.{Config}
 use Rattle.connection.specs.declared.Refusal.the-variants.{Missing, Denied}
 use Rattle.connection.specs.declared.Answer.the-variants.{Done}
 use Rattle.connection.specs.declared.Event.{Event}
-use Rattle.connection.specs.Connection.{isReconnect, isOnline, wildcard, closedOf, startOf, reachOf, runOf, tickOf}
-use Rattle.connection.specs.Event.{known, allowed, after, refusedBy, stepOf}
+use Rattle.connection.specs.Connection.{isReconnect, isOnline, wildcard, closedOf, startedOf, reachOf, runOf, tickOf}
+use Rattle.connection.specs.Event.{known, allowed, recordAfter, refusedBy, stepOf}
 
 -- AN EVENT leaves the record, or, where it is known and allowed, makes of it what its own sentence says
-pub step-either : (e : Event) (g : Config) (c : Connection) (P : Connection → Type 0) → ((known e && allowed e g c) ≡ false → P c) → (allowed e g c ≡ true → P (after e g c)) → P (stepOf e g c .connection)
+pub step-either : (e : Event) (g : Config) (c : Connection) (P : Connection → Type 0) → ((known e && allowed e g c) ≡ false → P c) → (allowed e g c ≡ true → P (recordAfter e g c)) → P (stepOf e g c .connection)
 unfolding stepOf
 step-either e g c P p q = go (known e) (allowed e g c) refl p
   where
     go : (k a : Bool) → allowed e g c ≡ a → ((k && a) ≡ false → P c)
-        → P (cond (not k) (refusedBy Missing c) (cond (not a) (refusedBy Denied c) (record { answer = Done; connection = after e g c })) .connection)
+        → P (cond (not k) (refusedBy Missing c) (cond (not a) (refusedBy Denied c) (record { answer = Done; connection = recordAfter e g c })) .connection)
     go false a x p = p refl
     go true false x p = p refl
     go true true x p = q x
 
 pub tick-closes : (g : Config) (c : Connection) → c .«close_wanted» ≡ true → closedOf g c ≡ tickOf g c
 unfolding tickOf
-tick-closes g c h = sym (ap (λ (b : Bool). cond b (closedOf g c) (runOf (reachOf g (startOf g c)))) h)
+tick-closes g c h = sym (ap (λ (b : Bool). cond b (closedOf g c) (runOf (reachOf g (startedOf g c)))) h)
 
-pub tick-goes-on : (g : Config) (c : Connection) → c .«close_wanted» ≡ false → runOf (reachOf g (startOf g c)) ≡ tickOf g c
+pub tick-goes-on : (g : Config) (c : Connection) → c .«close_wanted» ≡ false → runOf (reachOf g (startedOf g c)) ≡ tickOf g c
 unfolding tickOf
-tick-goes-on g c h = sym (ap (λ (b : Bool). cond b (closedOf g c) (runOf (reachOf g (startOf g c)))) h)
+tick-goes-on g c h = sym (ap (λ (b : Bool). cond b (closedOf g c) (runOf (reachOf g (startedOf g c)))) h)
 
 -- A TICK THAT DOES NOT CLOSE leaves part, send bytes, switches and the wish to close, and a TCP connection online or not, as they were
 pub record GoesOn (g : Config) (c d : Connection) : Type 0 where
@@ -41,11 +41,11 @@ pub record GoesOn (g : Config) (c d : Connection) : Type 0 where
   pub online : g .tcp ≡ true → isOnline (d .mode) ≡ isOnline (c .mode)
 
 -- its three steps
-pub started : (g : Config) (c : Connection) → GoesOn g c (startOf g c)
-unfolding startOf
+pub started : (g : Config) (c : Connection) → GoesOn g c (startedOf g c)
+unfolding startedOf
 started g c = go (c .mode) refl (c .«open_wanted» || g .automatic) refl
   where
-    go : (m : Mode) → c .mode ≡ m → (b : Bool) → (c .«open_wanted» || g .automatic) ≡ b → GoesOn g c (startOf g c)
+    go : (m : Mode) → c .mode ≡ m → (b : Bool) → (c .«open_wanted» || g .automatic) ≡ b → GoesOn g c (startedOf g c)
     go Offline p true q = rw (p, q) (record { part = refl; used = refl; switches = refl; wish = refl; online = λ _. refl })
     go Offline p false q = rw (p, q) (record { part = refl; used = refl; switches = refl; wish = refl; online = λ _. refl })
     go Reconnect p b q = rw p (record { part = refl; used = refl; switches = refl; wish = refl; online = λ _. refl })
@@ -79,16 +79,16 @@ one-more g c d e t u =
 
 -- and one that closes: the fresh record except switches
 pub data Tick (g : Config) (c : Connection) : Connection → Type 0 where
-  closes : c .«close_wanted» ≡ true → Tick g c (closedOf g c)
+  closes-wanted : c .«close_wanted» ≡ true → Tick g c (closedOf g c)
   goes-on : (d : Connection) → c .«close_wanted» ≡ false → GoesOn g c d → Tick g c d
 
 pub tick-is : (g : Config) (c : Connection) → Tick g c (tickOf g c)
 unfolding tickOf
 tick-is g c = go (c .«close_wanted») refl
   where
-    all : GoesOn g c (runOf (reachOf g (startOf g c)))
-    all = one-more g c (reachOf g (startOf g c)) _ (run g (reachOf g (startOf g c))) (one-more g c (startOf g c) _ (reached g (startOf g c)) (started g c))
+    all : GoesOn g c (runOf (reachOf g (startedOf g c)))
+    all = one-more g c (reachOf g (startedOf g c)) _ (run g (reachOf g (startedOf g c))) (one-more g c (startedOf g c) _ (reached g (startedOf g c)) (started g c))
 
-    go : (b : Bool) → c .«close_wanted» ≡ b → Tick g c (cond b (closedOf g c) (runOf (reachOf g (startOf g c))))
-    go true e = closes e
-    go false e = goes-on (runOf (reachOf g (startOf g c))) e all
+    go : (b : Bool) → c .«close_wanted» ≡ b → Tick g c (cond b (closedOf g c) (runOf (reachOf g (startedOf g c))))
+    go true e = closes-wanted e
+    go false e = goes-on (runOf (reachOf g (startedOf g c))) e all

@@ -182,8 +182,8 @@ abbrev pub closedOf : Config → Connection → Connection
 closedOf g c = withSwitches (c .switches) (freshOf g)
 
 -- "offline with open wanted or automatic becomes reconnect, open cleared"
-unfoldable pub startOf : Config → Connection → Connection
-startOf g c = cond (isOffline (c .mode) && (c .«open_wanted» || g .automatic)) (withMode Reconnect false (c .«close_wanted») c) c
+unfoldable pub startedOf : Config → Connection → Connection
+startedOf g c = cond (isOffline (c .mode) && (c .«open_wanted» || g .automatic)) (withMode Reconnect false (c .«close_wanted») c) c
 
 -- "then UDP reconnect without wildcard becomes online"
 unfoldable pub reachOf : Config → Connection → Connection
@@ -195,4 +195,4 @@ runOf c = cond (eqb (c .timer) 0) c (withSend (c .used) (c .timer - 1) (eqb (c .
 
 -- Tick: "Close wanted: .. nothing more this tick. Otherwise: .."
 unfoldable pub tickOf : Config → Connection → Connection
-tickOf g c = cond (c .«close_wanted») (closedOf g c) (runOf (reachOf g (startOf g c)))
+tickOf g c = cond (c .«close_wanted») (closedOf g c) (runOf (reachOf g (startedOf g c)))

@@ -65,13 +65,13 @@ allowed Lost g c = lostAllowed g c
 allowed (SetRemote r) g c = remoteAllowed c
 allowed (Switch n on) g c = true
 
-abbrev pub after : Event → Config → Connection → Connection
-after Open g c = openOf c
-after Close g c = closeOf c
-after Connected g c = connectedOf c
-after Lost g c = lostOf g c
-after (SetRemote r) g c = remoteOf r c
-after (Switch n on) g c = switchedOf n on c
+abbrev pub recordAfter : Event → Config → Connection → Connection
+recordAfter Open g c = openOf c
+recordAfter Close g c = closeOf c
+recordAfter Connected g c = connectedOf c
+recordAfter Lost g c = lostOf g c
+recordAfter (SetRemote r) g c = remoteOf r c
+recordAfter (Switch n on) g c = switchedOf n on c
 
 -- which of them, done, drops the bytes held: a loss
 abbrev pub empties : Event → Bool
@@ -99,4 +99,4 @@ unfoldable pub stepOf : Event → Config → Connection → Stepped
 stepOf e g c =
     cond (not (known e)) (refusedBy Missing c)
     (cond (not (allowed e g c)) (refusedBy Denied c)
-    (record { answer = Done; connection = after e g c }))
+    (record { answer = Done; connection = recordAfter e g c }))

@@ -264,7 +264,7 @@ impl Connection {
 
     // Offline with open wanted or automatic becomes reconnect, open cleared.
     pub fn start(self, config: Config) -> Connection
-        ensures { λ r. ⌜ r ≡ Is.startOf config self ⌝ }
+        ensures { λ r. ⌜ r ≡ Is.startedOf config self ⌝ }
     {
         let mode = self.mode;
         let starts = is_offline(mode) & (self.open_wanted | config.automatic);
@@ -361,7 +361,7 @@ impl Connection {
 
     // The record after an event that is allowed.
     pub fn after(self, config: Config, event: Event) -> Connection
-        ensures { λ r. ⌜ r ≡ Ev.after event config self ⌝ }
+        ensures { λ r. ⌜ r ≡ Ev.recordAfter event config self ⌝ }
     {
         match event {
             Event::Open => self.open(),

@@ -9,38 +9,38 @@ use Rattle.feed.specs.Feed.{Routes}
 use Rattle.wire.specs.Be.{be}
 use Rattle.lengths.specs.Head.{Head, ended, whole, headOf}
 use Rattle.lengths.proofs.Heads.{head-end, head-whole}
-use Rattle.walk.specs.Walk.{wholeAt, stepOf, walkAt}
-use Rattle.wire.proofs.Part.{rest-is}
+use Rattle.walk.specs.Walk.{wholeAt, walkStep, walkAt}
+use Rattle.wire.proofs.Part.{part-to-end}
 use Rattle.route.specs.Route.{lookupOf}
 use Rattle.datagram.specs.declared.Outcome.the-variants.{End}
 use Rattle.datagram.specs.declared.Walked.{Walked}
 use Rattle.datagram.specs.Datagram.{stepped, walkedOf}
 
 -- by what stands at the front
-pub stands : (R : Routes) (m p : ℕ) (l : List ℕ) (h : Head) → h ≡ headOf l → stepped (stepOf R m p h) ≡ stepped (stepOf R m p (headOf l))
-stands R m p l h e = ap (λ (k : Head). stepped (stepOf R m p k)) e
+pub stands-at-front : (R : Routes) (m p : ℕ) (l : List ℕ) (h : Head) → h ≡ headOf l → stepped (walkStep R m p h) ≡ stepped (walkStep R m p (headOf l))
+stands-at-front R m p l h e = ap (λ (k : Head). stepped (walkStep R m p k)) e
 
 -- a whole PDU, and what the routes say to it
 pub judged : (R : Routes) (m p : ℕ) (l : List ℕ) (i n : ℕ) (d : Decision) (w : Walked) → 8 ≤ length l → i ≡ be 4 l 0 → n ≡ be 4 l 4 → n ≤ length l - 8
-    → d ≡ R i n → w ≡ stepped (wholeAt d p i n) → w ≡ stepped (stepOf R m p (headOf l))
+    → d ≡ R i n → w ≡ stepped (wholeAt d p i n) → w ≡ stepped (walkStep R m p (headOf l))
 judged R m p l i n d w h ei en fits ed e =
-    e ∙ ap (λ (q : Decision). stepped (wholeAt q p i n)) ed ∙ stands R m p l (whole i n) (head-whole l i n h ei en fits)
+    e ∙ ap (λ (q : Decision). stepped (wholeAt q p i n)) ed ∙ stands-at-front R m p l (whole i n) (head-whole l i n h ei en fits)
 
 -- a place at the end or beyond it
-pub at-end : (datagram : List ℕ) (place : ℕ) (routes : List ℕ) (connection switches : ℕ) → length datagram ≤ place
+pub walk-at-end : (datagram : List ℕ) (place : ℕ) (routes : List ℕ) (connection switches : ℕ) → length datagram ≤ place
     → _≡_ {A = Walked} (record { outcome = End; next = length datagram }) (walkedOf datagram place routes connection switches)
 unfolding walkedOf walkAt
-at-end datagram place routes connection switches h =
+walk-at-end datagram place routes connection switches h =
     let n : length (drop place datagram) ≡ 0 = omega (arith, length-drop place datagram) in
-    stands (lookupOf routes connection switches) (length datagram) place (drop place datagram) ended (head-end (drop place datagram) n)
+    stands-at-front (lookupOf routes connection switches) (length datagram) place (drop place datagram) ended (head-end (drop place datagram) n)
 
 -- the part that starts in the middle is the rest of the datagram
 pub in-the-middle : (datagram : List ℕ) (place : ℕ) (routes : List ℕ) (connection switches : ℕ) (w : Walked) → place ≤ length datagram
-    → w ≡ stepped (stepOf (lookupOf routes connection switches) (place + length (take (length datagram - place) (drop place datagram))) place (headOf (take (length datagram - place) (drop place datagram))))
+    → w ≡ stepped (walkStep (lookupOf routes connection switches) (place + length (take (length datagram - place) (drop place datagram))) place (headOf (take (length datagram - place) (drop place datagram))))
     → w ≡ walkedOf datagram place routes connection switches
 unfolding walkedOf walkAt
 in-the-middle datagram place routes connection switches w h e =
-    let r : take (length datagram - place) (drop place datagram) ≡ drop place datagram = rest-is datagram place in
+    let r : take (length datagram - place) (drop place datagram) ≡ drop place datagram = part-to-end datagram place in
     let n : place + length (drop place datagram) ≡ length datagram = omega (arith, length-drop place datagram) in
-    e ∙ ap (λ (l : List ℕ). stepped (stepOf (lookupOf routes connection switches) (place + length l) place (headOf l))) r
-    ∙ ap (λ (m : ℕ). stepped (stepOf (lookupOf routes connection switches) m place (headOf (drop place datagram)))) n
+    e ∙ ap (λ (l : List ℕ). stepped (walkStep (lookupOf routes connection switches) (place + length l) place (headOf l))) r
+    ∙ ap (λ (m : ℕ). stepped (walkStep (lookupOf routes connection switches) m place (headOf (drop place datagram)))) n

@@ -9,14 +9,14 @@ use Rattle.datagram.specs.declared.Outcome.the-variants.{End, Pdu, Drop}
 use Rattle.datagram.specs.declared.Walked.{Walked}
 
 -- "gives the next PDU, a drop, or the end"
-abbrev pub outcomeOf : Found → Outcome
-outcomeOf the-end = End
-outcomeOf (a-pdu route place n id) = Pdu route id place n
-outcomeOf (a-drop reason id n) = Drop reason id n
+abbrev pub walkOutcome : Found → Outcome
+walkOutcome the-end = End
+walkOutcome (a-pdu route place n id) = Pdu route id place n
+walkOutcome (a-drop reason id n) = Drop reason id n
 
 -- "with the next place"
 abbrev pub stepped : reading.Walked → Walked
-stepped w = record { outcome = outcomeOf (w .found); next = w .next }
+stepped w = record { outcome = walkOutcome (w .found); next = w .next }
 
 -- a step of the walk on a connection with these routes and switches; a place beyond the end is the end (the entry points refuse
 -- it with 3 before)

@@ -16,23 +16,23 @@ use Rattle.layout.specs.declared.Kind.the-variants.{Connection as Connections}
 use Rattle.connection.specs.declared.Connection.{Connection}
 use Rattle.connection.specs.Connection.{zeroRecord}
 use Rattle.connection.specs.Event.{receiving}
-use Rattle.feed.specs.Feed.{segment as segmentOf}
+use Rattle.feed.specs.Feed.{segmentRan as segmentOf}
 use Rattle.state.specs.declared.State.{State}
 use Rattle.state.specs.State.{recordAt}
 use Rattle.state.specs.Fresh.{configOf}
 use Rattle.ticks.specs.Tick.{tickAt, tickedTo}
 use Rattle.waiting.proofs.Taken.{take-used}
-use Rattle.walk.specs.Walk.{walkAt, told}
+use Rattle.walk.specs.Walk.{walkAt, outsTold}
 use Rattle.waits.proofs.Turns.{tick-used, step-used, if-emptied, only-emptied}
 use Rattle.world.specs.World.{Held, World, blank, heldAt, cellAt}
-use Rattle.world.specs.Events.{Own, change, segment, walk, take, Whole, datagram, accept, tick, transmit, switchAll, readCount, clearCount, on, all}
+use Rattle.world.specs.Events.{Own, change, segment, walk, takeWaiting, Whole, datagram, accept, tick, transmit, switchAll, readCount, clearCount, on, onWhole}
 use Rattle.world.specs.Step.{Table, acted, streamed, routesAt, does, acts, step}
 use Rattle.tie.specs.Table.{tableOf}
 use Rattle.tie.specs.Whole.{wholeOf}
 use Rattle.tie.proofs.Left.{left-nothing}
-use Rattle.tie.proofs.Becomes.{Becomes, untouched, same, met, ticked, switched, sent, becomes}
+use Rattle.tie.proofs.Becomes.{Becomes, becomes-itself, as-it-was, becomes-met, becomes-ticked, becomes-switched, becomes-sent, becomes}
 use Rattle.demands.specs.Waits.{drains, ownEmpties}
-use Rattle.waits.specs.Waits.{loses, was-taken, was-lost, isEmptied, onlyIf}
+use Rattle.waits.specs.Waits.{emptiedBy, was-taken, was-lost, isEmptied, onlyIf}
 
 -- a take: one of nothing leaves nothing
 drains-used : (room : ℕ) (c : Connection) → cond (not (ltb room (c .used))) 0 (c .used) ≡ cond (drains room c) 0 (c .used)
@@ -47,7 +47,7 @@ drains-used room c = go (eqb (c .used) 0) refl (not (ltb room (c .used)))
 does-used : (T : Table) (k : ℕ) (e : Own) (h : Held) → does T k e h .to .connection .used ≡ cond (isEmptied (ownEmpties e (T .config k) (h .connection))) 0 (h .connection .used)
 unfolding does
 does-used T k (change e) h =
-    step-used e (T .config k) (h .connection) ∙ ap (λ (b : Bool). cond b 0 (h .connection .used)) (sym (if-emptied (loses e (T .config k) (h .connection)) was-lost))
+    step-used e (T .config k) (h .connection) ∙ ap (λ (b : Bool). cond b 0 (h .connection .used)) (sym (if-emptied (emptiedBy e (T .config k) (h .connection)) was-lost))
 does-used T k (segment bytes) h = go (T .config k .tcp && receiving (h .connection))
   where
     go : (b : Bool) → cond b (streamed h (segmentOf (routesAt T k h) (cellAt h) bytes)) (acted h []) .to .connection .used ≡ h .connection .used
@@ -55,10 +55,10 @@ does-used T k (segment bytes) h = go (T .config k .tcp && receiving (h .connecti
     go false = refl
 does-used T k (walk d p) h = go (not (T .config k .tcp) && leb p (length d) && receiving (h .connection))
   where
-    go : (b : Bool) → cond b (acted h (told d (walkAt (routesAt T k h) d p .found) [])) (acted h []) .to .connection .used ≡ h .connection .used
+    go : (b : Bool) → cond b (acted h (outsTold d (walkAt (routesAt T k h) d p .found) [])) (acted h []) .to .connection .used ≡ h .connection .used
     go true = refl
     go false = refl
-does-used T k (take room) h =
+does-used T k (takeWaiting room) h =
     take-used (T .config k) room (h .connection)
     ∙ drains-used room (h .connection)
     ∙ ap (λ (b : Bool). cond b 0 (h .connection .used)) (sym (if-emptied (drains room (h .connection)) was-taken))
@@ -121,13 +121,13 @@ module _ (image : List ℕ) (w : World) (j : ℕ) where
 
   -- AN EVENT OF A WHOLE GROUP OR MODULE, but a tick and a transmit
   becomes-used : (e : Whole) (h : Held) → Becomes image j (heldAt w j) e h → leavesAll e ≡ true → h .connection .used ≡ c .used
-  becomes-used _ _ (untouched e) l = refl
-  becomes-used _ _ (same e) l = refl
-  becomes-used _ _ (met e source) l = refl
-  becomes-used _ _ ticked l = absurd (false≢true l)
-  becomes-used _ _ (switched e n b) l = refl
-  becomes-used _ _ (sent pdu payload h a) l = absurd (false≢true l)
+  becomes-used _ _ (becomes-itself e) l = refl
+  becomes-used _ _ (as-it-was e) l = refl
+  becomes-used _ _ (becomes-met e source) l = refl
+  becomes-used _ _ becomes-ticked l = absurd (false≢true l)
+  becomes-used _ _ (becomes-switched e n b) l = refl
+  becomes-used _ _ (becomes-sent pdu payload h a) l = absurd (false≢true l)
 
-  pub whole-used : (e : Whole) → leavesAll e ≡ true → heldAt (step (tableOf image) (wholeOf image) w (all e)) j .connection .used ≡ c .used
+  pub whole-used : (e : Whole) → leavesAll e ≡ true → heldAt (step (tableOf image) (wholeOf image) w (onWhole e)) j .connection .used ≡ c .used
   unfolding step
   whole-used e l = becomes-used e (heldAt (wholeOf image e w) j) (becomes image j w e) l

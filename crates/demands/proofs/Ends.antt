@@ -12,16 +12,16 @@ use Rattle.connection.specs.Connection.{isOnline, tickOf}
 use Rattle.connection.specs.Event.{empties}
 use Rattle.state.specs.Fresh.{configOf}
 use Rattle.world.specs.World.{Held, World, blank, heldAt}
-use Rattle.world.specs.Events.{Own, change, segment, walk, take, Whole, tick, transmit, Event, on, all}
-use Rattle.world.specs.Step.{acts, at, step}
+use Rattle.world.specs.Events.{Own, change, segment, walk, takeWaiting, Whole, tick, transmit, Event, on, onWhole}
+use Rattle.world.specs.Step.{acts, actsAt, step}
 use Rattle.runs.specs.Streams.{online, ends}
 use Rattle.tie.specs.Table.{tableOf}
 use Rattle.tie.specs.Whole.{wholeOf}
 use Rattle.lists.proofs.Each.{one-at}
 use Rattle.connection.proofs.Leaves.{after-leaves, only-loss}
-use Rattle.connection.proofs.Ticks.{Tick, closes, goes-on, tick-is, step-either}
+use Rattle.connection.proofs.Ticks.{Tick, closes-wanted, goes-on, tick-is, step-either}
 use Rattle.waiting.proofs.Taken.{take-mode}
-use Rattle.tie.proofs.Becomes.{Acts, idle, fed, changed, took, acts-is, Becomes, untouched, same, met, ticked, switched, sent, becomes}
+use Rattle.tie.proofs.Becomes.{Acts, acts-idle, acts-fed, acts-changed, acts-took, acts-is, Becomes, becomes-itself, as-it-was, becomes-met, becomes-ticked, becomes-switched, becomes-sent, becomes}
 use Rattle.demands.specs.Ends.{EndsBy, by-loss, by-closing}
 
 -- still online (c after, d before)
@@ -33,14 +33,14 @@ abbrev losing : Own → Bool
 losing (change e) = empties e
 losing (segment bs) = false
 losing (walk d p) = false
-losing (take room) = false
+losing (takeWaiting room) = false
 
 -- an event of a TCP connection
 up-acts : (g : Config) (c : Connection) (e : Own) (d : Connection) → Acts g c e d → g .tcp ≡ true → losing e ≡ false → Up d c
-up-acts g c _ _ (idle e) tcp ne = λ on-line. on-line
-up-acts g c _ _ (fed bytes p) tcp ne = λ on-line. on-line
-up-acts g c _ _ (changed e) tcp ne = step-either e g c (λ (d : Connection). Up d c) (λ _ on-line. on-line) (λ _. after-leaves e g c .up ne)
-up-acts g c _ _ (took room) tcp ne = λ on-line. ap isOnline (take-mode g room c tcp) ∙ on-line
+up-acts g c _ _ (acts-idle e) tcp ne = λ on-line. on-line
+up-acts g c _ _ (acts-fed bytes p) tcp ne = λ on-line. on-line
+up-acts g c _ _ (acts-changed e) tcp ne = step-either e g c (λ (d : Connection). Up d c) (λ _ on-line. on-line) (λ _. after-leaves e g c .up ne)
+up-acts g c _ _ (acts-took room) tcp ne = λ on-line. ap isOnline (take-mode g room c tcp) ∙ on-line
 
 -- IN THE WORLD: each event but those two leaves a TCP connection online
 module _ (image : List ℕ) (w : World) (k : ℕ) (tcp : configOf image k .tcp ≡ true) where
@@ -52,13 +52,13 @@ module _ (image : List ℕ) (w : World) (k : ℕ) (tcp : configOf image k .tcp �
   tick-up stays = go (tickOf (configOf image k) c) (tick-is (configOf image k) c)
     where
       go : (d : Connection) → Tick (configOf image k) c d → Up d c
-      go d (closes e) = absurd (false≢true (sym stays ∙ e))
+      go d (closes-wanted e) = absurd (false≢true (sym stays ∙ e))
       go d (goes-on _ e t) = λ on-line. t .online tcp ∙ on-line
 
   own-up : (i : ℕ) (e : Own) → (i ≡ k → losing e ≡ false) → Up (heldAt (step (tableOf image) (wholeOf image) w (on i e)) k .connection) c
   unfolding step
   own-up i e ne =
-      one-at blank (w .held) i k (at (tableOf image) w i e .to) (λ (h : Held). Up (h .connection) c)
+      one-at blank (w .held) i k (actsAt (tableOf image) w i e .to) (λ (h : Held). Up (h .connection) c)
       (λ q. subst (λ (j : ℕ). Up (acts (tableOf image) j e (heldAt w j) .to .connection) c) (sym q) (up-acts (configOf image k) c e _ (acts-is (tableOf image) k e (heldAt w k)) tcp (ne q)))
       (λ on-line. on-line)
 
@@ -69,8 +69,8 @@ module _ (image : List ℕ) (w : World) (k : ℕ) (tcp : configOf image k .tcp �
       let behind : not (online (step (tableOf image) (wholeOf image) w e) k) ≡ true = and-right (online w k) _ q in
       false≢true (ap not (sym (up before)) ∙ behind)
 
-  still : (e : Whole) {h : Held} → heldAt (step (tableOf image) (wholeOf image) w (all e)) k ≡ h → Up (h .connection) c → ends (tableOf image) (wholeOf image) k w (all e) ≡ true → ⊥
-  still e is up = not-ended (all e) (subst (λ (h : Held). Up (h .connection) c) (sym is) up)
+  still : (e : Whole) {h : Held} → heldAt (step (tableOf image) (wholeOf image) w (onWhole e)) k ≡ h → Up (h .connection) c → ends (tableOf image) (wholeOf image) k w (onWhole e) ≡ true → ⊥
+  still e is up = not-ended (onWhole e) (subst (λ (h : Held). Up (h .connection) c) (sym is) up)
 
   ends-own : (i : ℕ) (e : Own) (b : Bool) → losing e ≡ b → Dec (i ≡ k) → ends (tableOf image) (wholeOf image) k w (on i e) ≡ true → EndsBy k c (on i e)
   ends-own i e b l (no ne) q = absurd (not-ended (on i e) (own-up i e (λ p. absurd (ne p))) q)
@@ -79,27 +79,27 @@ module _ (image : List ℕ) (w : World) (k : ℕ) (tcp : configOf image k .tcp �
       subst (λ (j : ℕ). EndsBy k c (on j (change e))) (sym p) (subst (λ (x : Change). EndsBy k c (on k (change x))) (sym (only-loss e l)) by-loss)
   ends-own i (segment bs) true l (yes p) q = absurd (false≢true l)
   ends-own i (walk d n) true l (yes p) q = absurd (false≢true l)
-  ends-own i (take room) true l (yes p) q = absurd (false≢true l)
+  ends-own i (takeWaiting room) true l (yes p) q = absurd (false≢true l)
 
   -- an event of a whole group or module, by what it makes of the connection
-  ends-whole : (e : Whole) (h : Held) → heldAt (step (tableOf image) (wholeOf image) w (all e)) k ≡ h → Becomes image k (heldAt w k) e h → ends (tableOf image) (wholeOf image) k w (all e) ≡ true
-      → EndsBy k c (all e)
-  ends-whole _ _ is (untouched e) q = absurd (still e is (λ on-line. on-line) q)
-  ends-whole _ _ is (same e) q = absurd (still e is (λ on-line. on-line) q)
-  ends-whole _ _ is (met e source) q = absurd (still e is (λ on-line. refl) q)
-  ends-whole _ _ is ticked q = go (c .«close_wanted») refl
+  ends-whole : (e : Whole) (h : Held) → heldAt (step (tableOf image) (wholeOf image) w (onWhole e)) k ≡ h → Becomes image k (heldAt w k) e h → ends (tableOf image) (wholeOf image) k w (onWhole e) ≡ true
+      → EndsBy k c (onWhole e)
+  ends-whole _ _ is (becomes-itself e) q = absurd (still e is (λ on-line. on-line) q)
+  ends-whole _ _ is (as-it-was e) q = absurd (still e is (λ on-line. on-line) q)
+  ends-whole _ _ is (becomes-met e source) q = absurd (still e is (λ on-line. refl) q)
+  ends-whole _ _ is becomes-ticked q = go (c .«close_wanted») refl
     where
-      go : (b : Bool) → c .«close_wanted» ≡ b → EndsBy k c (all tick)
+      go : (b : Bool) → c .«close_wanted» ≡ b → EndsBy k c (onWhole tick)
       go true e = by-closing e
       go false e = absurd (still tick is (tick-up e) q)
-  ends-whole _ _ is (switched e n b) q = absurd (still e is (λ on-line. on-line) q)
-  ends-whole _ _ is (sent pdu payload h a) q = absurd (still (transmit pdu payload) is (λ on-line. a .online ∙ on-line) q)
+  ends-whole _ _ is (becomes-switched e n b) q = absurd (still e is (λ on-line. on-line) q)
+  ends-whole _ _ is (becomes-sent pdu payload h a) q = absurd (still (transmit pdu payload) is (λ on-line. a .online ∙ on-line) q)
 
-  step-whole : (e : Whole) → step (tableOf image) (wholeOf image) w (all e) ≡ wholeOf image e w
+  step-whole : (e : Whole) → step (tableOf image) (wholeOf image) w (onWhole e) ≡ wholeOf image e w
   unfolding step
   step-whole e = refl
 
   -- SO A PERIOD ENDS BY A LOSS OR A CLOSING TICK
   pub ends-by : (e : Event) → ends (tableOf image) (wholeOf image) k w e ≡ true → EndsBy k (heldAt w k .connection) e
   ends-by (on i e) q = ends-own i e (losing e) refl (ℕ-discrete i k) q
-  ends-by (all e) q = ends-whole e (heldAt (wholeOf image e w) k) (ap (λ (v : World). heldAt v k) (step-whole e)) (becomes image k w e) q
+  ends-by (onWhole e) q = ends-whole e (heldAt (wholeOf image e w) k) (ap (λ (v : World). heldAt v k) (step-whole e)) (becomes image k w e) q

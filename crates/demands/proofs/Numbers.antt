@@ -14,7 +14,7 @@ use Rattle.layout.specs.Layout.{rowsOf}
 use Rattle.layout.specs.declared.Kind.the-variants.{Connection as Connections, Group}
 use Rattle.rows.specs.declared.DestinationRow.{DestinationRow}
 use Rattle.rows.specs.Rows.{connectionOf, destinationOf}
-use Rattle.feed.specs.On.{isOn}
+use Rattle.switches.specs.Switches.{isOn}
 use Rattle.connection.specs.declared.Connection.{Connection}
 use Rattle.connection.specs.declared.Config.{Config}
 use Rattle.connection.specs.declared.Remote.{Remote}
@@ -24,7 +24,7 @@ use Rattle.connection.specs.declared.Stepped.{Stepped}
 use Rattle.connection.specs.declared.Event.{Event as Change}
 use Rattle.connection.proofs.Leaves.{not-denied}
 use Rattle.connection.specs.Connection.{isOnline}
-use Rattle.connection.specs.Event.{answerNumber, receiving, known, allowed, after, deniable, refusedBy as notStepped, stepOf}
+use Rattle.connection.specs.Event.{answerNumber, receiving, known, allowed, recordAfter, deniable, refusedBy as notStepped, stepOf}
 use Rattle.state.specs.declared.State.{State}
 use Rattle.state.specs.State.{recordAt}
 use Rattle.state.specs.Fresh.{configOf}
@@ -34,18 +34,18 @@ use Rattle.gate.specs.Gate.{gateOf, gateAt, thenThere, through}
 use Rattle.gate.specs.Sound.{soundState}
 use Rattle.events.specs.declared.Told.{Told}
 use Rattle.events.specs.declared.Counted.{Counted}
-use Rattle.events.specs.Change.{refusedBy, toldOf, changeOf, eventOf}
+use Rattle.events.specs.Change.{refusedTold, toldOf, changeOf, eventOf}
 use Rattle.events.specs.Module.{switchedAll, switchAllOf}
 use Rattle.events.specs.Count.{countNumber, ofProtocol, readFrom, clearFrom, uncounted, readPast, clearPast, readOf, clearOf}
 use Rattle.ticks.specs.Tick.{tickedTo, unticked, tickEvent}
 use Rattle.choose.specs.declared.Arrived.{Arrived}
 use Rattle.choose.specs.declared.Chosen.{Chosen}
 use Rattle.choose.specs.declared.Chosen.the-variants.{Nobody, At}
-use Rattle.choose.specs.Choose.{arrivalNumber, meet, refusedBy as notMet, deniedOf, chosenIn, arriveOf}
+use Rattle.choose.specs.Choose.{arrivalNumber, meet, arrivalRefused as notMet, deniedOf, chosenIn, arriveOf}
 use Rattle.arrivals.specs.Arrivals.{arrivalOf}
 use Rattle.receive.specs.declared.Answer.{Answer}
 use Rattle.receive.specs.declared.Answer.the-variants as Receive
-use Rattle.receive.specs.Answer.{answerNumber as receiveNumber, isDone, judgedOf, answerOf}
+use Rattle.receive.specs.Answer.{answerNumber as receiveNumber, isDone, judgedOf, judgedAnswer}
 use Rattle.receive.specs.Segment.{takeOn, noneTaken, segmentOf, segmentAnswer}
 use Rattle.receive.specs.Walk.{walkOn, noneWalked, walkAnswer, walkAllowed, walkOf}
 use Rattle.destination.specs.Destination.{refusalOf, lookOf}
@@ -56,8 +56,8 @@ use Rattle.send.specs.Send.{destinations, lookAt, checkOf, transmittedOf}
 use Rattle.waiting.specs.declared.Taking.{Taking}
 use Rattle.waiting.specs.declared.Taking.the-variants as Taken
 use Rattle.waiting.specs.Waiting.{takingNumber, takingOf}
-use Rattle.sending.specs.Sending.{notSent, sendOf, notTaken, takePast, takenOf}
-use Rattle.world.specs.Events.{change, segment, walk, take, datagram, accept, tick, transmit, switchAll, readCount, clearCount, Event, on, all}
+use Rattle.sending.specs.Sending.{notSent, sendOf, notTaken, takePast, takenWaiting}
+use Rattle.world.specs.Events.{change, segment, walk, takeWaiting, datagram, accept, tick, transmit, switchAll, readCount, clearCount, Event, on, onWhole}
 use Rattle.tie.specs.Machine.{Machine, lentTo, loanTo}
 use Rattle.demands.specs.Numbers.{numberOf, numbersFor, among}
 
@@ -137,7 +137,7 @@ module _ (image : List ℕ) (m : Machine) where
       c = recordAt s k
 
       step : Bool → Bool → Stepped
-      step x y = cond (not x) (notStepped Missing c) (cond (not y) (notStepped Denied c) (record { answer = Done; connection = after e (configOf image k) c }))
+      step x y = cond (not x) (notStepped Missing c) (cond (not y) (notStepped Denied c) (record { answer = Done; connection = recordAfter e (configOf image k) c }))
 
       go : (x y : Bool) → allowed e (configOf image k) c ≡ y → Listed (on k (change e)) (answerNumber (toldOf s k (step x y .answer) (step x y .connection) .answer))
       go false y p = always k e .2
@@ -147,15 +147,15 @@ module _ (image : List ℕ) (m : Machine) where
   change-listed : (k : ℕ) (e : Change) → Listed (on k (change e)) (numberOf image m (on k (change e)))
   unfolding eventOf
   change-listed k e =
-      gate-at k (λ g. Listed (on k (change e)) (answerNumber (through g (refusedBy s) (changeOf image s k e) .answer))) (step-listed k e) (always k e .0) (always k e .1)
+      gate-at k (λ g. Listed (on k (change e)) (answerNumber (through g (refusedTold s) (changeOf image s k e) .answer))) (step-listed k e) (always k e .0) (always k e .1)
       (always k e .2)
 
   -- a take, a walk: 3, then 4
   abbrev Received : Answer → Type 0
   Received a = among (receiveNumber a) (11 ∷ 12 ∷ 2 ∷ 3 ∷ 4 ∷ 0 ∷ []) ≡ true
 
-  receive-listed : (k : ℕ) (ok : Bool) → Received (answerOf (lentTo image m) k ok)
-  unfolding answerOf judgedOf among
+  receive-listed : (k : ℕ) (ok : Bool) → Received (judgedAnswer (lentTo image m) k ok)
+  unfolding judgedAnswer judgedOf among
   receive-listed k ok = gate-at k (λ g. Received (through g Receive.Refused (judgedOf ok (recordAt s k)))) (past ok (receiving (recordAt s k))) refl refl refl
     where
       past : (a b : Bool) → Received (cond a (cond b Receive.Done Receive.NotReceiving) (Receive.Refused Denied))
@@ -180,8 +180,8 @@ module _ (image : List ℕ) (m : Machine) where
       go false = receive-listed k (walkAllowed image k d p)
 
   -- the waiting bytes: 9
-  take-listed : (k : ℕ) (out : List ℕ) → among (takingNumber (takenOf (loanTo image m) k out .answer)) (11 ∷ 12 ∷ 2 ∷ 9 ∷ 0 ∷ []) ≡ true
-  unfolding takenOf takingOf among
+  take-listed : (k : ℕ) (out : List ℕ) → among (takingNumber (takenWaiting (loanTo image m) k out .answer)) (11 ∷ 12 ∷ 2 ∷ 9 ∷ 0 ∷ []) ≡ true
+  unfolding takenWaiting takingOf among
   take-listed k out = gate-at k (λ g. Takes (through g (notTaken s) (takePast image s k (length out)) .answer)) (past (ltb (length out) (recordAt s k .used))) refl refl refl
     where
       Takes : Taking → Type 0
@@ -208,15 +208,15 @@ module _ (image : List ℕ) (m : Machine) where
       past false false (At k) = refl
 
   -- a switch on all connections: 2; a count: 3
-  switches-listed : (n : ℕ) (b : Bool) → Listed (all (switchAll n b)) (numberOf image m (all (switchAll n b)))
+  switches-listed : (n : ℕ) (b : Bool) → Listed (onWhole (switchAll n b)) (numberOf image m (onWhole (switchAll n b)))
   unfolding switchAllOf numbersFor among
   switches-listed n b =
-      gate-is (λ g. Listed (all (switchAll n b)) (answerNumber (through g (refusedBy s) (event (ltb n 32)) .answer))) (past (ltb n 32)) refl refl
+      gate-is (λ g. Listed (onWhole (switchAll n b)) (answerNumber (through g (refusedTold s) (event (ltb n 32)) .answer))) (past (ltb n 32)) refl refl
     where
       event : Bool → Told
-      event x = cond x (record { answer = Done; state = switchedAll (rowsOf image Connections) n b s }) (refusedBy s Missing)
+      event x = cond x (record { answer = Done; state = switchedAll (rowsOf image Connections) n b s }) (refusedTold s Missing)
 
-      past : (x : Bool) → Listed (all (switchAll n b)) (answerNumber (event x .answer))
+      past : (x : Bool) → Listed (onWhole (switchAll n b)) (answerNumber (event x .answer))
       past true = refl
       past false = refl
 
@@ -289,7 +289,7 @@ module _ (image : List ℕ) (m : Machine) where
     pub refused-at : (number d : ℕ) → checkOf image s pdu (length payload) ≡ Sent.RefusedAt number d → among number (4 ∷ 7 ∷ 8 ∷ []) ≡ true
     refused-at number d e = subst Checked e checked
 
-    number-listed : (t : Transmission) → Checked t → Listed (all (transmit pdu payload)) (transmissionNumber t)
+    number-listed : (t : Transmission) → Checked t → Listed (onWhole (transmit pdu payload)) (transmissionNumber t)
     unfolding numbersFor among
     number-listed Sent.Stored c = refl
     number-listed (Sent.Refused r) c = absurd c
@@ -297,10 +297,10 @@ module _ (image : List ℕ) (m : Machine) where
     number-listed Sent.SwitchedOff c = refl
     number-listed (Sent.RefusedAt n d) c = later n (11 ∷ 12 ∷ 5 ∷ 6 ∷ []) (4 ∷ 7 ∷ 8 ∷ 0 ∷ []) (sooner n (4 ∷ 7 ∷ 8 ∷ []) (0 ∷ []) c)
 
-    transmit-listed : Listed (all (transmit pdu payload)) (numberOf image m (all (transmit pdu payload)))
+    transmit-listed : Listed (onWhole (transmit pdu payload)) (numberOf image m (onWhole (transmit pdu payload)))
     unfolding sendOf numbersFor among
     transmit-listed =
-        gate-is (λ g. Listed (all (transmit pdu payload)) (transmissionNumber (through g (notSent s) (transmittedOf image s pdu payload (m .tx)) .answer)))
+        gate-is (λ g. Listed (onWhole (transmit pdu payload)) (transmissionNumber (through g (notSent s) (transmittedOf image s pdu payload (m .tx)) .answer)))
         (number-listed (checkOf image s pdu (length payload)) checked) refl refl
 
   -- EVERY EVENT
@@ -309,11 +309,11 @@ module _ (image : List ℕ) (m : Machine) where
   number-for (on k (change e)) = change-listed k e
   number-for (on k (segment bs)) = segment-listed k bs
   number-for (on k (walk d p)) = walk-listed k d p
-  number-for (on k (take room)) = take-listed k (replicate room 0)
-  number-for (all (datagram group source)) = arrival-listed false group source
-  number-for (all (accept group source)) = arrival-listed true group source
-  number-for (all tick) = gate-is (λ g. Listed (all tick) (answerNumber (through g (unticked s) (record { answer = Done; state = tickedTo image (rowsOf image Connections) s }) .answer))) refl refl refl
-  number-for (all (transmit pdu payload)) = transmit-listed pdu payload
-  number-for (all (switchAll n b)) = switches-listed n b
-  number-for (all (readCount p)) = count-listed (readFrom s) (λ b. refl) p
-  number-for (all (clearCount p)) = count-listed (clearFrom s) (λ b. refl) p
+  number-for (on k (takeWaiting room)) = take-listed k (replicate room 0)
+  number-for (onWhole (datagram group source)) = arrival-listed false group source
+  number-for (onWhole (accept group source)) = arrival-listed true group source
+  number-for (onWhole tick) = gate-is (λ g. Listed (onWhole tick) (answerNumber (through g (unticked s) (record { answer = Done; state = tickedTo image (rowsOf image Connections) s }) .answer))) refl refl refl
+  number-for (onWhole (transmit pdu payload)) = transmit-listed pdu payload
+  number-for (onWhole (switchAll n b)) = switches-listed n b
+  number-for (onWhole (readCount p)) = count-listed (readFrom s) (λ b. refl) p
+  number-for (onWhole (clearCount p)) = count-listed (clearFrom s) (λ b. refl) p

@@ -23,7 +23,7 @@ use Rattle.gate.specs.declared.Gate.the-variants as Gated
 use Rattle.gate.specs.Gate.{gateOf, gateAt, through}
 use Rattle.events.specs.declared.Told.{Told}
 use Rattle.events.specs.declared.Counted.{Counted}
-use Rattle.events.specs.Change.{refusedBy, toldOf, changeOf, eventOf}
+use Rattle.events.specs.Change.{refusedTold, toldOf, changeOf, eventOf}
 use Rattle.events.specs.Module.{switchedAll, switchAllOf}
 use Rattle.events.specs.Count.{countNumber, ofProtocol, readFrom, clearFrom, uncounted, readPast, clearPast, readOf, clearOf}
 use Rattle.ticks.specs.declared.Ticked.{Ticked}
@@ -31,7 +31,7 @@ use Rattle.ticks.specs.Tick.{tickedTo, ticksTo, unticked, tickEvent, ticksEvent
 use Rattle.choose.specs.declared.Arrived.{Arrived}
 use Rattle.choose.specs.declared.Chosen.{Chosen}
 use Rattle.choose.specs.declared.Chosen.the-variants.{Nobody, At}
-use Rattle.choose.specs.Choose.{arrivalNumber, meet, refusedBy as notMet, deniedOf, chosenIn, arriveOf}
+use Rattle.choose.specs.Choose.{arrivalNumber, meet, arrivalRefused as notMet, deniedOf, chosenIn, arriveOf}
 use Rattle.arrivals.specs.Arrivals.{arrivalOf}
 use Rattle.receive.specs.Answer.{answerNumber as receiveNumber, isDone}
 use Rattle.receive.specs.Segment.{takeOn, segmentAnswer, segmentOf}
@@ -42,8 +42,8 @@ use Rattle.send.specs.Verdict.{transmissionNumber, isStored}
 use Rattle.send.specs.Send.{Sending, sending, checkOf, transmitOf, transmittedOf}
 use Rattle.waiting.specs.Waiting.{takingNumber, takingOf, takeOf}
 use Rattle.sending.specs.declared.Taken.{Taken}
-use Rattle.sending.specs.Sending.{notSent, sendOf, sentMemory, notTaken, takePast, takenOf}
-use Rattle.world.specs.Events.{change, segment, walk, take, datagram, accept, tick, transmit, switchAll, readCount, clearCount, Event, on, all}
+use Rattle.sending.specs.Sending.{notSent, sendOf, sentMemory, notTaken, takePast, takenWaiting}
+use Rattle.world.specs.Events.{change, segment, walk, takeWaiting, datagram, accept, tick, transmit, switchAll, readCount, clearCount, Event, on, onWhole}
 use Rattle.tie.specs.Machine.{Machine, lentTo, loanTo, machine, taken, afterSegment}
 use Rattle.tie.specs.Run.{afterOwn, afterWhole, afterEvent}
 use Rattle.demands.specs.Numbers.{numberOf}
@@ -84,7 +84,7 @@ module _ (image : List ℕ) (m : Machine) where
   change-stays : (k : ℕ) (e : Change) → StaysTold (eventOf (lentTo image m) k e)
   unfolding eventOf changeOf
   change-stays k e =
-      past-or StaysTold (gateAt (lentTo image m) k) (refusedBy s) (changeOf image s k e) (λ r no-zero. refl)
+      past-or StaysTold (gateAt (lentTo image m) k) (refusedTold s) (changeOf image s k e) (λ r no-zero. refl)
       (λ _ no-zero. told-stays k a c (λ z. no-zero (ap answerNumber (told-answer k a c) ∙ z)))
     where
       a : Answer
@@ -123,8 +123,8 @@ module _ (image : List ℕ) (m : Machine) where
       go true e no-zero = rw (e, or-true (eqb (recordAt s k .used) 0)) (put-back s k)
       go false e no-zero = absurd (no-zero (rw e))
 
-  taken-stays : (k : ℕ) (out : List ℕ) → StaysTaken (takenOf (loanTo image m) k out)
-  unfolding takenOf
+  taken-stays : (k : ℕ) (out : List ℕ) → StaysTaken (takenWaiting (loanTo image m) k out)
+  unfolding takenWaiting
   taken-stays k out =
       past-or StaysTaken (gateAt (lentTo image m) k) (notTaken s) (takePast image s k (length out)) (λ r no-zero. refl)
       (λ _. take-stays k (length out))
@@ -162,10 +162,10 @@ module _ (image : List ℕ) (m : Machine) where
   switches-stay : (n : ℕ) (b : Bool) → StaysTold (switchAllOf (lentTo image m) n b)
   unfolding switchAllOf
   switches-stay n b =
-      past-or StaysTold (gateOf (lentTo image m)) (refusedBy s)
-      (cond (ltb n 32) (record { answer = Done; state = switchedAll (rowsOf image Connections) n b s }) (refusedBy s Missing)) (λ r no-zero. refl) (λ _. go (ltb n 32))
+      past-or StaysTold (gateOf (lentTo image m)) (refusedTold s)
+      (cond (ltb n 32) (record { answer = Done; state = switchedAll (rowsOf image Connections) n b s }) (refusedTold s Missing)) (λ r no-zero. refl) (λ _. go (ltb n 32))
     where
-      go : (x : Bool) → StaysTold (cond x (record { answer = Done; state = switchedAll (rowsOf image Connections) n b s }) (refusedBy s Missing))
+      go : (x : Bool) → StaysTold (cond x (record { answer = Done; state = switchedAll (rowsOf image Connections) n b s }) (refusedTold s Missing))
       go true no-zero = absurd (no-zero refl)
       go false no-zero = refl
 
@@ -216,11 +216,11 @@ module _ (image : List ℕ) (m : Machine) where
   refusal-stays (on k (change e)) no-zero = ap (λ (t : State). machine t (m .rx) (m .tx)) (change-stays k e no-zero)
   refusal-stays (on k (segment bs)) no-zero = segment-stays k bs no-zero
   refusal-stays (on k (walk d p)) no-zero = ap (λ (t : State). machine t (m .rx) (m .tx)) (walk-stays k d p no-zero)
-  refusal-stays (on k (take room)) no-zero = ap (λ (t : State). machine t (m .rx) (m .tx)) (taken-stays k (replicate room 0) no-zero)
-  refusal-stays (all (datagram group source)) no-zero = ap (λ (t : State). machine t (m .rx) (m .tx)) (arrival-stays false group source no-zero)
-  refusal-stays (all (accept group source)) no-zero = ap (λ (t : State). machine t (m .rx) (m .tx)) (arrival-stays true group source no-zero)
-  refusal-stays (all tick) no-zero = ap (λ (t : State). machine t (m .rx) (m .tx)) (tick-stays no-zero)
-  refusal-stays (all (transmit pdu payload)) no-zero = transmit-stays pdu payload no-zero
-  refusal-stays (all (switchAll n b)) no-zero = ap (λ (t : State). machine t (m .rx) (m .tx)) (switches-stay n b no-zero)
-  refusal-stays (all (readCount p)) no-zero = ap (λ (t : State). machine t (m .rx) (m .tx)) (read-stays p no-zero)
-  refusal-stays (all (clearCount p)) no-zero = ap (λ (t : State). machine t (m .rx) (m .tx)) (clear-stays p no-zero)
+  refusal-stays (on k (takeWaiting room)) no-zero = ap (λ (t : State). machine t (m .rx) (m .tx)) (taken-stays k (replicate room 0) no-zero)
+  refusal-stays (onWhole (datagram group source)) no-zero = ap (λ (t : State). machine t (m .rx) (m .tx)) (arrival-stays false group source no-zero)
+  refusal-stays (onWhole (accept group source)) no-zero = ap (λ (t : State). machine t (m .rx) (m .tx)) (arrival-stays true group source no-zero)
+  refusal-stays (onWhole tick) no-zero = ap (λ (t : State). machine t (m .rx) (m .tx)) (tick-stays no-zero)
+  refusal-stays (onWhole (transmit pdu payload)) no-zero = transmit-stays pdu payload no-zero
+  refusal-stays (onWhole (switchAll n b)) no-zero = ap (λ (t : State). machine t (m .rx) (m .tx)) (switches-stay n b no-zero)
+  refusal-stays (onWhole (readCount p)) no-zero = ap (λ (t : State). machine t (m .rx) (m .tx)) (read-stays p no-zero)
+  refusal-stays (onWhole (clearCount p)) no-zero = ap (λ (t : State). machine t (m .rx) (m .tx)) (clear-stays p no-zero)

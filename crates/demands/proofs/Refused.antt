@@ -24,11 +24,11 @@ use Rattle.events.specs.Module.{switchAllOf}
 use Rattle.events.specs.Count.{readOf, clearOf}
 use Rattle.ticks.specs.Tick.{tickEvent}
 use Rattle.arrivals.specs.Arrivals.{arrivalOf}
-use Rattle.receive.specs.Answer.{isDone, answerOf}
+use Rattle.receive.specs.Answer.{isDone, judgedAnswer}
 use Rattle.receive.specs.Segment.{segmentOf}
 use Rattle.receive.specs.Walk.{walkAllowed, walkOf}
-use Rattle.sending.specs.Sending.{sendOf, sentMemory, takenOf}
-use Rattle.world.specs.Events.{Own, change, segment, walk, take, Whole, datagram, accept, tick, transmit, switchAll, readCount, clearCount, Event, on, all}
+use Rattle.sending.specs.Sending.{sendOf, sentMemory, takenWaiting}
+use Rattle.world.specs.Events.{Own, change, segment, walk, takeWaiting, Whole, datagram, accept, tick, transmit, switchAll, readCount, clearCount, Event, on, onWhole}
 use Rattle.runs.specs.Streams.{RunBytes}
 use Rattle.tie.specs.Machine.{Machine, lentTo}
 use Rattle.tie.specs.Run.{afterOwn, afterWhole, afterEvent, afterRun}
@@ -52,16 +52,16 @@ module _ (image : List ℕ) (m : Machine) (r : Refusal) (shut : gateHere image m
   unfolding gateAt
   shut-at k = rw shut
 
-  not-done : (k : ℕ) (allowed : Bool) → isDone (answerOf (lentTo image m) k allowed) ≡ false
-  unfolding answerOf
+  not-done : (k : ℕ) (allowed : Bool) → isDone (judgedAnswer (lentTo image m) k allowed) ≡ false
+  unfolding judgedAnswer
   not-done k allowed = rw (shut-at k)
 
   own-stays : (k : ℕ) (e : Own) → afterOwn image k e m ≡ m
-  unfolding afterOwn eventOf walkOf takenOf
+  unfolding afterOwn eventOf walkOf takenWaiting
   own-stays k (change e) = rw (shut-at k)
   own-stays k (segment bs) = no-segment image m k bs (not-done k (configOf image k .tcp))
   own-stays k (walk d p) = rw (not-done k (walkAllowed image k d p))
-  own-stays k (take room) = rw (shut-at k)
+  own-stays k (takeWaiting room) = rw (shut-at k)
 
   whole-stays : (e : Whole) → afterWhole image e m ≡ m
   unfolding afterWhole arrivalOf tickEvent sendOf sentMemory switchAllOf readOf clearOf
@@ -77,7 +77,7 @@ module _ (image : List ℕ) (m : Machine) (r : Refusal) (shut : gateHere image m
   pub event-stays : (e : Event) → afterEvent image e m ≡ m
   unfolding afterEvent
   event-stays (on k e) = own-stays k e
-  event-stays (all e) = whole-stays e
+  event-stays (onWhole e) = whole-stays e
 
   -- ANY RUN
   pub run-stays : (es : List Event) → afterRun image m es ≡ m
@@ -87,13 +87,13 @@ module _ (image : List ℕ) (m : Machine) (r : Refusal) (shut : gateHere image m
 
   -- ITS ANSWER: the gate's
   own-refused : (k : ℕ) (e : Own) → numberOf image m (on k e) ≡ refusalNumber r
-  unfolding eventOf segmentOf walkOf takenOf answerOf
+  unfolding eventOf segmentOf walkOf takenWaiting judgedAnswer
   own-refused k (change e) = rw (shut-at k)
   own-refused k (segment bs) = rw (shut-at k)
   own-refused k (walk d p) = rw (shut-at k)
-  own-refused k (take room) = rw (shut-at k)
+  own-refused k (takeWaiting room) = rw (shut-at k)
 
-  whole-refused : (e : Whole) → numberOf image m (all e) ≡ refusalNumber r
+  whole-refused : (e : Whole) → numberOf image m (onWhole e) ≡ refusalNumber r
   unfolding arrivalOf tickEvent sendOf switchAllOf readOf clearOf
   whole-refused (datagram group source) = rw shut
   whole-refused (accept group source) = rw shut
@@ -105,7 +105,7 @@ module _ (image : List ℕ) (m : Machine) (r : Refusal) (shut : gateHere image m
 
   pub event-refused : (e : Event) → numberOf image m e ≡ refusalNumber r
   event-refused (on k e) = own-refused k e
-  event-refused (all e) = whole-refused e
+  event-refused (onWhole e) = whole-refused e
 
   pub run-refused : (es : List Event) → numbersIn image m es ≡ map (λ (e : Event). refusalNumber r) es
   unfolding numbersIn

@@ -16,13 +16,13 @@ use Rattle.layout.specs.Layout.{bodyOf, partOf}
 use Rattle.layout.specs.declared.Kind.the-variants.{Route as RouteBody}
 use Rattle.feed.specs.declared.Decision.{Decision}
 use Rattle.feed.specs.declared.Decision.the-variants.{Accept, Refuse}
-use Rattle.feed.specs.Feed.{Routes, header, payload, skip, Cell, cell, Out, nothing, pdu, dropped, Fed, decided, done, feed, after, stops, Took, took, takeB, bytesRead, Ends, at-end, at-byte}
+use Rattle.feed.specs.Feed.{Routes, header, payload, skip, Cell, cell, Out, nothing, pdu, dropped, Fed, decided, pieceDone, feed, after, stops, Took, took, takeB, bytesRead, Ends, at-end, at-byte}
 use Rattle.feed.proofs.Cut.{take-ends, ends-take}
 use Rattle.wire.specs.Lay.{lay}
 use Rattle.part.specs.declared.Part.{Part}
 use Rattle.route.specs.Route.{lookupOf}
 use Rattle.stream.specs.declared.Taken.{Taken}
-use Rattle.stream.specs.Stream.{cellOf, partFrom, heldIn, none, inSegment, idOf, outcomeOf, answered, wrote, tookOf, takenOf, rxAfter}
+use Rattle.stream.specs.Stream.{cellOf, partFrom, heldIn, noneHeld, inSegment, idOf, takeOutcome, answered, wrote, tookOf, takenOf, rxAfter}
 use Rattle.connection.specs.declared.Connection.{Connection}
 use Rattle.connection.specs.Connection.{withPart}
 use Rattle.state.specs.declared.State.{State}
@@ -32,9 +32,9 @@ use Rattle.receive.specs.declared.Answer.the-variants.{Done}
 use Rattle.receive.specs.declared.SegmentTaken.{SegmentTaken}
 use Rattle.receive.specs.Answer.{isDone}
 use Rattle.receive.specs.Segment.{countTake, takeOn, memoryOn, noneTaken, segmentAnswer, segmentOf, memoryOf, payloadOf}
-use Rattle.tie.specs.Machine.{Machine, lentTo, machine, taken, afterOne, restOf, told, toldBy, afterTakes, toldTakes, afterSegment, toldSegment}
+use Rattle.tie.specs.Machine.{Machine, lentTo, machine, taken, afterOne, restOf, pduTold, toldBy, afterTakes, toldTakes, afterSegment, toldSegment}
 use Rattle.tie.specs.Run.{afterOwn, afterEvent, given, afterRun, givenIn}
-use Rattle.demands.specs.Order.{Call, event, once, bytesTaken, afterCall, givenBy, asEvent, afterCalls, givenCalls, asEvents}
+use Rattle.demands.specs.Order.{AnyCall, event, once, bytesTaken, afterCall, givenBy, asEvent, afterCalls, givenCalls, asEvents}
 
 -- the bytes that a take reads of a segment
 front-is : (a r : List ℕ) → take (length (a ++ r) - length r) (a ++ r) ≡ a
@@ -73,7 +73,7 @@ decided-fits (Refuse k) i zero m = (omega arith, omega arith)
 decided-fits (Refuse k) i (suc n) m = (omega arith, omega arith)
 
 feed-fits : (R : Routes) (c : Cell) (b : ℕ) → Fits (length (heldIn c) + 1) (feed R c b)
-unfolding feed done size
+unfolding feed pieceDone size
 feed-fits R (cell zero k) b = (omega arith, omega arith)
 feed-fits R (cell (suc zero) (header v)) b = decided-fits (R ((v * 256 + b) / 2 ^ 32) ((v * 256 + b) % 2 ^ 32)) ((v * 256 + b) / 2 ^ 32) ((v * 256 + b) % 2 ^ 32) 1
 feed-fits R (cell (suc zero) (payload r h)) b = (omega (arith, length-append h (b ∷ [])), omega arith)
@@ -96,7 +96,7 @@ take-fits R c (b ∷ bs) = go (stops (feed R c b .out)) (feed-fits R c b) (take-
     go false f h = omega (arith, f .1, h)
 
 -- so a payload that stands in the segment stands in the bytes read
-no-held : (l : List ℕ) → none l ≡ true → length l ≡ 0
+no-held : (l : List ℕ) → noneHeld l ≡ true → length l ≡ 0
 no-held [] e = refl
 no-held (x ∷ l) e = impossible e
 
@@ -130,7 +130,7 @@ module _ (routes : List ℕ) (k switches : ℕ) (part : Part) (st bs : List ℕ)
   unfolding takenOf
   taken-front =
       ap₂ (answered (idOf routes) (inSegment (cellOf part st))) front-long took-front
-      ∙ ap (λ (r : ℕ). record { read = r; outcome = outcomeOf (idOf routes) (inSegment (cellOf part st)) r (t .out); part = partFrom (t .to) }) (sub-zero n)
+      ∙ ap (λ (r : ℕ). record { read = r; outcome = takeOutcome (idOf routes) (inSegment (cellOf part st)) r (t .out); part = partFrom (t .to) }) (sub-zero n)
 
   rx-front : rxAfter routes k switches part st (take n′ bs) ≡ rxAfter routes k switches part st bs
   unfolding takenOf rxAfter
@@ -152,7 +152,7 @@ module _ (routes : List ℕ) (k switches : ℕ) (part : Part) (st bs : List ℕ)
   payload-front rx = go (inSegment (cellOf part st)) refl (t .out) within
     where
       go : (s : Bool) → inSegment (cellOf part st) ≡ s → (o : Out) → size o + length (t .rest) ≤ length (heldIn (cellOf part st)) + length bs
-          → payloadOf (take n bs) rx k (outcomeOf (idOf routes) s n o) ≡ payloadOf bs rx k (outcomeOf (idOf routes) s n o)
+          → payloadOf (take n bs) rx k (takeOutcome (idOf routes) s n o) ≡ payloadOf bs rx k (takeOutcome (idOf routes) s n o)
       go s e nothing h = refl
       go false e (pdu r p) h = refl
       go true e (pdu r p) h = in-front (length p) (omega (arith, h, no-held (heldIn (cellOf part st)) e))
@@ -229,8 +229,8 @@ module _ (image : List ℕ) (k : ℕ) (m : Machine) (bs : List ℕ) where
 
   told-same : toldBy image k m front ≡ toldBy image k m bs
   told-same =
-      ap₂ (λ (u : SegmentTaken) (r : List ℕ). told image k (payloadOf front r k (u .outcome)) (u .outcome)) same-answer same-memory
-      ∙ ap (λ (p : List ℕ). told image k p (taken image k m bs .outcome)) (same-payload (afterOne image k m bs .rx))
+      ap₂ (λ (u : SegmentTaken) (r : List ℕ). pduTold image k (payloadOf front r k (u .outcome)) (u .outcome)) same-answer same-memory
+      ∙ ap (λ (p : List ℕ). pduTold image k p (taken image k m bs .outcome)) (same-payload (afterOne image k m bs .rx))
 
   -- .. and what it tells is the list that this event tells
   pub single-told : toldBy image k m bs ≡ toldSegment image k m (bytesTaken image k m bs)
@@ -239,23 +239,23 @@ module _ (image : List ℕ) (k : ℕ) (m : Machine) (bs : List ℕ) where
 
 -- SO CALLS IN ANY ORDER, single takes among them, are a run of events
 module _ (image : List ℕ) where
-  call-event : (c : Call) (m : Machine) → afterCall image c m ≡ afterEvent image (asEvent image c m) m
+  call-event : (c : AnyCall) (m : Machine) → afterCall image c m ≡ afterEvent image (asEvent image c m) m
   unfolding afterCall asEvent afterEvent afterOwn
   call-event (event e) m = refl
   call-event (once k bs) m = single-take image k m bs
 
-  call-given : (i : ℕ) (c : Call) (m : Machine) → givenBy image i c m ≡ given image i (asEvent image c m) m
+  call-given : (i : ℕ) (c : AnyCall) (m : Machine) → givenBy image i c m ≡ given image i (asEvent image c m) m
   unfolding givenBy asEvent given
   call-given i (event e) m = refl
   call-given i (once k bs) m = ap (λ (l : List Out). cond (eqb k i) l []) (single-told image k m bs)
 
-  pub any-order : (m : Machine) (cs : List Call) → afterCalls image m cs ≡ afterRun image m (asEvents image m cs)
+  pub any-order : (m : Machine) (cs : List AnyCall) → afterCalls image m cs ≡ afterRun image m (asEvents image m cs)
   unfolding afterCalls asEvents afterRun
   any-order m [] = refl
   any-order m (c ∷ cs) =
       any-order (afterCall image c m) cs ∙ ap (λ (x : Machine). afterRun image x (asEvents image (afterCall image c m) cs)) (call-event c m)
 
-  pub any-order-given : (i : ℕ) (m : Machine) (cs : List Call) → givenCalls image i m cs ≡ givenIn image i m (asEvents image m cs)
+  pub any-order-given : (i : ℕ) (m : Machine) (cs : List AnyCall) → givenCalls image i m cs ≡ givenIn image i m (asEvents image m cs)
   unfolding givenCalls asEvents givenIn
   any-order-given i m [] = refl
   any-order-given i m (c ∷ cs) =

@@ -16,7 +16,7 @@ use Rattle.state.specs.State.{recordAt}
 use Rattle.state.specs.Fresh.{configOf}
 use Rattle.lengths.specs.Listed.{Marked, mark}
 use Rattle.world.specs.World.{World, heldAt, cellAt}
-use Rattle.world.specs.Events.{change, segment, walk, take, Event, on, all}
+use Rattle.world.specs.Events.{change, segment, walk, takeWaiting, Event, on, onWhole}
 use Rattle.world.proofs.View.{view-record}
 use Rattle.runs.specs.Streams.{EventBytes, RunBytes, longer, online, reads, ends, streamsOf, listedIn}
 use Rattle.tie.specs.Table.{tableOf}
@@ -56,8 +56,8 @@ module _ (image : List ℕ) (k : ℕ) (there : k < rowsOf image Connections) (tc
       ∙ ap₂ (λ (a b : Bool). cond (eqb i k && (a && (b && receiving (heldAt (seen m) k .connection)))) (map (mark (heldAt (seen m) k .connection .switches)) bs) [])
       (sym (lt-ltb k (rowsOf image Connections) there)) (sym tcp)
   reads-is m (on i (walk d p)) = refl
-  reads-is m (on i (take room)) = refl
-  reads-is m (all e) = refl
+  reads-is m (on i (takeWaiting room)) = refl
+  reads-is m (onWhole e) = refl
 
   -- A RUN
   streams-is : (m : Machine) (es : List Event) → RunBytes es → Good image m → streamsIn image k m es ≡ streamsOf (tableOf image) (wholeOf image) k (seen m) es

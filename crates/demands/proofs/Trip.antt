@@ -16,7 +16,8 @@ use Rattle.connection.specs.declared.Connection.{Connection}
 use Rattle.connection.specs.Event.{receiving}
 use Rattle.state.specs.State.{recordAt}
 use Rattle.feed.specs.Feed.{Pdu, asOut}
-use Rattle.feed.specs.Frame.{Sent, frames, Routed}
+use Rattle.frame.specs.Frame.{Sent, frames}
+use Rattle.feed.specs.Routed.{Routed}
 use Rattle.walk.specs.Walk.{walks}
 use Rattle.walk.proofs.Trip.{round-trip as walk-trip, then-the-end}
 use Rattle.route.specs.Route.{lookupOf}

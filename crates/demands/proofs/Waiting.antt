@@ -20,7 +20,7 @@ use Rattle.state.specs.Fresh.{configOf}
 use Rattle.gate.specs.declared.Gate.{Gate}
 use Rattle.gate.specs.Gate.{through}
 use Rattle.gate.proofs.Pass.{passed-gate}
-use Rattle.feed.specs.Frame.{frame, Sent, frames}
+use Rattle.frame.specs.Frame.{frame, Sent, frames}
 use Rattle.send.specs.Verdict.{isStored}
 use Rattle.send.specs.Send.{destinations, checkOf}
 use Rattle.ticks.specs.declared.Ticked.{Ticked}
@@ -31,7 +31,7 @@ use Rattle.waits.specs.Waits.{waits, goesTo, framesFrom, addedTo, turned, after
 use Rattle.waits.proofs.Since.{waits-since}
 use Rattle.turns.proofs.Entries.{transmit-turn}
 use Rattle.world.specs.World.{World, heldAt}
-use Rattle.world.specs.Events.{Own, change, segment, walk, take, Whole, datagram, accept, tick, transmit, switchAll, readCount, clearCount, Event, on, all}
+use Rattle.world.specs.Events.{Own, change, segment, walk, takeWaiting, Whole, datagram, accept, tick, transmit, switchAll, readCount, clearCount, Event, on, onWhole}
 use Rattle.world.specs.Step.{step}
 use Rattle.world.proofs.View.{view-record, view-length}
 use Rattle.runs.specs.Streams.{EventBytes, RunBytes}
@@ -92,7 +92,7 @@ unfolding afterOwn
 own-tx image k (change e) m = refl
 own-tx image k (segment bs) m = takes-tx image k (suc (length bs)) m bs
 own-tx image k (walk d p) m = refl
-own-tx image k (take room) m = refl
+own-tx image k (takeWaiting room) m = refl
 
 module _ (image : List ℕ) (j : ℕ) (m : Machine) (good : Good image m) where
   abbrev c : Connection
@@ -116,10 +116,10 @@ module _ (image : List ℕ) (j : ℕ) (m : Machine) (good : Good image m) where
       ∙ subst (λ (d : Connection). heldAt (step (tableOf image) (wholeOf image) (seen m) (on k e)) j .connection .used ≡ cond (isEmptied (onlyIf (eqb k j && ltb j (rowsOf image Connections)) (ownEmpties e (configOf image j) d))) 0 (d .used)) seen-c
       (own-used image (seen m) j k e (omega (arith, rows-fit, view-length (m .rx) (m .tx) 0 (m .state .connections))))
 
-  whole-after : (e : Whole) → leavesAll e ≡ true → recordAt (afterEvent image (all e) m .state) j .used ≡ c .used
-  whole-after e l = after-used (all e) tt ∙ whole-used image (seen m) j e l ∙ ap (λ (d : Connection). d .used) seen-c
+  whole-after : (e : Whole) → leavesAll e ≡ true → recordAt (afterEvent image (onWhole e) m .state) j .used ≡ c .used
+  whole-after e l = after-used (onWhole e) tt ∙ whole-used image (seen m) j e l ∙ ap (λ (d : Connection). d .used) seen-c
 
-  tick-after : recordAt (afterEvent image (all tick) m .state) j .used ≡ cond (isEmptied (emptiesBy image j m (all tick))) 0 (c .used)
+  tick-after : recordAt (afterEvent image (onWhole tick) m .state) j .used ≡ cond (isEmptied (emptiesBy image j m (onWhole tick))) 0 (c .used)
   unfolding afterEvent afterWhole tickEvent
   tick-after =
       ap (λ (t : Ticked). recordAt (t .state) j .used)
@@ -142,8 +142,8 @@ module _ (image : List ℕ) (j : ℕ) (m : Machine) (good : Good image m) where
           ∙ ap (λ (l : List ℕ). waits (m .state) (m .tx) j ++ l) (sym (ap frames none ∙ no-frames))
 
   -- A TRANSMIT
-  transmit-waits : (pdu : ℕ) (payload : List ℕ) → waits (afterEvent image (all (transmit pdu payload)) m .state) (afterEvent image (all (transmit pdu payload)) m .tx) j
-      ≡ turned (turnOf image j m (all (transmit pdu payload))) (waits (m .state) (m .tx) j)
+  transmit-waits : (pdu : ℕ) (payload : List ℕ) → waits (afterEvent image (onWhole (transmit pdu payload)) m .state) (afterEvent image (onWhole (transmit pdu payload)) m .tx) j
+      ≡ turned (turnOf image j m (onWhole (transmit pdu payload))) (waits (m .state) (m .tx) j)
   unfolding afterEvent afterWhole
   transmit-waits pdu payload =
       transmit-turn (loanTo image m) pdu payload (good .sixteen) (good .passed .sound) j
@@ -154,13 +154,13 @@ module _ (image : List ℕ) (j : ℕ) (m : Machine) (good : Good image m) where
   pub event-waits : (e : Event) → EventBytes e → waits (afterEvent image e m .state) (afterEvent image e m .tx) j ≡ turned (turnOf image j m e) (waits (m .state) (m .tx) j)
   unfolding afterEvent afterWhole
   event-waits (on k e) b = kept-waits (on k e) refl (own-tx image k e m) (own-after k e b)
-  event-waits (all (datagram group source)) b = kept-waits (all (datagram group source)) refl refl (whole-after (datagram group source) refl)
-  event-waits (all (accept group source)) b = kept-waits (all (accept group source)) refl refl (whole-after (accept group source) refl)
-  event-waits (all tick) b = kept-waits (all tick) refl refl tick-after
-  event-waits (all (transmit pdu payload)) b = transmit-waits pdu payload
-  event-waits (all (switchAll n x)) b = kept-waits (all (switchAll n x)) refl refl (whole-after (switchAll n x) refl)
-  event-waits (all (readCount p)) b = kept-waits (all (readCount p)) refl refl (whole-after (readCount p) refl)
-  event-waits (all (clearCount p)) b = kept-waits (all (clearCount p)) refl refl (whole-after (clearCount p) refl)
+  event-waits (onWhole (datagram group source)) b = kept-waits (onWhole (datagram group source)) refl refl (whole-after (datagram group source) refl)
+  event-waits (onWhole (accept group source)) b = kept-waits (onWhole (accept group source)) refl refl (whole-after (accept group source) refl)
+  event-waits (onWhole tick) b = kept-waits (onWhole tick) refl refl tick-after
+  event-waits (onWhole (transmit pdu payload)) b = transmit-waits pdu payload
+  event-waits (onWhole (switchAll n x)) b = kept-waits (onWhole (switchAll n x)) refl refl (whole-after (switchAll n x) refl)
+  event-waits (onWhole (readCount p)) b = kept-waits (onWhole (readCount p)) refl refl (whole-after (readCount p) refl)
+  event-waits (onWhole (clearCount p)) b = kept-waits (onWhole (clearCount p)) refl refl (whole-after (clearCount p) refl)
 
 -- ANY RUN
 turns-waits : (image : List ℕ) (j : ℕ) (m : Machine) (es : List Event) → RunBytes es → Good image m

@@ -18,10 +18,10 @@ use Rattle.state.specs.State.{recordAt}
 use Rattle.feed.specs.declared.Decision.{Decision}
 use Rattle.feed.specs.declared.Decision.the-variants.{Accept, Refuse}
 use Rattle.feed.specs.Feed.{Routes}
-use Rattle.walk.specs.Walk.{Found, the-end, a-pdu, a-drop, Walked, walked, wholeAt, stepOf, walkAt, told, walks, placeAfter}
+use Rattle.walk.specs.Walk.{Found, the-end, a-pdu, a-drop, Walked, walked, wholeAt, walkStep, walkAt, outsTold, walks, placeAfterSteps}
 use Rattle.walk.proofs.Steps.{at-last, next-within}
 use Rattle.datagram.specs.declared.Walked.{Walked as Answered}
-use Rattle.datagram.specs.Datagram.{outcomeOf, stepped, walkedOf}
+use Rattle.datagram.specs.Datagram.{walkOutcome, stepped, walkedOf}
 use Rattle.receive.specs.declared.DatagramWalked.{DatagramWalked}
 use Rattle.receive.specs.Answer.{isDone}
 use Rattle.receive.specs.Walk.{walkedAt, walkOn, walkAllowed, walkAnswer, walkOf}
@@ -35,30 +35,30 @@ use Rattle.tie.proofs.Good.{event-good}
 use Rattle.demands.specs.Trip.{Walker, asWalks}
 
 -- one step's outcome
-told-found : (d : List ℕ) (f : Found) → toldWalk d (outcomeOf f) ≡ told d f []
+told-found : (d : List ℕ) (f : Found) → toldWalk d (walkOutcome f) ≡ outsTold d f []
 told-found d the-end = refl
 told-found d (a-pdu r p n i) = refl
 told-found d (a-drop q i n) = refl
 
 -- steps past the end give nothing more
-pub walks-more : (R : Routes) (n f : ℕ) (d : List ℕ) (p : ℕ) → n ≤ f → walkAt R d (placeAfter R n d p) ≡ walked the-end (length d) → walks R f d p ≡ walks R n d p
-unfolding walks placeAfter
+pub walks-more : (R : Routes) (n f : ℕ) (d : List ℕ) (p : ℕ) → n ≤ f → walkAt R d (placeAfterSteps R n d p) ≡ walked the-end (length d) → walks R f d p ≡ walks R n d p
+unfolding walks placeAfterSteps
 walks-more R zero zero d p l e = refl
-walks-more R zero (suc f) d p l e = ap (λ (w : Walked). told d (w .found) (walks R f d (w .next))) e
+walks-more R zero (suc f) d p l e = ap (λ (w : Walked). outsTold d (w .found) (walks R f d (w .next))) e
 walks-more R (suc n) zero d p l e = absurd (omega arith)
-walks-more R (suc n) (suc f) d p l e = ap (told d (walkAt R d p .found)) (walks-more R n f d (walkAt R d p .next) (omega arith) e)
+walks-more R (suc n) (suc f) d p l e = ap (outsTold d (walkAt R d p .found)) (walks-more R n f d (walkAt R d p .next) (omega arith) e)
 
 -- a step's outcome, and those of the steps after it
-then-later : (R : Routes) (f : ℕ) (d : List ℕ) (p : ℕ) → told d (walkAt R d p .found) [] ++ walks R f d (walkAt R d p .next) ≡ walks R (suc f) d p
-unfolding walks walkAt placeAfter
+then-later : (R : Routes) (f : ℕ) (d : List ℕ) (p : ℕ) → outsTold d (walkAt R d p .found) [] ++ walks R f d (walkAt R d p .next) ≡ walks R (suc f) d p
+unfolding walks walkAt placeAfterSteps
 then-later R f d p = go (headOf (drop p d))
   where
-    decided : (q : Decision) (i n : ℕ) → told d (wholeAt q p i n .found) [] ++ walks R f d (wholeAt q p i n .next) ≡ told d (wholeAt q p i n .found) (walks R f d (wholeAt q p i n .next))
+    decided : (q : Decision) (i n : ℕ) → outsTold d (wholeAt q p i n .found) [] ++ walks R f d (wholeAt q p i n .next) ≡ outsTold d (wholeAt q p i n .found) (walks R f d (wholeAt q p i n .next))
     decided (Accept r) i n = refl
     decided (Refuse k) i n = refl
 
-    go : (h : Head) → told d (stepOf R (length d) p h .found) [] ++ walks R f d (stepOf R (length d) p h .next)
-        ≡ told d (stepOf R (length d) p h .found) (walks R f d (stepOf R (length d) p h .next))
+    go : (h : Head) → outsTold d (walkStep R (length d) p h .found) [] ++ walks R f d (walkStep R (length d) p h .next)
+        ≡ outsTold d (walkStep R (length d) p h .found) (walks R f d (walkStep R (length d) p h .next))
     go ended = walks-more R 0 f d (length d) (omega arith) (at-last R d)
     go short = refl
     go (beyond i n) = refl
@@ -89,7 +89,7 @@ module _ (image : List ℕ) (k : ℕ) (d : List ℕ) (start : Machine) (walker :
     unfolding walkOf
     goes-on = rw done
 
-    outcome-is : w .outcome ≡ outcomeOf (walkAt R d p .found)
+    outcome-is : w .outcome ≡ walkOutcome (walkAt R d p .found)
     unfolding walkOn
     outcome-is = ap (λ (a : DatagramWalked). a .outcome) goes-on ∙ ap (λ (a : Answered). a .outcome) walked-is
 
@@ -97,7 +97,7 @@ module _ (image : List ℕ) (k : ℕ) (d : List ℕ) (start : Machine) (walker :
     unfolding walkOn
     next-is = ap (λ (a : DatagramWalked). a .next) goes-on ∙ ap (λ (a : Answered). a .next) walked-is
 
-    given-here : given image k (on k (walk d p)) m ≡ told d (walkAt R d p .found) []
+    given-here : given image k (on k (walk d p)) m ≡ outsTold d (walkAt R d p .found) []
     unfolding given
     given-here = rw (eq-eqb k k refl) (ap (toldWalk d) outcome-is ∙ told-found d (walkAt R d p .found))
 

@@ -4,9 +4,9 @@ use mathlib.Core.Path.{_≡_}
 use mathlib.Core.Bool.{true}
 use Rattle.connection.specs.declared.Connection.{Connection}
 use Rattle.connection.specs.declared.Event.the-variants.{Lost}
-use Rattle.world.specs.Events.{change, tick, Event, on, all}
+use Rattle.world.specs.Events.{change, tick, Event, on, onWhole}
 
 -- of connection k, with this record before it
 pub data EndsBy (k : ℕ) (c : Connection) : Event → Type 0 where
   by-loss : EndsBy k c (on k (change Lost))
-  by-closing : c .«close_wanted» ≡ true → EndsBy k c (all tick)
+  by-closing : c .«close_wanted» ≡ true → EndsBy k c (onWhole tick)

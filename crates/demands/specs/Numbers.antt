@@ -17,8 +17,8 @@ use Rattle.receive.specs.Answer.{answerNumber as receiveNumber}
 use Rattle.receive.specs.Walk.{walkOf}
 use Rattle.send.specs.Verdict.{transmissionNumber}
 use Rattle.waiting.specs.Waiting.{takingNumber}
-use Rattle.sending.specs.Sending.{sendOf, takenOf}
-use Rattle.world.specs.Events.{change, segment, walk, take, datagram, accept, tick, transmit, switchAll, readCount, clearCount, Event, on, all}
+use Rattle.sending.specs.Sending.{sendOf, takenWaiting}
+use Rattle.world.specs.Events.{change, segment, walk, takeWaiting, datagram, accept, tick, transmit, switchAll, readCount, clearCount, Event, on, onWhole}
 use Rattle.tie.specs.Machine.{Machine, loanTo, lentTo, taken}
 use Rattle.tie.specs.Run.{afterEvent}
 
@@ -27,14 +27,14 @@ module _ (image : List ℕ) (m : Machine) where
   numberOf (on k (change e)) = answerNumber (eventOf (lentTo image m) k e .answer)
   numberOf (on k (segment bytes)) = receiveNumber (taken image k m bytes .answer)
   numberOf (on k (walk d place)) = receiveNumber (walkOf (lentTo image m) k d place .answer)
-  numberOf (on k (take room)) = takingNumber (takenOf (loanTo image m) k (replicate room 0) .answer)
-  numberOf (all (datagram group source)) = arrivalNumber (arrivalOf (lentTo image m) false group source .answer)
-  numberOf (all (accept group source)) = arrivalNumber (arrivalOf (lentTo image m) true group source .answer)
-  numberOf (all tick) = answerNumber (tickEvent (lentTo image m) .answer)
-  numberOf (all (transmit pdu payload)) = transmissionNumber (sendOf (loanTo image m) pdu payload .answer)
-  numberOf (all (switchAll number position)) = answerNumber (switchAllOf (lentTo image m) number position .answer)
-  numberOf (all (readCount protocol)) = countNumber (readOf (lentTo image m) protocol .answer)
-  numberOf (all (clearCount protocol)) = countNumber (clearOf (lentTo image m) protocol .answer)
+  numberOf (on k (takeWaiting room)) = takingNumber (takenWaiting (loanTo image m) k (replicate room 0) .answer)
+  numberOf (onWhole (datagram group source)) = arrivalNumber (arrivalOf (lentTo image m) false group source .answer)
+  numberOf (onWhole (accept group source)) = arrivalNumber (arrivalOf (lentTo image m) true group source .answer)
+  numberOf (onWhole tick) = answerNumber (tickEvent (lentTo image m) .answer)
+  numberOf (onWhole (transmit pdu payload)) = transmissionNumber (sendOf (loanTo image m) pdu payload .answer)
+  numberOf (onWhole (switchAll number position)) = answerNumber (switchAllOf (lentTo image m) number position .answer)
+  numberOf (onWhole (readCount protocol)) = countNumber (readOf (lentTo image m) protocol .answer)
+  numberOf (onWhole (clearCount protocol)) = countNumber (clearOf (lentTo image m) protocol .answer)
 
 -- in a run
 unfoldable pub numbersIn : List ℕ → Machine → List Event → List ℕ
@@ -47,14 +47,14 @@ unfoldable pub numbersFor : Event → List ℕ
 numbersFor (on k (change e)) = 11 ∷ 12 ∷ 2 ∷ cond (deniable e) (3 ∷ 0 ∷ []) (0 ∷ [])
 numbersFor (on k (segment bytes)) = 11 ∷ 12 ∷ 2 ∷ 3 ∷ 4 ∷ 0 ∷ []
 numbersFor (on k (walk d place)) = 11 ∷ 12 ∷ 2 ∷ 3 ∷ 4 ∷ 0 ∷ []
-numbersFor (on k (take room)) = 11 ∷ 12 ∷ 2 ∷ 9 ∷ 0 ∷ []
-numbersFor (all (datagram group source)) = 11 ∷ 12 ∷ 2 ∷ 3 ∷ 10 ∷ 0 ∷ []
-numbersFor (all (accept group source)) = 11 ∷ 12 ∷ 2 ∷ 3 ∷ 10 ∷ 0 ∷ []
-numbersFor (all tick) = 11 ∷ 12 ∷ 0 ∷ []
-numbersFor (all (transmit pdu payload)) = 11 ∷ 12 ∷ 5 ∷ 6 ∷ 4 ∷ 7 ∷ 8 ∷ 0 ∷ []
-numbersFor (all (switchAll number position)) = 11 ∷ 12 ∷ 2 ∷ 0 ∷ []
-numbersFor (all (readCount protocol)) = 11 ∷ 12 ∷ 3 ∷ 0 ∷ []
-numbersFor (all (clearCount protocol)) = 11 ∷ 12 ∷ 3 ∷ 0 ∷ []
+numbersFor (on k (takeWaiting room)) = 11 ∷ 12 ∷ 2 ∷ 9 ∷ 0 ∷ []
+numbersFor (onWhole (datagram group source)) = 11 ∷ 12 ∷ 2 ∷ 3 ∷ 10 ∷ 0 ∷ []
+numbersFor (onWhole (accept group source)) = 11 ∷ 12 ∷ 2 ∷ 3 ∷ 10 ∷ 0 ∷ []
+numbersFor (onWhole tick) = 11 ∷ 12 ∷ 0 ∷ []
+numbersFor (onWhole (transmit pdu payload)) = 11 ∷ 12 ∷ 5 ∷ 6 ∷ 4 ∷ 7 ∷ 8 ∷ 0 ∷ []
+numbersFor (onWhole (switchAll number position)) = 11 ∷ 12 ∷ 2 ∷ 0 ∷ []
+numbersFor (onWhole (readCount protocol)) = 11 ∷ 12 ∷ 3 ∷ 0 ∷ []
+numbersFor (onWhole (clearCount protocol)) = 11 ∷ 12 ∷ 3 ∷ 0 ∷ []
 
 -- n is one of these
 unfoldable pub among : ℕ → List ℕ → Bool

@@ -11,9 +11,9 @@ use Rattle.tie.specs.Machine.{Machine, taken, afterOne, toldBy}
 use Rattle.tie.specs.Run.{afterEvent, given}
 
 -- an event, or one take of a segment on connection k
-pub data Call : Type 0 where
-  event : Event → Call
-  once : ℕ → List ℕ → Call
+pub data AnyCall : Type 0 where
+  event : Event → AnyCall
+  once : ℕ → List ℕ → AnyCall
 
 module _ (image : List ℕ) where
   -- the bytes of the segment that one take reads
@@ -22,27 +22,27 @@ module _ (image : List ℕ) where
 
   -- what a call makes of the machine, the outcomes that the caller is given for connection i, and the event that it is: one take is the
   -- segment event of the bytes that it reads
-  unfoldable pub afterCall : Call → Machine → Machine
+  unfoldable pub afterCall : AnyCall → Machine → Machine
   afterCall (event e) m = afterEvent image e m
   afterCall (once k bytes) m = afterOne image k m bytes
 
-  unfoldable pub givenBy : ℕ → Call → Machine → List Out
+  unfoldable pub givenBy : ℕ → AnyCall → Machine → List Out
   givenBy i (event e) m = given image i e m
   givenBy i (once k bytes) m = cond (eqb k i) (toldBy image k m bytes) []
 
-  unfoldable pub asEvent : Call → Machine → Event
+  unfoldable pub asEvent : AnyCall → Machine → Event
   asEvent (event e) m = e
   asEvent (once k bytes) m = on k (segment (bytesTaken k m bytes))
 
   -- of calls one after the other, each lent the memory that the last one left
-  unfoldable pub afterCalls : Machine → List Call → Machine
+  unfoldable pub afterCalls : Machine → List AnyCall → Machine
   afterCalls m [] = m
   afterCalls m (c ∷ cs) = afterCalls (afterCall c m) cs
 
-  unfoldable pub givenCalls : ℕ → Machine → List Call → List Out
+  unfoldable pub givenCalls : ℕ → Machine → List AnyCall → List Out
   givenCalls i m [] = []
   givenCalls i m (c ∷ cs) = givenBy i c m ++ givenCalls i (afterCall c m) cs
 
-  unfoldable pub asEvents : Machine → List Call → List Event
+  unfoldable pub asEvents : Machine → List AnyCall → List Event
   asEvents m [] = []
   asEvents m (c ∷ cs) = asEvent c m ∷ asEvents (afterCall c m) cs

@@ -9,7 +9,7 @@ use Rattle.connection.specs.Connection.{isOnline}
 use Rattle.connection.specs.Event.{receiving}
 use Rattle.state.specs.State.{recordAt}
 use Rattle.lengths.specs.Listed.{Marked, mark}
-use Rattle.world.specs.Events.{change, segment, walk, take, Event, on, all}
+use Rattle.world.specs.Events.{change, segment, walk, takeWaiting, Event, on, onWhole}
 use Rattle.runs.specs.Streams.{Streams, streams, longer}
 use Rattle.tie.specs.Machine.{Machine}
 use Rattle.tie.specs.Run.{afterEvent}
@@ -24,8 +24,8 @@ module _ (image : List ℕ) (k : ℕ) where
   readsAt m (on i (change e)) = []
   readsAt m (on i (segment bytes)) = cond (eqb i k && receiving (recordAt (m .state) k)) (map (mark (recordAt (m .state) k .switches)) bytes) []
   readsAt m (on i (walk datagram place)) = []
-  readsAt m (on i (take room)) = []
-  readsAt m (all e) = []
+  readsAt m (on i (takeWaiting room)) = []
+  readsAt m (onWhole e) = []
 
   -- whether an online period of it ends at an event
   abbrev pub endsAt : Machine → Event → Bool

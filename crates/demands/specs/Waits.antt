@@ -11,14 +11,14 @@ use Rattle.layout.specs.declared.Kind.the-variants.{Connection as Connections}
 use Rattle.rows.specs.Rows.{destinationOf}
 use Rattle.connection.specs.declared.Config.{Config}
 use Rattle.connection.specs.declared.Connection.{Connection}
-use Rattle.feed.specs.Frame.{Sent, frames}
+use Rattle.frame.specs.Frame.{Sent, frames}
 use Rattle.state.specs.declared.State.{State}
 use Rattle.state.specs.State.{recordAt}
 use Rattle.state.specs.Fresh.{configOf}
 use Rattle.send.specs.Verdict.{isStored}
 use Rattle.send.specs.Send.{destinations, checkOf}
-use Rattle.waits.specs.Waits.{goesTo, loses, was-taken, was-closed, was-lost, Emptied, not-emptied, isEmptied, emptiedIf, onlyIf, Turn, turnBy}
-use Rattle.world.specs.Events.{Own, change, segment, walk, take, datagram, accept, tick, transmit, switchAll, readCount, clearCount, Event, on, all}
+use Rattle.waits.specs.Waits.{goesTo, emptiedBy, was-taken, was-closed, was-lost, Emptied, not-emptied, isEmptied, emptiedIf, onlyIf, Turn, turnBy}
+use Rattle.world.specs.Events.{Own, change, segment, walk, takeWaiting, datagram, accept, tick, transmit, switchAll, readCount, clearCount, Event, on, onWhole}
 use Rattle.tie.specs.Machine.{Machine}
 use Rattle.tie.specs.Run.{afterEvent}
 
@@ -39,34 +39,34 @@ drains room c = not (eqb (c .used) 0) && not (ltb room (c .used))
 
 -- which events of a connection empty it, by its record, and why: a loss that is allowed, a non-empty take
 abbrev pub ownEmpties : Own → Config → Connection → Emptied
-ownEmpties (change e) g c = emptiedIf (loses e g c) was-lost
+ownEmpties (change e) g c = emptiedIf (emptiedBy e g c) was-lost
 ownEmpties (segment bytes) g c = not-emptied
 ownEmpties (walk bytes place) g c = not-emptied
-ownEmpties (take room) g c = emptiedIf (drains room c) was-taken
+ownEmpties (takeWaiting room) g c = emptiedIf (drains room c) was-taken
 
 -- ANY EVENT, seen from connection j
 module _ (image : List ℕ) (j : ℕ) where
   -- whether it empties, and why (a number that is not there is refused): its own loss or non-empty take, and a tick with close wanted
   abbrev pub emptiesBy : Machine → Event → Emptied
   emptiesBy m (on k e) = onlyIf (eqb k j && ltb j (rowsOf image Connections)) (ownEmpties e (configOf image j) (recordAt (m .state) j))
-  emptiesBy m (all (datagram group source)) = not-emptied
-  emptiesBy m (all (accept group source)) = not-emptied
-  emptiesBy m (all tick) = emptiedIf (ltb j (rowsOf image Connections) && recordAt (m .state) j .«close_wanted») was-closed
-  emptiesBy m (all (transmit pdu payload)) = not-emptied
-  emptiesBy m (all (switchAll number position)) = not-emptied
-  emptiesBy m (all (readCount protocol)) = not-emptied
-  emptiesBy m (all (clearCount protocol)) = not-emptied
+  emptiesBy m (onWhole (datagram group source)) = not-emptied
+  emptiesBy m (onWhole (accept group source)) = not-emptied
+  emptiesBy m (onWhole tick) = emptiedIf (ltb j (rowsOf image Connections) && recordAt (m .state) j .«close_wanted») was-closed
+  emptiesBy m (onWhole (transmit pdu payload)) = not-emptied
+  emptiesBy m (onWhole (switchAll number position)) = not-emptied
+  emptiesBy m (onWhole (readCount protocol)) = not-emptied
+  emptiesBy m (onWhole (clearCount protocol)) = not-emptied
 
   -- what it adds: a transmit its frames, every other event nothing
   abbrev pub addsBy : Machine → Event → List Sent
   addsBy m (on k e) = []
-  addsBy m (all (datagram group source)) = []
-  addsBy m (all (accept group source)) = []
-  addsBy m (all tick) = []
-  addsBy m (all (transmit pdu payload)) = sentTo image (m .state) pdu payload j
-  addsBy m (all (switchAll number position)) = []
-  addsBy m (all (readCount protocol)) = []
-  addsBy m (all (clearCount protocol)) = []
+  addsBy m (onWhole (datagram group source)) = []
+  addsBy m (onWhole (accept group source)) = []
+  addsBy m (onWhole tick) = []
+  addsBy m (onWhole (transmit pdu payload)) = sentTo image (m .state) pdu payload j
+  addsBy m (onWhole (switchAll number position)) = []
+  addsBy m (onWhole (readCount protocol)) = []
+  addsBy m (onWhole (clearCount protocol)) = []
 
   abbrev pub turnOf : Machine → Event → Turn
   turnOf m e = turnBy (emptiesBy m e) (frames (addsBy m e))

@@ -6,7 +6,7 @@ use lib.Dec.{eqb, ltb}
 use Rattle.connection.specs.declared.Connection.{Connection}
 use Rattle.connection.specs.Connection.{isOnline, withSend}
 use Rattle.rows.specs.declared.DestinationRow.{DestinationRow}
-use Rattle.feed.specs.On.{isOn}
+use Rattle.switches.specs.Switches.{isOn}
 
 -- a switched-on destination: "for 4, then 7, then 8"; 0 where header and payload fit
 unfoldable pub refusalOf : ℕ → ℕ → DestinationRow → Connection → ℕ

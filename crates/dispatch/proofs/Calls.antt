@@ -13,9 +13,9 @@ use Rattle.lists.proofs.Both.{and-right}
 use Rattle.connection.specs.declared.Event.the-variants.{Open, Close, Connected, SetRemote, Switch}
 use Rattle.calls.specs.declared.Call.{Call}
 use Rattle.calls.specs.declared.Call.the-variants.{Unknown, Unfit, Ticks, Own, Lost, Segment, Walk, TakeWaiting, Datagram, Accept, Transmit, SwitchAll, ReadCount, ClearCount}
-use Rattle.calls.specs.Calls.{fitted, plain, counted, addressed, remoteIn, positioned, callOf, bytesFrom}
-use Rattle.answer_receive.specs.Long.{longest}
-use Rattle.answer_receive.specs.Segment.{roomFor}
+use Rattle.calls.specs.Calls.{fitted, plain, lengthFits, addressed, remoteIn, positioned, callOf, bytesFrom}
+use Rattle.answer_receive.specs.Long.{longestBody}
+use Rattle.answer_receive.specs.Segment.{answerRoom}
 use Rattle.dispatch.specs.Dispatch.{room}
 
 -- the bytes that a segment or walk call carries
@@ -48,15 +48,15 @@ fits-short b true x p = p refl
 fits-short b false x p = omega arith
 
 -- behind its length, at the place at of the body, are 4 bytes and the place fewer
-counted-short : (b : List ℕ) (at : ℕ) → counted b at ≡ true → length (drop (at + 4) b) ≤ 4096 - (at + 4)
+counted-short : (b : List ℕ) (at : ℕ) → lengthFits b at ≡ true → length (drop (at + 4) b) ≤ 4096 - (at + 4)
 counted-short b at e =
     omega (arith, length-drop (at + 4) b, leb-true (length b) 4096 (and-right (eqb (be 4 b at + (at + 4)) (length b) && eqb (be 1 b 0) 0) (leb (length b) 4096) e))
 
-segment-short : (b : List ℕ) → counted b 2 ≡ true → Short b (Segment (be 1 b 1) 6)
+segment-short : (b : List ℕ) → lengthFits b 2 ≡ true → Short b (Segment (be 1 b 1) 6)
 unfolding carried
 segment-short b e = counted-short b 2 e
 
-walk-short : (b : List ℕ) → counted b 6 ≡ true → Short b (Walk (be 1 b 1) (be 4 b 2) 10)
+walk-short : (b : List ℕ) → lengthFits b 6 ≡ true → Short b (Walk (be 1 b 1) (be 4 b 2) 10)
 unfolding carried
 walk-short b e = omega (arith, counted-short b 6 e)
 
@@ -70,27 +70,27 @@ call-short n b =
     (either b (eqb n 4) _ _ (fits-short b (plain b 2) (Lost (be 1 b 1)) (λ _. omega arith))
     (either b (eqb n 5) _ _ (fits-short b (addressed b) (Own (be 1 b 1) (SetRemote (remoteIn (drop 2 b)))) (λ _. omega arith))
     (either b (eqb n 6) _ _ (fits-short b (positioned b 4 3) (Own (be 1 b 1) (Switch (be 1 b 2) (eqb (be 1 b 3) 1))) (λ _. omega arith))
-    (either b (eqb n 7) _ _ (fits-short b (counted b 2) (Segment (be 1 b 1) 6) (segment-short b))
-    (either b (eqb n 8) _ _ (fits-short b (counted b 6) (Walk (be 1 b 1) (be 4 b 2) 10) (walk-short b))
+    (either b (eqb n 7) _ _ (fits-short b (lengthFits b 2) (Segment (be 1 b 1) 6) (segment-short b))
+    (either b (eqb n 8) _ _ (fits-short b (lengthFits b 6) (Walk (be 1 b 1) (be 4 b 2) 10) (walk-short b))
     (either b (eqb n 9) _ _ (fits-short b (plain b 6) (TakeWaiting (be 1 b 1) (be 4 b 2)) (λ _. omega arith))
     (either b (eqb n 10) _ _ (fits-short b (addressed b) (Datagram (be 1 b 1) (remoteIn (drop 2 b))) (λ _. omega arith))
     (either b (eqb n 11) _ _ (fits-short b (addressed b) (Accept (be 1 b 1) (remoteIn (drop 2 b))) (λ _. omega arith))
-    (either b (eqb n 12) _ _ (fits-short b (counted b 3) (Transmit (be 2 b 1) 7) (λ _. omega arith))
+    (either b (eqb n 12) _ _ (fits-short b (lengthFits b 3) (Transmit (be 2 b 1) 7) (λ _. omega arith))
     (either b (eqb n 13) _ _ (fits-short b (positioned b 3 2) (SwitchAll (be 1 b 1) (eqb (be 1 b 2) 1)) (λ _. omega arith))
     (either b (eqb n 14) _ _ (fits-short b (plain b 2) (ReadCount (be 1 b 1)) (λ _. omega arith))
     (either b (eqb n 15) _ _ (fits-short b (plain b 2) (ClearCount (be 1 b 1)) (λ _. omega arith))
     (omega arith))))))))))))))))
 
 -- so they are not too long for an event ..
-pub segment-fits : (b : List ℕ) (c at : ℕ) → Short b (Segment c at) → length (bytesFrom b at) ≤ longest
+pub segment-fits : (b : List ℕ) (c at : ℕ) → Short b (Segment c at) → length (bytesFrom b at) ≤ longestBody
 unfolding carried
 segment-fits b c at h = omega (arith, h)
 
-pub walk-fits : (b : List ℕ) (c place at : ℕ) → Short b (Walk c place at) → length (bytesFrom b at) ≤ longest
+pub walk-fits : (b : List ℕ) (c place at : ℕ) → Short b (Walk c place at) → length (bytesFrom b at) ≤ longestBody
 unfolding carried
 walk-fits b c place at h = omega (arith, h)
 
 -- .. and an out buffer of 16,384 bytes has room for the answer
-pub call-room : (b : List ℕ) (c at : ℕ) → Short b (Segment c at) → roomFor (bytesFrom b at) ≤ room
+pub call-room : (b : List ℕ) (c at : ℕ) → Short b (Segment c at) → answerRoom (bytesFrom b at) ≤ room
 unfolding carried
 call-room b c at h = omega (arith, h)

@@ -20,30 +20,30 @@ use Rattle.events.specs.Count.{readOf, clearOf}
 use Rattle.ticks.specs.Tick.{ticksEvent}
 use Rattle.receive.specs.Walk.{walkOf}
 use Rattle.arrivals.specs.Arrivals.{datagramOf, acceptOf}
-use Rattle.sending.specs.Sending.{sendOf, takenOf, takenOut}
+use Rattle.sending.specs.Sending.{sendOf, takenWaiting, takenOut}
 use Rattle.answering.specs.declared.Verdict.the-variants.{Done, Small}
 use Rattle.answering.specs.Answers.{Effect, untouched}
 use Rattle.answer_events.specs.Events.{ownEffect, lostEffect, ticksEffect, switchAllEffect, readEffect, clearEffect}
-use Rattle.answer_receive.specs.Long.{longest}
+use Rattle.answer_receive.specs.Long.{longestBody}
 use Rattle.answer_receive.specs.Walk.{walkEffect}
-use Rattle.answer_receive.specs.Segment.{roomFor, segmentEffect}
+use Rattle.answer_receive.specs.Segment.{answerRoom, segmentEffect}
 use Rattle.answer_receive.proofs.Room.{event-fits, segment-roomy, walk-short}
 use Rattle.answer_send.specs.Send.{roomOf, datagramEffect, acceptEffect, transmitEffect, takeEffect}
 use Rattle.dispatch.specs.Dispatch.{room, effectOf, dispatchOf}
-use Rattle.dispatch.specs.Whole.{Whole, answer, unknown, unfit, small}
+use Rattle.dispatch.specs.Whole.{StandsWhole, answer, unknown, unfit, small}
 use Rattle.dispatch.proofs.Calls.{Short, call-short, segment-fits, walk-fits, call-room}
 use Rattle.gate.specs.Lent.{Loan, sizes}
 use Rattle.dispatch.proofs.Sizes.{told-size, loss-size, ticks-size, count-size, arrival-size, transmission-size, walked-size, taking-size, taken-size, buffer-size}
 
 module _ (l : Loan) (out : List ℕ) (long : room ≤ length out) where
   abbrev Told : Effect → Type 0
-  Told e = Whole out (e .verdict) (e .out)
+  Told e = StandsWhole out (e .verdict) (e .out)
 
   -- bytes laid at the front, where there is room, are all there
-  laid : (bytes : List ℕ) → length bytes ≤ room → Whole out (Done (length bytes)) (lay out 0 bytes)
+  laid : (bytes : List ℕ) → length bytes ≤ room → StandsWhole out (Done (length bytes)) (lay out 0 bytes)
   laid bytes h =
       let z : 0 + length bytes ≡ length bytes = omega arith in
-      subst (Whole out (Done (length bytes))) (sym (lay-fits out 0 bytes (omega arith) ∙ ap (λ (k : ℕ). bytes ++ drop k out) z)) (answer bytes h)
+      subst (StandsWhole out (Done (length bytes))) (sym (lay-fits out 0 bytes (omega arith) ∙ ap (λ (k : ℕ). bytes ++ drop k out) z)) (answer bytes h)
 
   own-whole : (c : ℕ) (e : Event) → Told (ownEffect l out c e)
   unfolding ownEffect
@@ -69,11 +69,11 @@ module _ (l : Loan) (out : List ℕ) (long : room ≤ length out) where
   unfolding clearEffect
   clear-whole p = laid _ (omega (arith, count-size (clearOf (sizes l) p .answer)))
 
-  segment-whole : (c : ℕ) (bytes : List ℕ) → length bytes ≤ longest → roomFor bytes ≤ room → Told (segmentEffect l out c bytes)
+  segment-whole : (c : ℕ) (bytes : List ℕ) → length bytes ≤ longestBody → answerRoom bytes ≤ room → Told (segmentEffect l out c bytes)
   segment-whole c bytes short h =
       subst Told (sym (segment-roomy l out c bytes short (omega (arith, h, long)))) (laid _ (omega (arith, h, event-fits l c bytes)))
 
-  walk-whole : (c place : ℕ) (bytes : List ℕ) → length bytes ≤ longest → Told (walkEffect l out c place bytes)
+  walk-whole : (c place : ℕ) (bytes : List ℕ) → length bytes ≤ longestBody → Told (walkEffect l out c place bytes)
   walk-whole c place bytes short =
       let w = walkOf (sizes l) c bytes place in
       subst Told (sym (walk-short l out c place bytes short)) (laid _ (omega (arith, walked-size (w .answer) (w .next) (w .outcome))))
@@ -82,7 +82,7 @@ module _ (l : Loan) (out : List ℕ) (long : room ≤ length out) where
   unfolding takeEffect
   take-whole c n =
       let b : List ℕ = take (roomOf n) (replicate 1472 0) in
-      laid _ (omega (arith, taking-size (takenOf l c b .answer) (takenOut l c b), taken-size l c b, buffer-size n))
+      laid _ (omega (arith, taking-size (takenWaiting l c b .answer) (takenOut l c b), taken-size l c b, buffer-size n))
 
   datagram-whole : (group : ℕ) (source : Remote) → Told (datagramEffect l out group source)
   unfolding datagramEffect
@@ -115,13 +115,13 @@ module _ (l : Loan) (out : List ℕ) (long : room ≤ length out) where
   call-whole body (ClearCount protocol) h = clear-whole protocol
 
 -- EVERY ANSWER, of any image, state, memories, number, body and out buffer
-pub whole : (l : Loan) (out : List ℕ) (number : ℕ) (body : List ℕ)
-    → Whole out (dispatchOf l out number body .verdict) (dispatchOf l out number body .out)
+pub answer-whole : (l : Loan) (out : List ℕ) (number : ℕ) (body : List ℕ)
+    → StandsWhole out (dispatchOf l out number body .verdict) (dispatchOf l out number body .out)
 unfolding dispatchOf
-whole l out number body = go (ltb (length out) room) refl
+answer-whole l out number body = go (ltb (length out) room) refl
   where
     go : (b : Bool) → ltb (length out) room ≡ b
-        → Whole out (cond b (untouched Small (l .state) (l .rx) (l .tx) out) (effectOf l out body (callOf number body)) .verdict)
+        → StandsWhole out (cond b (untouched Small (l .state) (l .rx) (l .tx) out) (effectOf l out body (callOf number body)) .verdict)
         (cond b (untouched Small (l .state) (l .rx) (l .tx) out) (effectOf l out body (callOf number body)) .out)
     go true e = small
     go false e = call-whole l out (ltb-false (length out) room e) body (callOf number body) (call-short number body)

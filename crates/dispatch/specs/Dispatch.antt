@@ -16,7 +16,7 @@ use Rattle.answer_receive.specs.Segment.{segmentEffect}
 use Rattle.gate.specs.Lent.{Loan}
 use Rattle.answer_send.specs.Send.{datagramEffect, acceptEffect, transmitEffect, takeEffect}
 
--- enough for the answer to any body of 4,096 bytes (proofs/Whole `whole`: every answer stands whole)
+-- enough for the answer to any body of 4,096 bytes (proofs/Whole `answer-whole`: every answer stands whole)
 abbrev pub room : ℕ
 room = 16384
 

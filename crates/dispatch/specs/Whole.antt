@@ -8,8 +8,8 @@ use Rattle.dispatch.specs.Dispatch.{room}
 
 -- of a verdict and the out buffer afterwards: all bytes of the answer at the front, and behind them the buffer as it was; where
 -- there is no answer, the buffer as it was
-pub data Whole (out : List ℕ) : Verdict → List ℕ → Type 0 where
-  answer : (bytes : List ℕ) → length bytes ≤ room → Whole out (Done (length bytes)) (bytes ++ drop (length bytes) out)
-  unknown : Whole out Unknown out
-  unfit : Whole out Unfit out
-  small : Whole out Small out
+pub data StandsWhole (out : List ℕ) : Verdict → List ℕ → Type 0 where
+  answer : (bytes : List ℕ) → length bytes ≤ room → StandsWhole out (Done (length bytes)) (bytes ++ drop (length bytes) out)
+  unknown : StandsWhole out Unknown out
+  unfit : StandsWhole out Unfit out
+  small : StandsWhole out Small out

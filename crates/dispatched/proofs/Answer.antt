@@ -22,19 +22,19 @@ use Rattle.answering.specs.declared.Verdict.{Verdict}
 use Rattle.answering.specs.declared.Verdict.the-variants.{Done, Unknown as NoEvent, Unfit as DoesNotFit, Small}
 use Rattle.answering.specs.Answers.{Effect, answers, untouched}
 use Rattle.answer_events.specs.Events.{ownEffect, lostEffect, ticksEffect, switchAllEffect, readEffect, clearEffect}
-use Rattle.answer_receive.specs.Long.{longest}
+use Rattle.answer_receive.specs.Long.{longestBody}
 use Rattle.answer_receive.specs.Walk.{walkedBytes}
-use Rattle.answer_receive.specs.Segment.{Run, begun, step, runOf, allTakes, eventBytes, roomFor, segmentEffect}
+use Rattle.answer_receive.specs.Segment.{Progress, begun, oneTake, takesUpTo, allTakes, eventBytes, answerRoom, segmentEffect}
 use Rattle.answer_receive.proofs.Room.{segment-roomy, walk-short}
 use Rattle.answer_send.specs.Send.{datagramEffect, acceptEffect, transmitEffect, takeEffect}
 use Rattle.dispatch.specs.Dispatch.{room, effectOf, dispatchOf}
-use Rattle.dispatch.specs.Whole.{Whole, answer, unknown, unfit, small}
+use Rattle.dispatch.specs.Whole.{StandsWhole, answer, unknown, unfit, small}
 use Rattle.dispatch.proofs.Calls.{Short, call-short, segment-fits, walk-fits, call-room}
-use Rattle.dispatch.proofs.Whole.{whole}
+use Rattle.dispatch.proofs.Whole.{answer-whole}
 use Rattle.tie.specs.Machine.{Machine, loanTo}
 use Rattle.dispatched.specs.Spelt.{Spoken}
 use Rattle.dispatched.specs.Told.{Take, bytesIn, nextTake, tookThen, takesFrom}
-use Rattle.dispatched.specs.Answer.{takesOver, segmentAnswer, answerOf, answerBy}
+use Rattle.dispatched.specs.Answer.{takesOver, takesAnswer, answerOf, answerBy}
 use Rattle.gate.specs.Lent.{Loan, sizes}
 use Rattle.dispatched.proofs.Takes.{segment-bytes}
 
@@ -43,7 +43,7 @@ last-counts : (done : Bool) (t : Take) (ts : List Take) → done ≡ true → 1 
 last-counts true t ts e = refl
 last-counts false t ts e = absurd (false≢true e)
 
-more-counts : (done left : Bool) (x y : Run) (c : ℕ) (t : Take) (ts : List Take) → isDone (y .answer) ≡ done → isDone (cond (done && left) x y .answer) ≡ true
+more-counts : (done left : Bool) (x y : Progress) (c : ℕ) (t : Take) (ts : List Take) → isDone (y .answer) ≡ done → isDone (cond (done && left) x y .answer) ≡ true
     → y .count ≡ c + 1 → (isDone (x .answer) ≡ true → x .count ≡ y .count + length ts)
     → cond (done && left) x y .count ≡ c + length (tookThen done left t ts)
 more-counts true true x y c t ts same d e h = omega (arith, h d, e)
@@ -51,14 +51,14 @@ more-counts true false x y c t ts same d e h = e
 more-counts false left x y c t ts same d e h = absurd (false≢true (sym same ∙ d))
 
 module _ (l : Loan) (k : ℕ) (seg : List ℕ) where
-  abbrev next : Run → Run
-  next r = step l k seg r
+  abbrev next : Progress → Progress
+  next r = oneTake l k seg r
 
-  pub takes-count : (n : ℕ) (r : Run) → isDone (runOf l k seg n r .answer) ≡ true → runOf l k seg n r .count ≡ r .count + length (takesFrom l k seg n r)
-  unfolding runOf step takesFrom
+  pub takes-count : (n : ℕ) (r : Progress) → isDone (takesUpTo l k seg n r .answer) ≡ true → takesUpTo l k seg n r .count ≡ r .count + length (takesFrom l k seg n r)
+  unfolding takesUpTo oneTake takesFrom
   takes-count zero r d = ap (λ (n : ℕ). r .count + n) (last-counts (isDone (next r .answer)) (nextTake l k seg r) [] d)
   takes-count (suc n) r d =
-      more-counts (isDone (next r .answer)) (ltb (next r .at) (length seg)) (runOf l k seg n (next r)) (next r) (r .count) (nextTake l k seg r)
+      more-counts (isDone (next r .answer)) (ltb (next r .at) (length seg)) (takesUpTo l k seg n (next r)) (next r) (r .count) (nextTake l k seg r)
       (takesFrom l k seg n (next r)) refl d refl (takes-count n (next r))
 
   -- the answer of a segment event
@@ -71,15 +71,15 @@ module _ (l : Loan) (k : ℕ) (seg : List ℕ) where
 module _ (l : Loan) where
   segment-named : (c : ℕ) (seg : List ℕ)
       → eventBytes (allTakes l c seg .answer) (allTakes l c seg .count) (allTakes l c seg .bytes)
-      ≡ segmentAnswer l c seg
+      ≡ takesAnswer l c seg
   segment-named c seg =
       event-named l c seg (allTakes l c seg .answer) (allTakes l c seg .count) (allTakes l c seg .bytes)
       (takesOver l c seg) (λ d. takes-count l c seg (length seg) (begun (l .state) (l .rx)) d ∙ zero-add _) (segment-bytes l c seg)
 
   -- what it leaves, where there is room for it
-  segment-says : (out : List ℕ) (c : ℕ) (seg : List ℕ) → length seg ≤ longest → roomFor seg ≤ length out
+  segment-says : (out : List ℕ) (c : ℕ) (seg : List ℕ) → length seg ≤ longestBody → answerRoom seg ≤ length out
       → segmentEffect l out c seg
-      ≡ answers (segmentAnswer l c seg) (allTakes l c seg .state) (allTakes l c seg .rx) (l .tx) out
+      ≡ answers (takesAnswer l c seg) (allTakes l c seg .state) (allTakes l c seg .rx) (l .tx) out
   segment-says out c seg short h =
       segment-roomy l out c seg short h
       ∙ ap (λ (bytes : List ℕ). answers bytes (allTakes l c seg .state) (allTakes l c seg .rx) (l .tx) out) (segment-named c seg)
@@ -97,7 +97,7 @@ answered NoEvent = false
 answered DoesNotFit = false
 answered Small = false
 
-fits : (out : List ℕ) {v : Verdict} {after : List ℕ} → Whole out v after → (n : ℕ) → v ≡ Done n → n ≤ room
+fits : (out : List ℕ) {v : Verdict} {after : List ℕ} → StandsWhole out v after → (n : ℕ) → v ≡ Done n → n ≤ room
 fits out (answer bytes h) n e = omega (arith, h, ap written e)
 fits out unknown n e = omega (arith, ap written e)
 fits out unfit n e = omega (arith, ap written e)
@@ -129,7 +129,7 @@ module _ (l : Loan) (out : List ℕ) (n : ℕ) (low : n ≤ room) (long : room �
   call-named body (Own c own) h e = laid _ e
   call-named body (Lost c) h e = laid _ e
   call-named body (Segment c at) h e =
-      subst (λ (x : Effect). x .verdict ≡ Done n → Named out (segmentAnswer l c (bytesFrom body at)) n (x .out))
+      subst (λ (x : Effect). x .verdict ≡ Done n → Named out (takesAnswer l c (bytesFrom body at)) n (x .out))
       (sym (segment-says l out c (bytesFrom body at) (segment-fits body c at h) (omega (arith, long, call-room body c at h)))) (laid _) e
   call-named body (Walk c place at) h e =
       subst (λ (x : Effect). x .verdict ≡ Done n → Named out (walkedBytes (walkOf (sizes l) c (bytesFrom body at) place)) n (x .out))
@@ -180,7 +180,7 @@ unfolding dispatchOf
 answer-named image m c n said = go (ltb (length (c .out)) room) refl said
   where
     low : n ≤ room
-    low = fits (c .out) (whole (loanTo image m) (c .out) (c .number) (c .body)) n said
+    low = fits (c .out) (answer-whole (loanTo image m) (c .out) (c .number) (c .body)) n said
 
     go : (b : Bool) → ltb (length (c .out)) room ≡ b
         → cond b (untouched Small (m .state) (m .rx) (m .tx) (c .out)) (effectOf (loanTo image m) (c .out) (c .body) (callOf (c .number) (c .body))) .verdict ≡ Done n

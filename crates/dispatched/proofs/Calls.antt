@@ -15,13 +15,13 @@ use Rattle.calls.specs.declared.Call.{Call}
 use Rattle.calls.specs.declared.Call.the-variants.{Unknown, Unfit, Ticks, Own, Lost, Segment, Walk, TakeWaiting, Datagram, Accept, Transmit, SwitchAll, ReadCount, ClearCount}
 use Rattle.calls.specs.Calls.{callOf}
 use Rattle.dispatch.specs.Dispatch.{room}
-use Rattle.world.specs.Events.{tick, Event, all}
+use Rattle.world.specs.Events.{tick, Event, onWhole}
 use Rattle.runs.specs.Streams.{RunBytes}
 use Rattle.tie.specs.Machine.{Machine, lentTo}
 use Rattle.tie.specs.Run.{afterEvent, afterRun, Good}
 use Rattle.demands.proofs.Runs.{run-good}
 use Rattle.demands.proofs.Refused.{run-stays}
-use Rattle.dispatched.specs.Spelt.{eventsOf, Spoken, speltBy, spelt, CallBytes, afterCall, afterCalls}
+use Rattle.dispatched.specs.Spelt.{eventsOf, Spoken, speltBy, speltIn, CallBytes, afterDispatch, afterDispatches}
 use Rattle.dispatched.proofs.Event.{dispatched-events}
 
 module _ (image : List ℕ) where
@@ -30,16 +30,16 @@ module _ (image : List ℕ) where
   run-append m [] fs = refl
   run-append m (e ∷ es) fs = run-append (afterEvent image e m) es fs
 
-  pub calls-run : (m : Machine) (cs : List Spoken) → afterCalls image m cs ≡ afterRun image m (spelt cs)
-  unfolding afterCalls spelt afterRun
+  pub calls-run : (m : Machine) (cs : List Spoken) → afterDispatches image m cs ≡ afterRun image m (speltIn cs)
+  unfolding afterDispatches speltIn afterRun
   calls-run m [] = refl
   calls-run m (c ∷ cs) =
-      calls-run (afterCall image c m) cs
-      ∙ ap (λ (n : Machine). afterRun image n (spelt cs)) (dispatched-events image m c)
-      ∙ sym (run-append m (speltBy c) (spelt cs))
+      calls-run (afterDispatch image c m) cs
+      ∙ ap (λ (n : Machine). afterRun image n (speltIn cs)) (dispatched-events image m c)
+      ∙ sym (run-append m (speltBy c) (speltIn cs))
 
 -- calls whose bodies are bytes spell a run whose segments are bytes
-ticks-bytes : (n : ℕ) → RunBytes (replicate n (all tick))
+ticks-bytes : (n : ℕ) → RunBytes (replicate n (onWhole tick))
 ticks-bytes zero = tt
 ticks-bytes (suc n) = (tt, ticks-bytes n)
 
@@ -72,16 +72,16 @@ one-bytes c b = go (ltb (length (c .out)) room)
     go true = tt
     go false = events-bytes (c .body) b (callOf (c .number) (c .body))
 
-pub spelt-bytes : (cs : List Spoken) → CallBytes cs → RunBytes (spelt cs)
-unfolding spelt
+pub spelt-bytes : (cs : List Spoken) → CallBytes cs → RunBytes (speltIn cs)
+unfolding speltIn
 spelt-bytes [] b = tt
-spelt-bytes (c ∷ cs) (b, bs) = both-bytes (speltBy c) (spelt cs) (one-bytes c b) (spelt-bytes cs bs)
+spelt-bytes (c ∷ cs) (b, bs) = both-bytes (speltBy c) (speltIn cs) (one-bytes c b) (spelt-bytes cs bs)
 
 -- DEMAND 1, of the dispatcher: sound stays sound, and the memories keep their lengths
-pub calls-good : (image : List ℕ) (m : Machine) (cs : List Spoken) → CallBytes cs → Good image m → Good image (afterCalls image m cs)
-calls-good image m cs b g = subst (Good image) (sym (calls-run image m cs)) (run-good image m (spelt cs) (spelt-bytes cs b) g)
+pub calls-good : (image : List ℕ) (m : Machine) (cs : List Spoken) → CallBytes cs → Good image m → Good image (afterDispatches image m cs)
+calls-good image m cs b g = subst (Good image) (sym (calls-run image m cs)) (run-good image m (speltIn cs) (spelt-bytes cs b) g)
 
 -- .. and where the gate refuses (11, 12), calls leave state and lent memory as they were
 pub calls-stay : (image : List ℕ) (m : Machine) (r : Refusal) → gateOf (lentTo image m) ≡ Refused r → (cs : List Spoken)
-    → afterCalls image m cs ≡ m
-calls-stay image m r shut cs = calls-run image m cs ∙ run-stays image m r shut (spelt cs)
+    → afterDispatches image m cs ≡ m
+calls-stay image m r shut cs = calls-run image m cs ∙ run-stays image m r shut (speltIn cs)

@@ -7,13 +7,13 @@ use native.Mathlib.Omega.{arith}
 use Rattle.wire.specs.Be.{byteAt, be}
 use Rattle.feed.specs.declared.Decision.{Decision}
 use Rattle.feed.specs.declared.Decision.the-variants.{Accept, Refuse}
-use Rattle.feed.specs.Feed.{Routes, header, payload, skip, Cell, cell, Out, nothing, pdu, dropped, fed, decided, done, feed, Took, goes, takeB}
+use Rattle.feed.specs.Feed.{Routes, header, payload, skip, Cell, cell, Out, nothing, pdu, dropped, fed, decided, pieceDone, feed, Took, goes, takeB}
 use Rattle.feed.proofs.Laws.{grow}
 use Rattle.lengths.specs.Listed.{Bytes}
 use Rattle.lengths.specs.Head.{Head, ended, short, beyond, whole, headOf}
-use Rattle.lengths.proofs.Heads.{View, at-end, at-short, at-beyond, at-whole, view}
+use Rattle.lengths.proofs.Heads.{View, none-left, at-short, at-beyond, at-whole, view}
 use Rattle.route.specs.Route.{lookupOf}
-use Rattle.route.specs.Decided.{Decided, allowed, no-route, off, too-long}
+use Rattle.route.specs.Decided.{Decided, allowing, no-route, off, too-long}
 use Rattle.route.proofs.Decided.{lookup-decided}
 use Rattle.stream.proofs.Leaves.{Sane}
 
@@ -31,7 +31,7 @@ pub reason-small : (routes : List ℕ) (k switches i n q : ℕ) → lookupOf rou
 reason-small routes k switches i n q e = go (lookup-decided routes k switches i n) e
   where
     go : {d : Decision} → Decided routes k switches i n d → d ≡ Refuse q → q < 256
-    go (allowed r a) p = let z : _≡_ {A = ℕ} 0 1 = cc in absurd (omega arith)
+    go (allowing r a) p = let z : _≡_ {A = ℕ} 0 1 = cc in absurd (omega arith)
     go (no-route h) p = let z : 20 ≡ q = cc in omega arith
     go (off r b h) p = let z : 21 ≡ q = cc in omega arith
     go (too-long r b o l) p = let z : 22 ≡ q = cc in omega arith
@@ -59,7 +59,7 @@ module _ (R : Routes) (small : (i n q : ℕ) → R i n ≡ Refuse q → q < 256)
   decided-drops (Refuse q) i (suc n) a b s = (tt, (s q refl, (a, b)))
 
   feed-drops : (c : Cell) (b : ℕ) → b < 256 → Heads c → Heads (feed R c b .to) × DropFits (feed R c b .out)
-  unfolding feed done
+  unfolding feed pieceDone
   feed-drops (cell zero k) b hb s = ((omega arith, omega arith), tt)
   feed-drops (cell (suc zero) (header v)) b hb s =
       let w : ℕ = v * 256 + b in
@@ -101,7 +101,7 @@ pub head-small : (l : List ℕ) → Bytes l → (h : Head) → headOf l ≡ h �
 head-small l b h e = subst HeadFits e (go (headOf l) (view l))
   where
     go : (x : Head) → View l x → HeadFits x
-    go ended (at-end p) = tt
+    go ended (none-left p) = tt
     go short (at-short p q) = tt
     go (beyond _ _) (at-beyond p q) = (be-small 4 l 0 b, be-small 4 l 4 b)
     go (whole _ _) (at-whole p) = (be-small 4 l 0 b, be-small 4 l 4 b)

@@ -12,7 +12,7 @@ use Rattle.gate.specs.Lent.{Loan, sizes}
 use Rattle.gate.specs.Gate.{gateAt, through}
 use Rattle.events.specs.Change.{lossOf}
 use Rattle.sending.specs.declared.Taken.{Taken}
-use Rattle.sending.specs.Sending.{notTaken, takePast, takenOf}
+use Rattle.sending.specs.Sending.{notTaken, takePast, takenWaiting}
 use Rattle.calls.specs.declared.Call.{Call}
 use Rattle.calls.specs.declared.Call.the-variants.{Unknown, Unfit, Ticks, Own, Lost, Segment, Walk, TakeWaiting, Datagram, Accept, Transmit, SwitchAll, ReadCount, ClearCount}
 use Rattle.calls.specs.Calls.{callOf, bytesFrom}
@@ -25,7 +25,7 @@ use Rattle.dispatch.specs.Dispatch.{room, effectOf, dispatchOf}
 use Rattle.dispatch.proofs.Calls.{Short, call-short, segment-fits, walk-fits, call-room}
 use Rattle.tie.specs.Machine.{Machine, machine, loanTo}
 use Rattle.tie.specs.Run.{afterOwn, afterWhole, afterEvent, afterRun}
-use Rattle.dispatched.specs.Spelt.{eventsOf, Spoken, speltBy, machineOf, afterCall}
+use Rattle.dispatched.specs.Spelt.{eventsOf, Spoken, speltBy, machineOf, afterDispatch}
 use Rattle.dispatched.proofs.Segment.{segment-machine}
 use Rattle.dispatched.proofs.Ticks.{ticks-run}
 
@@ -35,8 +35,8 @@ buffer-room n =
     omega (arith, length-take {A = ℕ} (roomOf n) (replicate 1472 0), length-replicate {A = ℕ} 1472 0, length-replicate {A = ℕ} (roomOf n) 0)
 
 -- of an out buffer only its room matters to the state
-take-room : (l : Loan) (c : ℕ) (a b : List ℕ) → length a ≡ length b → takenOf l c a ≡ takenOf l c b
-unfolding takenOf
+take-room : (l : Loan) (c : ℕ) (a b : List ℕ) → length a ≡ length b → takenWaiting l c a ≡ takenWaiting l c b
+unfolding takenWaiting
 take-room l c a b e = ap (λ (n : ℕ). through (gateAt (sizes l) c) (notTaken (l .state)) (takePast (l .image) (l .state) c n)) e
 
 module _ (image : List ℕ) (m : Machine) (out body : List ℕ) (long : room ≤ length out) where
@@ -62,7 +62,7 @@ module _ (image : List ℕ) (m : Machine) (out body : List ℕ) (long : room ≤
   call-events (ClearCount protocol) h = refl
 
 -- ONE CALL
-pub dispatched-events : (image : List ℕ) (m : Machine) (c : Spoken) → afterCall image c m ≡ afterRun image m (speltBy c)
+pub dispatched-events : (image : List ℕ) (m : Machine) (c : Spoken) → afterDispatch image c m ≡ afterRun image m (speltBy c)
 unfolding dispatchOf speltBy afterRun
 dispatched-events image m c = go (ltb (length (c .out)) room) refl
   where

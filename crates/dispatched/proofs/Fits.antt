@@ -23,18 +23,18 @@ use Rattle.lengths.specs.Listed.{Bytes}
 use Rattle.lengths.specs.Head.{Head, ended, short, beyond, whole, headOf}
 use Rattle.lengths.proofs.Bytes.{bytes-drop}
 use Rattle.lengths.proofs.Heads.{whole-fits}
-use Rattle.walk.specs.Walk.{wholeAt, stepOf, walkAt}
+use Rattle.walk.specs.Walk.{wholeAt, walkStep, walkAt}
 use Rattle.part.specs.declared.Part.{Part}
 use Rattle.part.specs.declared.Part.the-variants.{Header, Payload, Skip}
 use Rattle.route.specs.Route.{rowsIn, lookupOf}
-use Rattle.route.proofs.Decided.{accepted}
+use Rattle.route.proofs.Decided.{route-accepted}
 use Rattle.state.specs.declared.State.{State}
 use Rattle.state.specs.State.{recordAt}
 use Rattle.state.specs.Fresh.{configOf}
 use Rattle.state.specs.Memory.{stretch}
 use Rattle.gate.specs.Lent.{Lent, Loan, sizes}
 use Rattle.gate.proofs.Records.{row-routed, record-at}
-use Rattle.stream.specs.Stream.{cellOf, inSegment, idOf, outcomeOf, tookOf, takenOf, Limits}
+use Rattle.stream.specs.Stream.{cellOf, inSegment, idOf, takeOutcome, tookOf, takenOf, Limits}
 use Rattle.stream.proofs.Leaves.{PartHolds, Owns, Told, take-sane, part-sane, Sane}
 use Rattle.datagram.specs.declared.Outcome.the-variants as Met
 use Rattle.datagram.specs.Datagram.{walkedOf}
@@ -51,8 +51,8 @@ use Rattle.receive.proofs.Routed.{routed-owns}
 use Rattle.calls.specs.declared.Call.{Call}
 use Rattle.calls.specs.declared.Call.the-variants.{Unknown, Unfit, Ticks, Own, Lost, Segment, Walk, TakeWaiting, Datagram, Accept, Transmit, SwitchAll, ReadCount, ClearCount}
 use Rattle.calls.specs.Calls.{callOf, bytesFrom}
-use Rattle.answer_receive.specs.Long.{longest}
-use Rattle.answer_receive.specs.Segment.{lends, Run, begun, takeAt, memoryAt, step, allTakes, eventBytes}
+use Rattle.answer_receive.specs.Long.{longestBody}
+use Rattle.answer_receive.specs.Segment.{lends, Progress, begun, takeAt, memoryAt, oneTake, allTakes, eventBytes}
 use Rattle.answer_receive.specs.Walk.{walkedBytes}
 use Rattle.answer_receive.proofs.Room.{answer-is}
 use Rattle.answer_receive.proofs.Run.{read-within, first-answer, count-fits}
@@ -61,10 +61,10 @@ use Rattle.tie.specs.Machine.{Machine, lentTo, loanTo}
 use Rattle.tie.specs.Run.{toldWalk}
 use Rattle.dispatched.specs.Spelt.{Spoken}
 use Rattle.dispatched.specs.Told.{Take, bytesIn, outsIn, nextTake, takesFrom, tellsOf}
-use Rattle.dispatched.specs.Answer.{takesOver, segmentAnswer as answerTo, answerOf, answerBy}
-use Rattle.dispatched.specs.Read.{takesRead, segmentRead, walkRead, readOf}
+use Rattle.dispatched.specs.Answer.{takesOver, takesAnswer as answerTo, answerOf, answerBy}
+use Rattle.dispatched.specs.Read.{takesRead, segmentRead, walkRead, callRead}
 use Rattle.dispatched.proofs.Answer.{takes-count}
-use Rattle.dispatched.proofs.Read.{TakeFits, more-back, done-back, refused-back, StepFits, walk-back}
+use Rattle.dispatched.proofs.Read.{TakeFits, more-back, done-back, refused-back, StepFits, walk-read-back}
 use Rattle.dispatched.proofs.Drops.{DropFits, reason-small, sane-heads, take-drops, head-small}
 
 -- ROUTE AND LENGTH of each PDU that is handed out: a row of the table, and no more than it allows
@@ -80,7 +80,7 @@ few-rows routes = go (leb (length routes / 16) 64) refl
     go false e = omega arith
 
 accepted-row : (routes : List ℕ) (k switches i n r : ℕ) → lookupOf routes k switches i n ≡ Decided.Accept r → r < 64
-accepted-row routes k switches i n r e = omega (arith, accepted routes k switches i n r e .bears .there, few-rows routes)
+accepted-row routes k switches i n r e = omega (arith, route-accepted routes k switches i n r e .bears .there, few-rows routes)
 
 owned-small : (routes : List ℕ) (k : ℕ) (p : Part) → Limits routes → PartHolds (Owns routes k) p → PartHolds Within p
 owned-small routes k (Header held value) limits o = tt
@@ -97,8 +97,8 @@ told-small (dropped k i n) c t r p e = let z : _≡_ {A = ℕ} 0 1 = cc in absur
 
 -- an outcome with such a PDU, or with a drop that fits, fits, where the take read no further than a segment that is not too long, and receive memory is as long as it is
 outcome-fits : (ids : ℕ → ℕ) (s : Bool) (begins read : ℕ) (rest rx : List ℕ) (k : ℕ) (o : Out) → ((r : ℕ) (p : List ℕ) → o ≡ pdu r p → Within r (length p))
-    → DropFits o → begins + read ≤ longest → length (stretch 1464 k rx) ≡ 1464
-    → TakeFits begins (outcomeOf ids s read o) (payloadOf rest rx k (outcomeOf ids s read o))
+    → DropFits o → begins + read ≤ longestBody → length (stretch 1464 k rx) ≡ 1464
+    → TakeFits begins (takeOutcome ids s read o) (payloadOf rest rx k (takeOutcome ids s read o))
 unfolding payloadOf
 outcome-fits ids s begins read rest rx k nothing small spelt within room = tt
 outcome-fits ids true begins read rest rx k (pdu r p) small spelt within room =
@@ -111,7 +111,7 @@ outcome-fits ids false begins read rest rx k (pdu r p) small spelt within room =
 outcome-fits ids s begins read rest rx k (dropped j i n) small spelt within room = spelt
 
 -- A TAKE THAT IS DONE
-module _ (start : Loan) (k : ℕ) (seg : List ℕ) (bytes : Bytes seg) (notLong : length seg ≤ longest) where
+module _ (start : Loan) (k : ℕ) (seg : List ℕ) (bytes : Bytes seg) (notLong : length seg ≤ longestBody) where
   module _ (l : Loan) (at : ℕ) (within : at ≤ length seg) (d : isDone (takeAt l k seg at .answer) ≡ true) where
     abbrev image : List ℕ
     image = l .image
@@ -155,7 +155,7 @@ module _ (start : Loan) (k : ℕ) (seg : List ℕ) (bytes : Bytes seg) (notLong 
 
     decides : (i n r : ℕ) → R i n ≡ Decided.Accept r → Within r n
     decides i n r a =
-        let allows = accepted routes k (recordAt s k .switches) i n r a in
+        let allows = route-accepted routes k (recordAt s k .switches) i n r a in
         (accepted-row routes k (recordAt s k .switches) i n r a, omega (arith, allows .fits, takes .fit .limits r))
 
     sane : Sane Within part
@@ -167,7 +167,7 @@ module _ (start : Loan) (k : ℕ) (seg : List ℕ) (bytes : Bytes seg) (notLong 
     spelt : DropFits (takeB R part rest .out)
     spelt = take-drops R (reason-small routes k (recordAt s k .switches)) part rest (bytes-drop at seg bytes) (sane-heads Within part sane)
 
-    outcome-is : segmentOf l k rest .outcome ≡ outcomeOf (idOf routes) (inSegment part) (length rest - length (takeB R part rest .rest)) (takeB R part rest .out)
+    outcome-is : segmentOf l k rest .outcome ≡ takeOutcome (idOf routes) (inSegment part) (length rest - length (takeB R part rest .rest)) (takeB R part rest .out)
     unfolding segmentOf takeOn takenOf tookOf
     outcome-is = rw e refl
 
@@ -182,26 +182,26 @@ module _ (start : Loan) (k : ℕ) (seg : List ℕ) (bytes : Bytes seg) (notLong 
         (omega (arith, within, notLong, length-drop at seg)) (stretch-length k (memoryOf l k rest) (takes .small) memory-long))
 
   -- THE TAKES, one after the other
-  abbrev next : Run → Run
-  next r = step start k seg r
+  abbrev next : Progress → Progress
+  next r = oneTake start k seg r
 
-  takes-back : (n : ℕ) (r : Run) → r .at ≤ length seg
+  takes-back : (n : ℕ) (r : Progress) → r .at ≤ length seg
       → takesRead seg (length (takesFrom start k seg n r)) (bytesIn (takesFrom start k seg n r)) ≡ outsIn seg (takesFrom start k seg n r)
-  unfolding takesFrom step takesRead bytesIn outsIn
+  unfolding takesFrom oneTake takesRead bytesIn outsIn
   takes-back zero r within = more-back seg (isDone (next r .answer)) false (nextTake start k seg r) [] (take-fits (lends start k seg r) (r .at) within) refl
   takes-back (suc n) r within =
       more-back seg (isDone (next r .answer)) (ltb (next r .at) (length seg)) (nextTake start k seg r) (takesFrom start k seg n (next r)) (take-fits (lends start k seg r) (r .at) within)
       (takes-back n (next r) (omega (arith, within, read-within (lends start k seg r) k (drop (r .at) seg), length-drop (r .at) seg)))
 
-  none-taken : (n : ℕ) (r : Run) → isDone (next r .answer) ≡ false → takesFrom start k seg n r ≡ []
+  none-taken : (n : ℕ) (r : Progress) → isDone (next r .answer) ≡ false → takesFrom start k seg n r ≡ []
   unfolding takesFrom
   none-taken zero r e = rw e refl
   none-taken (suc n) r e = rw e refl
 
 -- A SEGMENT EVENT
-segment-read : (l : Loan) (k : ℕ) (seg : List ℕ) → Bytes seg → length seg ≤ longest
+segment-read : (l : Loan) (k : ℕ) (seg : List ℕ) → Bytes seg → length seg ≤ longestBody
     → segmentRead seg (answerTo l k seg) ≡ outsIn seg (takesOver l k seg)
-unfolding step outsIn
+unfolding oneTake outsIn
 segment-read l k seg bytes notLong = go (allTakes l k seg .answer) refl
   where
     ts : List Take
@@ -219,7 +219,7 @@ segment-read l k seg bytes notLong = go (allTakes l k seg .answer) refl
     go NotReceiving e = refused-back seg NotReceiving (length ts) (bytesIn ts) refl ∙ sym (ap (outsIn seg) (none (ap isDone e)))
 
 -- A WALK
-walk-read : (l : Lent) (k : ℕ) (datagram : List ℕ) (place : ℕ) → Bytes datagram → length datagram ≤ longest
+walk-read : (l : Lent) (k : ℕ) (datagram : List ℕ) (place : ℕ) → Bytes datagram → length datagram ≤ longestBody
     → walkRead datagram (walkedBytes (walkOf l k datagram place)) ≡ toldWalk datagram (walkOf l k datagram place .outcome)
 unfolding walkOf walkOn walkedOf walkAt
 walk-read l k datagram place bytes notLong = go (isDone (walkAnswer l k datagram place))
@@ -227,14 +227,14 @@ walk-read l k datagram place bytes notLong = go (isDone (walkAnswer l k datagram
     R : Routes
     R = lookupOf (bodyOf (l .image) RouteRows) k (recordAt (l .state) k .switches)
 
-    decided : (d : Decision) (i n : ℕ) → R i n ≡ d → headOf (drop place datagram) ≡ whole i n → StepFits (met.outcomeOf (wholeAt d place i n .found))
+    decided : (d : Decision) (i n : ℕ) → R i n ≡ d → headOf (drop place datagram) ≡ whole i n → StepFits (met.walkOutcome (wholeAt d place i n .found))
     decided (Decided.Accept r) i n a e =
         (omega (arith, accepted-row (bodyOf (l .image) RouteRows) k (recordAt (l .state) k .switches) i n r a), (omega (arith, notLong, whole-fits (drop place datagram) i n e, length-drop place datagram), omega (arith, notLong, whole-fits (drop place datagram) i n e, length-drop place datagram)))
     decided (Decided.Refuse j) i n a e =
         let h = head-small (drop place datagram) (bytes-drop place datagram bytes) (whole i n) e in
         (reason-small (bodyOf (l .image) RouteRows) k (recordAt (l .state) k .switches) i n j a, (h .0, h .1))
 
-    fits : (h : Head) → headOf (drop place datagram) ≡ h → StepFits (met.outcomeOf (stepOf R (length datagram) place h .found))
+    fits : (h : Head) → headOf (drop place datagram) ≡ h → StepFits (met.walkOutcome (walkStep R (length datagram) place h .found))
     fits ended e = tt
     fits short e = (omega arith, (omega arith, omega arith))
     fits (beyond i n) e = let h = head-small (drop place datagram) (bytes-drop place datagram bytes) (beyond i n) e in (omega arith, (h .0, h .1))
@@ -244,13 +244,13 @@ walk-read l k datagram place bytes notLong = go (isDone (walkAnswer l k datagram
         → walkRead datagram (walkedBytes (cond b (walkOn (l .image) (l .state) k datagram place) (noneWalked (l .state) place (walkAnswer l k datagram place))))
         ≡ toldWalk datagram (cond b (walkOn (l .image) (l .state) k datagram place) (noneWalked (l .state) place (walkAnswer l k datagram place)) .outcome)
     go true =
-        walk-back datagram Done (walkOn (l .image) (l .state) k datagram place .next) (walkOn (l .image) (l .state) k datagram place .outcome) (fits (headOf (drop place datagram)) refl) (λ z. absurd (true≢false z))
-    go false = walk-back datagram (walkAnswer l k datagram place) place Met.End tt (λ z. refl)
+        walk-read-back datagram Done (walkOn (l .image) (l .state) k datagram place .next) (walkOn (l .image) (l .state) k datagram place .outcome) (fits (headOf (drop place datagram)) refl) (λ z. absurd (true≢false z))
+    go false = walk-read-back datagram (walkAnswer l k datagram place) place Met.End tt (λ z. refl)
 
 -- THE ANSWER OF A CALL, whose body is bytes: reading it gives exactly what the call tells
 call-read : (image : List ℕ) (k : ℕ) (m : Machine) (body : List ℕ) (call : Call) → Bytes body → Short body call
-    → readOf k body call (answerOf (loanTo image m) body call) ≡ tellsOf image k m body call
-unfolding readOf answerOf tellsOf
+    → callRead k body call (answerOf (loanTo image m) body call) ≡ tellsOf image k m body call
+unfolding callRead answerOf tellsOf
 call-read image k m body Unknown bytes h = refl
 call-read image k m body Unfit bytes h = refl
 call-read image k m body (Ticks n) bytes h = refl
@@ -269,5 +269,5 @@ call-read image k m body (ReadCount protocol) bytes h = refl
 call-read image k m body (ClearCount protocol) bytes h = refl
 
 pub answers-read : (image : List ℕ) (k : ℕ) (m : Machine) (c : Spoken) → Bytes (c .body)
-    → readOf k (c .body) (callOf (c .number) (c .body)) (answerBy image m c) ≡ tellsOf image k m (c .body) (callOf (c .number) (c .body))
+    → callRead k (c .body) (callOf (c .number) (c .body)) (answerBy image m c) ≡ tellsOf image k m (c .body) (callOf (c .number) (c .body))
 answers-read image k m c bytes = call-read image k m (c .body) (callOf (c .number) (c .body)) bytes (call-short (c .number) (c .body))

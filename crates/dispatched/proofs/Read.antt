@@ -24,7 +24,7 @@ use Rattle.datagram.specs.declared.Outcome.the-variants as Met
 use Rattle.receive.specs.declared.Answer.{Answer}
 use Rattle.receive.specs.declared.Answer.the-variants.{Done, Refused, NotReceiving}
 use Rattle.receive.specs.Answer.{isDone}
-use Rattle.answering.specs.Answers.{refused, doneWith, found}
+use Rattle.answering.specs.Answers.{refused, doneWith, foundBytes}
 use Rattle.answering.proofs.Chain.{length-found}
 use Rattle.answer_receive.specs.Segment.{hereBytes, heldBytes, takeBytes, eventBytes}
 use Rattle.answer_receive.specs.Walk.{orRefused, stepBytes, walkBytes}
@@ -39,7 +39,7 @@ number-at : (w v : ℕ) (a r : List ℕ) {l : List ℕ} (at : ℕ) → v < 256 ^
 number-at w v a r at small e f = ap₂ (λ (x : List ℕ) (n : ℕ). be w x n) f (sym e) ∙ be-spell w v a r small
 
 -- WHAT A TAKE OR A WALK FOUND, and r behind it
-module _ (first kind which id n : ℕ) (r : List ℕ) {l : List ℕ} (is : l ≡ found first kind which id n ++ r) where
+module _ (first kind which id n : ℕ) (r : List ℕ) {l : List ℕ} (is : l ≡ foundBytes first kind which id n ++ r) where
   kind-at : kind < 256 → be 1 l 4 ≡ kind
   kind-at h =
       number-at 1 kind (spell 4 first) (spell 1 which ++ spell 4 id ++ spell 4 n ++ r) 4 h (length-spell 4 first) (is ∙ simp append-assoc)
@@ -97,23 +97,23 @@ module _ (segment : List ℕ) where
 
   take-back : (begins read : ℕ) (o : Outcome) (payload rest : List ℕ) → TakeFits begins o payload → Back begins read o payload rest
   take-back begins read Found.More payload rest h =
-      let l : List ℕ = found read 0 0 0 0 ++ rest in
+      let l : List ℕ = foundBytes read 0 0 0 0 ++ rest in
       let t = none-read l (kind-at read 0 0 0 0 rest refl (omega arith)) in
-      (t .0, drop-at (found read 0 0 0 0) rest (takeLong l) (length-found read 0 0 0 0 ∙ sym (t .1)))
+      (t .0, drop-at (foundBytes read 0 0 0 0) rest (takeLong l) (length-found read 0 0 0 0 ∙ sym (t .1)))
   take-back begins read (Found.Drop reason id n) payload rest h =
-      let l : List ℕ = found read 2 reason id n ++ rest in
+      let l : List ℕ = foundBytes read 2 reason id n ++ rest in
       let t =
       drop-read l reason id n (kind-at read 2 reason id n rest refl (omega arith)) (which-at read 2 reason id n rest refl (h .0))
       (id-at read 2 reason id n rest refl (h .1 .0)) (length-at read 2 reason id n rest refl (h .1 .1)) in
-      (t .0, drop-at (found read 2 reason id n) rest (takeLong l) (length-found read 2 reason id n ∙ sym (t .1)))
+      (t .0, drop-at (foundBytes read 2 reason id n) rest (takeLong l) (length-found read 2 reason id n ∙ sym (t .1)))
   take-back begins read (Found.Pdu route id true at n) payload rest h =
       let l : List ℕ = hereBytes read route id n begins at ++ rest in
       let behind : List ℕ = spell 1 0 ++ (spell 4 (begins + at) ++ rest) in
-      let is : l ≡ found read 1 route id n ++ behind = simp append-assoc in
+      let is : l ≡ foundBytes read 1 route id n ++ behind = simp append-assoc in
       let kind : be 1 l 4 ≡ 1 = kind-at read 1 route id n behind is (omega arith) in
-      let where₀ : be 1 l 14 ≡ 0 = number-at 1 0 (found read 1 route id n) (spell 4 (begins + at) ++ rest) 14 (omega arith) (length-found read 1 route id n) is in
+      let where₀ : be 1 l 14 ≡ 0 = number-at 1 0 (foundBytes read 1 route id n) (spell 4 (begins + at) ++ rest) 14 (omega arith) (length-found read 1 route id n) is in
       let place : be 4 l 15 ≡ begins + at =
-      number-at 4 (begins + at) (found read 1 route id n ++ spell 1 0) rest 15 (h .1 .1) (simp (length-append, length-spell)) (simp append-assoc) in
+      number-at 4 (begins + at) (foundBytes read 1 route id n ++ spell 1 0) rest 15 (h .1 .1) (simp (length-append, length-spell)) (simp append-assoc) in
       let t = here-read l (begins + at) n kind where₀ place (length-at read 1 route id n behind is (h .1 .0)) in (
         pdu-read l route (partOf segment (begins + at) n) kind (which-at read 1 route id n behind is (h .0)) (t .0),
         drop-at (hereBytes read route id n begins at) rest (takeLong l) (length-here read route id n begins at ∙ sym (t .1)),
@@ -121,13 +121,13 @@ module _ (segment : List ℕ) where
   take-back begins read (Found.Pdu route id false at n) payload rest h =
       let l : List ℕ = heldBytes read route id n payload ++ rest in
       let behind : List ℕ = spell 1 1 ++ (payload ++ rest) in
-      let is : l ≡ found read 1 route id n ++ behind = simp append-assoc in
+      let is : l ≡ foundBytes read 1 route id n ++ behind = simp append-assoc in
       let kind : be 1 l 4 ≡ 1 = kind-at read 1 route id n behind is (omega arith) in
-      let where₁ : be 1 l 14 ≡ 1 = number-at 1 1 (found read 1 route id n) (payload ++ rest) 14 (omega arith) (length-found read 1 route id n) is in
-      let parted : l ≡ found read 1 route id n ++ spell 1 1 ++ (payload ++ rest) = simp append-assoc in
+      let where₁ : be 1 l 14 ≡ 1 = number-at 1 1 (foundBytes read 1 route id n) (payload ++ rest) 14 (omega arith) (length-found read 1 route id n) is in
+      let parted : l ≡ foundBytes read 1 route id n ++ spell 1 1 ++ (payload ++ rest) = simp append-assoc in
       let body : take n (drop 15 l) ≡ payload =
       ap (λ (x : List ℕ). take n (drop 15 x)) parted
-      ∙ ap (take n) (drop-at (found read 1 route id n ++ spell 1 1) (payload ++ rest) 15 (simp (length-append, length-spell)))
+      ∙ ap (take n) (drop-at (foundBytes read 1 route id n ++ spell 1 1) (payload ++ rest) 15 (simp (length-append, length-spell)))
       ∙ take-at payload rest n (h .1 .1) in
       let t = held-read l payload n kind where₁ (length-at read 1 route id n behind is (h .1 .0)) body in (
         pdu-read l route payload kind (which-at read 1 route id n behind is (h .0)) (t .0),
@@ -195,10 +195,10 @@ module _ (datagram : List ℕ) where
     told = stepBytes next kind which id n
 
     is-done : be 2 told 0 ≡ 0
-    is-done = number-at 2 0 [] (found next kind which id n) 0 (omega arith) refl refl
+    is-done = number-at 2 0 [] (foundBytes next kind which id n) 0 (omega arith) refl refl
 
-    behind : drop 2 told ≡ found next kind which id n ++ []
-    behind = drop-at (spell 2 0) (found next kind which id n) 2 (length-spell 2 0) ∙ sym (append-nil _)
+    behind : drop 2 told ≡ foundBytes next kind which id n ++ []
+    behind = drop-at (spell 2 0) (foundBytes next kind which id n) 2 (length-spell 2 0) ∙ sym (append-nil _)
 
   none-step : (next : ℕ) → walkRead datagram (stepBytes next 0 0 0 0) ≡ []
   unfolding walkRead stepRead
@@ -218,17 +218,17 @@ module _ (datagram : List ℕ) where
   step-back next (Met.Drop reason id n) h = drop-step next reason id n h
   step-back next (Met.Pdu route id at n) h =
       let l : List ℕ = walkBytes next (Met.Pdu route id at n) in
-      let zero-at : be 2 l 0 ≡ 0 = number-at 2 0 [] (found next 1 route id n ++ spell 4 at) 0 (omega arith) refl (simp append-assoc) in
-      let is : drop 2 l ≡ found next 1 route id n ++ spell 4 at =
-      ap (drop 2) (append-assoc (spell 2 0) (found next 1 route id n) (spell 4 at)) ∙ drop-at (spell 2 0) (found next 1 route id n ++ spell 4 at) 2 (length-spell 2 0) in
+      let zero-at : be 2 l 0 ≡ 0 = number-at 2 0 [] (foundBytes next 1 route id n ++ spell 4 at) 0 (omega arith) refl (simp append-assoc) in
+      let is : drop 2 l ≡ foundBytes next 1 route id n ++ spell 4 at =
+      ap (drop 2) (append-assoc (spell 2 0) (foundBytes next 1 route id n) (spell 4 at)) ∙ drop-at (spell 2 0) (foundBytes next 1 route id n ++ spell 4 at) 2 (length-spell 2 0) in
       let k : be 1 (drop 2 l) 4 ≡ 1 = kind-at next 1 route id n (spell 4 at) is (omega arith) in
       let w : be 1 (drop 2 l) 5 ≡ route = which-at next 1 route id n (spell 4 at) is (h .0) in
       let m : be 4 (drop 2 l) 10 ≡ n = length-at next 1 route id n (spell 4 at) is (h .1 .0) in
-      let p : be 4 (drop 2 l) 14 ≡ at = number-at 4 at (found next 1 route id n) [] 14 (h .1 .1) (length-found next 1 route id n) (is ∙ ap (λ (x : List ℕ). found next 1 route id n ++ x) (sym (append-nil (spell 4 at)))) in
+      let p : be 4 (drop 2 l) 14 ≡ at = number-at 4 at (foundBytes next 1 route id n) [] 14 (h .1 .1) (length-found next 1 route id n) (is ∙ ap (λ (x : List ℕ). foundBytes next 1 route id n ++ x) (sym (append-nil (spell 4 at)))) in
       rw (zero-at, k, w, m, p) refl
 
-  pub walk-back : (a : Answer) (next : ℕ) (o : Step) → StepFits o → (isDone a ≡ false → o ≡ Met.End) → walkRead datagram (orRefused a (walkBytes next o)) ≡ toldWalk datagram o
+  pub walk-read-back : (a : Answer) (next : ℕ) (o : Step) → StepFits o → (isDone a ≡ false → o ≡ Met.End) → walkRead datagram (orRefused a (walkBytes next o)) ≡ toldWalk datagram o
   unfolding walkRead
-  walk-back Done next o h none = step-back next o h
-  walk-back (Refused r) next o h none = not-read (refusalNumber r) _ (some-number r .0) (some-number r .1) ∙ sym (ap (toldWalk datagram) (none refl))
-  walk-back NotReceiving next o h none = not-read 4 _ (omega arith) refl ∙ sym (ap (toldWalk datagram) (none refl))
+  walk-read-back Done next o h none = step-back next o h
+  walk-read-back (Refused r) next o h none = not-read (refusalNumber r) _ (some-number r .0) (some-number r .1) ∙ sym (ap (toldWalk datagram) (none refl))
+  walk-read-back NotReceiving next o h none = not-read 4 _ (omega arith) refl ∙ sym (ap (toldWalk datagram) (none refl))

@@ -10,7 +10,7 @@ use lib.Seq.{drop-drop}
 use Rattle.state.specs.declared.State.{State}
 use Rattle.gate.specs.Lent.{Loan}
 use Rattle.receive.specs.Answer.{isDone}
-use Rattle.answer_receive.specs.Segment.{Run, begun, step, runOf, allTakes}
+use Rattle.answer_receive.specs.Segment.{Progress, begun, oneTake, takesUpTo, allTakes}
 use Rattle.tie.specs.Machine.{Machine, machine, taken, afterOne, restOf, goesOn, afterTakes, afterSegment, loanTo}
 
 pub either-way : {A : Type 0} (b : Bool) (x : A) → x ≡ cond b x x
@@ -31,8 +31,8 @@ module _ (image : List ℕ) (k : ℕ) where
   goes-by false (x ∷ l) = refl
 
   -- whether another take follows
-  pub goes : (done : Bool) (read at : ℕ) (seg : List ℕ) → done && ltb (at + read) (length seg) ≡ goesOn image k done (drop read (drop at seg))
-  goes done read at seg =
+  pub goes-alike : (done : Bool) (read at : ℕ) (seg : List ℕ) → done && ltb (at + read) (length seg) ≡ goesOn image k done (drop read (drop at seg))
+  goes-alike done read at seg =
       ap (λ (b : Bool). done && b) (left-by (at + read) seg ∙ ap (λ (l : List ℕ). ltb 0 (length l)) (sym (drop-drop read at seg)))
       ∙ goes-by done (drop read (drop at seg))
 
@@ -41,21 +41,21 @@ module _ (l : Loan) (k : ℕ) (seg : List ℕ) where
   image = l .image
 
   -- the machine as far as the takes are
-  abbrev pub machineAt : Run → Machine
+  abbrev pub machineAt : Progress → Machine
   machineAt r = machine (r .state) (r .rx) (l .tx)
 
-  machine-if : (b : Bool) (x y : Run) → machineAt (cond b x y) ≡ cond b (machineAt x) (machineAt y)
+  machine-if : (b : Bool) (x y : Progress) → machineAt (cond b x y) ≡ cond b (machineAt x) (machineAt y)
   machine-if true x y = refl
   machine-if false x y = refl
 
-  abbrev next : Run → Run
-  next r = step l k seg r
+  abbrev next : Progress → Progress
+  next r = oneTake l k seg r
 
-  abbrev many : ℕ → Run → Run
-  many n r = runOf l k seg n r
+  abbrev many : ℕ → Progress → Progress
+  many n r = takesUpTo l k seg n r
 
-  pub takes-machine : (n : ℕ) (r : Run) → machineAt (many n r) ≡ afterTakes image k (suc n) (machineAt r) (drop (r .at) seg)
-  unfolding runOf step afterTakes
+  pub takes-machine : (n : ℕ) (r : Progress) → machineAt (many n r) ≡ afterTakes image k (suc n) (machineAt r) (drop (r .at) seg)
+  unfolding takesUpTo oneTake afterTakes
   takes-machine zero r =
       either-way (goesOn image k (isDone (taken image k (machineAt r) (drop (r .at) seg) .answer)) (restOf image k (machineAt r) (drop (r .at) seg)))
       (afterOne image k (machineAt r) (drop (r .at) seg))
@@ -65,7 +65,7 @@ module _ (l : Loan) (k : ℕ) (seg : List ℕ) where
       ∙ ap (λ (x : Machine). cond (isDone (t .answer) && ltb (r .at + t .read) (length seg)) x (afterOne image k (machineAt r) (drop (r .at) seg)))
       (takes-machine n (next r) ∙ ap (afterTakes image k (suc n) (afterOne image k (machineAt r) (drop (r .at) seg))) (sym (drop-drop (t .read) (r .at) seg)))
       ∙ ap (λ (b : Bool). cond b (afterTakes image k (suc n) (afterOne image k (machineAt r) (drop (r .at) seg)) (restOf image k (machineAt r) (drop (r .at) seg))) (afterOne image k (machineAt r) (drop (r .at) seg)))
-      (goes image k (isDone (t .answer)) (t .read) (r .at) seg)
+      (goes-alike image k (isDone (t .answer)) (t .read) (r .at) seg)
 
 -- A SEGMENT EVENT, of either
 pub segment-machine : (image : List ℕ) (k : ℕ) (seg : List ℕ) (m : Machine)

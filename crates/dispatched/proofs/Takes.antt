@@ -18,24 +18,24 @@ use Rattle.receive.specs.declared.Answer.{Answer}
 use Rattle.receive.specs.declared.Answer.the-variants.{Done, Refused, NotReceiving}
 use Rattle.receive.specs.Answer.{isDone}
 use Rattle.receive.specs.Segment.{segmentOf, segmentAnswer, takeOn, noneTaken, payloadOf}
-use Rattle.answer_receive.specs.Segment.{lends, takeBytes, bytesOf, Run, begun, bytesAt, step, runOf, allTakes}
-use Rattle.tie.specs.Machine.{Machine, machine, taken, afterOne, restOf, told, toldBy, goesOn, toldTakes, toldSegment, loanTo}
+use Rattle.answer_receive.specs.Segment.{lends, takeBytes, bytesIfDone, Progress, begun, bytesAt, oneTake, takesUpTo, allTakes}
+use Rattle.tie.specs.Machine.{Machine, machine, taken, afterOne, restOf, pduTold, toldBy, goesOn, toldTakes, toldSegment, loanTo}
 use Rattle.dispatched.specs.Told.{Take, bytesIn, outIn, outsIn, nextTake, tookThen, takesFrom}
 use Rattle.gate.specs.Lent.{Loan, sizes}
-use Rattle.dispatched.proofs.Segment.{either-way, goes, machineAt}
+use Rattle.dispatched.proofs.Segment.{either-way, goes-alike, machineAt}
 
 -- THE BYTES: a take that is done adds its own, and none comes behind one that is refused
 abbrev bytesFor : Take → List ℕ
 bytesFor t = takeBytes (t .begins) (t .read) (t .outcome) (t .payload)
 
-last-bytes : (a : Answer) (before : List ℕ) (t : Take) (ts : List Take) → before ++ bytesOf a (bytesFor t) ≡ before ++ bytesIn (tookThen (isDone a) false t ts)
+last-bytes : (a : Answer) (before : List ℕ) (t : Take) (ts : List Take) → before ++ bytesIfDone a (bytesFor t) ≡ before ++ bytesIn (tookThen (isDone a) false t ts)
 unfolding bytesIn
 last-bytes Done before t ts = ap (λ (l : List ℕ). before ++ l) (sym (append-nil (bytesFor t)))
 last-bytes (Refused r) before t ts = refl
 last-bytes NotReceiving before t ts = refl
 
-more-bytes : (a : Answer) (left : Bool) (x y : Run) (before : List ℕ) (t : Take) (ts : List Take)
-    → y .bytes ≡ before ++ bytesOf a (bytesFor t)
+more-bytes : (a : Answer) (left : Bool) (x y : Progress) (before : List ℕ) (t : Take) (ts : List Take)
+    → y .bytes ≡ before ++ bytesIfDone a (bytesFor t)
     → x .bytes ≡ y .bytes ++ bytesIn ts
     → cond (isDone a && left) x y .bytes ≡ before ++ bytesIn (tookThen (isDone a) left t ts)
 unfolding bytesIn
@@ -45,14 +45,14 @@ more-bytes (Refused r) left x y before t ts e h = e
 more-bytes NotReceiving left x y before t ts e h = e
 
 module _ (l : Loan) (k : ℕ) (seg : List ℕ) where
-  abbrev next : Run → Run
-  next r = step l k seg r
+  abbrev next : Progress → Progress
+  next r = oneTake l k seg r
 
-  takes-bytes : (n : ℕ) (r : Run) → runOf l k seg n r .bytes ≡ r .bytes ++ bytesIn (takesFrom l k seg n r)
-  unfolding runOf step bytesAt takesFrom
+  takes-bytes : (n : ℕ) (r : Progress) → takesUpTo l k seg n r .bytes ≡ r .bytes ++ bytesIn (takesFrom l k seg n r)
+  unfolding takesUpTo oneTake bytesAt takesFrom
   takes-bytes zero r = last-bytes (next r .answer) (r .bytes) (nextTake l k seg r) []
   takes-bytes (suc n) r =
-      more-bytes (next r .answer) (ltb (next r .at) (length seg)) (runOf l k seg n (next r)) (next r) (r .bytes) (nextTake l k seg r)
+      more-bytes (next r .answer) (ltb (next r .at) (length seg)) (takesUpTo l k seg n (next r)) (next r) (r .bytes) (nextTake l k seg r)
       (takesFrom l k seg n (next r)) refl (takes-bytes n (next r))
 
   pub segment-bytes : allTakes l k seg .bytes ≡ bytesIn (takesFrom l k seg (length seg) (begun (l .state) (l .rx)))
@@ -77,7 +77,7 @@ part-rest l begins at n = go (leb (at + n) (length (drop begins l))) (leb (begin
 module _ (image : List ℕ) (k : ℕ) (seg : List ℕ) where
   -- the place that the answer names is where the payload stands in the whole segment
   pdu-told : (begins : ℕ) (rx : List ℕ) (o : Outcome)
-      → told image k (payloadOf (drop begins seg) rx k o) o ≡ outIn seg begins o (payloadOf (drop begins seg) rx k o)
+      → pduTold image k (payloadOf (drop begins seg) rx k o) o ≡ outIn seg begins o (payloadOf (drop begins seg) rx k o)
   unfolding payloadOf
   pdu-told begins rx Found.More = refl
   pdu-told begins rx (Found.Pdu route id true at n) = ap (λ (l : List ℕ). pdu route l ∷ []) (part-rest seg begins at n)
@@ -98,12 +98,12 @@ module _ (image : List ℕ) (k : ℕ) (seg : List ℕ) where
   more-told false left ps x t ts none e h = last-told false ps t ts none e
 
   none-told : (l : Loan) (bs payload : List ℕ) → isDone (segmentOf l k bs .answer) ≡ false
-      → told image k payload (segmentOf l k bs .outcome) ≡ []
+      → pduTold image k payload (segmentOf l k bs .outcome) ≡ []
   unfolding segmentOf takeOn
   none-told l bs payload refused = go (isDone (segmentAnswer (sizes l) k)) refused
     where
       go : (b : Bool) → isDone (cond b (takeOn (l .image) (l .state) (l .rx) k bs) (noneTaken (l .state) (segmentAnswer (sizes l) k)) .answer) ≡ false
-          → told image k payload (cond b (takeOn (l .image) (l .state) (l .rx) k bs) (noneTaken (l .state) (segmentAnswer (sizes l) k)) .outcome) ≡ []
+          → pduTold image k payload (cond b (takeOn (l .image) (l .state) (l .rx) k bs) (noneTaken (l .state) (segmentAnswer (sizes l) k)) .outcome) ≡ []
       go true e = absurd (true≢false e)
       go false e = refl
 
@@ -111,35 +111,35 @@ module _ (l : Loan) (k : ℕ) (seg : List ℕ) where
   abbrev image : List ℕ
   image = l .image
 
-  abbrev here : Run → Machine
+  abbrev here : Progress → Machine
   here r = machineAt l k seg r
 
-  abbrev rest : Run → List ℕ
+  abbrev rest : Progress → List ℕ
   rest r = drop (r .at) seg
 
   -- what the next take tells
-  own-told : (r : Run) → toldBy image k (here r) (rest r) ≡ outIn seg (r .at) (nextTake l k seg r .outcome) (nextTake l k seg r .payload)
+  own-told : (r : Progress) → toldBy image k (here r) (rest r) ≡ outIn seg (r .at) (nextTake l k seg r .outcome) (nextTake l k seg r .payload)
   own-told r = pdu-told image k seg (r .at) (afterOne image k (here r) (rest r) .rx) (taken image k (here r) (rest r) .outcome)
 
-  own-none : (r : Run) → isDone (taken image k (here r) (rest r) .answer) ≡ false → toldBy image k (here r) (rest r) ≡ []
+  own-none : (r : Progress) → isDone (taken image k (here r) (rest r) .answer) ≡ false → toldBy image k (here r) (rest r) ≡ []
   own-none r = none-told image k seg (lends l k seg r) (rest r) (nextTake l k seg r .payload)
 
-  takes-told : (n : ℕ) (r : Run) → toldTakes image k (suc n) (here r) (rest r) ≡ outsIn seg (takesFrom l k seg n r)
-  unfolding toldTakes takesFrom step
+  takes-told : (n : ℕ) (r : Progress) → toldTakes image k (suc n) (here r) (rest r) ≡ outsIn seg (takesFrom l k seg n r)
+  unfolding toldTakes takesFrom oneTake
   takes-told zero r =
       ap (λ (ps : List Out). toldBy image k (here r) (rest r) ++ ps) (sym (either-way (goesOn image k (isDone (taken image k (here r) (rest r) .answer)) (restOf image k (here r) (rest r))) []))
       ∙ last-told image k seg (isDone (taken image k (here r) (rest r) .answer)) (toldBy image k (here r) (rest r)) (nextTake l k seg r) [] (own-none r) (own-told r)
   takes-told (suc n) r =
       let t = taken image k (here r) (rest r) in
-      let r′ = step l k seg r in
+      let r′ = oneTake l k seg r in
       ap (λ (b : Bool). toldBy image k (here r) (rest r) ++ cond b (toldTakes image k (suc n) (afterOne image k (here r) (rest r)) (restOf image k (here r) (rest r))) [])
-      (sym (goes image k (isDone (t .answer)) (t .read) (r .at) seg))
+      (sym (goes-alike image k (isDone (t .answer)) (t .read) (r .at) seg))
       ∙ more-told image k seg (isDone (t .answer)) (ltb (r′ .at) (length seg)) (toldBy image k (here r) (rest r))
       (toldTakes image k (suc n) (afterOne image k (here r) (rest r)) (restOf image k (here r) (rest r))) (nextTake l k seg r) (takesFrom l k seg n r′)
       (own-none r) (own-told r)
       (ap (toldTakes image k (suc n) (afterOne image k (here r) (rest r))) (drop-drop (t .read) (r .at) seg) ∙ takes-told n r′)
 
 -- A SEGMENT EVENT: the outcomes that the answer tells, and those that the machine gives
-pub segment-told : (image : List ℕ) (k : ℕ) (seg : List ℕ) (m : Machine)
+pub segment-takes-told : (image : List ℕ) (k : ℕ) (seg : List ℕ) (m : Machine)
     → outsIn seg (takesFrom (loanTo image m) k seg (length seg) (begun (m .state) (m .rx))) ≡ toldSegment image k m seg
-segment-told image k seg m = sym (takes-told (loanTo image m) k seg (length seg) (begun (m .state) (m .rx)))
+segment-takes-told image k seg m = sym (takes-told (loanTo image m) k seg (length seg) (begun (m .state) (m .rx)))

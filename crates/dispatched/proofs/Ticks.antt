@@ -13,12 +13,12 @@ use Rattle.ticks.specs.declared.Ticked.{Ticked}
 use Rattle.ticks.specs.Tick.{tickEvent, ticksEvent}
 use Rattle.keeps.specs.Calls.{calls}
 use Rattle.keeps.proofs.Single.{ticks-single}
-use Rattle.world.specs.Events.{tick, Event, all}
+use Rattle.world.specs.Events.{tick, Event, onWhole}
 use Rattle.tie.specs.Machine.{machine, lentTo}
 use Rattle.tie.specs.Run.{afterWhole, afterEvent, afterRun}
 
 abbrev ticksOf : ℕ → List Event
-ticksOf n = replicate n (all tick)
+ticksOf n = replicate n (onWhole tick)
 
 module _ (image rx tx : List ℕ) where
   -- calls of `tick`, one after the other, are such a run

@@ -12,27 +12,27 @@ use Rattle.calls.specs.declared.Call.{Call}
 use Rattle.calls.specs.declared.Call.the-variants.{Unknown, Unfit, Ticks, Own, Lost, Segment, Walk, TakeWaiting, Datagram, Accept, Transmit, SwitchAll, ReadCount, ClearCount}
 use Rattle.calls.specs.Calls.{callOf, bytesFrom}
 use Rattle.dispatch.specs.Dispatch.{room}
-use Rattle.world.specs.Events.{tick, Event, all}
+use Rattle.world.specs.Events.{tick, Event, onWhole}
 use Rattle.runs.specs.Same.{Same}
 use Rattle.tie.specs.Machine.{Machine, seen}
 use Rattle.tie.specs.Run.{afterEvent, given, afterRun, givenIn, Good}
 use Rattle.demands.specs.Three.{Demand3}
 use Rattle.demands.proofs.Three.{demand-3}
-use Rattle.dispatched.specs.Spelt.{eventsOf, Spoken, speltBy, spelt, CallBytes, afterCall}
+use Rattle.dispatched.specs.Spelt.{eventsOf, Spoken, speltBy, speltIn, CallBytes, afterDispatch}
 use Rattle.dispatched.specs.Told.{tellsOf, tellsBy, tellsIn}
-use Rattle.dispatched.specs.Read.{toldBy, toldIn}
+use Rattle.dispatched.specs.Read.{toldByCall, toldIn}
 use Rattle.dispatched.specs.Three.{CallsAlike}
-use Rattle.dispatched.proofs.Takes.{segment-told}
+use Rattle.dispatched.proofs.Takes.{segment-takes-told}
 use Rattle.dispatched.proofs.Fits.{answers-read}
 use Rattle.dispatched.proofs.Event.{dispatched-events}
 use Rattle.dispatched.proofs.Calls.{calls-run, spelt-bytes}
 use Rattle.world.specs.Step.{compared}
 
 module _ (image : List ℕ) (k : ℕ) where
-  ticks-tell : (n : ℕ) (m : Machine) → [] ≡ givenIn image k m (replicate n (all tick))
+  ticks-tell : (n : ℕ) (m : Machine) → [] ≡ givenIn image k m (replicate n (onWhole tick))
   unfolding givenIn given
   ticks-tell zero m = refl
-  ticks-tell (suc n) m = ticks-tell n (afterEvent image (all tick) m)
+  ticks-tell (suc n) m = ticks-tell n (afterEvent image (onWhole tick) m)
 
   call-tells : (m : Machine) (body : List ℕ) (call : Call) → tellsOf image k m body call ≡ givenIn image k m (eventsOf body call)
   unfolding tellsOf eventsOf givenIn given
@@ -42,7 +42,7 @@ module _ (image : List ℕ) (k : ℕ) where
   call-tells m body (Own c e) = refl
   call-tells m body (Lost c) = refl
   call-tells m body (Segment c at) =
-      ap (λ (l : List Out). cond (eqb c k) l []) (segment-told image c (bytesFrom body at) m) ∙ sym (append-nil _)
+      ap (λ (l : List Out). cond (eqb c k) l []) (segment-takes-told image c (bytesFrom body at) m) ∙ sym (append-nil _)
   call-tells m body (Walk c place at) = sym (append-nil _)
   call-tells m body (TakeWaiting c n) = refl
   call-tells m body (Datagram group source) = refl
@@ -61,11 +61,11 @@ module _ (image : List ℕ) (k : ℕ) where
       go true = refl
       go false = call-tells m (c .body) (callOf (c .number) (c .body))
 
-  call-read : (m : Machine) (c : Spoken) → Bytes (c .body) → toldBy image k m c ≡ tellsBy image k m c
-  unfolding toldBy tellsBy
+  call-read : (m : Machine) (c : Spoken) → Bytes (c .body) → toldByCall image k m c ≡ tellsBy image k m c
+  unfolding toldByCall tellsBy
   call-read m c bytes = ap (λ (l : List Out). cond (ltb (length (c .out)) room) [] l) (answers-read image k m c bytes)
 
-  pub dispatched-tells : (m : Machine) (c : Spoken) → Bytes (c .body) → toldBy image k m c ≡ givenIn image k m (speltBy c)
+  pub dispatched-tells : (m : Machine) (c : Spoken) → Bytes (c .body) → toldByCall image k m c ≡ givenIn image k m (speltBy c)
   dispatched-tells m c bytes = call-read m c bytes ∙ call-told m c
 
   given-append : (m : Machine) (es fs : List Event) → givenIn image k m (es ++ fs) ≡ givenIn image k m es ++ givenIn image k (afterRun image m es) fs
@@ -76,29 +76,29 @@ module _ (image : List ℕ) (k : ℕ) where
       ∙ sym (append-assoc (given image k e m) (givenIn image k (afterEvent image e m) es) (givenIn image k (afterRun image (afterEvent image e m) es) fs))
 
   -- CALLS one after the other
-  pub calls-tell : (m : Machine) (cs : List Spoken) → tellsIn image k m cs ≡ givenIn image k m (spelt cs)
-  unfolding tellsIn spelt givenIn
+  pub calls-tell : (m : Machine) (cs : List Spoken) → tellsIn image k m cs ≡ givenIn image k m (speltIn cs)
+  unfolding tellsIn speltIn givenIn
   calls-tell m [] = refl
   calls-tell m (c ∷ cs) =
       ap₂ _++_ (call-told m c)
-      (calls-tell (afterCall image c m) cs ∙ ap (λ (n : Machine). givenIn image k n (spelt cs)) (dispatched-events image m c))
-      ∙ sym (given-append m (speltBy c) (spelt cs))
+      (calls-tell (afterDispatch image c m) cs ∙ ap (λ (n : Machine). givenIn image k n (speltIn cs)) (dispatched-events image m c))
+      ∙ sym (given-append m (speltBy c) (speltIn cs))
 
   calls-read : (m : Machine) (cs : List Spoken) → CallBytes cs → toldIn image k m cs ≡ tellsIn image k m cs
   unfolding toldIn tellsIn
   calls-read m [] bytes = refl
-  calls-read m (c ∷ cs) (bytes, later) = ap₂ _++_ (call-read m c bytes) (calls-read (afterCall image c m) cs later)
+  calls-read m (c ∷ cs) (bytes, later) = ap₂ _++_ (call-read m c bytes) (calls-read (afterDispatch image c m) cs later)
 
-  pub calls-told : (m : Machine) (cs : List Spoken) → CallBytes cs → toldIn image k m cs ≡ givenIn image k m (spelt cs)
+  pub calls-told : (m : Machine) (cs : List Spoken) → CallBytes cs → toldIn image k m cs ≡ givenIn image k m (speltIn cs)
   calls-told m cs bytes = calls-read m cs bytes ∙ calls-tell m cs
 
 -- DEMAND 3, of the dispatcher: calls that spell same runs end in the same state, and have told the same PDUs, exactly demand 2's: by the takes
 -- and walks that they answer ..
-pub calls-alike : (image : List ℕ) (m : Machine) → Good image m → (cs ds : List Spoken) → CallBytes cs → Same (spelt cs) (spelt ds)
+pub calls-alike : (image : List ℕ) (m : Machine) → Good image m → (cs ds : List Spoken) → CallBytes cs → Same (speltIn cs) (speltIn ds)
     → CallsAlike (tellsIn image) image m cs ds
 calls-alike image m good cs ds bytes alike = go (demand-3 image m good alike (spelt-bytes cs bytes))
   where
-    go : Demand3 image m (spelt cs) (spelt ds) → CallsAlike (tellsIn image) image m cs ds
+    go : Demand3 image m (speltIn cs) (speltIn ds) → CallsAlike (tellsIn image) image m cs ds
     go d =
         record {
           state = ap seen (calls-run image m cs) ∙ d .state ∙ ap seen (sym (calls-run image m ds));
@@ -107,7 +107,7 @@ calls-alike image m good cs ds bytes alike = go (demand-3 image m good alike (sp
         }
 
 -- .. and by the bytes of their answers
-pub calls-demand-3 : (image : List ℕ) (m : Machine) → Good image m → (cs ds : List Spoken) → CallBytes cs → CallBytes ds → Same (spelt cs) (spelt ds)
+pub calls-demand-3 : (image : List ℕ) (m : Machine) → Good image m → (cs ds : List Spoken) → CallBytes cs → CallBytes ds → Same (speltIn cs) (speltIn ds)
     → CallsAlike (toldIn image) image m cs ds
 calls-demand-3 image m good cs ds bytes others alike = go (calls-alike image m good cs ds bytes alike)
   where

@@ -10,7 +10,7 @@ use Rattle.events.specs.Count.{readOf, clearOf}
 use Rattle.ticks.specs.Tick.{ticksEvent}
 use Rattle.receive.specs.Walk.{walkOf}
 use Rattle.arrivals.specs.Arrivals.{datagramOf, acceptOf}
-use Rattle.sending.specs.Sending.{sendOf, takenOf, takenOut}
+use Rattle.sending.specs.Sending.{sendOf, takenWaiting, takenOut}
 use Rattle.calls.specs.declared.Call.{Call}
 use Rattle.calls.specs.declared.Call.the-variants.{Unknown, Unfit, Ticks, Own, Lost, Segment, Walk, TakeWaiting, Datagram, Accept, Transmit, SwitchAll, ReadCount, ClearCount}
 use Rattle.calls.specs.Calls.{callOf, bytesFrom}
@@ -32,13 +32,13 @@ module _ (l : Loan) where
   abbrev pub takesOver : ℕ → List ℕ → List Take
   takesOver c segment = takesFrom l c segment (length segment) (begun (l .state) (l .rx))
 
-  abbrev pub segmentAnswer : ℕ → List ℕ → List ℕ
-  segmentAnswer c segment =
+  abbrev pub takesAnswer : ℕ → List ℕ → List ℕ
+  takesAnswer c segment =
       eventBytes (allTakes l c segment .answer) (length (takesOver c segment)) (bytesIn (takesOver c segment))
 
   -- "count (4), address (19): the remote before the call, bytes": out of a buffer of the room that is asked for
   abbrev pub takeAnswer : ℕ → List ℕ → List ℕ
-  takeAnswer c buffer = takingBytes (takenOf l c buffer .answer) (takenOut l c buffer)
+  takeAnswer c buffer = takingBytes (takenWaiting l c buffer .answer) (takenOut l c buffer)
 
   -- what is refused by its number or its body has none
   unfoldable pub answerOf : List ℕ → Call → List ℕ
@@ -47,7 +47,7 @@ module _ (l : Loan) where
   answerOf body (Ticks n) = ticksBytes (ticksEvent (sizes l) n .answer)
   answerOf body (Own c e) = ownAnswer c e
   answerOf body (Lost c) = lossBytes (lossOf (sizes l) c .answer)
-  answerOf body (Segment c at) = segmentAnswer c (bytesFrom body at)
+  answerOf body (Segment c at) = takesAnswer c (bytesFrom body at)
   answerOf body (Walk c place at) = walkedBytes (walkOf (sizes l) c (bytesFrom body at) place)
   answerOf body (TakeWaiting c n) = takeAnswer c (take (roomOf n) (replicate 1472 0))
   answerOf body (Datagram group source) = arrivalBytes (datagramOf (sizes l) group source .answer)

@@ -13,7 +13,7 @@ use Rattle.calls.specs.declared.Call.the-variants.{Unknown, Unfit, Ticks, Own, 
 use Rattle.calls.specs.Calls.{callOf, bytesFrom}
 use Rattle.dispatch.specs.Dispatch.{room}
 use Rattle.tie.specs.Machine.{Machine}
-use Rattle.dispatched.specs.Spelt.{Spoken, afterCall}
+use Rattle.dispatched.specs.Spelt.{Spoken, afterDispatch}
 use Rattle.dispatched.specs.Answer.{answerBy}
 
 -- bytes of a take or a walk: "bytes read (4)" or "next place (4), kind (1: .. 1 PDU, 2 drop), route or reason (1), id (4), length (4)"
@@ -71,28 +71,28 @@ unfoldable pub walkRead : List ℕ → List ℕ → List Out
 walkRead datagram answer = ifDone answer (stepRead datagram (drop 2 answer))
 
 -- the answer of a call, for connection k
-unfoldable pub readOf : ℕ → List ℕ → Call → List ℕ → List Out
-readOf k body Unknown answer = []
-readOf k body Unfit answer = []
-readOf k body (Ticks n) answer = []
-readOf k body (Own c e) answer = []
-readOf k body (Lost c) answer = []
-readOf k body (Segment c at) answer = cond (eqb c k) (segmentRead (bytesFrom body at) answer) []
-readOf k body (Walk c place at) answer = cond (eqb c k) (walkRead (bytesFrom body at) answer) []
-readOf k body (TakeWaiting c n) answer = []
-readOf k body (Datagram group source) answer = []
-readOf k body (Accept group source) answer = []
-readOf k body (Transmit number at) answer = []
-readOf k body (SwitchAll number position) answer = []
-readOf k body (ReadCount protocol) answer = []
-readOf k body (ClearCount protocol) answer = []
+unfoldable pub callRead : ℕ → List ℕ → Call → List ℕ → List Out
+callRead k body Unknown answer = []
+callRead k body Unfit answer = []
+callRead k body (Ticks n) answer = []
+callRead k body (Own c e) answer = []
+callRead k body (Lost c) answer = []
+callRead k body (Segment c at) answer = cond (eqb c k) (segmentRead (bytesFrom body at) answer) []
+callRead k body (Walk c place at) answer = cond (eqb c k) (walkRead (bytesFrom body at) answer) []
+callRead k body (TakeWaiting c n) answer = []
+callRead k body (Datagram group source) answer = []
+callRead k body (Accept group source) answer = []
+callRead k body (Transmit number at) answer = []
+callRead k body (SwitchAll number position) answer = []
+callRead k body (ReadCount protocol) answer = []
+callRead k body (ClearCount protocol) answer = []
 
 module _ (image : List ℕ) (k : ℕ) where
   -- what a call of the dispatcher has told for connection k; an out buffer that is too short has no answer
-  unfoldable pub toldBy : Machine → Spoken → List Out
-  toldBy m c = cond (ltb (length (c .out)) room) [] (readOf k (c .body) (callOf (c .number) (c .body)) (answerBy image m c))
+  unfoldable pub toldByCall : Machine → Spoken → List Out
+  toldByCall m c = cond (ltb (length (c .out)) room) [] (callRead k (c .body) (callOf (c .number) (c .body)) (answerBy image m c))
 
   -- .. and calls one after the other
   unfoldable pub toldIn : Machine → List Spoken → List Out
   toldIn m [] = []
-  toldIn m (c ∷ cs) = toldBy m c ++ toldIn (afterCall image c m) cs
+  toldIn m (c ∷ cs) = toldByCall m c ++ toldIn (afterDispatch image c m) cs

@@ -14,7 +14,7 @@ use Rattle.calls.specs.Calls.{callOf, bytesFrom}
 use Rattle.answering.specs.Answers.{Effect}
 use Rattle.answer_send.specs.Send.{roomOf}
 use Rattle.dispatch.specs.Dispatch.{room, dispatchOf}
-use Rattle.world.specs.Events.{change, segment, walk, take, datagram, accept, tick, transmit, switchAll, readCount, clearCount, Event, on, all}
+use Rattle.world.specs.Events.{change, segment, walk, takeWaiting, datagram, accept, tick, transmit, switchAll, readCount, clearCount, Event, on, onWhole}
 use Rattle.tie.specs.Machine.{Machine, machine, loanTo}
 
 -- the events of a call whose bytes stand in the body: "n ticks" are n events; "a room above 1,472 answers as 1,472"; "refused and changes
@@ -22,18 +22,18 @@ use Rattle.tie.specs.Machine.{Machine, machine, loanTo}
 unfoldable pub eventsOf : List ℕ → Call → List Event
 eventsOf body Unknown = []
 eventsOf body Unfit = []
-eventsOf body (Ticks n) = replicate n (all tick)
+eventsOf body (Ticks n) = replicate n (onWhole tick)
 eventsOf body (Own c e) = on c (change e) ∷ []
 eventsOf body (Lost c) = on c (change Loses) ∷ []
 eventsOf body (Segment c at) = on c (segment (bytesFrom body at)) ∷ []
 eventsOf body (Walk c place at) = on c (walk (bytesFrom body at) place) ∷ []
-eventsOf body (TakeWaiting c n) = on c (take (roomOf n)) ∷ []
-eventsOf body (Datagram group source) = all (datagram group source) ∷ []
-eventsOf body (Accept group source) = all (accept group source) ∷ []
-eventsOf body (Transmit pdu at) = all (transmit pdu (bytesFrom body at)) ∷ []
-eventsOf body (SwitchAll number position) = all (switchAll number position) ∷ []
-eventsOf body (ReadCount protocol) = all (readCount protocol) ∷ []
-eventsOf body (ClearCount protocol) = all (clearCount protocol) ∷ []
+eventsOf body (TakeWaiting c n) = on c (takeWaiting (roomOf n)) ∷ []
+eventsOf body (Datagram group source) = onWhole (datagram group source) ∷ []
+eventsOf body (Accept group source) = onWhole (accept group source) ∷ []
+eventsOf body (Transmit pdu at) = onWhole (transmit pdu (bytesFrom body at)) ∷ []
+eventsOf body (SwitchAll number position) = onWhole (switchAll number position) ∷ []
+eventsOf body (ReadCount protocol) = onWhole (readCount protocol) ∷ []
+eventsOf body (ClearCount protocol) = onWhole (clearCount protocol) ∷ []
 
 -- ONE CALL OF THE DISPATCHER: an event number, a body, and an out buffer
 pub record Spoken : Type 0 where
@@ -46,9 +46,9 @@ unfoldable pub speltBy : Spoken → List Event
 speltBy c = cond (ltb (length (c .out)) room) [] (eventsOf (c .body) (callOf (c .number) (c .body)))
 
 -- .. and those of calls one after the other
-unfoldable pub spelt : List Spoken → List Event
-spelt [] = []
-spelt (c ∷ cs) = speltBy c ++ spelt cs
+unfoldable pub speltIn : List Spoken → List Event
+speltIn [] = []
+speltIn (c ∷ cs) = speltBy c ++ speltIn cs
 
 -- calls whose bodies are bytes
 abbrev pub CallBytes : List Spoken → Type 0
@@ -61,10 +61,10 @@ machineOf e = machine (e .state) (e .rx) (e .tx)
 
 module _ (image : List ℕ) where
   -- what a call leaves, by the dispatcher's contract
-  abbrev pub afterCall : Spoken → Machine → Machine
-  afterCall c m = machineOf (dispatchOf (loanTo image m) (c .out) (c .number) (c .body))
+  abbrev pub afterDispatch : Spoken → Machine → Machine
+  afterDispatch c m = machineOf (dispatchOf (loanTo image m) (c .out) (c .number) (c .body))
 
   -- calls, each lent the memory that the last one left
-  unfoldable pub afterCalls : Machine → List Spoken → Machine
-  afterCalls m [] = m
-  afterCalls m (c ∷ cs) = afterCalls (afterCall c m) cs
+  unfoldable pub afterDispatches : Machine → List Spoken → Machine
+  afterDispatches m [] = m
+  afterDispatches m (c ∷ cs) = afterDispatches (afterDispatch c m) cs

@@ -12,17 +12,17 @@ use Rattle.feed.specs.Feed.{Out}
 use Rattle.runs.specs.Streams.{listedIn}
 use Rattle.tie.specs.Machine.{Machine, seen}
 use Rattle.demands.specs.Streams.{streamsIn}
-use Rattle.dispatched.specs.Spelt.{Spoken, spelt, afterCalls}
+use Rattle.dispatched.specs.Spelt.{Spoken, speltIn, afterDispatches}
 use Rattle.world.specs.Step.{compared}
 
 -- `told` says what calls one after the other have told for a connection: by the bytes of their answers (specs/Read `toldIn`), or by the takes and
 -- walks that they answer (specs/Told `tellsIn`)
 pub record CallsAlike (told : ℕ → Machine → List Spoken → List Out) (image : List ℕ) (m : Machine) (cs ds : List Spoken) : Type 0 where
   -- the end state is the same: same numbers and same held bytes
-  pub state : seen (afterCalls image m cs) ≡ seen (afterCalls image m ds)
+  pub state : seen (afterDispatches image m cs) ≡ seen (afterDispatches image m ds)
   -- for each connection they have told the same PDUs in the same order
   pub pdus : (k : ℕ) → compared (told k m cs) ≡ compared (told k m ds)
   -- and, of a TCP connection, that list is exactly demand 2's: of each online period's stream, by lengths; the first stream begun with what
   -- the record holds
   pub list : (k : ℕ) → k < rowsOf image Connections → configOf image k .tcp ≡ true
-      → compared (told k m cs) ≡ listedIn (lookupOf (bodyOf image Routes) k) (cellAt (heldAt (seen m) k)) (streamsIn image k m (spelt cs))
+      → compared (told k m cs) ≡ listedIn (lookupOf (bodyOf image Routes) k) (cellAt (heldAt (seen m) k)) (streamsIn image k m (speltIn cs))

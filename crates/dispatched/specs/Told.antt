@@ -16,11 +16,11 @@ use Rattle.receive.specs.Walk.{walkOf}
 use Rattle.calls.specs.declared.Call.{Call}
 use Rattle.calls.specs.declared.Call.the-variants.{Unknown, Unfit, Ticks, Own, Lost, Segment, Walk, TakeWaiting, Datagram, Accept, Transmit, SwitchAll, ReadCount, ClearCount}
 use Rattle.calls.specs.Calls.{callOf, bytesFrom}
-use Rattle.answer_receive.specs.Segment.{lends, takeBytes, Run, begun, takeAt, memoryAt, step}
+use Rattle.answer_receive.specs.Segment.{lends, takeBytes, Progress, begun, takeAt, memoryAt, oneTake}
 use Rattle.tie.specs.Machine.{Machine, lentTo, loanTo}
 use Rattle.tie.specs.Run.{toldWalk}
 use Rattle.dispatch.specs.Dispatch.{room}
-use Rattle.dispatched.specs.Spelt.{Spoken, afterCall}
+use Rattle.dispatched.specs.Spelt.{Spoken, afterDispatch}
 
 -- ONE TAKE THAT IS NOT REFUSED: where in the segment it began, the bytes read, what it found, and the payload that it handed out
 pub record Take : Type 0 where
@@ -52,7 +52,7 @@ tookThen done left t ts = cond done (t ∷ cond left ts []) []
 
 module _ (l : Loan) (connection : ℕ) (segment : List ℕ) where
   -- the next take of a segment event that has come so far
-  abbrev pub nextTake : Run → Take
+  abbrev pub nextTake : Progress → Take
   nextTake r =
       record {
         begins = r .at;
@@ -64,11 +64,11 @@ module _ (l : Loan) (connection : ℕ) (segment : List ℕ) where
       }
 
   -- its takes from here on: the next, and n at most after it
-  unfoldable pub takesFrom : ℕ → Run → List Take
-  takesFrom zero r = tookThen (isDone (step l connection segment r .answer)) false (nextTake r) []
+  unfoldable pub takesFrom : ℕ → Progress → List Take
+  takesFrom zero r = tookThen (isDone (oneTake l connection segment r .answer)) false (nextTake r) []
   takesFrom (suc n) r =
-      tookThen (isDone (step l connection segment r .answer)) (ltb (step l connection segment r .at) (length segment)) (nextTake r)
-      (takesFrom n (step l connection segment r))
+      tookThen (isDone (oneTake l connection segment r .answer)) (ltb (oneTake l connection segment r .at) (length segment)) (nextTake r)
+      (takesFrom n (oneTake l connection segment r))
 
 module _ (image : List ℕ) (k : ℕ) where
   -- the outcomes that the answer of a call tells for connection k, by the takes or the walk that it answers
@@ -99,4 +99,4 @@ module _ (image : List ℕ) (k : ℕ) where
   -- .. and calls one after the other
   unfoldable pub tellsIn : Machine → List Spoken → List Out
   tellsIn m [] = []
-  tellsIn m (c ∷ cs) = tellsBy m c ++ tellsIn (afterCall image c m) cs
+  tellsIn m (c ∷ cs) = tellsBy m c ++ tellsIn (afterDispatch image c m) cs

@@ -14,12 +14,12 @@ use Rattle.layout.specs.Layout.{rowsOf, bodyBytes, startOf, endOf, rowAt, partO
 use Rattle.rows.specs.Rows.{groupRow, connectionRow, routeRow, destinationRow}
 use Rattle.rows.specs.Rules.{groupGood, connectionGood, routeGood, destinationGood, sizeIn, routesShare, destinationsShare}
 use Rattle.scan.specs.Scan.{share, clearIn, goodIn}
-use Rattle.table.specs.Table.{headGood, entryGood, rule, then, entriesPlace, headPlace, allRowsPlace, checkTable}
+use Rattle.table.specs.Table.{headGood, entryGood, rule, thenCheck, entriesPlace, headPlace, allRowsPlace, checkTable}
 use Rattle.state.specs.Fresh.{configOf, freshState}
-use Rattle.feed.specs.Feed.{done, feed, takeB, takes, segment, segments}
+use Rattle.feed.specs.Feed.{pieceDone, feed, takeB, takes, segmentRan, segments}
 use Rattle.lengths.specs.Head.{headOf}
 use Rattle.walk.specs.Walk.{walkAt}
-use Rattle.feed.specs.On.{isOn}
+use Rattle.switches.specs.Switches.{isOn}
 use Rattle.route.specs.Route.{rowsIn, counts, rowFor, reasonIn, reasonOf, decisionOf, lookupOf}
 use Rattle.choose.specs.Best.{better, chosenOf}
 use Rattle.choose.specs.Choose.{rankOf, scoreOf, scoreAt, chosenIn, deniedOf, arriveOf}
@@ -27,14 +27,14 @@ use Rattle.destination.specs.Destination.{refusalOf, lookOf, timerOf}
 use Rattle.send.specs.Verdict.{verdictOf}
 use Rattle.send.specs.Send.{lookAt, checkOf}
 use Rattle.edges.specs.Table.{image}
-use Rattle.edges.specs.Edges.{Edge, edge, edges, same, Hold}
+use Rattle.edges.specs.Edges.{Edge, edge, edges, sameNumbers, Hold}
 
 pub edges-hold : Hold edges
-unfolding image be badFrom every foldFrom rowsOf bodyBytes startOf endOf rowAt partOf bodyOf rowIn groupRow connectionRow routeRow destinationRow groupGood connectionGood routeGood destinationGood sizeIn routesShare destinationsShare share clearIn goodIn headGood entryGood rule then entriesPlace headPlace allRowsPlace checkTable configOf freshState done feed takeB takes segment segments headOf walkAt isOn rowsIn counts rowFor reasonIn reasonOf decisionOf lookupOf better chosenOf rankOf scoreOf scoreAt chosenIn deniedOf arriveOf refusalOf lookOf timerOf verdictOf lookAt checkOf
+unfolding image be badFrom every foldFrom rowsOf bodyBytes startOf endOf rowAt partOf bodyOf rowIn groupRow connectionRow routeRow destinationRow groupGood connectionGood routeGood destinationGood sizeIn routesShare destinationsShare share clearIn goodIn headGood entryGood rule thenCheck entriesPlace headPlace allRowsPlace checkTable configOf freshState pieceDone feed takeB takes segmentRan segments headOf walkAt isOn rowsIn counts rowFor reasonIn reasonOf decisionOf lookupOf better chosenOf rankOf scoreOf scoreAt chosenIn deniedOf arriveOf refusalOf lookOf timerOf verdictOf lookAt checkOf
 edges-hold = refl
 
 -- a table that holds: each of its rows does
-same-is : (xs ys : List ℕ) → same xs ys ≡ true → xs ≡ ys
+same-is : (xs ys : List ℕ) → sameNumbers xs ys ≡ true → xs ≡ ys
 same-is [] [] e = refl
 same-is [] (y ∷ ys) e = absurd (false≢true e)
 same-is (x ∷ xs) [] e = absurd (false≢true e)
@@ -42,8 +42,8 @@ same-is (x ∷ xs) (y ∷ ys) e = ap₂ (λ (z : ℕ) (zs : List ℕ). z ∷ zs)
 
 pub each-row : (es : List Edge) → Hold es → (i : ℕ) → getD es i (edge [] []) .is ≡ getD es i (edge [] []) .says
 each-row [] h i = refl
-each-row (e ∷ es) h zero = same-is (e .is) (e .says) (and-left (same (e .is) (e .says)) _ h)
-each-row (e ∷ es) h (suc i) = each-row es (and-right (same (e .is) (e .says)) _ h) i
+each-row (e ∷ es) h zero = same-is (e .is) (e .says) (and-left (sameNumbers (e .is) (e .says)) _ h)
+each-row (e ∷ es) h (suc i) = each-row es (and-right (sameNumbers (e .is) (e .says)) _ h) i
 
 pub each-edge : (i : ℕ) → getD edges i (edge [] []) .is ≡ getD edges i (edge [] []) .says
 each-edge i = each-row edges edges-hold i

@@ -13,15 +13,15 @@ use Rattle.layout.specs.Layout.{rowsOf, bodyBytes, startOf, endOf, rowAt, partO
 use Rattle.rows.specs.Rows.{groupRow, connectionRow, routeRow, destinationRow}
 use Rattle.rows.specs.Rules.{groupGood, connectionGood, routeGood, destinationGood, sizeIn, routesShare, destinationsShare}
 use Rattle.scan.specs.Scan.{share, clearIn, goodIn}
-use Rattle.table.specs.Table.{headGood, entryGood, rule, then, entriesPlace, headPlace, allRowsPlace, checkTable}
+use Rattle.table.specs.Table.{headGood, entryGood, rule, thenCheck, entriesPlace, headPlace, allRowsPlace, checkTable}
 use Rattle.connection.specs.declared.Event.the-variants.{Open}
 use Rattle.connection.specs.Event.{stepOf}
 use Rattle.connection.specs.Sound.{soundOf, zeroOf}
 use Rattle.state.specs.declared.State.{State}
 use Rattle.state.specs.State.{recordAt}
 use Rattle.state.specs.Fresh.{configOf, freshState}
-use Rattle.feed.specs.Frame.{frame}
-use Rattle.feed.specs.On.{isOn}
+use Rattle.frame.specs.Frame.{frame}
+use Rattle.switches.specs.Switches.{isOn}
 use Rattle.gate.specs.Sound.{soundAt, recordsSound, soundState}
 use Rattle.gate.specs.Gate.{gateOf, gateAt}
 use Rattle.events.specs.declared.Told.{Told}
@@ -35,7 +35,7 @@ use Rattle.edges.specs.Wrong.{Happen, IsHappen, LeavesState, Send, IsSen
 
 -- an open of a fresh connection sets open wanted
 opens : recordAt (eventOf (lends fresh) 0 Open .state) 0 .«open_wanted» ≡ true
-unfolding image be badFrom every rowsOf bodyBytes startOf endOf rowAt partOf bodyOf rowIn groupRow connectionRow routeRow destinationRow groupGood connectionGood routeGood destinationGood sizeIn routesShare destinationsShare share clearIn goodIn headGood entryGood rule then entriesPlace headPlace allRowsPlace checkTable configOf freshState soundOf zeroOf soundAt recordsSound soundState gateOf gateAt stepOf toldOf changeOf eventOf
+unfolding image be badFrom every rowsOf bodyBytes startOf endOf rowAt partOf bodyOf rowIn groupRow connectionRow routeRow destinationRow groupGood connectionGood routeGood destinationGood sizeIn routesShare destinationsShare share clearIn goodIn headGood entryGood rule thenCheck entriesPlace headPlace allRowsPlace checkTable configOf freshState soundOf zeroOf soundAt recordsSound soundState gateOf gateAt stepOf toldOf changeOf eventOf
 opens = refl
 
 not-open : recordAt fresh 0 .«open_wanted» ≡ false
@@ -48,7 +48,7 @@ no-still-events f is still =
 
 -- a transmit to an online destination with room writes the header's id behind the bytes that wait
 stores : getD (sentMemory (loans (used 10)) 9 (1 ∷ 2 ∷ [])) 2956 0 ≡ 2
-unfolding image be spell lay badFrom every foldFrom rowsOf bodyBytes startOf endOf rowAt partOf bodyOf rowIn groupRow connectionRow routeRow destinationRow groupGood connectionGood routeGood destinationGood sizeIn routesShare destinationsShare share clearIn goodIn headGood entryGood rule then entriesPlace headPlace allRowsPlace checkTable configOf freshState soundOf zeroOf soundAt recordsSound soundState gateOf frame isOn refusalOf lookOf timerOf verdictOf appendOf lookAt checkOf wantedAt storeOf storeAll transmitOf sentMemory
+unfolding image be spell lay badFrom every foldFrom rowsOf bodyBytes startOf endOf rowAt partOf bodyOf rowIn groupRow connectionRow routeRow destinationRow groupGood connectionGood routeGood destinationGood sizeIn routesShare destinationsShare share clearIn goodIn headGood entryGood rule thenCheck entriesPlace headPlace allRowsPlace checkTable configOf freshState soundOf zeroOf soundAt recordsSound soundState gateOf frame isOn refusalOf lookOf timerOf verdictOf appendOf lookAt checkOf wantedAt storeOf storeAll transmitOf sentMemory
 stores = refl
 
 pub no-empty-transmit : (f : Send) → IsSend f → StoresNothing f → ⊥

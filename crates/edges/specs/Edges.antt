@@ -11,9 +11,9 @@ use Rattle.wire.specs.Be.{be}
 use Rattle.layout.specs.Layout.{bodyOf}
 use Rattle.layout.specs.declared.Kind.the-variants.{Route}
 use Rattle.rows.specs.Rows.{routeOf}
-use Rattle.feed.specs.Feed.{Routes, Out, nothing, pdu, dropped, ready, segment, segments}
+use Rattle.feed.specs.Feed.{Routes, Out, nothing, pdu, dropped, ready, segmentRan, segments}
 use Rattle.route.specs.Route.{lookupOf}
-use Rattle.walk.specs.Walk.{walkAt, told}
+use Rattle.walk.specs.Walk.{walkAt, outsTold}
 use Rattle.table.specs.Table.{checkTable, answerNumber}
 use Rattle.choose.specs.declared.Arrival.{Arrival}
 use Rattle.choose.specs.declared.Arrival.the-variants.{Met, Refused, Unmatched}
@@ -38,10 +38,10 @@ numbers (pdu r p ∷ os) = 0 ∷ r ∷ routeOf image r .id ∷ be (length p) p 0
 numbers (dropped k i n ∷ os) = k ∷ i ∷ n ∷ numbers os
 
 -- an arrival by its number, and the connection that it names
-abbrev pub arrived : Arrival → List ℕ
-arrived (Met k) = 0 ∷ k ∷ []
-arrived (Refused r) = arrivalNumber (Refused r) ∷ []
-arrived Unmatched = arrivalNumber Unmatched ∷ []
+abbrev pub arrivedNumbers : Arrival → List ℕ
+arrivedNumbers (Met k) = 0 ∷ k ∷ []
+arrivedNumbers (Refused r) = arrivalNumber (Refused r) ∷ []
+arrivedNumbers Unmatched = arrivalNumber Unmatched ∷ []
 
 -- what connection k's routes say, with these switches
 abbrev pub routes : ℕ → ℕ → Routes
@@ -60,42 +60,42 @@ edges =
     -- the image is accepted
     edge (answerNumber (checkTable image) ∷ []) (0 ∷ [])
     -- "is PDU 0x101, payload 180"
-    ∷ edge (numbers (segment (routes 2 1) ready bar .list)) (0 ∷ 0 ∷ 0x101 ∷ 180 ∷ 2 ∷ [])
+    ∷ edge (numbers (segmentRan (routes 2 1) ready bar .list)) (0 ∷ 0 ∷ 0x101 ∷ 180 ∷ 2 ∷ [])
     -- "The same cut after byte 3, and after byte 8: the same PDU"
     ∷ edge (numbers (segments (routes 2 1) ready (take 3 bar ∷ drop 3 bar ∷ []) .list)) (0 ∷ 0 ∷ 0x101 ∷ 180 ∷ 2 ∷ [])
     ∷ edge (numbers (segments (routes 2 1) ready (take 8 bar ∷ drop 8 bar ∷ []) .list)) (0 ∷ 0 ∷ 0x101 ∷ 180 ∷ 2 ∷ [])
     -- "`46 50` as payload is 18,000"
-    ∷ edge (numbers (segment (routes 2 1) ready (framed 2 2 (0x46 ∷ 0x50 ∷ [])) .list)) (0 ∷ 1 ∷ 0x102 ∷ 18000 ∷ 2 ∷ [])
+    ∷ edge (numbers (segmentRan (routes 2 1) ready (framed 2 2 (0x46 ∷ 0x50 ∷ [])) .list)) (0 ∷ 1 ∷ 0x102 ∷ 18000 ∷ 2 ∷ [])
     -- "Length 0"
-    ∷ edge (numbers (segment (routes 2 1) ready (framed 1 0 []) .list)) (0 ∷ 0 ∷ 0x101 ∷ 0 ∷ 0 ∷ [])
+    ∷ edge (numbers (segmentRan (routes 2 1) ready (framed 1 0 []) .list)) (0 ∷ 0 ∷ 0x101 ∷ 0 ∷ 0 ∷ [])
     -- "Longest 2 against length 2 and 3"
-    ∷ edge (numbers (segment (routes 2 1) ready (framed 1 2 (7 ∷ 8 ∷ [])) .list)) (0 ∷ 0 ∷ 0x101 ∷ 1800 ∷ 2 ∷ [])
-    ∷ edge (numbers (segment (routes 2 1) ready (framed 1 3 (7 ∷ 8 ∷ 9 ∷ [])) .list)) (22 ∷ 0x101 ∷ 3 ∷ [])
+    ∷ edge (numbers (segmentRan (routes 2 1) ready (framed 1 2 (7 ∷ 8 ∷ [])) .list)) (0 ∷ 0 ∷ 0x101 ∷ 1800 ∷ 2 ∷ [])
+    ∷ edge (numbers (segmentRan (routes 2 1) ready (framed 1 3 (7 ∷ 8 ∷ 9 ∷ [])) .list)) (22 ∷ 0x101 ∷ 3 ∷ [])
     -- "Groups 0 with all switches off: on"; and a route with groups 1, whose switch 0 is off: 21
-    ∷ edge (numbers (segment (routes 2 0) ready (framed 2 1 (5 ∷ [])) .list)) (0 ∷ 1 ∷ 0x102 ∷ 5 ∷ 1 ∷ [])
-    ∷ edge (numbers (segment (routes 2 0) ready bar .list)) (21 ∷ 0x101 ∷ 2 ∷ [])
+    ∷ edge (numbers (segmentRan (routes 2 0) ready (framed 2 1 (5 ∷ [])) .list)) (0 ∷ 1 ∷ 0x102 ∷ 5 ∷ 1 ∷ [])
+    ∷ edge (numbers (segmentRan (routes 2 0) ready bar .list)) (21 ∷ 0x101 ∷ 2 ∷ [])
     -- "Remote 0:0 against an exact row: the exact row"
-    ∷ edge (arrived (arriveOf image waitingFor false 0 exact .answer)) (0 ∷ 1 ∷ [])
+    ∷ edge (arrivedNumbers (arriveOf image waitingFor false 0 exact .answer)) (0 ∷ 1 ∷ [])
     -- "No member: 10"
-    ∷ edge (arrived (arriveOf image fresh false 0 exact .answer)) (10 ∷ [])
+    ∷ edge (arrivedNumbers (arriveOf image fresh false 0 exact .answer)) (10 ∷ [])
     -- "Used 1,462 + 8 + 2 = 1,472 fits; 1,463 gives 8"
     ∷ edge (transmissionNumber (checkOf image (used 1462) 9 2) ∷ []) (0 ∷ [])
     ∷ edge (transmissionNumber (checkOf image (used 1463) 9 2) ∷ []) (8 ∷ [])
     -- "Datagram of 7 bytes: 23", and the whole one
-    ∷ edge (numbers (told (take 7 bar) (walkAt (routes 0 0) (take 7 bar) 0 .found) [])) (23 ∷ 0 ∷ 0 ∷ [])
-    ∷ edge (numbers (told bar (walkAt (routes 0 0) bar 0 .found) [])) (0 ∷ 2 ∷ 0x101 ∷ 180 ∷ 2 ∷ [])
+    ∷ edge (numbers (outsTold (take 7 bar) (walkAt (routes 0 0) (take 7 bar) 0 .found) [])) (23 ∷ 0 ∷ 0 ∷ [])
+    ∷ edge (numbers (outsTold bar (walkAt (routes 0 0) bar 0 .found) [])) (0 ∷ 2 ∷ 0x101 ∷ 180 ∷ 2 ∷ [])
     ∷ []
 
 -- two lists of numbers are the same; all rows are
-abbrev pub same : List ℕ → List ℕ → Bool
-same [] [] = true
-same [] (y ∷ ys) = false
-same (x ∷ xs) [] = false
-same (x ∷ xs) (y ∷ ys) = eqb x y && same xs ys
+abbrev pub sameNumbers : List ℕ → List ℕ → Bool
+sameNumbers [] [] = true
+sameNumbers [] (y ∷ ys) = false
+sameNumbers (x ∷ xs) [] = false
+sameNumbers (x ∷ xs) (y ∷ ys) = eqb x y && sameNumbers xs ys
 
 abbrev pub hold : List Edge → Bool
 hold [] = true
-hold (e ∷ es) = same (e .is) (e .says) && hold es
+hold (e ∷ es) = sameNumbers (e .is) (e .says) && hold es
 
 -- THE ONE STATEMENT
 abbrev pub Hold : List Edge → Type 0

@@ -12,13 +12,13 @@ use Rattle.connection.specs.Event.{stepOf}
 use Rattle.state.specs.declared.State.{State}
 use Rattle.state.specs.State.{recordAt, withRecord}
 use Rattle.state.specs.Fresh.{configOf}
-use Rattle.events.specs.Change.{refusedBy, toldOf, changeOf}
+use Rattle.events.specs.Change.{refusedTold, toldOf, changeOf}
 
 module _ (image : List ℕ) (s : State) (n : ℕ) (e : Event) (g : Config) (t : Stepped) (config : g ≡ configOf image n) (stepped : t ≡ stepOf e g (recordAt s n)) where
   is : t ≡ stepOf e (configOf image n) (recordAt s n)
   is = stepped ∙ ap (λ (x : Config). stepOf e x (recordAt s n)) config
 
-  pub change-refused : (r : Refusal) → t .answer ≡ Refused r → refusedBy s r ≡ changeOf image s n e
+  pub change-refused : (r : Refusal) → t .answer ≡ Refused r → refusedTold s r ≡ changeOf image s n e
   unfolding changeOf toldOf
   change-refused r a = sym (ap (λ (x : Answer). toldOf s n x (stepOf e (configOf image n) (recordAt s n) .connection)) (ap (λ (x : Stepped). x .answer) (sym is) ∙ a))
 

@@ -18,13 +18,13 @@ use Rattle.events.specs.declared.Told.{Told}
 use Rattle.events.specs.declared.Loss.{Loss}
 
 -- the number of a refusal, and the state as it was
-abbrev pub refusedBy : State → Refusal → Told
-refusedBy s r = record { answer = Refused r; state = s }
+abbrev pub refusedTold : State → Refusal → Told
+refusedTold s r = record { answer = Refused r; state = s }
 
 -- an answer with the record that it leaves
 unfoldable pub toldOf : State → ℕ → Answer → Connection → Told
 toldOf s n Done c = record { answer = Done; state = withRecord n c s }
-toldOf s n (Refused r) c = refusedBy s r
+toldOf s n (Refused r) c = refusedTold s r
 
 -- past the gate
 unfoldable pub changeOf : List ℕ → State → ℕ → Event → Told
@@ -33,7 +33,7 @@ changeOf image s n e =
 
 -- an event of connection n
 unfoldable pub eventOf : Lent → ℕ → Event → Told
-eventOf l n e = through (gateAt l n) (refusedBy (l .state)) (changeOf (l .image) (l .state) n e)
+eventOf l n e = through (gateAt l n) (refusedTold (l .state)) (changeOf (l .image) (l .state) n e)
 
 -- a loss
 unfoldable pub lossOf : Lent → ℕ → Loss

@@ -14,7 +14,7 @@ use Rattle.state.specs.State.{withRecords}
 use Rattle.gate.specs.Lent.{Lent}
 use Rattle.gate.specs.Gate.{gateOf, through}
 use Rattle.events.specs.declared.Told.{Told}
-use Rattle.events.specs.Change.{refusedBy}
+use Rattle.events.specs.Change.{refusedTold}
 
 abbrev pub switchAt : ℕ → Bool → ℕ → Connection → Connection
 switchAt number on i c = switchedOf number on c
@@ -26,5 +26,5 @@ switchedAll rows number on s = withRecords (eachTo (switchAt number on) 0 rows (
 -- "switching a group on all connections": 11, 12, then 2 for a switch number above 31
 unfoldable pub switchAllOf : Lent → ℕ → Bool → Told
 switchAllOf l number on =
-    through (gateOf l) (refusedBy (l .state))
-    (cond (ltb number 32) (record { answer = Done; state = switchedAll (rowsOf (l .image) Connections) number on (l .state) }) (refusedBy (l .state) Missing))
+    through (gateOf l) (refusedTold (l .state))
+    (cond (ltb number 32) (record { answer = Done; state = switchedAll (rowsOf (l .image) Connections) number on (l .state) }) (refusedTold (l .state) Missing))

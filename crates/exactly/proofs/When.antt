@@ -23,14 +23,14 @@ use Rattle.connection.specs.declared.Answer.the-variants.{Done}
 use Rattle.connection.specs.declared.Stepped.{Stepped}
 use Rattle.connection.specs.declared.Event.{Event as Change}
 use Rattle.connection.specs.Connection.{isOnline}
-use Rattle.connection.specs.Event.{refusalNumber, answerNumber, known, allowed, after, refusedBy as notStepped, stepOf}
+use Rattle.connection.specs.Event.{refusalNumber, answerNumber, known, allowed, recordAfter, refusedBy as notStepped, stepOf}
 use Rattle.state.specs.declared.State.{State}
 use Rattle.gate.specs.declared.Gate.the-variants.{Pass, Refused}
 use Rattle.gate.specs.Gate.{gateOf, gateAt, thenThere, through}
 use Rattle.gate.specs.Sound.{soundState}
 use Rattle.events.specs.declared.Told.{Told}
 use Rattle.events.specs.declared.Counted.{Counted}
-use Rattle.events.specs.Change.{refusedBy, toldOf, changeOf, eventOf}
+use Rattle.events.specs.Change.{refusedTold, toldOf, changeOf, eventOf}
 use Rattle.events.specs.Module.{switchedAll, switchAllOf}
 use Rattle.events.specs.Count.{countNumber, ofProtocol, readFrom, clearFrom, uncounted, readPast, clearPast, readOf, clearOf}
 use Rattle.ticks.specs.declared.Ticked.{Ticked}
@@ -39,12 +39,12 @@ use Rattle.choose.specs.declared.Arrived.{Arrived}
 use Rattle.choose.specs.declared.Chosen.{Chosen}
 use Rattle.choose.specs.declared.Chosen.the-variants.{Nobody, At}
 use Rattle.choose.specs.Best.{IsChosen}
-use Rattle.choose.specs.Choose.{arrivalNumber, meet, refusedBy as notMet, deniedOf, scoreOf, scoreAt, chosenIn, arriveOf}
+use Rattle.choose.specs.Choose.{arrivalNumber, meet, arrivalRefused as notMet, deniedOf, scoreOf, scoreAt, chosenIn, arriveOf}
 use Rattle.choose.proofs.Pass.{chosen-is-best}
 use Rattle.arrivals.specs.Arrivals.{arrivalOf}
 use Rattle.receive.specs.declared.Answer.{Answer}
 use Rattle.receive.specs.declared.Answer.the-variants as Receive
-use Rattle.receive.specs.Answer.{answerNumber as receiveNumber, isDone, judgedOf, answerOf}
+use Rattle.receive.specs.Answer.{answerNumber as receiveNumber, isDone, judgedOf, judgedAnswer}
 use Rattle.receive.specs.Segment.{takeOn, noneTaken, segmentOf, segmentAnswer}
 use Rattle.receive.specs.Walk.{walkOn, noneWalked, walkAnswer, walkAllowed, walkOf}
 use Rattle.destination.specs.Destination.{refusalOf, lookOf}
@@ -55,11 +55,11 @@ use Rattle.send.specs.Send.{destinations, lookAt, checkOf, transmittedOf}
 use Rattle.sending.specs.declared.Taken.{Taken as Drained}
 use Rattle.waiting.specs.declared.Taking.the-variants as Taken
 use Rattle.waiting.specs.Waiting.{takingNumber, takingOf}
-use Rattle.sending.specs.Sending.{notSent, sendOf, notTaken, takePast, takenOf}
-use Rattle.world.specs.Events.{change, segment, walk, take, datagram, accept, tick, transmit, switchAll, readCount, clearCount, Event, on, all}
+use Rattle.sending.specs.Sending.{notSent, sendOf, notTaken, takePast, takenWaiting}
+use Rattle.world.specs.Events.{change, segment, walk, takeWaiting, datagram, accept, tick, transmit, switchAll, readCount, clearCount, Event, on, onWhole}
 use Rattle.tie.specs.Machine.{Machine, lentTo, loanTo}
 use Rattle.demands.specs.Numbers.{numberOf}
-use Rattle.exactly.specs.When.{Check, check, firstFailing, row, here, first, firstOf, noSwitch, notOnline, noProtocol, matching, arrives, has, switchedOn, tooLong, noRoom, asked, askedFrom, sends, checksFor}
+use Rattle.exactly.specs.When.{Check, check, firstFailing, rowHere, here, first, firstOf, noSwitch, notOnline, noProtocol, matching, arrives, has, switchedOn, payloadTooLong, noRoom, asked, askedFrom, transmits, checksFor}
 
 -- a test and its other side
 not-below : (a b : ℕ) → not (ltb a b) ≡ leb b a
@@ -126,15 +126,15 @@ module _ (image : List ℕ) (m : Machine) where
         go false true false false e = impossible (sym e)
 
   -- an event of the record alone: 2 a switch number, 3
-  step-number : (k : ℕ) (e : Change) → answerNumber (changeOf image s k e .answer) ≡ cond (not (known e)) 2 (cond (not (allowed e (row image m k) (here image m k))) 3 0)
+  step-number : (k : ℕ) (e : Change) → answerNumber (changeOf image s k e .answer) ≡ cond (not (known e)) 2 (cond (not (allowed e (rowHere image m k) (here image m k))) 3 0)
   unfolding changeOf toldOf stepOf
-  step-number k e = go (known e) (allowed e (row image m k) c)
+  step-number k e = go (known e) (allowed e (rowHere image m k) c)
     where
       c : Connection
       c = here image m k
 
       step : Bool → Bool → Stepped
-      step x y = cond (not x) (notStepped Missing c) (cond (not y) (notStepped Denied c) (record { answer = Done; connection = after e (row image m k) c }))
+      step x y = cond (not x) (notStepped Missing c) (cond (not y) (notStepped Denied c) (record { answer = Done; connection = recordAfter e (rowHere image m k) c }))
 
       go : (x y : Bool) → answerNumber (toldOf s k (step x y .answer) (step x y .connection) .answer) ≡ cond (not x) 2 (cond (not y) 3 0)
       go false y = refl
@@ -144,7 +144,7 @@ module _ (image : List ℕ) (m : Machine) where
   change-number : (k : ℕ) (e : Change) (own : List Check) → answerNumber (changeOf image s k e .answer) ≡ firstFailing own
       → answerNumber (eventOf (lentTo image m) k e .answer) ≡ firstFailing (firstOf image m k own)
   unfolding eventOf
-  change-number k e own is = gate-firstOf (λ (t : Told). answerNumber (t .answer)) (refusedBy s) (changeOf image s k e) own (λ r. refl) is k
+  change-number k e own is = gate-firstOf (λ (t : Told). answerNumber (t .answer)) (refusedTold s) (changeOf image s k e) own (λ r. refl) is k
 
   -- a take, a walk: 3, then 4
   judged-number : (k : ℕ) (ok no-way : Bool) → not ok ≡ no-way → receiveNumber (judgedOf ok (here image m k)) ≡ firstFailing (check no-way 3 ∷ notOnline image m k ∷ [])
@@ -158,8 +158,8 @@ module _ (image : List ℕ) (m : Machine) where
       go true false c = refl
 
   receive-number : (k : ℕ) (ok no-way : Bool) → not ok ≡ no-way
-      → receiveNumber (answerOf (lentTo image m) k ok) ≡ firstFailing (firstOf image m k (check no-way 3 ∷ notOnline image m k ∷ []))
-  unfolding answerOf
+      → receiveNumber (judgedAnswer (lentTo image m) k ok) ≡ firstFailing (firstOf image m k (check no-way 3 ∷ notOnline image m k ∷ []))
+  unfolding judgedAnswer
   receive-number k ok no-way e =
       gate-firstOf receiveNumber Receive.Refused (judgedOf ok (here image m k)) (check no-way 3 ∷ notOnline image m k ∷ []) (λ r. refl) (judged-number k ok no-way e) k
 
@@ -188,8 +188,8 @@ module _ (image : List ℕ) (m : Machine) where
       go false e = refl
 
   -- where a walk is not allowed
-  walk-denied : (k : ℕ) (d : List ℕ) (p : ℕ) → not (walkAllowed image k d p) ≡ (row image m k .tcp || ltb (length d) p)
-  walk-denied k d p = not-both (not (row image m k .tcp)) (leb p (length d)) ∙ rw (twice-not (row image m k .tcp), not-within p (length d))
+  walk-denied : (k : ℕ) (d : List ℕ) (p : ℕ) → not (walkAllowed image k d p) ≡ (rowHere image m k .tcp || ltb (length d) p)
+  walk-denied k d p = not-both (not (rowHere image m k .tcp)) (leb p (length d)) ∙ rw (twice-not (rowHere image m k .tcp), not-within p (length d))
 
   -- the waiting bytes: 9
   taking-number : (k room : ℕ) → takingNumber (takingOf room (here image m k)) ≡ firstFailing (check (ltb room (here image m k .used)) 9 ∷ [])
@@ -201,8 +201,8 @@ module _ (image : List ℕ) (m : Machine) where
       go false = refl
 
   take-number : (k : ℕ) (out : List ℕ)
-      → takingNumber (takenOf (loanTo image m) k out .answer) ≡ firstFailing (firstOf image m k (check (ltb (length out) (here image m k .used)) 9 ∷ []))
-  unfolding takenOf
+      → takingNumber (takenWaiting (loanTo image m) k out .answer) ≡ firstFailing (firstOf image m k (check (ltb (length out) (here image m k .used)) 9 ∷ []))
+  unfolding takenWaiting
   take-number k out =
       gate-firstOf (λ (t : Drained). takingNumber (t .answer)) (notTaken s) (takePast image s k (length out)) (check (ltb (length out) (here image m k .used)) 9 ∷ []) (λ r. refl)
       (taking-number k (length out)) k
@@ -210,10 +210,10 @@ module _ (image : List ℕ) (m : Machine) where
   -- a switch on all connections: 2; a count: 3
   switches-number : (n : ℕ) (b : Bool) → answerNumber (switchAllOf (lentTo image m) n b .answer) ≡ firstFailing (first image m (noSwitch image m n ∷ []))
   unfolding switchAllOf firstFailing
-  switches-number n b = gate-first (λ (t : Told). answerNumber (t .answer)) (refusedBy s) (event (ltb n 32)) (noSwitch image m n ∷ []) (λ r. refl) (rw (← not-below n 32) (past (ltb n 32)))
+  switches-number n b = gate-first (λ (t : Told). answerNumber (t .answer)) (refusedTold s) (event (ltb n 32)) (noSwitch image m n ∷ []) (λ r. refl) (rw (← not-below n 32) (past (ltb n 32)))
     where
       event : Bool → Told
-      event x = cond x (record { answer = Done; state = switchedAll (rowsOf image Connections) n b s }) (refusedBy s Missing)
+      event x = cond x (record { answer = Done; state = switchedAll (rowsOf image Connections) n b s }) (refusedTold s Missing)
 
       past : (x : Bool) → answerNumber (event x .answer) ≡ cond (not x) 2 0
       past true = refl
@@ -282,7 +282,7 @@ module _ (image : List ℕ) (m : Machine) where
     row-says : (i : ℕ) (next : List Check) → Row i next
     unfolding lookAt lookOf refusalOf firstFailing
     row-says i next =
-        go (has image m pdu len i) (switchedOn image m pdu len i) (notOnline image m (d .connection) .fails) (tooLong image m pdu len i .fails) (noRoom image m pdu len i .fails)
+        go (has image m pdu len i) (switchedOn image m pdu len i) (notOnline image m (d .connection) .fails) (payloadTooLong image m pdu len i .fails) (noRoom image m pdu len i .fails)
       where
         d : DestinationRow
         d = destinationOf image i
@@ -312,7 +312,7 @@ module _ (image : List ℕ) (m : Machine) where
         go true h = h
         go false h = rw (lt-ltb i total (omega arith))
 
-    transmit-own : transmissionNumber (checkOf image s pdu len) ≡ firstFailing (sends image m pdu len)
+    transmit-own : transmissionNumber (checkOf image s pdu len) ≡ firstFailing (transmits image m pdu len)
     unfolding checkOf verdictOf firstFailing
     transmit-own =
         rw (every-same (λ i. eqb (look i) 5) (λ i. not (has image m pdu len i)) rows (λ i. row-says i [] .0))
@@ -333,17 +333,17 @@ module _ (image : List ℕ) (m : Machine) where
   pub exactly-when : (e : Event) → numberOf image m e ≡ firstFailing (checksFor image m e)
   unfolding checksFor firstFailing tickEvent readOf readPast clearOf clearPast sendOf
   exactly-when (on k (change e)) =
-      change-number k e (check (not (known e)) 2 ∷ check (not (allowed e (row image m k) (here image m k))) 3 ∷ []) (step-number k e)
-  exactly-when (on k (segment bs)) = segment-number k bs ∙ receive-number k (row image m k .tcp) (not (row image m k .tcp)) refl
-  exactly-when (on k (walk d p)) = walk-number k d p ∙ receive-number k (walkAllowed image k d p) (row image m k .tcp || ltb (length d) p) (walk-denied k d p)
-  exactly-when (on k (take room)) = rw (length-replicate room) at (take-number k (replicate room 0))
-  exactly-when (all (datagram group source)) = arrival-number false group source
-  exactly-when (all (accept group source)) = arrival-number true group source
-  exactly-when (all tick) =
+      change-number k e (check (not (known e)) 2 ∷ check (not (allowed e (rowHere image m k) (here image m k))) 3 ∷ []) (step-number k e)
+  exactly-when (on k (segment bs)) = segment-number k bs ∙ receive-number k (rowHere image m k .tcp) (not (rowHere image m k .tcp)) refl
+  exactly-when (on k (walk d p)) = walk-number k d p ∙ receive-number k (walkAllowed image k d p) (rowHere image m k .tcp || ltb (length d) p) (walk-denied k d p)
+  exactly-when (on k (takeWaiting room)) = rw (length-replicate room) at (take-number k (replicate room 0))
+  exactly-when (onWhole (datagram group source)) = arrival-number false group source
+  exactly-when (onWhole (accept group source)) = arrival-number true group source
+  exactly-when (onWhole tick) =
       gate-first (λ (t : Ticked). answerNumber (t .answer)) (unticked s) (record { answer = Done; state = tickedTo image (rowsOf image Connections) s }) [] (λ r. refl) refl
-  exactly-when (all (transmit pdu payload)) =
-      gate-first (λ (t : Transmitted). transmissionNumber (t .answer)) (notSent s) (transmittedOf image s pdu payload (m .tx)) (sends image m pdu (length payload)) (λ r. refl)
+  exactly-when (onWhole (transmit pdu payload)) =
+      gate-first (λ (t : Transmitted). transmissionNumber (t .answer)) (notSent s) (transmittedOf image s pdu payload (m .tx)) (transmits image m pdu (length payload)) (λ r. refl)
       (transmit-own pdu (length payload))
-  exactly-when (all (switchAll n b)) = switches-number n b
-  exactly-when (all (readCount p)) = count-number (readFrom s) (λ b. refl) p
-  exactly-when (all (clearCount p)) = count-number (clearFrom s) (λ b. refl) p
+  exactly-when (onWhole (switchAll n b)) = switches-number n b
+  exactly-when (onWhole (readCount p)) = count-number (readFrom s) (λ b. refl) p
+  exactly-when (onWhole (clearCount p)) = count-number (clearFrom s) (λ b. refl) p

@@ -10,7 +10,7 @@ use Rattle.layout.specs.Layout.{rowsOf}
 use Rattle.layout.specs.declared.Kind.the-variants.{Connection as Connections, Group}
 use Rattle.rows.specs.declared.DestinationRow.{DestinationRow}
 use Rattle.rows.specs.Rows.{groupOf, connectionOf, destinationOf}
-use Rattle.feed.specs.On.{isOn}
+use Rattle.switches.specs.Switches.{isOn}
 use Rattle.connection.specs.declared.Config.{Config}
 use Rattle.connection.specs.declared.Connection.{Connection}
 use Rattle.connection.specs.declared.Remote.{Remote}
@@ -19,9 +19,9 @@ use Rattle.connection.specs.Event.{known, allowed}
 use Rattle.state.specs.State.{recordAt}
 use Rattle.state.specs.Fresh.{configOf}
 use Rattle.gate.specs.Sound.{soundState}
-use Rattle.choose.specs.Choose.{matches, counts, member, protocolOf}
+use Rattle.choose.specs.Choose.{matches, memberCounts, member, protocolOf}
 use Rattle.send.specs.Send.{destinations}
-use Rattle.world.specs.Events.{change, segment, walk, take, datagram, accept, tick, transmit, switchAll, readCount, clearCount, Event, on, all}
+use Rattle.world.specs.Events.{change, segment, walk, takeWaiting, datagram, accept, tick, transmit, switchAll, readCount, clearCount, Event, on, onWhole}
 use Rattle.tie.specs.Machine.{Machine}
 
 -- one check: whether it fails, and the number that is then given
@@ -39,8 +39,8 @@ firstFailing (c ∷ cs) = cond (c .fails) (c .number) (firstFailing cs)
 
 module _ (image : List ℕ) (m : Machine) where
   -- the row and the record of connection k
-  abbrev pub row : ℕ → Config
-  row k = configOf image k
+  abbrev pub rowHere : ℕ → Config
+  rowHere k = configOf image k
 
   abbrev pub here : ℕ → Connection
   here k = recordAt (m .state) k
@@ -70,7 +70,7 @@ module _ (image : List ℕ) (m : Machine) where
     -- connection i: a member that counts, and both fields match
     abbrev pub matching : ℕ → Bool
     matching i =
-        member image (m .state) accept group source i && counts accept (here i) && matches (equalFields (here i .remote) source) (wildFields (here i .remote))
+        member image (m .state) accept group source i && memberCounts accept (here i) && matches (equalFields (here i .remote) source) (wildFields (here i .remote))
 
     -- 2; 3 a group of the other protocol, "a source with address 0 or port 0 gets 3"; 10 "no connection matches"
     abbrev pub arrives : List Check
@@ -82,15 +82,15 @@ module _ (image : List ℕ) (m : Machine) where
 
   -- A TRANSMIT of len bytes for a PDU
   module _ (pdu len : ℕ) where
-    abbrev pub destination : ℕ → DestinationRow
-    destination i = destinationOf image i
+    abbrev pub destinationHere : ℕ → DestinationRow
+    destinationHere i = destinationOf image i
 
     -- destination i has this PDU; it is switched on "by the routes' rule, at the call"
     abbrev pub has : ℕ → Bool
-    has i = eqb (destination i .pdu) pdu
+    has i = eqb (destinationHere i .pdu) pdu
 
     abbrev pub switchedOn : ℕ → Bool
-    switchedOn i = isOn (destination i .groups) (here (destination i .connection) .switches)
+    switchedOn i = isOn (destinationHere i .groups) (here (destinationHere i .connection) .switches)
 
     -- 5 "no destination has this PDU"
     abbrev pub nowhere : Check
@@ -101,39 +101,39 @@ module _ (image : List ℕ) (m : Machine) where
     allOff = check (every (λ i. not (has i) || not (switchedOn i)) (destinations image)) 6
 
     -- 7 "payload longer than a switched-on destination allows"
-    abbrev pub tooLong : ℕ → Check
-    tooLong i = check (ltb (destination i .longest) len) 7
+    abbrev pub payloadTooLong : ℕ → Check
+    payloadTooLong i = check (ltb (destinationHere i .longest) len) 7
 
     -- 8 "flush first: used + 8 + length exceeds the send size"
     abbrev pub noRoom : ℕ → Check
-    noRoom i = check (ltb (connectionOf image (destination i .connection) .size) (here (destination i .connection) .used + 8 + len)) 8
+    noRoom i = check (ltb (connectionOf image (destinationHere i .connection) .size) (here (destinationHere i .connection) .used + 8 + len)) 8
 
     -- "each switched-on destination in table order for 4, then 7, then 8, all three before the next": of n rows from row i on
     abbrev pub asked : ℕ → List Check → List Check
-    asked i next = cond (has i && switchedOn i) (notOnline (destination i .connection) ∷ tooLong i ∷ noRoom i ∷ next) next
+    asked i next = cond (has i && switchedOn i) (notOnline (destinationHere i .connection) ∷ payloadTooLong i ∷ noRoom i ∷ next) next
 
     unfoldable pub askedFrom : ℕ → ℕ → List Check
     askedFrom zero i = []
     askedFrom (suc n) i = asked i (askedFrom n (suc i))
 
     -- "Transmit: 5; 6; then each switched-on destination"
-    abbrev pub sends : List Check
-    sends = nowhere ∷ allOff ∷ askedFrom (destinations image) 0
+    abbrev pub transmits : List Check
+    transmits = nowhere ∷ allOff ∷ askedFrom (destinations image) 0
 
   -- THE CHECKS OF AN EVENT: "Checks run 11, 12, 2, 3, then the event's own order". When a connection event is not allowed (3) is in the
   -- document's words beside connection/specs/Event `openAllowed` and its fellows
   unfoldable pub checksFor : Event → List Check
-  checksFor (on k (change e)) = firstOf k (check (not (known e)) 2 ∷ check (not (allowed e (row k) (here k))) 3 ∷ [])
+  checksFor (on k (change e)) = firstOf k (check (not (known e)) 2 ∷ check (not (allowed e (rowHere k) (here k))) 3 ∷ [])
   -- "Segment: TCP, else 3"
-  checksFor (on k (segment bytes)) = firstOf k (check (not (row k .tcp)) 3 ∷ notOnline k ∷ [])
+  checksFor (on k (segment bytes)) = firstOf k (check (not (rowHere k .tcp)) 3 ∷ notOnline k ∷ [])
   -- "beyond the end: 3; a TCP connection: 3"
-  checksFor (on k (walk d place)) = firstOf k (check (row k .tcp || ltb (length d) place) 3 ∷ notOnline k ∷ [])
+  checksFor (on k (walk d place)) = firstOf k (check (rowHere k .tcp || ltb (length d) place) 3 ∷ notOnline k ∷ [])
   -- 9 "out buffer shorter than the waiting bytes"
-  checksFor (on k (take room)) = firstOf k (check (ltb room (here k .used)) 9 ∷ [])
-  checksFor (all (datagram group source)) = first (arrives false group source)
-  checksFor (all (accept group source)) = first (arrives true group source)
-  checksFor (all tick) = first []
-  checksFor (all (transmit pdu payload)) = first (sends pdu (length payload))
-  checksFor (all (switchAll number position)) = first (noSwitch number ∷ [])
-  checksFor (all (readCount protocol)) = first (noProtocol protocol ∷ [])
-  checksFor (all (clearCount protocol)) = first (noProtocol protocol ∷ [])
+  checksFor (on k (takeWaiting room)) = firstOf k (check (ltb room (here k .used)) 9 ∷ [])
+  checksFor (onWhole (datagram group source)) = first (arrives false group source)
+  checksFor (onWhole (accept group source)) = first (arrives true group source)
+  checksFor (onWhole tick) = first []
+  checksFor (onWhole (transmit pdu payload)) = first (transmits pdu (length payload))
+  checksFor (onWhole (switchAll number position)) = first (noSwitch number ∷ [])
+  checksFor (onWhole (readCount protocol)) = first (noProtocol protocol ∷ [])
+  checksFor (onWhole (clearCount protocol)) = first (noProtocol protocol ∷ [])

@@ -8,7 +8,7 @@ use mathlib.Core.List.{List, [], _∷_, _++_, append-nil, cons-ne-nil, flatten}
 use native.Mathlib.Omega.{arith}
 use lib.ListN.{length, drop, length-append}
 use lib.Seq.{drop-append-seam, append-snoc}
-use Rattle.feed.specs.Feed.{Routes, Cell, Out, nothing, pdu, dropped, fed, feed, after, emit, outs, stops, Took, took, bytesRead, goes, takeB, Ends, at-end, at-byte, Ran, ran, joined, takes, segment, segments, Pdu, handed, pdus, drops}
+use Rattle.feed.specs.Feed.{Routes, Cell, Out, nothing, pdu, dropped, fed, feed, after, emit, outs, stops, Took, took, bytesRead, goes, takeB, Ends, at-end, at-byte, Ran, ran, joined, takes, segmentRan, segments, Pdu, handed, pdus, drops}
 
 -- the stream's bytes one by one, in two pieces
 pub emit-append : (o : Out) (xs ys : List Out) → emit o xs ++ ys ≡ emit o (xs ++ ys)
@@ -85,20 +85,20 @@ takes-feeds R (suc f) c bs h =
     (λ p. takes-feeds R f (takeB R c bs .to) (takeB R c bs .rest) (omega (arith, take-less R c bs)))
     ∙ ap₂ ran (sym (take-after R c bs)) (sym (take-outs R c bs))
 
-pub segment-feeds : (R : Routes) (c : Cell) (bs : List ℕ) → segment R c bs ≡ ran (after R c bs) (outs R c bs)
-unfolding segment
+pub segment-feeds : (R : Routes) (c : Cell) (bs : List ℕ) → segmentRan R c bs ≡ ran (after R c bs) (outs R c bs)
+unfolding segmentRan
 segment-feeds R c bs = takes-feeds R (suc (length bs)) c bs (omega arith)
 
 -- CUT: a segment is its two pieces, one after the other (read from right to left: joined)
 pub cut : (R : Routes) (c : Cell) (a b : List ℕ)
-    → segment R c (a ++ b) ≡ ran (segment R (segment R c a .to) b .to) (segment R c a .list ++ segment R (segment R c a .to) b .list)
+    → segmentRan R c (a ++ b) ≡ ran (segmentRan R (segmentRan R c a .to) b .to) (segmentRan R c a .list ++ segmentRan R (segmentRan R c a .to) b .list)
 cut R c a b =
     segment-feeds R c (a ++ b)
     ∙ ap₂ ran (after-append R c a b) (outs-append R c a b)
     ∙ sym (simp segment-feeds)
 
 -- an empty segment changes nothing, whatever the connection holds
-pub empty-segment : (R : Routes) (c : Cell) → segment R c [] ≡ ran c []
+pub empty-segment : (R : Routes) (c : Cell) → segmentRan R c [] ≡ ran c []
 unfolding after outs
 empty-segment R c = segment-feeds R c []
 

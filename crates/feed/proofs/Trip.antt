@@ -12,8 +12,9 @@ use Rattle.wire.specs.Lay.{spell}
 use Rattle.wire.proofs.Spell.{length-spell}
 use Rattle.feed.specs.declared.Decision.{Decision}
 use Rattle.feed.specs.declared.Decision.the-variants.{Accept}
-use Rattle.feed.specs.Feed.{Routes, header, Out, pdu, Fed, ready, decided, done, spelt, after, emit, outs, Took, took, takeB, resume, ran, segments, Pdu, asOut, pdus}
-use Rattle.feed.specs.Frame.{frame, Sent, frames, Routed, none, one}
+use Rattle.feed.specs.Feed.{Routes, header, Out, pdu, Fed, ready, decided, pieceDone, spelt, after, emit, outs, Took, took, takeB, resume, ran, segments, Pdu, asOut, pdus}
+use Rattle.frame.specs.Frame.{frame, Sent, frames}
+use Rattle.feed.specs.Routed.{Routed, routed-none, routed-one}
 use Rattle.feed.proofs.Laws.{header-whole, done-header, body-whole, spelt-append}
 use Rattle.feed.proofs.Cut.{take-after, take-outs, segments-feed}
 
@@ -54,24 +55,24 @@ take-frame R i r p more hi hp ac =
     let e : length h ≡ 8 = length-head i (length p) in
     ap (takeB R ready) (frame-is i p more)
     ∙ header-whole R 0 8 (h ++ l) (omega arith) (omega (arith, length-append h l, e))
-    ∙ ap₂ (λ (x y : List ℕ). resume R (done R (header (spelt 0 x))) y) (take-at h l 8 e) (drop-at h l 8 e)
+    ∙ ap₂ (λ (x y : List ℕ). resume R (pieceDone R (header (spelt 0 x))) y) (take-at h l 8 e) (drop-at h l 8 e)
     ∙ ap (λ (f : Fed). resume R f l)
-    (ap (λ (w : ℕ). done R (header w)) (spelt-head i (length p) hi hp) ∙ done-header R i (length p) hp ∙ ap (λ (q : Decision). decided q i (length p)) ac)
+    (ap (λ (w : ℕ). pieceDone R (header w)) (spelt-head i (length p) hi hp) ∙ done-header R i (length p) hp ∙ ap (λ (q : Decision). decided q i (length p)) ac)
     ∙ body-whole R i r (length p) l (omega (arith, length-append p more))
     ∙ ap₂ (λ (x y : List ℕ). took ready (pdu r x) y) (take-append-seam p more) (drop-append-seam p more)
 
 trip-outs : (R : Routes) {ss : List Sent} {ps : List Pdu} → Routed R ss ps → outs R ready (frames ss) ≡ map asOut ps
 unfolding frames outs
-trip-outs R none = refl
-trip-outs R (one {s} {r} {ss} {ps} fits ac h) =
+trip-outs R routed-none = refl
+trip-outs R (routed-one {s} {r} {ss} {ps} fits ac h) =
     take-outs R ready (frame (s .id) (s .body) ++ frames ss)
     ∙ ap (λ (t : Took). emit (t .out) (outs R (t .to) (t .rest))) (take-frame R (s .id) r (s .body) (frames ss) (fits .id-fits) (fits .length-fits) ac)
     ∙ ap (λ (os : List Out). pdu r (s .body) ∷ os) (trip-outs R h)
 
 trip-after : (R : Routes) {ss : List Sent} {ps : List Pdu} → Routed R ss ps → after R ready (frames ss) ≡ ready
 unfolding frames after
-trip-after R none = refl
-trip-after R (one {s} {r} {ss} {ps} fits ac h) =
+trip-after R routed-none = refl
+trip-after R (routed-one {s} {r} {ss} {ps} fits ac h) =
     take-after R ready (frame (s .id) (s .body) ++ frames ss)
     ∙ ap (λ (t : Took). after R (t .to) (t .rest)) (take-frame R (s .id) r (s .body) (frames ss) (fits .id-fits) (fits .length-fits) ac)
     ∙ trip-after R h

@@ -17,14 +17,14 @@ Routes = ℕ → ℕ → Decision
 
 -- "receive part (0..7 header bytes, or an unfinished payload with its route and length, or at least one byte still to skip)":
 -- a header with the number that its bytes so far stand for; a payload with its route and its bytes so far; bytes to skip
-pub data Kind : Type 0 where
-  header : ℕ → Kind
-  payload : ℕ → List ℕ → Kind
-  skip : Kind
+pub data PieceKind : Type 0 where
+  header : ℕ → PieceKind
+  payload : ℕ → List ℕ → PieceKind
+  skip : PieceKind
 
 -- the bytes that the piece still wants, and what it is
 pub data Cell : Type 0 where
-  cell : ℕ → Kind → Cell
+  cell : ℕ → PieceKind → Cell
 
 -- "more wanted, a PDU (route and payload), or a drop (reason, id, length)"
 pub data Out : Type 0 where
@@ -45,7 +45,7 @@ abbrev pub ready : Cell
 ready = cell 8 (header 0)
 
 -- a piece of n bytes begins, with the outcome `begun`; one of none is over at once, with `empty`
-abbrev pub begin : ℕ → Kind → Out → Out → Fed
+abbrev pub begin : ℕ → PieceKind → Out → Out → Fed
 begin zero k empty begun = fed ready empty
 begin (suc n) k empty begun = fed (cell (suc n) k) begun
 
@@ -55,16 +55,16 @@ decided (Accept r) i n = begin n (payload r []) (pdu r []) nothing
 decided (Refuse k) i n = begin n skip (dropped k i n) (dropped k i n)
 
 -- the piece with one byte more
-abbrev pub add : Kind → ℕ → Kind
-add (header v) b = header (v * 256 + b)
-add (payload r h) b = payload r (h ++ b ∷ [])
-add skip b = skip
+abbrev pub withByte : PieceKind → ℕ → PieceKind
+withByte (header v) b = header (v * 256 + b)
+withByte (payload r h) b = payload r (h ++ b ∷ [])
+withByte skip b = skip
 
 -- the piece is whole. "Id 4 bytes, length 4 bytes, payload."
-unfoldable pub done : Routes → Kind → Fed
-done R (header v) = decided (R (v / 2 ^ 32) (v % 2 ^ 32)) (v / 2 ^ 32) (v % 2 ^ 32)
-done R (payload r h) = fed ready (pdu r h)
-done R skip = fed ready nothing
+unfoldable pub pieceDone : Routes → PieceKind → Fed
+pieceDone R (header v) = decided (R (v / 2 ^ 32) (v % 2 ^ 32)) (v / 2 ^ 32) (v % 2 ^ 32)
+pieceDone R (payload r h) = fed ready (pdu r h)
+pieceDone R skip = fed ready nothing
 
 -- the number that bytes stand for after those that stand for v, the first the highest
 abbrev pub spelt : ℕ → List ℕ → ℕ
@@ -74,8 +74,8 @@ spelt v (b ∷ bs) = spelt (v * 256 + b) bs
 -- ONE BYTE (a cell that wants no byte is no sound part: it becomes ready)
 unfoldable pub feed : Routes → Cell → ℕ → Fed
 feed R (cell zero k) b = fed ready nothing
-feed R (cell (suc zero) k) b = done R (add k b)
-feed R (cell (suc (suc n)) k) b = fed (cell (suc n) (add k b)) nothing
+feed R (cell (suc zero) k) b = pieceDone R (withByte k b)
+feed R (cell (suc (suc n)) k) b = fed (cell (suc n) (withByte k b)) nothing
 
 -- MANY BYTES: the cell after them, and the outcomes that are not `nothing`, in order
 unfoldable pub after : Routes → Cell → List ℕ → Cell
@@ -149,13 +149,13 @@ takes R (suc f) c bs =
     joined (takeB R c bs .to) (takeB R c bs .out) (takeB R c bs .rest) (takes R f (takeB R c bs .to) (takeB R c bs .rest))
 
 -- each take but that of an empty segment reads a byte, so this many are enough
-unfoldable pub segment : Routes → Cell → List ℕ → Ran
-segment R c bs = takes R (suc (length bs)) c bs
+unfoldable pub segmentRan : Routes → Cell → List ℕ → Ran
+segmentRan R c bs = takes R (suc (length bs)) c bs
 
 -- segments one after the other: the end, and all that they hand out
 unfoldable pub segments : Routes → Cell → List (List ℕ) → Ran
 segments R c [] = ran c []
-segments R c (s ∷ ss) = ran (segments R (segment R c s .to) ss .to) (segment R c s .list ++ segments R (segment R c s .to) ss .list)
+segments R c (s ∷ ss) = ran (segments R (segmentRan R c s .to) ss .to) (segmentRan R c s .list ++ segments R (segmentRan R c s .to) ss .list)
 
 -- THE PDUS HANDED OUT, by their outcomes: the one list that demand 3 compares
 pub record Pdu : Type 0 where

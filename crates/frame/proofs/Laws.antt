@@ -5,7 +5,7 @@ use mathlib.Core.List.{List, _++_, append-assoc}
 use native.Mathlib.Omega.{arith}
 use borrow.Author.Tests.{lt-ltb, le-ltb}
 use lib.ListN.{length, length-append}
-use Rattle.feed.specs.Frame.{frame}
+use Rattle.frame.specs.Frame.{frame}
 use Rattle.wire.specs.Lay.{spell, lay}
 use Rattle.wire.proofs.Lay.{lay-lay}
 use Rattle.wire.proofs.Spell.{length-spell}
@@ -14,17 +14,17 @@ use Rattle.frame.specs.declared.Framed.the-variants.{Done, TooLong, NoRo
 use Rattle.frame.specs.Framing.{framingOf, outAfter, framedOut}
 
 -- the two tests
-pub too-long : (n room : ℕ) → 1464 < n → TooLong ≡ framingOf n room
+pub framing-too-long : (n room : ℕ) → 1464 < n → TooLong ≡ framingOf n room
 unfolding framingOf
-too-long n room h = simp (lt-ltb 1464 n h)
+framing-too-long n room h = simp (lt-ltb 1464 n h)
 
-pub no-room : (n room : ℕ) → n ≤ 1464 → room < 8 + n → NoRoom ≡ framingOf n room
+pub framing-no-room : (n room : ℕ) → n ≤ 1464 → room < 8 + n → NoRoom ≡ framingOf n room
 unfolding framingOf
-no-room n room h g = simp (le-ltb 1464 n h, lt-ltb room (8 + n) g)
+framing-no-room n room h g = simp (le-ltb 1464 n h, lt-ltb room (8 + n) g)
 
-pub fits : (n room : ℕ) → n ≤ 1464 → 8 + n ≤ room → Done ≡ framingOf n room
+pub framing-fits : (n room : ℕ) → n ≤ 1464 → 8 + n ≤ room → Done ≡ framingOf n room
 unfolding framingOf
-fits n room h g = simp (le-ltb 1464 n h, le-ltb room (8 + n) g)
+framing-fits n room h g = simp (le-ltb 1464 n h, le-ltb room (8 + n) g)
 
 -- the buffer at an answer
 pub out-at : (id : ℕ) (payload out : List ℕ) (answer : Framed) → answer ≡ framingOf (length payload) (length out) → outAfter answer id payload out ≡ framedOut id payload out

@@ -5,16 +5,16 @@ use mathlib.Core.Bool.{cond}
 use mathlib.Core.List.{List}
 use lib.Dec.{ltb}
 use lib.ListN.{length}
-use Rattle.feed.specs.Frame.{frame}
+use Rattle.frame.specs.Frame.{frame}
 use Rattle.wire.specs.Lay.{lay}
 use Rattle.frame.specs.declared.Framed.{Framed}
 use Rattle.frame.specs.declared.Framed.the-variants.{Done, TooLong, NoRoom}
 
 -- the answer numbers: 0 done; 7 "in framing, longer than 1,464"; 9 "in framing, [shorter] than 8 + length"
-abbrev pub numberOf : Framed → ℕ
-numberOf Done = 0
-numberOf TooLong = 7
-numberOf NoRoom = 9
+abbrev pub framedNumber : Framed → ℕ
+framedNumber Done = 0
+framedNumber TooLong = 7
+framedNumber NoRoom = 9
 
 -- "checks 7 and then 9": a payload of n bytes, an out buffer of so many
 unfoldable pub framingOf : ℕ → ℕ → Framed

@@ -1,2 +1,3 @@
--- What the contracts of this crate cite. Assumes nothing.
+-- What the contracts of this crate cite, and what a frame is. Assumes nothing.
+pub mod Frame
 pub mod Framing

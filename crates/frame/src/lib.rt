@@ -1,7 +1,7 @@
 // Framing: header and payload to the front of an out buffer, or a refusal by number. Assumes nothing.
 ghost use mathlib.Core.Path.{_≡_};
 ghost use lib.ListN.{length};
-ghost use Rattle.frame.specs.Framing.{framingOf, framedOut, numberOf};
+ghost use Rattle.frame.specs.Framing.{framingOf, framedOut, framedNumber};
 use wire::copy_in;
 use wire::put32;
 
@@ -13,7 +13,7 @@ pub enum Framed {
 
 // The number of an answer: 0 done, 7, 9.
 pub fn number_of(answer: Framed) -> u32
-    ensures { λ r. ⌜ r ≡ numberOf answer ⌝ }
+    ensures { λ r. ⌜ r ≡ framedNumber answer ⌝ }
 {
     match answer {
         Framed::Done => 0,

@@ -21,7 +21,7 @@ use Rattle.state.specs.declared.State.{State}
 use Rattle.gate.specs.declared.Gate.{Gate}
 use Rattle.gate.specs.Lent.{Lent, next, Loan, sizes, received, sent}
 use Rattle.gate.specs.declared.Gate.the-variants.{Pass, Refused}
-use Rattle.gate.specs.Sound.{recordsSound, accepted, soundState}
+use Rattle.gate.specs.Sound.{recordsSound, isAccepted, soundState}
 use Rattle.gate.specs.Gate.{gateOf, gateAt, thenThere, Passed}
 
 refused-not : {P : Type 0} (r : Refusal) → Refused r ≡ Pass → P
@@ -33,7 +33,7 @@ three true false d p = refused-not Memory p
 three true true false p = refused-not Unsound p
 three true true true p = (refl, refl, refl)
 
-accepts-is : (a : TableAnswer) → accepted a ≡ true → a ≡ Accepted
+accepts-is : (a : TableAnswer) → isAccepted a ≡ true → a ≡ Accepted
 accepts-is Table.Accepted p = refl
 accepts-is (Table.Refused q) p = absurd (let z : _≡_ {A = ℕ} 0 1 = cc in omega arith)
 
@@ -45,7 +45,7 @@ passed-by l rx tx table sound = record { receive = rx; send = tx; table = table;
 pub sound-passed : (l : Lent) → l .rx ≡ 23424 → l .tx ≡ 23552 → soundState (l .image) (l .state) ≡ true → Passed l
 unfolding soundState
 sound-passed l rx tx s =
-    passed-by l rx tx (accepts-is (checkTable (l .image)) (and-left (accepted (checkTable (l .image))) _ s)) (and-right (accepted (checkTable (l .image))) _ s)
+    passed-by l rx tx (accepts-is (checkTable (l .image)) (and-left (isAccepted (checkTable (l .image))) _ s)) (and-right (isAccepted (checkTable (l .image))) _ s)
 
 pub passed-next : (l : Lent) (t : State) → Passed l → recordsSound (l .image) (t .connections) ≡ true → Passed (next l t)
 passed-next l t p h = passed-by (next l t) (p .receive) (p .send) (p .table) h

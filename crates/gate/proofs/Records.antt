@@ -17,7 +17,7 @@ use Rattle.lists.proofs.Each.{all-at, all-set}
 use Rattle.rows.specs.Rows.{connectionRow}
 use Rattle.rows.specs.Rules.{sizeIn}
 use Rattle.state.specs.Fresh.{configIn, configOf}
-use Rattle.lists.specs.Each.{all}
+use Rattle.lists.specs.Each.{allFrom}
 use Rattle.gate.specs.Sound.{routed, soundAt, recordsSound}
 use Rattle.gate.specs.Inner.{rulesIn, soundIn}
 
@@ -64,11 +64,11 @@ record-set image cs n c p q =
     all-set (soundAt image) 0 n cs c p (ap (λ (k : ℕ). soundAt image k c) (let y : 0 + n ≡ n = omega arith in y) ∙ q)
 
 -- the records by the number of rows and the bodies, and by the image
-all-in : (image : List ℕ) (cs : List Connection) → all (soundIn (rowsOf image Connections) (bodyOf image Connections) (bodyOf image Groups) (bodyOf image Routes)) 0 cs ≡ recordsSound image cs
+all-in : (image : List ℕ) (cs : List Connection) → allFrom (soundIn (rowsOf image Connections) (bodyOf image Connections) (bodyOf image Groups) (bodyOf image Routes)) 0 cs ≡ recordsSound image cs
 unfolding recordsSound soundAt configOf
 all-in image cs = refl
 
-pub records-in : (image : List ℕ) (cs : List Connection) (rows : ℕ) (connections groups routes : List ℕ) → rows ≡ rowsOf image Connections → connections ≡ bodyOf image Connections → groups ≡ bodyOf image Groups → routes ≡ bodyOf image Routes → all (soundIn rows connections groups routes) 0 cs ≡ recordsSound image cs
+pub records-in : (image : List ℕ) (cs : List Connection) (rows : ℕ) (connections groups routes : List ℕ) → rows ≡ rowsOf image Connections → connections ≡ bodyOf image Connections → groups ≡ bodyOf image Groups → routes ≡ bodyOf image Routes → allFrom (soundIn rows connections groups routes) 0 cs ≡ recordsSound image cs
 records-in image cs rows connections groups routes a b d e = rw (a, b, d, e) (all-in image cs)
 
 -- the rules ask no more than that
@@ -77,10 +77,10 @@ unfolding soundOf
 rules-enough connections groups n c = refl
 
 -- one element does not meet its test
-pub all-not : {A : Type 0} (f : ℕ → A → Bool) (i : ℕ) (xs : List A) (d : A) → i < length xs → f i (getD xs i d) ≡ false → false ≡ all f 0 xs
-all-not f i xs d h p = go (all f 0 xs) refl
+pub all-not : {A : Type 0} (f : ℕ → A → Bool) (i : ℕ) (xs : List A) (d : A) → i < length xs → f i (getD xs i d) ≡ false → false ≡ allFrom f 0 xs
+all-not f i xs d h p = go (allFrom f 0 xs) refl
   where
-    go : (b : Bool) → all f 0 xs ≡ b → false ≡ all f 0 xs
+    go : (b : Bool) → allFrom f 0 xs ≡ b → false ≡ allFrom f 0 xs
     go false q = sym q
     go true q =
         let z : 0 + i ≡ i = omega arith in

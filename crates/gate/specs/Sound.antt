@@ -15,7 +15,7 @@ use Rattle.part.specs.declared.Part.{Part}
 use Rattle.part.specs.declared.Part.the-variants.{Header, Payload, Skip}
 use Rattle.connection.specs.declared.Connection.{Connection}
 use Rattle.connection.specs.Sound.{soundOf, zeroOf}
-use Rattle.lists.specs.Each.{all}
+use Rattle.lists.specs.Each.{allFrom}
 use Rattle.state.specs.declared.State.{State}
 use Rattle.state.specs.Fresh.{configOf}
 
@@ -35,13 +35,13 @@ soundAt image n c =
 
 -- every record, by its number
 unfoldable pub recordsSound : List ℕ → List Connection → Bool
-recordsSound image cs = all (soundAt image) 0 cs
+recordsSound image cs = allFrom (soundAt image) 0 cs
 
 -- "the table meets its rules"
-abbrev pub accepted : TableAnswer → Bool
-accepted Accepted = true
-accepted (Refused place) = false
+abbrev pub isAccepted : TableAnswer → Bool
+isAccepted Accepted = true
+isAccepted (Refused place) = false
 
 -- state and table are sound
 unfoldable pub soundState : List ℕ → State → Bool
-soundState image s = accepted (checkTable image) && recordsSound image (s .connections)
+soundState image s = isAccepted (checkTable image) && recordsSound image (s .connections)

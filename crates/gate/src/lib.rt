@@ -1,7 +1,7 @@
 // What is asked before any event: 11 for lent memory of another length, 12 for a table or state that is not sound, and 2 for
 // a connection that is not there. Assumes nothing: every function is total.
 ghost use mathlib.Core.Path.{_≡_};
-ghost use Rattle.lists.specs.Each.{all};
+ghost use Rattle.lists.specs.Each.{allFrom};
 ghost use Rattle.connection.specs.Sound.{onlineRemote};
 ghost use Rattle.gate.specs.Sound.{routed, recordsSound};
 ghost use Rattle.gate.specs.Inner.{rulesFrom, rulesIn, soundIn, idle, idleSound};
@@ -135,7 +135,7 @@ fn is_sound(
 
 // Each record of a state, up to the first that is not sound.
 fn each_sound(rows: usize, connections: &[u8], groups: &[u8], routes: &[u8], state: State) -> bool
-    ensures { λ r. ⌜ r ≡ all (soundIn rows (now (connections .entry)) (now (groups .entry)) (now (routes .entry))) 0 (state .connections) ⌝ }
+    ensures { λ r. ⌜ r ≡ allFrom (soundIn rows (now (connections .entry)) (now (groups .entry)) (now (routes .entry))) 0 (state .connections) ⌝ }
 {
     let mut i: usize = 0;
     while i < 16 {

@@ -23,8 +23,8 @@ abbrev pub modeOf : ℕ → Mode
 modeOf n = cond (eqb n 0) Offline (cond (eqb n 1) Reconnect Online)
 
 -- "receive part, kind: 0 header, 1 payload, 2 skip"; route (1), held (2), number (8)
-abbrev pub partOf : List ℕ → Part
-partOf s = cond (eqb (be 1 s 26) 0) (Header (be 1 s 29) (be 8 s 30)) (cond (eqb (be 1 s 26) 1) (Payload (be 1 s 27) (be 2 s 36) (be 2 s 28)) (Skip (be 4 s 34)))
+abbrev pub partGiven : List ℕ → Part
+partGiven s = cond (eqb (be 1 s 26) 0) (Header (be 1 s 29) (be 8 s 30)) (cond (eqb (be 1 s 26) 1) (Payload (be 1 s 27) (be 2 s 36) (be 2 s 28)) (Skip (be 4 s 34)))
 
 -- "A value that its field cannot hold ..": the bytes above a header's held count; a route where there is none
 abbrev pub headerFits : List ℕ → Bool
@@ -55,7 +55,7 @@ recordIn s =
       «close_wanted» = eqb (be 1 s 2) 1;
       remote = remoteIn (drop 3 s);
       switches = be 4 s 22;
-      part = partOf s;
+      part = partGiven s;
       used = be 2 s 38;
       timer = be 2 s 40;
       due = eqb (be 1 s 42) 1;

@@ -45,7 +45,7 @@ fn eight_bytes(s: &[u8], at: u8) -> u64
 }
 
 fn part_of(s: &[u8]) -> Part
-    ensures { λ r. ⌜ r ≡ Is.partOf (now (s .entry)) ⌝ }
+    ensures { λ r. ⌜ r ≡ Is.partGiven (now (s .entry)) ⌝ }
 {
     let kind = be8(s, 26);
     match kind {

@@ -24,12 +24,12 @@ use Rattle.choose.specs.declared.Chosen.{Chosen}
 use Rattle.choose.specs.declared.Chosen.the-variants.{Nobody, At}
 use Rattle.choose.specs.declared.Arrived.{Arrived}
 use Rattle.choose.specs.Best.{IsChosen}
-use Rattle.choose.specs.Choose.{rankOf, matches, counts, member, scoreOf, scoreAt, chosenIn, meet, refusedBy, protocolOf, deniedOf, arriveOf}
+use Rattle.choose.specs.Choose.{rankOf, matches, memberCounts, member, scoreOf, scoreAt, chosenIn, meet, arrivalRefused, protocolOf, deniedOf, arriveOf}
 use Rattle.choose.proofs.Pass.{chosen-is-best}
 use Rattle.arrivals.specs.Arrivals.{arrivalOf}
 use Rattle.gate.proofs.Pass.{passed-next}
 use Rattle.keeps.proofs.Past.{past-or}
-use Rattle.keeps.proofs.Rows.{same, row-set}
+use Rattle.keeps.proofs.Rows.{unchanged, row-set}
 use Rattle.keeps.proofs.Records.{counts-up}
 
 -- a score above 0 shows a member that counts
@@ -40,10 +40,10 @@ scored false k r n h = absurd (omega arith)
 
 module _ (image : List ℕ) (s : State) (accept : Bool) (group : ℕ) (source : Remote)
     (sound : recordsSound image (s .connections) ≡ true) (w : wildcard source ≡ false) where
-  chosen : (k : ℕ) → 0 < scoreAt image s accept group source k → (k < rowsOf image Connections) × (counts accept (recordAt s k) ≡ true)
+  chosen : (k : ℕ) → 0 < scoreAt image s accept group source k → (k < rowsOf image Connections) × (memberCounts accept (recordAt s k) ≡ true)
   unfolding scoreAt scoreOf
   chosen k l =
-      let p = scored (member image s accept group source k) (counts accept (recordAt s k)) (matches (equalFields (recordAt s k .remote) source) (wildFields (recordAt s k .remote))) (rankOf (equalFields (recordAt s k .remote) source)) l in
+      let p = scored (member image s accept group source k) (memberCounts accept (recordAt s k)) (matches (equalFields (recordAt s k .remote) source) (wildFields (recordAt s k .remote))) (rankOf (equalFields (recordAt s k .remote) source)) l in
       (ltb-true _ _ (and-left (ltb k (rowsOf image Connections)) _ (p .0)), p .1)
 
   met-sound : (x : Chosen) → IsChosen (scoreAt image s accept group source) 16 x → recordsSound image (meet s source x .state .connections) ≡ true
@@ -51,7 +51,7 @@ module _ (image : List ℕ) (s : State) (accept : Bool) (group : ℕ) (source : 
   met-sound (At k) b =
       let p = chosen k (b .counts) in
       row-set image s k (metOf source (recordAt s k)) sound (p .0)
-      (λ q. met-keeps (configOf image k) (recordAt s k) q source (counts-up accept (recordAt s k) (p .1)) w) same
+      (λ q. met-keeps (configOf image k) (recordAt s k) q source (counts-up accept (recordAt s k) (p .1)) w) unchanged
 
   chosen-keeps : recordsSound image (meet s source (chosenIn image s accept group source) .state .connections) ≡ true
   chosen-keeps = met-sound (chosenIn image s accept group source) (chosen-is-best image s accept group source)
@@ -62,7 +62,7 @@ unfolding arriveOf deniedOf
 arrive-keeps image s accept group source h = go (leb (rowsOf image Group) group) (deniedOf image accept group source) refl
   where
     go : (x y : Bool) → (not (eqb (groupOf image group .protocol) (protocolOf accept)) || wildcard source) ≡ y
-        → recordsSound image (cond x (refusedBy s Missing) (cond y (refusedBy s Denied) (meet s source (chosenIn image s accept group source))) .state .connections) ≡ true
+        → recordsSound image (cond x (arrivalRefused s Missing) (cond y (arrivalRefused s Denied) (meet s source (chosenIn image s accept group source))) .state .connections) ≡ true
     go true y e = h
     go false true e = h
     go false false e = chosen-keeps image s accept group source h (neither (not (eqb (groupOf image group .protocol) (protocolOf accept))) (wildcard source) e .1)
@@ -71,5 +71,5 @@ arrive-keeps image s accept group source h = go (leb (rowsOf image Group) group)
 pub arrival-passed : (l : Lent) (accept : Bool) (group : ℕ) (source : Remote) → Passed l → Passed (next l (arrivalOf l accept group source .state))
 unfolding arrivalOf
 arrival-passed l accept group source p =
-    past-or (λ (a : Arrived). Passed (next l (a .state))) (gateOf l) (refusedBy (l .state)) (arriveOf (l .image) (l .state) accept group source) (λ r. p)
+    past-or (λ (a : Arrived). Passed (next l (a .state))) (gateOf l) (arrivalRefused (l .state)) (arriveOf (l .image) (l .state) accept group source) (λ r. p)
     (λ _. passed-next l _ p (arrive-keeps (l .image) (l .state) accept group source (p .sound)))

@@ -25,7 +25,7 @@ use Rattle.gate.specs.Sound.{soundAt, recordsSound}
 use Rattle.gate.specs.Gate.{gateOf, gateAt, through, Passed}
 use Rattle.gate.proofs.Pass.{gate-at-passed, passed-next}
 use Rattle.gate.proofs.Records.{record-set}
-use Rattle.events.specs.Change.{refusedBy, toldOf, changeOf, eventOf, lossOf}
+use Rattle.events.specs.Change.{refusedTold, toldOf, changeOf, eventOf, lossOf}
 use Rattle.events.specs.Module.{switchAt, switchedAll, switchAllOf}
 use Rattle.events.specs.declared.Told.{Told}
 use Rattle.events.specs.Count.{uncounted, readPast, clearPast, readOf, clearOf}
@@ -34,7 +34,7 @@ use Rattle.events.proofs.Counts.{read-state, clear-records}
 use Rattle.ticks.specs.declared.Ticked.{Ticked}
 use Rattle.ticks.specs.Tick.{tickAt, tickedTo, tickOnce, ticksTo, unticked, tickEvent, ticksEvent}
 use Rattle.keeps.proofs.Past.{past-or}
-use Rattle.keeps.proofs.Rows.{row-at, step-sound, switch-sound, tick-sound}
+use Rattle.keeps.proofs.Rows.{sound-row-at, step-sound, switch-sound, tick-sound}
 
 -- a tick of every row
 pub ticked-sound : (image : List ℕ) (s : State) → recordsSound image (s .connections) ≡ true → recordsSound image (tickedTo image (rowsOf image Connections) s .connections) ≡ true
@@ -63,10 +63,10 @@ module _ (l : Lent) (passed : Passed l) where
   pub event-passed : (n : ℕ) (e : Event) → Passed (next l (eventOf l n e .state))
   unfolding eventOf changeOf
   event-passed n e =
-      past-or (λ (t : Told). Passed (next l (t .state))) (gateAt l n) (refusedBy s) (changeOf image s n e) (λ r. passed)
+      past-or (λ (t : Told). Passed (next l (t .state))) (gateAt l n) (refusedTold s) (changeOf image s n e) (λ r. passed)
       (λ q.
       let h : n < rowsOf image Connections = gate-at-passed l n q .1 in
-      passed-next l _ passed (told-sound n _ _ (step-sound image n (recordAt s n) (row-at image (s .connections) n (passed .sound) h) h e)))
+      passed-next l _ passed (told-sound n _ _ (step-sound image n (recordAt s n) (sound-row-at image (s .connections) n (passed .sound) h) h e)))
 
   pub loss-passed : (n : ℕ) → Passed (next l (lossOf l n .state))
   unfolding lossOf
@@ -84,7 +84,7 @@ module _ (l : Lent) (passed : Passed l) where
   switch-all-passed number on = go (gateOf l) (ltb number 32)
     where
       go : (g : Gate) (b : Bool)
-          → Passed (next l (through g (refusedBy s) (cond b (record { answer = Answers.Done; state = switchedAll (rowsOf image Connections) number on s }) (refusedBy s Missing)) .state))
+          → Passed (next l (through g (refusedTold s) (cond b (record { answer = Answers.Done; state = switchedAll (rowsOf image Connections) number on s }) (refusedTold s Missing)) .state))
       go (Refused r) b = passed
       go Pass false = passed
       go Pass true = passed-next l _ passed (switched-sound number on)

@@ -15,14 +15,14 @@ use Rattle.connection.specs.Connection.{isOffline, isReconnect, isOnline, withM
 use Rattle.connection.specs.Sound.{Sound}
 use Rattle.connection.proofs.Keeps.{online-not-offline, send-keeps}
 use Rattle.rows.specs.declared.DestinationRow.{DestinationRow}
-use Rattle.choose.specs.Choose.{counts}
+use Rattle.choose.specs.Choose.{memberCounts}
 use Rattle.destination.specs.Destination.{timerOf, sentOf}
 use Rattle.send.proofs.Room.{Meets}
 use Rattle.waiting.specs.Waiting.{takeOf}
 use Rattle.waiting.proofs.Taken.{after-either, take-either}
 
 -- a member that counts is not offline and not to be closed
-pub counts-up : (accept : Bool) (c : Connection) → counts accept c ≡ true → (not (isOffline (c .mode)) && not (c .«close_wanted»)) ≡ true
+pub counts-up : (accept : Bool) (c : Connection) → memberCounts accept c ≡ true → (not (isOffline (c .mode)) && not (c .«close_wanted»)) ≡ true
 counts-up accept c = go (c .mode) accept
   where
     go : (m : Mode) (a : Bool) → ((isReconnect m || (not a && isOnline m)) && not (c .«close_wanted»)) ≡ true → (not (isOffline m) && not (c .«close_wanted»)) ≡ true

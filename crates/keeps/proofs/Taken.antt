@@ -10,13 +10,13 @@ use Rattle.state.specs.Fresh.{configOf}
 use Rattle.waiting.specs.Waiting.{takeOf}
 use Rattle.waiting.proofs.Taken.{take-part}
 use Rattle.sending.specs.declared.Taken.{Taken}
-use Rattle.sending.specs.Sending.{notTaken, takePast, takenOf}
+use Rattle.sending.specs.Sending.{notTaken, takePast, takenWaiting}
 use Rattle.keeps.proofs.Past.{past-or}
 use Rattle.keeps.proofs.Rows.{stays-same, row-set}
 use Rattle.keeps.proofs.Records.{take-keeps}
 
-pub taken-passed : (l : Loan) (n : ℕ) (out : List ℕ) → Passed (sizes l) → Passed (next (sizes l) (takenOf l n out .state))
-unfolding takenOf
+pub taken-passed : (l : Loan) (n : ℕ) (out : List ℕ) → Passed (sizes l) → Passed (next (sizes l) (takenWaiting l n out .state))
+unfolding takenWaiting
 taken-passed l n out p =
     past-or (λ (t : Taken). Passed (next (sizes l) (t .state))) (gateAt (sizes l) n) (notTaken (l .state)) (takePast (l .image) (l .state) n (length out)) (λ r. p)
     (λ e.

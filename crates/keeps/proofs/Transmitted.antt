@@ -29,9 +29,9 @@ use Rattle.send.specs.Verdict.{isStored}
 use Rattle.send.specs.Send.{destinations, Sending, sending, appendOf, wantedAt, storeOf, storeAll, checkOf, transmitOf, transmittedOf, Ready}
 use Rattle.send.proofs.Room.{Meets, clear-meets, clear-roomy}
 use Rattle.sending.specs.Sending.{notSent, sendOf}
-use Rattle.sending.proofs.Past.{ready-from, row-there}
-use Rattle.waits.proofs.Held.{Fine, fine-step, begin}
-use Rattle.keeps.proofs.Rows.{same, row-at, row-set}
+use Rattle.sending.proofs.Past.{ready-from, connection-there}
+use Rattle.waits.proofs.Held.{Fine, fine-step, begin-fine}
+use Rattle.keeps.proofs.Rows.{unchanged, sound-row-at, row-set}
 use Rattle.keeps.proofs.Records.{sent-keeps}
 
 -- no connection of a sound state has more bytes waiting than its stretch holds
@@ -44,7 +44,7 @@ all-fit image a s h k = go (decLt k (rowsOf image Connections)) (decLt k (length
 
     go : Dec (k < rowsOf image Connections) → Dec (k < length (s .connections)) → recordAt s k .used ≤ 1472
     go (yes r) d =
-        let one = row-sound image k (recordAt s k) (row-at image (s .connections) k h r) r in
+        let one = row-sound image k (recordAt s k) (sound-row-at image (s .connections) k h r) r in
         omega (arith, leb-true (recordAt s k .used) (configOf image k .size) (one .fits), a .sized k r .1)
     go (no n) (yes l) = none (past-zero image k (recordAt s k) (record-at image (s .connections) k h l) (omega (arith, n)))
     go (no n) (no o) = none (List·getD-eq-default (s .connections) zeroRecord (omega (arith, o)))
@@ -62,7 +62,7 @@ module _ (image : List ℕ) (ready : Ready image) (there : (i : ℕ) → i < des
       let m : Meets (length payload) (connectionOf image (destinationOf image i .connection) .size) (destinationOf image i) (recordAt (x .state) (destinationOf image i .connection)) =
       subst (Meets (length payload) (connectionOf image (destinationOf image i .connection) .size) (destinationOf image i)) (sym (f .same i (omega arith) h w)) (clear-meets image s pdu payload clear i h w) in
       row-set image (x .state) (destinationOf image i .connection) _ p (there i h)
-      (λ q. sent-keeps (configOf image (destinationOf image i .connection)) (destinationOf image i) (length payload) _ q m) same
+      (λ q. sent-keeps (configOf image (destinationOf image i .connection)) (destinationOf image i) (length payload) _ q m) unchanged
 
   keep-step : (x : Sending) (i : ℕ) → Good x i → i < destinations image → recordsSound image (x .state .connections) ≡ true → recordsSound image (storeOf image s pdu payload x i .state .connections) ≡ true
   unfolding storeOf
@@ -78,7 +78,7 @@ module _ (image : List ℕ) (ready : Ready image) (there : (i : ℕ) → i < des
   store-keeps tx sixteen long fits p =
       fold-goes (storeOf image s pdu payload) (λ (i : ℕ) (x : Sending). Good x i × (recordsSound image (x .state .connections) ≡ true)) (destinations image) 0 (sending s tx)
       (λ i x l u r. (fine-step image ready s pdu payload (clear-roomy image s pdu payload clear ready) x i (r .0) (omega arith), keep-step x i (r .0) (omega arith) (r .1)))
-      (begin image ready s pdu payload tx sixteen long fits clear, p) .1
+      (begin-fine image ready s pdu payload tx sixteen long fits clear, p) .1
 
 -- the entry point
 pub transmit-keeps : (l : Loan) (pdu : ℕ) (payload : List ℕ) → length (l .state .connections) ≡ 16 → recordsSound (l .image) (l .state .connections) ≡ true
@@ -89,7 +89,7 @@ transmit-keeps l pdu payload sixteen h = go (gateOf (sizes l)) refl
     inner : Accepts (l .image) → length (l .tx) ≡ 23552 → (b : Bool) → isStored (checkOf (l .image) (l .state) pdu (length payload)) ≡ b
         → recordsSound (l .image) (cond b (storeAll (l .image) (l .state) pdu payload (l .tx)) (sending (l .state) (l .tx)) .state .connections) ≡ true
     inner a long false e = h
-    inner a long true e = store-keeps (l .image) (ready-from (l .image) a) (row-there (l .image) a) (l .state) pdu payload e (l .tx) sixteen long (all-fit (l .image) a (l .state) h) h
+    inner a long true e = store-keeps (l .image) (ready-from (l .image) a) (connection-there (l .image) a) (l .state) pdu payload e (l .tx) sixteen long (all-fit (l .image) a (l .state) h) h
 
     go : (q : Gate) → gateOf (sizes l) ≡ q → recordsSound (l .image) (through q (notSent (l .state)) (transmittedOf (l .image) (l .state) pdu payload (l .tx)) .state .connections) ≡ true
     go (Refused r) e = h

@@ -13,7 +13,7 @@ use Rattle.lengths.specs.Head.{Head, ended, short, beyond, whole, headOf
 
 -- what each head says of the bytes
 pub data View (l : List ℕ) : Head → Type 0 where
-  at-end : length l ≡ 0 → View l ended
+  none-left : length l ≡ 0 → View l ended
   at-short : 0 < length l → length l < 8 → View l short
   at-beyond : 8 ≤ length l → length l < 8 + be 4 l 4 → View l (beyond (be 4 l 0) (be 4 l 4))
   at-whole : 8 + be 4 l 4 ≤ length l → View l (whole (be 4 l 0) (be 4 l 4))
@@ -35,7 +35,7 @@ view l = none (eqb (length l) 0) refl
     positive (suc n) h = omega arith
 
     none : (b : Bool) → eqb (length l) 0 ≡ b → View l (cond b ended (cond (ltb (length l) 8) short (cond (ltb (length l - 8) (be 4 l 4)) (beyond (be 4 l 0) (be 4 l 4)) (whole (be 4 l 0) (be 4 l 4)))))
-    none true e = at-end (eqb-true _ _ e)
+    none true e = none-left (eqb-true _ _ e)
     none false e = some (ltb (length l) 8) (positive (length l) (eqb-false _ _ e)) refl
 
 -- the head, from what is known of the bytes
@@ -62,7 +62,7 @@ pub whole-fits : (l : List ℕ) (i n : ℕ) → headOf l ≡ whole i n → 8 + n
 whole-fits l i n e = go (headOf l) (view l) e
   where
     go : (h : Head) → View l h → h ≡ whole i n → 8 + n ≤ length l
-    go ended (at-end p) q = let z : _≡_ {A = ℕ} 0 1 = cc in absurd (omega arith)
+    go ended (none-left p) q = let z : _≡_ {A = ℕ} 0 1 = cc in absurd (omega arith)
     go short (at-short p p′) q = let z : _≡_ {A = ℕ} 0 1 = cc in absurd (omega arith)
     go (beyond _ _) (at-beyond p p′) q = let z : _≡_ {A = ℕ} 0 1 = cc in absurd (omega arith)
     go (whole _ _) (at-whole p) q = let z : be 4 l 4 ≡ n = cc in omega arith

@@ -6,35 +6,35 @@ use mathlib.Core.Path.{_≡_, refl, sym, ap, ap₂, _∙_}
 use mathlib.Core.List.{List, [], _∷_, _++_, map, map-append}
 use native.Mathlib.Omega.{arith}
 use lib.ListN.{length, take, drop, getD}
-use Rattle.feed.specs.Feed.{Routes, Kind, Cell, cell, Fed, add, done, feed, after, emit, outs, Ran, ran, segment}
+use Rattle.feed.specs.Feed.{Routes, PieceKind, Cell, cell, Fed, withByte, pieceDone, feed, after, emit, outs, Ran, ran, segmentRan}
 use Rattle.feed.proofs.Laws.{addAll}
 use Rattle.feed.proofs.Cut.{emit-append, segment-feeds}
-use Rattle.lengths.specs.Listed.{Marked, mark, bytesOf, wordsOf, readTo, readOut, Bytes, Given, segmentsGiven, stream, AllBytes}
+use Rattle.lengths.specs.Listed.{Marked, mark, bytesOf, wordsOf, readTo, readOut, Bytes, GivenSegment, segmentsGiven, stream, AllBytes}
 use Rattle.lengths.proofs.Bytes.{bytes-append, bytes-mark}
 
 -- a stretch: fewer bytes than it wants, and all that it wants
-pub out-short : (Q : ℕ → Routes) (n : ℕ) (k : Kind) (ms : List Marked) → length ms < n → readOut Q (cell n k) ms ≡ []
+pub out-short : (Q : ℕ → Routes) (n : ℕ) (k : PieceKind) (ms : List Marked) → length ms < n → readOut Q (cell n k) ms ≡ []
 unfolding readOut feed
 out-short Q zero k ms h = absurd (omega arith)
 out-short Q (suc n) k [] h = refl
 out-short Q (suc zero) k (m ∷ ms) h = absurd (omega arith)
-out-short Q (suc (suc n)) k (m ∷ ms) h = out-short Q (suc n) (add k (m .byte)) ms (omega arith)
+out-short Q (suc (suc n)) k (m ∷ ms) h = out-short Q (suc n) (withByte k (m .byte)) ms (omega arith)
 
-pub to-short : (Q : ℕ → Routes) (n : ℕ) (k : Kind) (ms : List Marked) → length ms < n → readTo Q (cell n k) ms ≡ cell (n - length ms) (addAll k (bytesOf ms))
+pub to-short : (Q : ℕ → Routes) (n : ℕ) (k : PieceKind) (ms : List Marked) → length ms < n → readTo Q (cell n k) ms ≡ cell (n - length ms) (addAll k (bytesOf ms))
 unfolding readTo feed
 to-short Q zero k ms h = absurd (omega arith)
 to-short Q (suc n) k [] h = ap (λ (m : ℕ). cell m k) (omega arith)
 to-short Q (suc zero) k (m ∷ ms) h = absurd (omega arith)
 to-short Q (suc (suc n)) k (m ∷ ms) h =
-    to-short Q (suc n) (add k (m .byte)) ms (omega arith) ∙ ap (λ (j : ℕ). cell j (addAll (add k (m .byte)) (bytesOf ms))) (omega arith)
+    to-short Q (suc n) (withByte k (m .byte)) ms (omega arith) ∙ ap (λ (j : ℕ). cell j (addAll (withByte k (m .byte)) (bytesOf ms))) (omega arith)
 
-pub out-whole : (Q : ℕ → Routes) (j : ℕ) (k : Kind) (ms : List Marked) → j < length ms → (f : Fed)
-    → done (Q (getD (wordsOf ms) j 0)) (addAll k (bytesOf (take (suc j) ms))) ≡ f
+pub out-whole : (Q : ℕ → Routes) (j : ℕ) (k : PieceKind) (ms : List Marked) → j < length ms → (f : Fed)
+    → pieceDone (Q (getD (wordsOf ms) j 0)) (addAll k (bytesOf (take (suc j) ms))) ≡ f
     → readOut Q (cell (suc j) k) ms ≡ emit (f .out) (readOut Q (f .to) (drop (suc j) ms))
 unfolding readOut feed
 out-whole Q j k [] h f e = absurd (omega arith)
 out-whole Q zero k (m ∷ ms) h f e = ap (λ (g : Fed). emit (g .out) (readOut Q (g .to) ms)) e
-out-whole Q (suc j) k (m ∷ ms) h f e = out-whole Q j (add k (m .byte)) ms (omega arith) f e
+out-whole Q (suc j) k (m ∷ ms) h f e = out-whole Q j (withByte k (m .byte)) ms (omega arith) f e
 
 -- in two pieces
 pub out-append : (Q : ℕ → Routes) (c : Cell) (a b : List Marked) → readOut Q c (a ++ b) ≡ readOut Q c a ++ readOut Q (readTo Q c a) b
@@ -60,10 +60,10 @@ unfolding outs readOut
 segment-out Q w c [] = refl
 segment-out Q w c (b ∷ bs) = ap (emit (feed (Q w) c b .out)) (segment-out Q w (feed (Q w) c b .to) bs)
 
-pub segment-reads : (Q : ℕ → Routes) (w : ℕ) (c : Cell) (bs : List ℕ) → segment (Q w) c bs ≡ ran (readTo Q c (map (mark w) bs)) (readOut Q c (map (mark w) bs))
+pub segment-reads : (Q : ℕ → Routes) (w : ℕ) (c : Cell) (bs : List ℕ) → segmentRan (Q w) c bs ≡ ran (readTo Q c (map (mark w) bs)) (readOut Q c (map (mark w) bs))
 segment-reads Q w c bs = segment-feeds (Q w) c bs ∙ ap₂ ran (segment-to Q w c bs) (segment-out Q w c bs)
 
-pub given-reads : (Q : ℕ → Routes) (c : Cell) (gs : List Given) → segmentsGiven Q c gs ≡ ran (readTo Q c (stream gs)) (readOut Q c (stream gs))
+pub given-reads : (Q : ℕ → Routes) (c : Cell) (gs : List GivenSegment) → segmentsGiven Q c gs ≡ ran (readTo Q c (stream gs)) (readOut Q c (stream gs))
 unfolding segmentsGiven stream readTo readOut
 given-reads Q c [] = refl
 given-reads Q c (g ∷ gs) =
@@ -72,7 +72,7 @@ given-reads Q c (g ∷ gs) =
     ∙ ap (λ (q : Ran). ran (q .to) (readOut Q c ms ++ q .list)) (given-reads Q (readTo Q c ms) gs)
     ∙ sym (ap₂ ran (to-append Q c ms (stream gs)) (out-append Q c ms (stream gs)))
 
-pub stream-bytes : (gs : List Given) → AllBytes gs → Bytes (bytesOf (stream gs))
+pub stream-bytes : (gs : List GivenSegment) → AllBytes gs → Bytes (bytesOf (stream gs))
 unfolding stream
 stream-bytes [] b = λ i. omega arith
 stream-bytes (g ∷ gs) b =

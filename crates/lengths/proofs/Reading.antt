@@ -13,10 +13,10 @@ use Rattle.wire.specs.Lay.{spell}
 use Rattle.wire.proofs.Spell.{length-spell}
 use Rattle.feed.specs.declared.Decision.{Decision}
 use Rattle.feed.specs.declared.Decision.the-variants.{Accept, Refuse}
-use Rattle.feed.specs.Feed.{Routes, header, payload, skip, Cell, cell, Out, ready, decided, done, feed, Ran, Pdu, handed, pdus}
+use Rattle.feed.specs.Feed.{Routes, header, payload, skip, Cell, cell, Out, ready, decided, pieceDone, feed, Ran, Pdu, handed, pdus}
 use Rattle.feed.proofs.Laws.{addAll, addAll-payload, addAll-skip, addAll-header, grow}
 use Rattle.feed.proofs.Trip.{spelt-spell}
-use Rattle.lengths.specs.Listed.{Marked, mark, bytesOf, readTo, readOut, listed, listedFrom, Shaped, Bytes, Given, segmentsGiven, stream, AllBytes}
+use Rattle.lengths.specs.Listed.{Marked, mark, bytesOf, readTo, readOut, listed, listedFrom, Shaped, Bytes, GivenSegment, segmentsGiven, stream, AllBytes}
 use Rattle.lengths.proofs.Bytes.{map-drop, bytes-drop, bytes-append, bytes-spell, bytes-mark}
 use Rattle.lengths.proofs.Marks.{out-short, to-short, out-whole, out-append, given-reads, stream-bytes}
 use Rattle.lengths.proofs.Ready.{ready-list}
@@ -35,7 +35,7 @@ held-first Q n v ms (p, le, s) =
 
 -- THE THEOREM: for any routes as the switches have them, any part that a record holds and any bytes
 pub reading : (Q : ℕ → Routes) (c : Cell) (ms : List Marked) → Shaped c → Bytes (bytesOf ms) → pdus (readOut Q c ms) ≡ listedFrom Q c ms
-unfolding listedFrom done pdus
+unfolding listedFrom pieceDone pdus
 reading Q (cell n (header v)) ms h b =
     let hs : List Marked = map (mark 0) (spell (8 - n) v) in
     ap pdus (held-first Q n v ms h)
@@ -46,7 +46,7 @@ reading Q (cell (suc n) (payload r h)) ms p b = go (leb (suc n) (length ms)) ref
   where
     go : (t : Bool) → leb (suc n) (length ms) ≡ t → pdus (readOut Q (cell (suc n) (payload r h)) ms) ≡ cond t (handed r (h ++ bytesOf (take (suc n) ms)) ∷ listed Q (drop (suc n) ms)) []
     go true e =
-        ap pdus (out-whole Q n (payload r h) ms (leb-true (suc n) (length ms) e) _ (ap (done _) (addAll-payload r h (bytesOf (take (suc n) ms)))))
+        ap pdus (out-whole Q n (payload r h) ms (leb-true (suc n) (length ms) e) _ (ap (pieceDone _) (addAll-payload r h (bytesOf (take (suc n) ms)))))
         ∙ ap (λ (ps : List Pdu). handed r (h ++ bytesOf (take (suc n) ms)) ∷ ps)
         (ready-list Q (drop (suc n) ms) (rw (map-drop (λ (m : Marked). m .byte) (suc n) ms) (bytes-drop (suc n) (bytesOf ms) b)))
     go false e = ap pdus (out-short Q (suc n) (payload r h) ms (leb-false (suc n) (length ms) e))
@@ -56,13 +56,13 @@ reading Q (cell (suc n) skip) ms p b =
     ∙ ready-list Q (drop (suc n) ms) (rw (map-drop (λ (m : Marked). m .byte) (suc n) ms) (bytes-drop (suc n) (bytesOf ms) b))
   where
     go : (t : Bool) → leb (suc n) (length ms) ≡ t → pdus (readOut Q (cell (suc n) skip) ms) ≡ pdus (readOut Q ready (drop (suc n) ms))
-    go true e = ap pdus (out-whole Q n skip ms (leb-true (suc n) (length ms) e) _ (ap (done _) (addAll-skip (bytesOf (take (suc n) ms)))))
+    go true e = ap pdus (out-whole Q n skip ms (leb-true (suc n) (length ms) e) _ (ap (pieceDone _) (addAll-skip (bytesOf (take (suc n) ms)))))
     go false e =
         ap pdus (out-short Q (suc n) skip ms (leb-false (suc n) (length ms) e))
         ∙ sym (ap (λ (x : List Marked). pdus (readOut Q ready x)) (drop-of-length-le ms {i = suc n} (omega (arith, leb-false (suc n) (length ms) e))) ∙ ap pdus (out-short Q 8 (header 0) [] (omega arith)))
 
 -- THE LIST OF SEGMENT EVENTS
-pub segments-list : (Q : ℕ → Routes) (c : Cell) (gs : List Given) → Shaped c → AllBytes gs → pdus (segmentsGiven Q c gs .list) ≡ listedFrom Q c (stream gs)
+pub segments-list : (Q : ℕ → Routes) (c : Cell) (gs : List GivenSegment) → Shaped c → AllBytes gs → pdus (segmentsGiven Q c gs .list) ≡ listedFrom Q c (stream gs)
 segments-list Q c gs h b = ap (λ (q : Ran). pdus (q .list)) (given-reads Q c gs) ∙ reading Q c (stream gs) h (stream-bytes gs b)
 
 -- what a record holds stays so
@@ -76,7 +76,7 @@ shaped-begin (Refuse k) i zero = shaped-ready
 shaped-begin (Refuse k) i (suc n) = omega arith
 
 pub feed-shaped : (R : Routes) (c : Cell) (b : ℕ) → Shaped c → b < 256 → Shaped (feed R c b .to)
-unfolding feed done
+unfolding feed pieceDone
 feed-shaped R (cell zero k) b h lt = shaped-ready
 feed-shaped R (cell (suc zero) (header v)) b h lt = shaped-begin (R ((v * 256 + b) / 2 ^ 32) ((v * 256 + b) % 2 ^ 32)) ((v * 256 + b) / 2 ^ 32) ((v * 256 + b) % 2 ^ 32)
 feed-shaped R (cell (suc zero) (payload r p)) b h lt = shaped-ready

@@ -10,20 +10,20 @@ use Rattle.wire.specs.Be.{be}
 use Rattle.wire.proofs.Join.{be-add}
 use Rattle.feed.specs.declared.Decision.{Decision}
 use Rattle.feed.specs.declared.Decision.the-variants.{Accept, Refuse}
-use Rattle.feed.specs.Feed.{Routes, header, payload, skip, ready, decided, done, emit, pdus}
+use Rattle.feed.specs.Feed.{Routes, header, payload, skip, ready, decided, pieceDone, emit, pdus}
 use Rattle.feed.proofs.Laws.{addAll, addAll-payload, addAll-skip, addAll-header, done-header, spelt-be}
 use Rattle.lengths.specs.Head.{Head, ended, short, beyond, whole, headOf}
 use Rattle.lengths.specs.Split.{splitBy, splits, split}
 use Rattle.lengths.specs.Listed.{Marked, bytesOf, wordsOf, readOut, keep, accepted, listed, Bytes}
 use Rattle.lengths.proofs.Bytes.{map-take, map-drop, be-small, bytes-drop}
-use Rattle.lengths.proofs.Heads.{View, at-end, at-short, at-beyond, at-whole, view}
+use Rattle.lengths.proofs.Heads.{View, none-left, at-short, at-beyond, at-whole, view}
 use Rattle.lengths.proofs.Marks.{out-short, out-whole}
 
 -- the header at the front of the stream
 header-done : (R : Routes) (l : List ℕ) → Bytes l → 8 ≤ length l
-    → done R (addAll (header 0) (take 8 l)) ≡ decided (R (be 4 l 0) (be 4 l 4)) (be 4 l 0) (be 4 l 4)
+    → pieceDone R (addAll (header 0) (take 8 l)) ≡ decided (R (be 4 l 0) (be 4 l 4)) (be 4 l 0) (be 4 l 4)
 header-done R l b h =
-    ap (done R) (addAll-header 0 (take 8 l) ∙ ap header (spelt-be 0 8 l h ∙ omega arith ∙ be-add 4 4 l 0))
+    ap (pieceDone R) (addAll-header 0 (take 8 l) ∙ ap header (spelt-be 0 8 l h ∙ omega arith ∙ be-add 4 4 l 0))
     ∙ done-header R (be 4 l 0) (be 4 l 4) (be-small 4 l 4 b)
 
 -- the payload behind it: beyond the end, and whole
@@ -36,11 +36,11 @@ out-beyond Q (Refuse k) i (suc n) ms h = ap pdus (out-short Q (suc n) skip ms h)
 
 out-fits : (Q : ℕ → Routes) (d : Decision) (i n : ℕ) (ms : List Marked) → n ≤ length ms
     → pdus (emit (decided d i n .out) (readOut Q (decided d i n .to) ms)) ≡ keep d (bytesOf (take n ms)) (pdus (readOut Q ready (drop n ms)))
-unfolding pdus done
+unfolding pdus pieceDone
 out-fits Q (Accept r) i zero ms h = refl
 out-fits Q (Refuse k) i zero ms h = refl
-out-fits Q (Accept r) i (suc n) ms h = ap pdus (out-whole Q n (payload r []) ms (omega arith) _ (ap (done _) (addAll-payload r [] (bytesOf (take (suc n) ms)))))
-out-fits Q (Refuse k) i (suc n) ms h = ap pdus (out-whole Q n skip ms (omega arith) _ (ap (done _) (addAll-skip (bytesOf (take (suc n) ms)))))
+out-fits Q (Accept r) i (suc n) ms h = ap pdus (out-whole Q n (payload r []) ms (omega arith) _ (ap (pieceDone _) (addAll-payload r [] (bytesOf (take (suc n) ms)))))
+out-fits Q (Refuse k) i (suc n) ms h = ap pdus (out-whole Q n skip ms (omega arith) _ (ap (pieceDone _) (addAll-skip (bytesOf (take (suc n) ms)))))
 
 -- the eighth header byte of a stream that has it
 out-head : (Q : ℕ → Routes) (ms : List Marked) → Bytes (bytesOf ms) → 8 ≤ length ms → (i n : ℕ) → i ≡ be 4 (bytesOf ms) 0 → n ≡ be 4 (bytesOf ms) 4
@@ -49,7 +49,7 @@ out-head Q ms b h i n ei en =
     let R : Routes = Q (getD (wordsOf ms) 7 0) in
     let l : List ℕ = bytesOf ms in
     out-whole Q 7 (header 0) ms (omega arith) (decided (R i n) i n)
-    (ap (λ (x : List ℕ). done R (addAll (header 0) x)) (map-take (λ (m : Marked). m .byte) 8 ms)
+    (ap (λ (x : List ℕ). pieceDone R (addAll (header 0) x)) (map-take (λ (m : Marked). m .byte) 8 ms)
     ∙ header-done R l b (omega (arith, length-map ms (λ (m : Marked). m .byte)))
     ∙ sym (ap₂ (λ (x y : ℕ). decided (R x y) x y) ei en))
 
@@ -68,7 +68,7 @@ from-ready Q (suc f) ms h b = go (λ n. from-ready Q f (drop (8 + n) ms)) (headO
     go : ((n : ℕ) → length (drop (8 + n) ms) ≤ f → Bytes (bytesOf (drop (8 + n) ms))
         → pdus (readOut Q ready (drop (8 + n) ms)) ≡ accepted Q (wordsOf (drop (8 + n) ms)) (splits f (bytesOf (drop (8 + n) ms)) .pdus))
         → (e : Head) → View l e → pdus (readOut Q ready ms) ≡ accepted Q (wordsOf ms) (splitBy (splits f) l e .pdus)
-    go more ended (at-end e) = ap pdus (out-short Q 8 (header 0) ms (omega (arith, long)))
+    go more ended (none-left e) = ap pdus (out-short Q 8 (header 0) ms (omega (arith, long)))
     go more short (at-short p lt) = ap pdus (out-short Q 8 (header 0) ms (omega (arith, long)))
     go more (beyond i n) (at-beyond p lt) =
         ap pdus (out-head Q ms b (omega (arith, long)) i n refl refl)

@@ -9,7 +9,7 @@ use lib.Seq.{length-take-le, drop-drop, take-append-seam, drop-append-seam, drop
 use Rattle.wire.specs.Be.{be}
 use Rattle.wire.specs.Lay.{spell}
 use Rattle.wire.proofs.Spell.{length-spell, be-spell, spell-be}
-use Rattle.feed.specs.Frame.{frame, Sent, frames, Fits, AllFit}
+use Rattle.frame.specs.Frame.{frame, Sent, frames, Fits, AllFit}
 use Rattle.lengths.specs.Head.{Head, ended, short, beyond, whole, headOf}
 use Rattle.lengths.specs.Split.{sent, Split, before, splitBy, splits, split}
 use Rattle.lengths.specs.Listed.{Bytes}

@@ -10,8 +10,8 @@ use Rattle.wire.specs.Be.{byteAt}
 use Rattle.wire.specs.Lay.{spell}
 use Rattle.feed.specs.declared.Decision.{Decision}
 use Rattle.feed.specs.declared.Decision.the-variants.{Accept, Refuse}
-use Rattle.feed.specs.Feed.{Routes, header, payload, skip, Cell, cell, Out, feed, emit, Ran, ran, segment, Pdu, handed}
-use Rattle.feed.specs.Frame.{Sent}
+use Rattle.feed.specs.Feed.{Routes, header, payload, skip, Cell, cell, Out, feed, emit, Ran, ran, segmentRan, Pdu, handed}
+use Rattle.frame.specs.Frame.{Sent}
 use Rattle.lengths.specs.Split.{split}
 
 pub record Marked : Type 0 where
@@ -72,22 +72,22 @@ abbrev pub Bytes : List ℕ → Type 0
 Bytes l = (i : ℕ) → byteAt l i < 256
 
 -- SEGMENTS, each under the switches of its moment
-pub record Given : Type 0 where
+pub record GivenSegment : Type 0 where
   pub switches : ℕ
   pub bytes : List ℕ
 
-unfoldable pub segmentsGiven : (ℕ → Routes) → Cell → List Given → Ran
+unfoldable pub segmentsGiven : (ℕ → Routes) → Cell → List GivenSegment → Ran
 segmentsGiven Q c [] = ran c []
 segmentsGiven Q c (g ∷ gs) =
-    ran (segmentsGiven Q (segment (Q (g .switches)) c (g .bytes) .to) gs .to)
-    (segment (Q (g .switches)) c (g .bytes) .list ++ segmentsGiven Q (segment (Q (g .switches)) c (g .bytes) .to) gs .list)
+    ran (segmentsGiven Q (segmentRan (Q (g .switches)) c (g .bytes) .to) gs .to)
+    (segmentRan (Q (g .switches)) c (g .bytes) .list ++ segmentsGiven Q (segmentRan (Q (g .switches)) c (g .bytes) .to) gs .list)
 
 -- the stream that they make
-unfoldable pub stream : List Given → List Marked
+unfoldable pub stream : List GivenSegment → List Marked
 stream [] = []
 stream (g ∷ gs) = map (mark (g .switches)) (g .bytes) ++ stream gs
 
 -- each segment's bytes are bytes
-abbrev pub AllBytes : List Given → Type 0
+abbrev pub AllBytes : List GivenSegment → Type 0
 AllBytes [] = Unit {0}
 AllBytes (g ∷ gs) = Bytes (g .bytes) × AllBytes gs

@@ -3,7 +3,7 @@
 use Prim.Native.Nat.{ℕ, zero, suc, _+_}
 use mathlib.Core.List.{List, [], _∷_}
 use lib.ListN.{length, take, drop}
-use Rattle.feed.specs.Frame.{Sent}
+use Rattle.frame.specs.Frame.{Sent}
 use Rattle.lengths.specs.Head.{Head, ended, short, beyond, whole, headOf}
 
 -- an id and a payload, whose length the header told

@@ -8,7 +8,7 @@ use native.Mathlib.Omega.{arith}
 use native.Mathlib.Numerals.{add-one}
 use lib.Seq.{getD-set-same, getD-set-other, set-out}
 use lib.ListN.{length, getD, set, length-map}
-use Rattle.lists.specs.Each.{each, eachTo, all, allTo}
+use Rattle.lists.specs.Each.{each, eachTo, allFrom, allTo}
 use Rattle.lists.proofs.Both.{and-left, and-right, and-both}
 
 module _ {A : Type 0} (f : ℕ → A → A) where
@@ -52,12 +52,12 @@ module _ {A : Type 0} (f : ℕ → A → Bool) where
       and-assoc (f k x) (allTo f (suc k) i xs) _
       ∙ ap (λ (b : Bool). f k x && b) (ap (λ (n : ℕ). allTo f (suc k) i xs && f n (getD xs i d)) e ∙ all-more (suc k) i xs d l)
 
-  pub all-all : (k : ℕ) (xs : List A) → allTo f k (length xs) xs ≡ all f k xs
+  pub all-all : (k : ℕ) (xs : List A) → allTo f k (length xs) xs ≡ allFrom f k xs
   all-all k [] = refl
   all-all k (x ∷ xs) = ap (λ (b : Bool). f k x && b) (all-all (suc k) xs)
 
   -- what the test says of one element
-  pub all-at : (k i : ℕ) (xs : List A) (d : A) → all f k xs ≡ true → i < length xs → f (k + i) (getD xs i d) ≡ true
+  pub all-at : (k i : ℕ) (xs : List A) (d : A) → allFrom f k xs ≡ true → i < length xs → f (k + i) (getD xs i d) ≡ true
   all-at k i [] d p h = (let z : ⊥ = omega arith in elim z [ ])
   all-at k zero (x ∷ xs) d p h = let e : k + 0 ≡ k = omega arith in ap (λ (n : ℕ). f n x) e ∙ and-left (f k x) _ p
   all-at k (suc i) (x ∷ xs) d p h =
@@ -66,7 +66,7 @@ module _ {A : Type 0} (f : ℕ → A → Bool) where
       ap (λ (n : ℕ). f n (getD xs i d)) e ∙ all-at (suc k) i xs d (and-right (f k x) _ p) l
 
   -- one element replaced by another that meets its test
-  pub all-set : (k i : ℕ) (xs : List A) (y : A) → all f k xs ≡ true → f (k + i) y ≡ true → all f k (set xs i y) ≡ true
+  pub all-set : (k i : ℕ) (xs : List A) (y : A) → allFrom f k xs ≡ true → f (k + i) y ≡ true → allFrom f k (set xs i y) ≡ true
   all-set k i [] y p q = refl
   all-set k zero (x ∷ xs) y p q =
       let e : k + 0 ≡ k = omega arith in
@@ -77,13 +77,13 @@ module _ {A : Type 0} (f : ℕ → A → Bool) where
 
 -- the first i elements changed, or every one, each into one that meets its test
 module _ {A : Type 0} (test : ℕ → A → Bool) (f : ℕ → A → A) where
-  pub all-each : (k i : ℕ) (xs : List A) → all test k xs ≡ true → ((j : ℕ) (x : A) → j < k + i → test j x ≡ true → test j (f j x) ≡ true) → all test k (eachTo f k i xs) ≡ true
+  pub all-each : (k i : ℕ) (xs : List A) → allFrom test k xs ≡ true → ((j : ℕ) (x : A) → j < k + i → test j x ≡ true → test j (f j x) ≡ true) → allFrom test k (eachTo f k i xs) ≡ true
   all-each k zero xs p q = p
   all-each k (suc i) [] p q = refl
   all-each k (suc i) (x ∷ xs) p q =
       and-both (q k x (omega arith) (and-left (test k x) _ p)) (all-each (suc k) i xs (and-right (test k x) _ p) (λ j y l t. q j y (omega arith) t))
 
-  pub all-changed : ((j : ℕ) (x : A) → test j (f j x) ≡ true) → (k : ℕ) (xs : List A) → all test k (each f k xs) ≡ true
+  pub all-changed : ((j : ℕ) (x : A) → test j (f j x) ≡ true) → (k : ℕ) (xs : List A) → allFrom test k (each f k xs) ≡ true
   all-changed q k [] = refl
   all-changed q k (x ∷ xs) = and-both (q k x) (all-changed q (suc k) xs)
 

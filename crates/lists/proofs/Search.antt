@@ -36,14 +36,14 @@ module _ (good : ℕ → Bool) where
       rw e at (inv .1)
 
   -- a test of each in turn, at i: those passed are good
-  abbrev pub Passed : ℕ → ℕ → Type 0
-  Passed n i = (i ≤ n) × (every good i ≡ true)
+  abbrev pub GoodTo : ℕ → ℕ → Type 0
+  GoodTo n i = (i ≤ n) × (every good i ≡ true)
 
-  pub pass-start : (n : ℕ) → Passed n 0
+  pub pass-start : (n : ℕ) → GoodTo n 0
   unfolding every
   pass-start n = (omega arith, refl)
 
-  pub pass-on : (n i : ℕ) → Passed n i → i < n → good i ≡ true → Passed n (i + 1)
+  pub pass-on : (n i : ℕ) → GoodTo n i → i < n → good i ≡ true → GoodTo n (i + 1)
   unfolding every
   pass-on n i inv h g = (omega arith, rw (add-one i, inv .1, g))
 
@@ -56,7 +56,7 @@ module _ (good : ℕ → Bool) where
   pub pass-failed : (n i : ℕ) → i < n → good i ≡ false → false ≡ every good n
   pass-failed n i h g = sym (every-not n i h g)
 
-  pub pass-ended : (n i : ℕ) → Passed n i → n ≤ i → true ≡ every good n
+  pub pass-ended : (n i : ℕ) → GoodTo n i → n ≤ i → true ≡ every good n
   pass-ended n i inv h =
       let e : n ≡ i = omega arith in
       rw e (sym (inv .1))

@@ -18,9 +18,9 @@ module _ {A : Type 0} (f : ℕ → A → A) where
 
 module _ {A : Type 0} (f : ℕ → A → Bool) where
   -- a test of every element at its index, the first of which is k
-  abbrev pub all : ℕ → List A → Bool
-  all k [] = true
-  all k (x ∷ xs) = f k x && all (suc k) xs
+  abbrev pub allFrom : ℕ → List A → Bool
+  allFrom k [] = true
+  allFrom k (x ∷ xs) = f k x && allFrom (suc k) xs
 
   -- of the first i alone
   abbrev pub allTo : ℕ → ℕ → List A → Bool

@@ -10,7 +10,7 @@ use lib.ListN.{length, take, drop, length-append, length-drop, take-append-drop}
 use lib.Seq.{drop-drop, take-length, drop-length}
 use borrow.Author.Tests.{ltb-true, le-ltb}
 use borrow.Rule.Slice.PartMut.{midOf, postOf, putMid}
-use Rattle.feed.specs.Frame.{frame}
+use Rattle.frame.specs.Frame.{frame}
 use Rattle.frame.specs.declared.Framed.the-variants.{Done, TooLong, NoRoom}
 use Rattle.frame.specs.Framing.{framingOf, outAfter, framedOut}
 use Rattle.wire.specs.Lay.{spell, lay}

@@ -4,7 +4,7 @@ use mathlib.Core.Bool.{cond}
 use mathlib.Core.List.{List}
 use lib.Dec.{ltb}
 use lib.ListN.{length}
-use Rattle.feed.specs.Frame.{frame}
+use Rattle.frame.specs.Frame.{frame}
 use Rattle.wire.specs.Lay.{lay}
 
 -- the frame from at on, and all other bytes as they were; nothing where it does not fit or the payload is longer than 1,464 bytes

@@ -13,8 +13,8 @@ unfolding roomFor
 none-for held more = rw (lt-leb held 7 more)
 
 -- a number from k on that is not k is from k + 1 on
-pub step : (k n : ℕ) → k ≤ n → (n ≡ k → ⊥) → k + 1 ≤ n
-step k n least other = omega arith
+pub next-up : (k n : ℕ) → k ≤ n → (n ≡ k → ⊥) → k + 1 ≤ n
+next-up k n least other = omega arith
 
 -- below the room: at most 7 bytes, and a number that fits them
 pub below-room : (held value : ℕ) → ltb value (roomFor held) ≡ (leb held 7 && ltb value (256 ^ held))

@@ -9,9 +9,9 @@ use Rattle.wire.specs.Lay.{lay}
 use Rattle.wire.proofs.Lay.{lay-out, lay-nothing}
 use Rattle.pieces.specs.Pieces.{afterOf}
 
-pub stays : (long at n : ℕ) → long < at + n → at ≡ afterOf long at n
+pub place-stays : (long at n : ℕ) → long < at + n → at ≡ afterOf long at n
 unfolding afterOf
-stays long at n h = rw (lt-leb (at + n) long h)
+place-stays long at n h = rw (lt-leb (at + n) long h)
 
 pub moves : (long at n : ℕ) → at + n ≤ long → at + n ≡ afterOf long at n
 unfolding afterOf
@@ -21,8 +21,8 @@ pub unwritten : (d : List ℕ) (at : ℕ) (x : List ℕ) → length d < at + len
 unwritten d at x h = sym (lay-out d at x h)
 
 -- an empty piece is no piece
-pub nothing : (d : List ℕ) (at : ℕ) → at ≤ length d → d ≡ lay d at []
-nothing d at h = sym (lay-nothing d at)
+pub empty-piece : (d : List ℕ) (at : ℕ) → at ≤ length d → d ≡ lay d at []
+empty-piece d at h = sym (lay-nothing d at)
 
 -- the first n of fewer bytes are all of them
 pub all-of : (l : List ℕ) (n : ℕ) → length l ≤ n → l ≡ take n l

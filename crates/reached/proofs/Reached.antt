@@ -15,13 +15,13 @@ use Rattle.layout.specs.Layout.{rowsOf, bodyBytes, startOf, endOf, rowAt, partO
 use Rattle.rows.specs.Rows.{groupRow, connectionRow, routeRow, destinationRow}
 use Rattle.rows.specs.Rules.{groupGood, connectionGood, routeGood, destinationGood, sizeIn, routesShare, destinationsShare}
 use Rattle.scan.specs.Scan.{share, clearIn, goodIn}
-use Rattle.table.specs.Table.{headGood, entryGood, rule, then, entriesPlace, headPlace, allRowsPlace, checkTable}
+use Rattle.table.specs.Table.{headGood, entryGood, rule, thenCheck, entriesPlace, headPlace, allRowsPlace, checkTable}
 use Rattle.connection.specs.declared.Refusal.the-variants.{Memory, Unsound}
 use Rattle.connection.specs.declared.Event.the-variants.{Open, Close, Connected, Lost, SetRemote, Switch}
 use Rattle.connection.specs.Event.{stepOf}
 use Rattle.connection.specs.Sound.{soundOf, zeroOf}
 use Rattle.state.specs.Fresh.{configOf, freshState}
-use Rattle.feed.specs.On.{isOn}
+use Rattle.switches.specs.Switches.{isOn}
 use Rattle.gate.specs.Sound.{soundAt, recordsSound, soundState}
 use Rattle.gate.specs.Gate.{gateOf, gateAt}
 use Rattle.events.specs.Change.{toldOf, changeOf, eventOf}
@@ -31,28 +31,28 @@ use Rattle.ticks.specs.Tick.{tickEvent}
 use Rattle.choose.specs.Best.{better, chosenOf}
 use Rattle.choose.specs.Choose.{rankOf, scoreOf, scoreAt, chosenIn, deniedOf, arriveOf}
 use Rattle.arrivals.specs.Arrivals.{arrivalOf}
-use Rattle.receive.specs.Answer.{judgedOf, answerOf}
+use Rattle.receive.specs.Answer.{judgedOf, judgedAnswer}
 use Rattle.receive.specs.Segment.{takeOn, segmentOf}
 use Rattle.receive.specs.Walk.{walkOn, walkOf}
 use Rattle.destination.specs.Destination.{refusalOf, lookOf}
 use Rattle.send.specs.Verdict.{verdictOf}
 use Rattle.send.specs.Send.{lookAt, checkOf}
 use Rattle.waiting.specs.Waiting.{takingOf}
-use Rattle.sending.specs.Sending.{sendOf, takenOf}
+use Rattle.sending.specs.Sending.{sendOf, takenWaiting}
 use Rattle.edges.specs.Table.{image, fresh, receiveMemory, sendMemory}
-use Rattle.world.specs.Events.{change, segment, walk, take, datagram, accept, tick, transmit, switchAll, readCount, clearCount, Event, on, all}
+use Rattle.world.specs.Events.{change, segment, walk, takeWaiting, datagram, accept, tick, transmit, switchAll, readCount, clearCount, Event, on, onWhole}
 use Rattle.tie.specs.Machine.{Machine, machine}
 use Rattle.demands.specs.Numbers.{numbersFor, among}
 use Rattle.demands.proofs.Refused.{event-refused}
 use Rattle.reached.specs.Reached.{kindOf, Reached, Example, example, examples, holds, hold}
 
 examples-hold : hold examples ≡ true
-unfolding image be badFrom every foldFrom rowsOf bodyBytes startOf endOf rowAt partOf bodyOf rowIn groupRow connectionRow routeRow destinationRow groupGood connectionGood routeGood destinationGood sizeIn routesShare destinationsShare share clearIn goodIn headGood entryGood rule then entriesPlace headPlace allRowsPlace checkTable stepOf soundOf zeroOf configOf freshState isOn soundAt recordsSound soundState gateOf gateAt toldOf changeOf eventOf switchAllOf ofProtocol readPast readOf clearPast clearOf tickEvent better chosenOf rankOf scoreOf scoreAt chosenIn deniedOf arriveOf arrivalOf judgedOf answerOf takeOn segmentOf walkOn walkOf refusalOf lookOf verdictOf lookAt checkOf takingOf sendOf takenOf
+unfolding image be badFrom every foldFrom rowsOf bodyBytes startOf endOf rowAt partOf bodyOf rowIn groupRow connectionRow routeRow destinationRow groupGood connectionGood routeGood destinationGood sizeIn routesShare destinationsShare share clearIn goodIn headGood entryGood rule thenCheck entriesPlace headPlace allRowsPlace checkTable stepOf soundOf zeroOf configOf freshState isOn soundAt recordsSound soundState gateOf gateAt toldOf changeOf eventOf switchAllOf ofProtocol readPast readOf clearPast clearOf tickEvent better chosenOf rankOf scoreOf scoreAt chosenIn deniedOf arriveOf arrivalOf judgedOf judgedAnswer takeOn segmentOf walkOn walkOf refusalOf lookOf verdictOf lookAt checkOf takingOf sendOf takenWaiting
 examples-hold = refl
 
 -- a table that holds: each of its rows does; past the last one stands the first
 abbrev first : Example
-first = example fresh (all tick) 0
+first = example fresh (onWhole tick) 0
 
 abbrev row : ℕ → Example
 row i = getD examples i first
@@ -82,7 +82,7 @@ eleven e =
 
 -- 12: no table
 twelve : (e : Event) → Reached (kindOf e) 12
-unfolding headGood entryGood rule then entriesPlace headPlace allRowsPlace checkTable soundState gateOf
+unfolding headGood entryGood rule thenCheck entriesPlace headPlace allRowsPlace checkTable soundState gateOf
 twelve e =
     let m : Machine = machine fresh receiveMemory sendMemory in
     record { image = []; machine = m; event = e; of-kind = refl; answered = event-refused [] m Unsound refl e }
@@ -104,7 +104,7 @@ pick P n (x ∷ xs) ps h = go (eqb n x) refl h (pick P n xs (ps .1))
 -- EVERY KIND OF EVENT
 all-reached : (e : Event) → Each (Reached (kindOf e)) (numbersFor e)
 unfolding kindOf numbersFor
-all-reached (all tick) = (eleven (all tick), (twelve (all tick), (at 0, tt)))
+all-reached (onWhole tick) = (eleven (onWhole tick), (twelve (onWhole tick), (at 0, tt)))
 all-reached (on k (change Open)) = let e : Event = on k (change Open) in (eleven e, (twelve e, (at 1, (at 2, (at 3, tt)))))
 all-reached (on k (change Close)) = let e : Event = on k (change Close) in (eleven e, (twelve e, (at 4, (at 5, (at 6, tt)))))
 all-reached (on k (change Connected)) = let e : Event = on k (change Connected) in (eleven e, (twelve e, (at 7, (at 8, (at 9, tt)))))
@@ -113,14 +113,14 @@ all-reached (on k (change (SetRemote r))) = let e : Event = on k (change (SetRem
 all-reached (on k (change (Switch n b))) = let e : Event = on k (change (Switch n b)) in (eleven e, (twelve e, (at 16, (at 17, tt))))
 all-reached (on k (segment bytes)) = let e : Event = on k (segment bytes) in (eleven e, (twelve e, (at 18, (at 19, (at 20, (at 21, tt))))))
 all-reached (on k (walk d p)) = let e : Event = on k (walk d p) in (eleven e, (twelve e, (at 22, (at 23, (at 24, (at 25, tt))))))
-all-reached (on k (take room)) = let e : Event = on k (take room) in (eleven e, (twelve e, (at 26, (at 27, (at 28, tt)))))
-all-reached (all (datagram g s)) = let e : Event = all (datagram g s) in (eleven e, (twelve e, (at 29, (at 30, (at 31, (at 32, tt))))))
-all-reached (all (accept g s)) = let e : Event = all (accept g s) in (eleven e, (twelve e, (at 33, (at 34, (at 35, (at 36, tt))))))
-all-reached (all (transmit p b)) =
-    let e : Event = all (transmit p b) in (eleven e, (twelve e, (at 37, (at 38, (at 39, (at 40, (at 41, (at 42, tt))))))))
-all-reached (all (switchAll n b)) = let e : Event = all (switchAll n b) in (eleven e, (twelve e, (at 43, (at 44, tt))))
-all-reached (all (readCount p)) = let e : Event = all (readCount p) in (eleven e, (twelve e, (at 45, (at 46, tt))))
-all-reached (all (clearCount p)) = let e : Event = all (clearCount p) in (eleven e, (twelve e, (at 47, (at 48, tt))))
+all-reached (on k (takeWaiting room)) = let e : Event = on k (takeWaiting room) in (eleven e, (twelve e, (at 26, (at 27, (at 28, tt)))))
+all-reached (onWhole (datagram g s)) = let e : Event = onWhole (datagram g s) in (eleven e, (twelve e, (at 29, (at 30, (at 31, (at 32, tt))))))
+all-reached (onWhole (accept g s)) = let e : Event = onWhole (accept g s) in (eleven e, (twelve e, (at 33, (at 34, (at 35, (at 36, tt))))))
+all-reached (onWhole (transmit p b)) =
+    let e : Event = onWhole (transmit p b) in (eleven e, (twelve e, (at 37, (at 38, (at 39, (at 40, (at 41, (at 42, tt))))))))
+all-reached (onWhole (switchAll n b)) = let e : Event = onWhole (switchAll n b) in (eleven e, (twelve e, (at 43, (at 44, tt))))
+all-reached (onWhole (readCount p)) = let e : Event = onWhole (readCount p) in (eleven e, (twelve e, (at 45, (at 46, tt))))
+all-reached (onWhole (clearCount p)) = let e : Event = onWhole (clearCount p) in (eleven e, (twelve e, (at 47, (at 48, tt))))
 
 pub reached : (e : Event) (n : ℕ) → among n (numbersFor e) ≡ true → Reached (kindOf e) n
 reached e n h = pick (Reached (kindOf e)) n (numbersFor e) (all-reached e) h

@@ -10,7 +10,7 @@ use lib.ListN.{replicate, set}
 use Rattle.connection.specs.declared.Mode.the-variants.{Reconnect}
 use Rattle.connection.specs.declared.Event.the-variants.{Open, Close, Connected, Lost, SetRemote, Switch}
 use Rattle.state.specs.declared.State.{State}
-use Rattle.world.specs.Events.{change, segment, walk, take, datagram, accept, tick, transmit, switchAll, readCount, clearCount, Event, on, all}
+use Rattle.world.specs.Events.{change, segment, walk, takeWaiting, datagram, accept, tick, transmit, switchAll, readCount, clearCount, Event, on, onWhole}
 use Rattle.tie.specs.Machine.{Machine, machine}
 use Rattle.demands.specs.Numbers.{numberOf}
 use Rattle.edges.specs.Table.{image, fresh, waitingFor, used, exact, receiveMemory, sendMemory}
@@ -18,7 +18,7 @@ use Rattle.changes.specs.Changes.{stands, met, peer}
 
 -- the kind of an event, by its number in docs/EVENTS.md
 unfoldable pub kindOf : Event → ℕ
-kindOf (all tick) = 0
+kindOf (onWhole tick) = 0
 kindOf (on k (change Open)) = 1
 kindOf (on k (change Close)) = 2
 kindOf (on k (change Connected)) = 3
@@ -27,13 +27,13 @@ kindOf (on k (change (SetRemote remote))) = 5
 kindOf (on k (change (Switch number position))) = 6
 kindOf (on k (segment bytes)) = 7
 kindOf (on k (walk d place)) = 8
-kindOf (on k (take room)) = 9
-kindOf (all (datagram group source)) = 10
-kindOf (all (accept group source)) = 11
-kindOf (all (transmit pdu payload)) = 12
-kindOf (all (switchAll number position)) = 13
-kindOf (all (readCount protocol)) = 14
-kindOf (all (clearCount protocol)) = 15
+kindOf (on k (takeWaiting room)) = 9
+kindOf (onWhole (datagram group source)) = 10
+kindOf (onWhole (accept group source)) = 11
+kindOf (onWhole (transmit pdu payload)) = 12
+kindOf (onWhole (switchAll number position)) = 13
+kindOf (onWhole (readCount protocol)) = 14
+kindOf (onWhole (clearCount protocol)) = 15
 
 -- an event of a kind is answered a number
 pub record Reached (kind number : ℕ) : Type 0 where
@@ -60,7 +60,7 @@ shut = set image 151 1
 
 abbrev pub examples : List Example
 examples =
-    example fresh (all tick) 0
+    example fresh (onWhole tick) 0
     -- open, close, connected, lost, set remote: 2, 3, 0
     ∷ example fresh (on 3 (change Open)) 2
     ∷ example (used 10) (on 2 (change Open)) 3
@@ -90,32 +90,32 @@ examples =
     ∷ example fresh (on 0 (walk [] 0)) 4
     ∷ example met (on 0 (walk [] 0)) 0
     -- take waiting: 2, 9, 0
-    ∷ example fresh (on 3 (take 0)) 2
-    ∷ example (used 10) (on 2 (take 9)) 9
-    ∷ example (used 10) (on 2 (take 10)) 0
+    ∷ example fresh (on 3 (takeWaiting 0)) 2
+    ∷ example (used 10) (on 2 (takeWaiting 9)) 9
+    ∷ example (used 10) (on 2 (takeWaiting 10)) 0
     -- datagram and accept: 2, 3, 10, 0
-    ∷ example fresh (all (datagram 2 exact)) 2
-    ∷ example fresh (all (datagram 1 exact)) 3
-    ∷ example fresh (all (datagram 0 exact)) 10
-    ∷ example waitingFor (all (datagram 0 exact)) 0
-    ∷ example fresh (all (accept 2 peer)) 2
-    ∷ example fresh (all (accept 0 peer)) 3
-    ∷ example fresh (all (accept 1 peer)) 10
-    ∷ example (stands 2 Reconnect false false) (all (accept 1 peer)) 0
+    ∷ example fresh (onWhole (datagram 2 exact)) 2
+    ∷ example fresh (onWhole (datagram 1 exact)) 3
+    ∷ example fresh (onWhole (datagram 0 exact)) 10
+    ∷ example waitingFor (onWhole (datagram 0 exact)) 0
+    ∷ example fresh (onWhole (accept 2 peer)) 2
+    ∷ example fresh (onWhole (accept 0 peer)) 3
+    ∷ example fresh (onWhole (accept 1 peer)) 10
+    ∷ example (stands 2 Reconnect false false) (onWhole (accept 1 peer)) 0
     -- transmit: 5, 6, 4, 7, 8, 0
-    ∷ example fresh (all (transmit 8 [])) 5
-    ∷ record { table = shut; state = fresh; event = all (transmit 9 []); number = 6 }
-    ∷ example fresh (all (transmit 9 [])) 4
-    ∷ example (used 10) (all (transmit 9 (replicate 1465 0))) 7
-    ∷ example (used 1463) (all (transmit 9 (1 ∷ 2 ∷ []))) 8
-    ∷ example (used 1462) (all (transmit 9 (1 ∷ 2 ∷ []))) 0
+    ∷ example fresh (onWhole (transmit 8 [])) 5
+    ∷ record { table = shut; state = fresh; event = onWhole (transmit 9 []); number = 6 }
+    ∷ example fresh (onWhole (transmit 9 [])) 4
+    ∷ example (used 10) (onWhole (transmit 9 (replicate 1465 0))) 7
+    ∷ example (used 1463) (onWhole (transmit 9 (1 ∷ 2 ∷ []))) 8
+    ∷ example (used 1462) (onWhole (transmit 9 (1 ∷ 2 ∷ []))) 0
     -- a switch on all connections: 2, 0; the counts: 3, 0
-    ∷ example fresh (all (switchAll 32 true)) 2
-    ∷ example fresh (all (switchAll 31 true)) 0
-    ∷ example fresh (all (readCount 0)) 3
-    ∷ example fresh (all (readCount 1)) 0
-    ∷ example fresh (all (clearCount 3)) 3
-    ∷ example fresh (all (clearCount 2)) 0
+    ∷ example fresh (onWhole (switchAll 32 true)) 2
+    ∷ example fresh (onWhole (switchAll 31 true)) 0
+    ∷ example fresh (onWhole (readCount 0)) 3
+    ∷ example fresh (onWhole (readCount 1)) 0
+    ∷ example fresh (onWhole (clearCount 3)) 3
+    ∷ example fresh (onWhole (clearCount 2)) 0
     ∷ []
 
 abbrev pub holds : Example → Bool

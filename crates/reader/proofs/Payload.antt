@@ -9,25 +9,25 @@ use Rattle.feed.specs.declared.Decision.the-variants.{Accept, Refuse}
 use Rattle.feed.specs.Feed.{Routes, Out}
 use Rattle.layout.specs.Layout.{partOf}
 use Rattle.lengths.specs.Head.{Head, ended, short, beyond, whole, headOf}
-use Rattle.walk.specs.Walk.{wholeAt, stepOf, walkAt, told}
-use Rattle.wire.proofs.Part.{rest-is}
+use Rattle.walk.specs.Walk.{wholeAt, walkStep, walkAt, outsTold}
+use Rattle.wire.proofs.Part.{part-to-end}
 use Rattle.walk.proofs.Steps.{whole-place}
 use Rattle.datagram.specs.declared.Outcome.{Outcome}
 use Rattle.datagram.specs.declared.Outcome.the-variants.{Pdu}
-use Rattle.datagram.specs.Datagram.{outcomeOf}
+use Rattle.datagram.specs.Datagram.{walkOutcome}
 use Rattle.reader.specs.Reader.{payloadIn, tellOf}
 
 -- THE PAYLOAD HANDED OUT is all of the payload that the walk found there
-pub told-is : (R : Routes) (d : List ℕ) (p : ℕ) (later : List Out) → p ≤ length d → tellOf d (outcomeOf (walkAt R d p .found)) later ≡ told d (walkAt R d p .found) later
+pub told-is : (R : Routes) (d : List ℕ) (p : ℕ) (later : List Out) → p ≤ length d → tellOf d (walkOutcome (walkAt R d p .found)) later ≡ outsTold d (walkAt R d p .found) later
 unfolding walkAt payloadIn partOf
 told-is R d p later le = go (headOf (drop p d)) refl
   where
-    by : (q : Decision) (i n : ℕ) → p + 8 + n ≤ length d → tellOf d (outcomeOf (wholeAt q p i n .found)) later ≡ told d (wholeAt q p i n .found) later
+    by : (q : Decision) (i n : ℕ) → p + 8 + n ≤ length d → tellOf d (walkOutcome (wholeAt q p i n .found)) later ≡ outsTold d (wholeAt q p i n .found) later
     by (Accept r) i n w = rw (le-leb (p + 8 + n) (length d) w)
     by (Refuse k) i n w = refl
 
-    go : (h : Head) → headOf (drop p d) ≡ h → tellOf d (outcomeOf (stepOf R (length d) p h .found)) later ≡ told d (stepOf R (length d) p h .found) later
+    go : (h : Head) → headOf (drop p d) ≡ h → tellOf d (walkOutcome (walkStep R (length d) p h .found)) later ≡ outsTold d (walkStep R (length d) p h .found) later
     go ended e = refl
     go short e = refl
     go (beyond i n) e = refl
-    go (whole i n) e = by (R i n) i n (whole-place d p i n le (ap headOf (rest-is d p) ∙ e))
+    go (whole i n) e = by (R i n) i n (whole-place d p i n le (ap headOf (part-to-end d p) ∙ e))

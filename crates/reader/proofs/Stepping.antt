@@ -10,7 +10,8 @@ use borrow.Author.Tests.{le-leb, leb-true}
 use denote.Ref.{RefT, now}
 use Rattle.lists.proofs.Both.{and-left, and-right, and-both}
 use Rattle.feed.specs.Feed.{Routes, Pdu, asOut}
-use Rattle.feed.specs.Frame.{Sent, Routed, frames}
+use Rattle.frame.specs.Frame.{Sent, frames}
+use Rattle.feed.specs.Routed.{Routed}
 use Rattle.layout.specs.Layout.{bodyOf}
 use Rattle.layout.specs.declared.Kind.the-variants.{Route as RouteRows}
 use Rattle.connection.specs.declared.Connection.{Connection}
@@ -22,12 +23,12 @@ use Rattle.walk.specs.Walk.{walkAt, walks, listOf}
 use Rattle.walk.proofs.Steps.{next-within, walk-list}
 use Rattle.walk.proofs.Trip.{round-trip}
 use Rattle.datagram.specs.declared.Walked.{Walked}
-use Rattle.datagram.specs.Datagram.{outcomeOf, stepped, walkedOf}
+use Rattle.datagram.specs.Datagram.{walkOutcome, stepped, walkedOf}
 use Rattle.gate.specs.Lent.{Lent, next}
 use Rattle.gate.specs.Gate.{gateOf, gateAt}
 use Rattle.gate.specs.Sound.{soundState}
 use Rattle.receive.specs.declared.DatagramWalked.{DatagramWalked}
-use Rattle.receive.specs.Answer.{isDone, answerOf}
+use Rattle.receive.specs.Answer.{isDone, judgedAnswer}
 use Rattle.receive.specs.Walk.{walkedAt, walkOn, noneWalked, walkAllowed, walkAnswer, walkOf}
 use Rattle.receive.specs.Routes.{routesIn}
 use Rattle.receive.proofs.Answers.{done-clear}
@@ -48,9 +49,9 @@ refused-reader r l k h = ap (λ (a : DatagramWalked). movedTo r (a .next)) (refu
 
 module _ (l : Lent) (k : ℕ) (d : List ℕ) where
   -- what refuses a walk is told by the records, not by the counts
-  by-records : (t : State) (allowed : Bool) → t .connections ≡ l .state .connections → answerOf (next l t) k allowed ≡ answerOf l k allowed
-  unfolding answerOf gateAt gateOf soundState
-  by-records t allowed e = ap (λ (cs : List Connection). answerOf (next l (record { connections = cs; «udp_drops» = 0; «tcp_drops» = 0 })) k allowed) e
+  by-records : (t : State) (allowed : Bool) → t .connections ≡ l .state .connections → judgedAnswer (next l t) k allowed ≡ judgedAnswer l k allowed
+  unfolding judgedAnswer gateAt gateOf soundState
+  by-records t allowed e = ap (λ (cs : List Connection). judgedAnswer (next l (record { connections = cs; «udp_drops» = 0; «tcp_drops» = 0 })) k allowed) e
 
   module _ (p : ℕ) (done : isDone (walkAnswer l k d p) ≡ true) where
     allows : walkAllowed (l .image) k d p ≡ true
@@ -63,7 +64,7 @@ module _ (l : Lent) (k : ℕ) (d : List ℕ) where
     still-done : (t : State) (q : ℕ) → t .connections ≡ l .state .connections → q ≤ length d → isDone (walkAnswer (next l t) k d q) ≡ true
     still-done t q e le =
         let allowed : walkAllowed (l .image) k d q ≡ true = and-both (and-left (not (configOf (l .image) k .tcp)) (leb p (length d)) allows) (le-leb q (length d) le) in
-        ap isDone (by-records t (walkAllowed (l .image) k d q) e ∙ ap (answerOf l k) (allowed ∙ sym allows)) ∙ done
+        ap isDone (by-records t (walkAllowed (l .image) k d q) e ∙ ap (judgedAnswer l k) (allowed ∙ sym allows)) ∙ done
 
     goes-on : walkOf l k d p ≡ walkOn (l .image) (l .state) k d p
     unfolding walkOf
@@ -85,7 +86,7 @@ module _ (l : Lent) (k : ℕ) (x : RefT (List ℕ)) where
     unfolding walkedOf
     walked-is = ap (λ (cs : List Connection). stepped (walkAt (lookupOf (bodyOf (l .image) RouteRows) k (getD cs k zeroRecord .switches)) d p)) e
 
-    outcome-is : w .outcome ≡ outcomeOf (walkAt R d p .found)
+    outcome-is : w .outcome ≡ walkOutcome (walkAt R d p .found)
     unfolding walkOn
     outcome-is = ap (λ (a : DatagramWalked). a .outcome) (goes-on (next l s) k d p done) ∙ ap (λ (a : Walked). a .outcome) walked-is
 

@@ -39,8 +39,8 @@ payloadInAt datagram (Pdu route id at n) = partAt datagram at n
 payloadInAt datagram (Drop reason id n) = 0
 
 -- a part of a lent datagram: these bytes of it, at this place
-abbrev pub Found : RefT (List ℕ) → Outcome → RefT (List ℕ) → Type 0
-Found datagram outcome r = (now r ≡ payloadIn (now datagram) outcome) × (ptr r ≡ behind (ptr datagram) (payloadInAt (now datagram) outcome))
+abbrev pub PayloadFound : RefT (List ℕ) → Outcome → RefT (List ℕ) → Type 0
+PayloadFound datagram outcome r = (now r ≡ payloadIn (now datagram) outcome) × (ptr r ≡ behind (ptr datagram) (payloadInAt (now datagram) outcome))
 
 -- what an answer tells, before what later answers tell: a PDU with its payload, a drop, or nothing any more
 abbrev pub tellOf : List ℕ → Outcome → List Out → List Out

@@ -2,16 +2,16 @@
 -- Assumes nothing.
 use mathlib.Core.Path.{refl}
 use Rattle.wire.specs.Be.{be}
-use Rattle.feed.specs.Feed.{done, feed, takeB, takes, segment, segments}
-use Rattle.feed.specs.On.{isOn}
+use Rattle.feed.specs.Feed.{pieceDone, feed, takeB, takes, segmentRan, segments}
+use Rattle.switches.specs.Switches.{isOn}
 use Rattle.lengths.specs.Head.{headOf}
 use Rattle.lengths.specs.Split.{splits, split}
 use Rattle.walk.specs.Walk.{walkAt, listOf}
 use Rattle.readings.specs.Edges.{rows, ReadingEdges}
 
-pub edges : ReadingEdges
-unfolding be done feed takeB takes segment segments headOf splits split isOn walkAt listOf rows
-edges =
+pub reading-edges : ReadingEdges
+unfolding be pieceDone feed takeB takes segmentRan segments headOf splits split isOn walkAt listOf rows
+reading-edges =
     record {
       the-pdu = refl;
       payload-180 = refl;

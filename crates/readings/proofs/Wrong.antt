@@ -5,11 +5,11 @@ use mathlib.Core.Path.{_≡_, refl, sym, ap, _∙_}
 use mathlib.Core.List.{List, [], _∷_, _++_, map}
 use native.Mathlib.Omega.{arith}
 use lib.ListN.{length, take, drop, length-drop}
-use Rattle.feed.specs.Feed.{Routes, Cell, cell, header, Out, nothing, pdu, dropped, done, feed, ready, Took, takeB, bytesRead, Ran, takes, segment, pdus}
-use Rattle.feed.specs.On.{isOn}
+use Rattle.feed.specs.Feed.{Routes, Cell, cell, header, Out, nothing, pdu, dropped, pieceDone, feed, ready, Took, takeB, bytesRead, Ran, takes, segmentRan, pdus}
+use Rattle.switches.specs.Switches.{isOn}
 use Rattle.lengths.specs.Listed.{mark, readOut}
-use Rattle.readings.specs.Edges.{rows, table, bar, two, none, unknown}
-use Rattle.readings.specs.Wrong.{Take, Segment, Stream, IsTake, IsSegment, IsStream, AlwaysMore, FirstRoute, FreshHeader, ReadsAll, FirstOnly, Closing, TestedLate}
+use Rattle.readings.specs.Edges.{rows, readingTable, bar, headerTwo, frameEmpty, frameUnknown}
+use Rattle.readings.specs.Wrong.{TakeReading, SegmentReading, StreamReading, IsTake, IsSegment, IsStream, AlwaysMore, FirstRoute, FreshHeader, ReadsAll, FirstOnly, Closing, TestedLate}
 
 -- 1 where a PDU came out
 abbrev came : Out → ℕ
@@ -18,33 +18,33 @@ came (pdu r p) = 1
 came (dropped k i n) = 0
 
 -- at the ten bytes of PDU 0x101, switched on
-pub no-always-more : (t : Take) → IsTake t → AlwaysMore t → ⊥
-unfolding takeB feed done isOn rows
+pub no-always-more : (t : TakeReading) → IsTake t → AlwaysMore t → ⊥
+unfolding takeB feed pieceDone isOn rows
 no-always-more t is wrong =
-    let e : came (takeB (table 1) ready bar .out) ≡ came nothing = ap came (ap (λ (x : Took). x .out) (sym (is (table 1) ready bar)) ∙ wrong (table 1) ready bar) in
+    let e : came (takeB (readingTable 1) ready bar .out) ≡ came nothing = ap came (ap (λ (x : Took). x .out) (sym (is (readingTable 1) ready bar)) ∙ wrong (readingTable 1) ready bar) in
     let z : _≡_ {A = ℕ} 1 0 = e in absurd (omega arith)
 
 -- at PDU 0x102, whose route is the second row
-pub no-first-route : (t : Take) → IsTake t → FirstRoute t → ⊥
-unfolding takeB feed done isOn rows
+pub no-first-route : (t : TakeReading) → IsTake t → FirstRoute t → ⊥
+unfolding takeB feed pieceDone isOn rows
 no-first-route t is wrong =
-    let z : _≡_ {A = ℕ} 1 0 = wrong (table 1) ready (two ++ 0x46 ∷ 0x50 ∷ []) 1 (0x46 ∷ 0x50 ∷ []) (ap (λ (x : Took). x .out) (is (table 1) ready (two ++ 0x46 ∷ 0x50 ∷ []))) in
+    let z : _≡_ {A = ℕ} 1 0 = wrong (readingTable 1) ready (headerTwo ++ 0x46 ∷ 0x50 ∷ []) 1 (0x46 ∷ 0x50 ∷ []) (ap (λ (x : Took). x .out) (is (readingTable 1) ready (headerTwo ++ 0x46 ∷ 0x50 ∷ []))) in
     absurd (omega arith)
 
 -- at the ten bytes cut after byte 3: the seven that follow are no header
-pub no-fresh-header : (t : Take) → IsTake t → FreshHeader t → ⊥
-unfolding takeB feed done isOn rows
+pub no-fresh-header : (t : TakeReading) → IsTake t → FreshHeader t → ⊥
+unfolding takeB feed pieceDone isOn rows
 no-fresh-header t is wrong =
     let c : Cell = cell 5 (header 1) in
-    let e : takeB (table 1) c (drop 3 bar) ≡ takeB (table 1) ready (drop 3 bar) = sym (is (table 1) c (drop 3 bar)) ∙ wrong (table 1) c (drop 3 bar) ∙ is (table 1) ready (drop 3 bar) in
+    let e : takeB (readingTable 1) c (drop 3 bar) ≡ takeB (readingTable 1) ready (drop 3 bar) = sym (is (readingTable 1) c (drop 3 bar)) ∙ wrong (readingTable 1) c (drop 3 bar) ∙ is (readingTable 1) ready (drop 3 bar) in
     let z : _≡_ {A = ℕ} 1 0 = ap (λ (x : Took). came (x .out)) e in
     absurd (omega arith)
 
 -- at a PDU with more behind it: ten bytes of eighteen are read
-pub no-reading-all : (t : Take) → IsTake t → ReadsAll t → ⊥
-unfolding takeB feed done isOn rows
+pub no-reading-all : (t : TakeReading) → IsTake t → ReadsAll t → ⊥
+unfolding takeB feed pieceDone isOn rows
 no-reading-all t is wrong =
-    let z : _≡_ {A = ℕ} 10 18 = ap (bytesRead (bar ++ none)) (sym (is (table 1) ready (bar ++ none))) ∙ wrong (table 1) ready (bar ++ none) in
+    let z : _≡_ {A = ℕ} 10 18 = ap (bytesRead (bar ++ frameEmpty)) (sym (is (readingTable 1) ready (bar ++ frameEmpty))) ∙ wrong (readingTable 1) ready (bar ++ frameEmpty) in
     absurd (omega arith)
 
 -- and at every input: a take that leaves what stands behind n bytes is not the take, unless n is the take's count
@@ -54,26 +54,26 @@ no-other-count R c bs t n le e is =
     omega (arith, long)
 
 -- at two PDUs in one segment
-pub no-first-only : (s : Segment) → IsSegment s → FirstOnly s → ⊥
-unfolding segment takes takeB feed done isOn rows pdus
+pub no-first-only : (s : SegmentReading) → IsSegment s → FirstOnly s → ⊥
+unfolding segmentRan takes takeB feed pieceDone isOn rows pdus
 no-first-only s is wrong =
-    let e : length (pdus (s (table 1) ready (bar ++ bar) .list)) ≡ 2 = ap (λ (x : Ran). length (pdus (x .list))) (is (table 1) ready (bar ++ bar)) in
-    absurd (omega (arith, e, wrong (table 1) ready (bar ++ bar)))
+    let e : length (pdus (s (readingTable 1) ready (bar ++ bar) .list)) ≡ 2 = ap (λ (x : Ran). length (pdus (x .list))) (is (readingTable 1) ready (bar ++ bar)) in
+    absurd (omega (arith, e, wrong (readingTable 1) ready (bar ++ bar)))
 
 -- at an unknown id with a PDU behind it
-pub no-closing : (s : Segment) → IsSegment s → Closing s → ⊥
-unfolding segment takes takeB feed done isOn rows
+pub no-closing : (s : SegmentReading) → IsSegment s → Closing s → ⊥
+unfolding segmentRan takes takeB feed pieceDone isOn rows
 no-closing s is wrong =
-    let e : pdu 0 (0 ∷ 180 ∷ []) ∷ [] ≡ [] = wrong (table 1) ready (unknown ++ bar) 0x103 2 (pdu 0 (0 ∷ 180 ∷ []) ∷ []) (ap (λ (x : Ran). x .list) (is (table 1) ready (unknown ++ bar))) in
+    let e : pdu 0 (0 ∷ 180 ∷ []) ∷ [] ≡ [] = wrong (readingTable 1) ready (frameUnknown ++ bar) 0x103 2 (pdu 0 (0 ∷ 180 ∷ []) ∷ []) (ap (λ (x : Ran). x .list) (is (readingTable 1) ready (frameUnknown ++ bar))) in
     let z : _≡_ {A = ℕ} 1 0 = ap length e in
     absurd (omega arith)
 
 -- at a PDU that is switched off between its header and its payload: it is handed out
-pub no-tested-late : (f : Stream) → IsStream f → TestedLate f → ⊥
-unfolding readOut feed done isOn rows pdus
+pub no-tested-late : (f : StreamReading) → IsStream f → TestedLate f → ⊥
+unfolding readOut feed pieceDone isOn rows pdus
 no-tested-late f is wrong =
     let h : List ℕ = take 8 bar in
     let p : List ℕ = drop 8 bar in
     let z : _≡_ {A = ℕ} 1 0 =
-    ap length (sym (is table (map (mark 1) h ++ map (mark 0) p)) ∙ wrong table 1 0 h p refl (omega arith) ∙ is table (map (mark 0) (h ++ p))) in
+    ap length (sym (is readingTable (map (mark 1) h ++ map (mark 0) p)) ∙ wrong readingTable 1 0 h p refl (omega arith) ∙ is readingTable (map (mark 0) (h ++ p))) in
     absurd (omega arith)

@@ -5,53 +5,53 @@ use Prim.Native.Nat.{ℕ, _≤_}
 use mathlib.Core.Path.{_≡_}
 use mathlib.Core.List.{List, [], _∷_, _++_, map}
 use lib.ListN.{length}
-use Rattle.feed.specs.Feed.{Routes, Cell, Out, nothing, pdu, dropped, ready, Took, takeB, bytesRead, Ran, segment, Pdu, pdus}
+use Rattle.feed.specs.Feed.{Routes, Cell, Out, nothing, pdu, dropped, ready, Took, takeB, bytesRead, Ran, segmentRan, Pdu, pdus}
 use Rattle.lengths.specs.Listed.{Marked, mark, readOut}
 
-abbrev pub Take : Type 0
-Take = Routes → Cell → List ℕ → Took
+abbrev pub TakeReading : Type 0
+TakeReading = Routes → Cell → List ℕ → Took
 
-abbrev pub Segment : Type 0
-Segment = Routes → Cell → List ℕ → Ran
+abbrev pub SegmentReading : Type 0
+SegmentReading = Routes → Cell → List ℕ → Ran
 
-abbrev pub Stream : Type 0
-Stream = (ℕ → Routes) → List Marked → List Pdu
+abbrev pub StreamReading : Type 0
+StreamReading = (ℕ → Routes) → List Marked → List Pdu
 
 -- the definition is met
-abbrev pub IsTake : Take → Type 0
+abbrev pub IsTake : TakeReading → Type 0
 IsTake t = (R : Routes) (c : Cell) (bs : List ℕ) → t R c bs ≡ takeB R c bs
 
-abbrev pub IsSegment : Segment → Type 0
-IsSegment s = (R : Routes) (c : Cell) (bs : List ℕ) → s R c bs ≡ segment R c bs
+abbrev pub IsSegment : SegmentReading → Type 0
+IsSegment s = (R : Routes) (c : Cell) (bs : List ℕ) → s R c bs ≡ segmentRan R c bs
 
-abbrev pub IsStream : Stream → Type 0
+abbrev pub IsStream : StreamReading → Type 0
 IsStream f = (Q : ℕ → Routes) (ms : List Marked) → f Q ms ≡ pdus (readOut Q ready ms)
 
 -- "a stream that always wants more"
-abbrev pub AlwaysMore : Take → Type 0
+abbrev pub AlwaysMore : TakeReading → Type 0
 AlwaysMore t = (R : Routes) (c : Cell) (bs : List ℕ) → t R c bs .out ≡ nothing
 
 -- "a take that always hands out the first route"
-abbrev pub FirstRoute : Take → Type 0
+abbrev pub FirstRoute : TakeReading → Type 0
 FirstRoute t = (R : Routes) (c : Cell) (bs : List ℕ) (r : ℕ) (p : List ℕ) → t R c bs .out ≡ pdu r p → r ≡ 0
 
 -- "treating every read as a fresh header": what the connection holds does not count
-abbrev pub FreshHeader : Take → Type 0
+abbrev pub FreshHeader : TakeReading → Type 0
 FreshHeader t = (R : Routes) (c : Cell) (bs : List ℕ) → t R c bs ≡ t R ready bs
 
 -- "a made-up read count": here, that of a take which says that it read all
-abbrev pub ReadsAll : Take → Type 0
+abbrev pub ReadsAll : TakeReading → Type 0
 ReadsAll t = (R : Routes) (c : Cell) (bs : List ℕ) → bytesRead bs (t R c bs) ≡ length bs
 
 -- "a stream that reads the first PDU and skips later ones"
-abbrev pub FirstOnly : Segment → Type 0
+abbrev pub FirstOnly : SegmentReading → Type 0
 FirstOnly s = (R : Routes) (c : Cell) (bs : List ℕ) → length (pdus (s R c bs .list)) ≤ 1
 
 -- "closing on an unknown id instead of skipping": nothing comes after a drop 20
-abbrev pub Closing : Segment → Type 0
+abbrev pub Closing : SegmentReading → Type 0
 Closing s = (R : Routes) (c : Cell) (bs : List ℕ) (i n : ℕ) (os : List Out) → s R c bs .list ≡ dropped 20 i n ∷ os → os ≡ []
 
 -- "testing the switch when the payload ends": the switches v at the payload decide, whatever those at the header were
-abbrev pub TestedLate : Stream → Type 0
+abbrev pub TestedLate : StreamReading → Type 0
 TestedLate f = (Q : ℕ → Routes) (w v : ℕ) (h p : List ℕ) → length h ≡ 8 → 1 ≤ length p
     → f Q (map (mark w) h ++ map (mark v) p) ≡ f Q (map (mark v) (h ++ p))

@@ -13,13 +13,13 @@ use Rattle.reason.specs.declared.Told.{Told}
 pub no-room : (longest size : ℕ) → size < 8 → false ≡ leb (longest + 8) size
 no-room longest size h = sym (lt-leb (longest + 8) size (omega arith))
 
-pub room-left : (longest size : ℕ) → 8 ≤ size → leb longest (size - 8) ≡ leb (longest + 8) size
-room-left longest size h = go (decLe longest (size - 8))
+pub size-left : (longest size : ℕ) → 8 ≤ size → leb longest (size - 8) ≡ leb (longest + 8) size
+size-left longest size h = go (decLe longest (size - 8))
   where
     go : Dec (longest ≤ size - 8) → leb longest (size - 8) ≡ leb (longest + 8) size
     go (yes l) = le-leb longest (size - 8) l ∙ sym (le-leb (longest + 8) size (omega arith))
     go (no n) = lt-leb longest (size - 8) (omega arith) ∙ sym (lt-leb (longest + 8) size (omega arith))
 
-pub next : (f : Fault) {x v n m : ℕ} {r rest rest′ : Told}
+pub next-fault : (f : Fault) {x v n m : ℕ} {r rest rest′ : Told}
     → r ≡ unless f x n rest → x ≡ v → n ≡ m → rest ≡ rest′ → r ≡ unless f v m rest′
-next f e p q d = e ∙ rw (p, q, d)
+next-fault f e p q d = e ∙ rw (p, q, d)

@@ -19,11 +19,11 @@ use Rattle.table.specs.Table.{headGood, entryGood, rule, rowGood, demand, headP
 use Rattle.table.specs.declared.TableAnswer.the-variants.{Accepted, Refused}
 use Rattle.table.proofs.Answers.{then-first, then-second, demand-held}
 use Rattle.table.proofs.Facts.{accepted-row}
-use Rattle.reason.specs.Spots.{placeOf, spotOf}
+use Rattle.reason.specs.Spots.{spotPlace, spotOf}
 use Rattle.reason.specs.Faults.{
-  toldOf,
-  none,
-  passes,
+  faultTold,
+  noFault,
+  passesTest,
   unless,
   headFault,
   entryFault,
@@ -32,11 +32,11 @@ use Rattle.reason.specs.Faults.{
   connectionFault,
   routeFault,
   destinationFault,
-  clearOf,
+  sharesNothing,
   sharedFault,
   rowFault,
   faultAt,
-  reasonOf,
+  reasonAt,
 }
 use Rattle.reason.specs.Good.{There, goodAt, Tells}
 use Rattle.reason.specs.declared.Spot.{Spot}
@@ -66,20 +66,20 @@ use Rattle.reason.specs.declared.Told.{Told}
 use Rattle.reason.proofs.Named.{bad-there, spot-back}
 
 -- one test and the rest
-test : (f : Fault) (x n : ℕ) (b : Bool) (rest : Told) → Tells b rest → Tells (passes f x n && b) (unless f x n rest)
-unfolding unless Tells toldOf
-test f x n b rest h = go (passes f x n) refl
+test : (f : Fault) (x n : ℕ) (b : Bool) (rest : Told) → Tells b rest → Tells (passesTest f x n && b) (unless f x n rest)
+unfolding unless Tells faultTold
+test f x n b rest h = go (passesTest f x n) refl
   where
-    go : (t : Bool) → passes f x n ≡ t → Tells (t && b) (cond t rest (toldOf f x n))
+    go : (t : Bool) → passesTest f x n ≡ t → Tells (t && b) (cond t rest (faultTold f x n))
     go true e = h
     go false e = e
 
 -- the last test
-last : (f : Fault) (x n : ℕ) → Tells (passes f x n) (unless f x n none)
-unfolding unless Tells toldOf
-last f x n = go (passes f x n) refl
+last : (f : Fault) (x n : ℕ) → Tells (passesTest f x n) (unless f x n noFault)
+unfolding unless Tells faultTold
+last f x n = go (passesTest f x n) refl
   where
-    go : (t : Bool) → passes f x n ≡ t → Tells t (cond t none (toldOf f x n))
+    go : (t : Bool) → passesTest f x n ≡ t → Tells t (cond t noFault (faultTold f x n))
     go true e = refl
     go false e = e
 
@@ -107,46 +107,46 @@ with-true false b e = refl
 
 module _ (s : List ℕ) where
   head-tells : Tells (goodAt s Head) (headFault s)
-  unfolding goodAt headGood headFault passes
+  unfolding goodAt headGood headFault passesTest
   head-tells = test Short (length s) 36 _ _ (test Edition (be 2 s 0) 1 _ _ (last Number (be 2 s 2) 4))
 
   entry-tells : (k : Kind) → Tells (entryGood s k) (entryFault s k)
-  unfolding entryGood entryFault passes
+  unfolding entryGood entryFault passesTest
   entry-tells k =
       same _ (three (eqb (be 2 s (entryAt k)) (number k)) (leb (rowsOf s k) (mostRows k)) _)
       (test WrongKind (be 2 s (entryAt k)) (number k) _ _ (test TooMany (rowsOf s k) (mostRows k) _ _ (last Offset _ (startOf s k))))
 
   total-tells : Tells (eqb (length s) (endOf s)) (totalFault s)
-  unfolding totalFault passes
+  unfolding totalFault passesTest
   total-tells = last Length (length s) (endOf s)
 
-  shared-tells : (k : Kind) (i : ℕ) → Tells (every (clearOf s k i) i) (sharedFault s k i)
-  unfolding sharedFault Tells passes toldOf
-  shared-tells k i = go (every (clearOf s k i) i)
+  shared-tells : (k : Kind) (i : ℕ) → Tells (every (sharesNothing s k i) i) (sharedFault s k i)
+  unfolding sharedFault Tells passesTest faultTold
+  shared-tells k i = go (every (sharesNothing s k i) i)
     where
-      go : (b : Bool) → Tells b (cond b none (toldOf Shared (firstBad (clearOf s k i) i) 0))
+      go : (b : Bool) → Tells b (cond b noFault (faultTold Shared (firstBad (sharesNothing s k i) i) 0))
       go true = refl
       go false = refl
 
   group-tells : (row : List ℕ) → Tells (groupGood row) (groupFault row)
-  unfolding groupGood groupFault passes
+  unfolding groupGood groupFault passesTest
   group-tells row = test Protocol (be 1 row 0) 2 _ _ (last Zero (be 1 row 1) 1)
 
   connection-tells : (groups : ℕ) (row : List ℕ) → Tells (connectionGood groups row) (connectionFault groups row)
-  unfolding connectionGood connectionFault passes
+  unfolding connectionGood connectionFault passesTest
   connection-tells groups row =
       same _ (sized (ltb (be 1 row 0) groups) (leb (be 1 row 1) 1) (leb 8 (be 2 row 8)) (leb (be 2 row 8) 1472) (eqb (be 2 row 10) 0))
       (test NoGroup (be 1 row 0) groups _ _ (test Automatic (be 1 row 1) 1 _ _ (test SendSize (be 2 row 8) 1472 _ _ (last Zero (be 2 row 10) 10))))
 
   route-tells : (connections : ℕ) (row : List ℕ) (b : Bool) (shared : Told) → Tells b shared → Tells (routeGood connections row && b) (routeFault connections shared row)
-  unfolding routeGood routeFault passes
+  unfolding routeGood routeFault passesTest
   route-tells connections row b shared h =
       same _ (five (ltb (be 1 row 0) connections) (eqb (be 1 row 1) 0) (leb (be 2 row 2) 1464) (eqb (be 2 row 10) 0) _)
       (test NoConnection (be 1 row 0) connections _ _ (test Zero (be 1 row 1) 1 _ _ (test Longest (be 2 row 2) 1464 _ _ (test Zero (be 2 row 10) 10 _ _ h))))
 
   destination-tells : (connections : ℕ) (size : ℕ → ℕ) (row : List ℕ) (b : Bool) (shared : Told) → Tells b shared
       → Tells (destinationGood connections size row && b) (destinationFault connections (size (be 1 row 0)) shared row)
-  unfolding destinationGood destinationFault passes
+  unfolding destinationGood destinationFault passesTest
   destination-tells connections size row b shared h =
       same _ (five (ltb (be 1 row 0) connections) (leb (be 1 row 1) 1) (leb (be 2 row 2) 1464) _ _)
       (test NoConnection (be 1 row 0) connections _ _ (test Trigger (be 1 row 1) 1 _ _ (test Longest (be 2 row 2) 1464 _ _ (test Room (be 2 row 2) (size (be 1 row 0)) _ _ h))))
@@ -166,8 +166,8 @@ module _ (s : List ℕ) where
   told-fails (Row k i) = row-tells k i
 
   -- the reason of a refusal is a test that fails
-  pub refused-fails : (p : ℕ) → checkTable s ≡ Refused p → Tells false (reasonOf s p .told)
-  unfolding reasonOf
+  pub refused-fails : (p : ℕ) → checkTable s ≡ Refused p → Tells false (reasonAt s p .told)
+  unfolding reasonAt
   refused-fails p e = same _ (bad-there s p e) (told-fails (spotOf s p))
 
   -- of an accepted image nothing is told, at the place of any of its spots
@@ -206,14 +206,14 @@ module _ (s : List ℕ) where
     all-good Total h = total-good
     all-good (Row k i) h = accepted-row s e k i h
 
-    pub accepted-none : (at : Spot) → There s at → reasonOf s (placeOf s at) .told ≡ none
-    unfolding reasonOf Tells
+    pub accepted-none : (at : Spot) → There s at → reasonAt s (spotPlace s at) .told ≡ noFault
+    unfolding reasonAt Tells
     accepted-none at h = ap (faultAt s) (spot-back s at h) ∙ same _ (all-good at h) (told-fails at)
 
 -- and never nothing
 some-fault : (t : Told) → Tells false t → t .fault ≡ Nothing → ⊥
-unfolding Tells passes
-some-fault t h e = impossible (sym h ∙ ap (λ (f : Fault). passes f (t .found) (t .asked)) e)
+unfolding Tells passesTest
+some-fault t h e = impossible (sym h ∙ ap (λ (f : Fault). passesTest f (t .found) (t .asked)) e)
 
-pub refused-told : (s : List ℕ) (p : ℕ) → checkTable s ≡ Refused p → reasonOf s p .told .fault ≡ Nothing → ⊥
+pub refused-told : (s : List ℕ) (p : ℕ) → checkTable s ≡ Refused p → reasonAt s p .told .fault ≡ Nothing → ⊥
 refused-told s p e = some-fault _ (refused-fails s p e)

@@ -14,7 +14,7 @@ use Rattle.wire.proofs.Part.{be-part}
 use Rattle.layout.specs.Layout.{entryAt, rowsOf, bodyBytes, startOf, endOf}
 use Rattle.layout.specs.declared.Kind.{Kind}
 use Rattle.layout.specs.declared.Kind.the-variants.{Group, Connection, Route, Destination}
-use Rattle.table.specs.Table.{headGood, entryGood, demand, then, entriesPlace, headPlace, allRowsPlace, checkTable}
+use Rattle.table.specs.Table.{headGood, entryGood, demand, thenCheck, entriesPlace, headPlace, allRowsPlace, checkTable}
 use Rattle.table.specs.declared.TableAnswer.{TableAnswer}
 use Rattle.table.specs.declared.TableAnswer.the-variants.{Accepted, Refused}
 use Rattle.table.proofs.Facts.{contents-most}
@@ -25,11 +25,11 @@ unfolding endOf startOf bodyBytes
 ends-within s e = omega (arith, contents-most s e Group, contents-most s e Connection, contents-most s e Route, contents-most s e Destination)
 
 -- a longer input is refused in its contents, or at 2
-refused-long : (s : List ℕ) → 2356 < length s → checkTable s ≡ then (headPlace s) (Refused 2)
-unfolding checkTable then
+refused-long : (s : List ℕ) → 2356 < length s → checkTable s ≡ thenCheck (headPlace s) (Refused 2)
+unfolding checkTable thenCheck
 refused-long s h = rw (le-leb 36 (length s) (omega arith)) (go (headPlace s) refl)
   where
-    go : (a : TableAnswer) → headPlace s ≡ a → then (headPlace s) (then (demand (eqb (length s) (endOf s)) 2) (allRowsPlace s)) ≡ then (headPlace s) (Refused 2)
+    go : (a : TableAnswer) → headPlace s ≡ a → thenCheck (headPlace s) (thenCheck (demand (eqb (length s) (endOf s)) 2) (allRowsPlace s)) ≡ thenCheck (headPlace s) (Refused 2)
     go Accepted e = rw (e, ne-eqb (length s) (endOf s) (λ q. omega (arith, ends-within s e)))
     go (Refused p) e = rw e
 
@@ -80,5 +80,5 @@ pub cut-long : (s : List ℕ) (n : ℕ) → 2356 < n → n ≤ length s → chec
 cut-long s n h l =
     let long : length (take n s) ≡ n = length-take-le n s l in
     refused-long (take n s) (omega arith)
-    ∙ ap (λ (a : TableAnswer). then a (Refused 2)) (head-same s n (omega arith))
+    ∙ ap (λ (a : TableAnswer). thenCheck a (Refused 2)) (head-same s n (omega arith))
     ∙ sym (refused-long s (omega arith))

@@ -13,10 +13,10 @@ use Rattle.layout.specs.Layout.{rowBytes, rowsOf, bodyBytes, startOf, endOf, ro
 use Rattle.layout.specs.declared.Kind.{Kind}
 use Rattle.layout.specs.declared.Kind.the-variants.{Group, Connection, Route, Destination}
 use Rattle.lists.proofs.Both.{and-first, and-second}
-use Rattle.table.specs.Table.{headGood, entryGood, rowGood, badRow, demand, then, rowsPlace, entriesPlace, headPlace, allRowsPlace, checkTable}
+use Rattle.table.specs.Table.{headGood, entryGood, rowGood, badRow, demand, thenCheck, rowsPlace, entriesPlace, headPlace, allRowsPlace, checkTable}
 use Rattle.table.specs.declared.TableAnswer.{TableAnswer}
 use Rattle.table.specs.declared.TableAnswer.the-variants.{Accepted, Refused}
-use Rattle.reason.specs.Spots.{placeOf, rowSpot, spotOf}
+use Rattle.reason.specs.Spots.{spotPlace, rowSpot, spotOf}
 use Rattle.reason.specs.Good.{There, goodAt}
 use Rattle.reason.specs.declared.Spot.{Spot}
 use Rattle.reason.specs.declared.Spot.the-variants.{Head, Entry, Total, Row}
@@ -24,8 +24,8 @@ use Rattle.lists.proofs.Search.{found-bad}
 use Rattle.reason.proofs.Ways.{in-groups, in-connections, in-routes, in-destinations}
 
 -- what follows from a refusal of either follows from the refusal of the two
-by-either : {P : Type 0} (a b : TableAnswer) (p : ℕ) → (a ≡ Refused p → P) → (b ≡ Refused p → P) → then a b ≡ Refused p → P
-unfolding then
+by-either : {P : Type 0} (a b : TableAnswer) (p : ℕ) → (a ≡ Refused p → P) → (b ≡ Refused p → P) → thenCheck a b ≡ Refused p → P
+unfolding thenCheck
 by-either Accepted b p f g e = g e
 by-either (Refused q) b p f g e = f e
 
@@ -88,8 +88,8 @@ module _ (s : List ℕ) where
       let l : 36 ≤ rowAt s k i = omega (arith, first k, above k i) in
       spot-row (rowAt s k i) l ∙ sym (row-named k i h)
 
-  pub spot-back : (at : Spot) → There s at → spotOf s (placeOf s at) ≡ at
-  unfolding There placeOf spotOf
+  pub spot-back : (at : Spot) → There s at → spotOf s (spotPlace s at) ≡ at
+  unfolding There spotPlace spotOf
   spot-back Head h = refl
   spot-back Total h = refl
   spot-back (Entry Group) h = refl
@@ -100,47 +100,47 @@ module _ (s : List ℕ) where
 
   -- a place is its spot's, and the spot is bad
   abbrev Bad : ℕ → Type 0
-  Bad p = (placeOf s (spotOf s p) ≡ p) × (goodAt s (spotOf s p) ≡ false)
+  Bad p = (spotPlace s (spotOf s p) ≡ p) × (goodAt s (spotOf s p) ≡ false)
 
   rows-bad : (k : Kind) (p : ℕ) → rowsPlace s k ≡ Refused p → Bad p
-  unfolding placeOf goodAt
+  unfolding spotPlace goodAt
   rows-bad k p e =
       let i = badRow s k in
       let a = asked (leb (rowsOf s k) i) (rowAt s k i) p e in
       let h : i < rowsOf s k = leb-false (rowsOf s k) i (a .1) in
       let b = row-back k i h in
-      rw (← a .0) (ap (placeOf s) b, ap (goodAt s) b ∙ found-bad (rowGood s k) (rowsOf s k) h)
+      rw (← a .0) (ap (spotPlace s) b, ap (goodAt s) b ∙ found-bad (rowGood s k) (rowsOf s k) h)
 
-  literal : (t : Bool) (q p : ℕ) → placeOf s (spotOf s q) ≡ q → (t ≡ false → goodAt s (spotOf s q) ≡ false) → demand t q ≡ Refused p → Bad p
+  literal : (t : Bool) (q p : ℕ) → spotPlace s (spotOf s q) ≡ q → (t ≡ false → goodAt s (spotOf s q) ≡ false) → demand t q ≡ Refused p → Bad p
   literal t q p h g e = let a = asked t q p e in rw (← a .0) (h, g (a .1))
 
   -- the literal places
   short-bad : (p : ℕ) → demand (leb 36 (length s)) 0 ≡ Refused p → Bad p
-  unfolding placeOf spotOf goodAt
+  unfolding spotPlace spotOf goodAt
   short-bad p = literal (leb 36 (length s)) 0 p refl (and-first (leb 36 (length s)) (headGood s))
 
   zero-bad : (p : ℕ) → demand (headGood s) 0 ≡ Refused p → Bad p
-  unfolding placeOf spotOf goodAt
+  unfolding spotPlace spotOf goodAt
   zero-bad p = literal (headGood s) 0 p refl (and-second (leb 36 (length s)) (headGood s))
 
   total-bad : (p : ℕ) → demand (eqb (length s) (endOf s)) 2 ≡ Refused p → Bad p
-  unfolding placeOf spotOf goodAt
+  unfolding spotPlace spotOf goodAt
   total-bad p = literal (eqb (length s) (endOf s)) 2 p refl (λ e. e)
 
   groups-bad : (p : ℕ) → demand (entryGood s Group) 4 ≡ Refused p → Bad p
-  unfolding placeOf spotOf goodAt
+  unfolding spotPlace spotOf goodAt
   groups-bad p = literal (entryGood s Group) 4 p refl (λ e. e)
 
   connections-bad : (p : ℕ) → demand (entryGood s Connection) 12 ≡ Refused p → Bad p
-  unfolding placeOf spotOf goodAt
+  unfolding spotPlace spotOf goodAt
   connections-bad p = literal (entryGood s Connection) 12 p refl (λ e. e)
 
   routes-bad : (p : ℕ) → demand (entryGood s Route) 20 ≡ Refused p → Bad p
-  unfolding placeOf spotOf goodAt
+  unfolding spotPlace spotOf goodAt
   routes-bad p = literal (entryGood s Route) 20 p refl (λ e. e)
 
   destinations-bad : (p : ℕ) → demand (entryGood s Destination) 28 ≡ Refused p → Bad p
-  unfolding placeOf spotOf goodAt
+  unfolding spotPlace spotOf goodAt
   destinations-bad p = literal (entryGood s Destination) 28 p refl (λ e. e)
 
   entries-bad : (p : ℕ) → entriesPlace s ≡ Refused p → Bad p
@@ -168,7 +168,7 @@ module _ (s : List ℕ) where
       (by-either (headPlace s) _ p (head-bad p)
       (by-either (demand (eqb (length s) (endOf s)) 2) _ p (total-bad p) (all-bad p)))
 
-  pub named : (p : ℕ) → checkTable s ≡ Refused p → placeOf s (spotOf s p) ≡ p
+  pub named : (p : ℕ) → checkTable s ≡ Refused p → spotPlace s (spotOf s p) ≡ p
   named p e = refused-bad p e .0
 
   pub bad-there : (p : ℕ) → checkTable s ≡ Refused p → goodAt s (spotOf s p) ≡ false

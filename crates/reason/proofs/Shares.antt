@@ -15,7 +15,7 @@ use Rattle.layout.specs.declared.Kind.{Kind}
 use Rattle.layout.specs.declared.Kind.the-variants.{Group, Connection, Route, Destination}
 use Rattle.rows.specs.Rules.{sizeIn}
 use Rattle.scan.specs.Scan.{clearIn}
-use Rattle.reason.specs.Faults.{toldOf, none, passes, unless, groupFault, connectionFault, routeFault, destinationFault, clearOf, sharedFault, rowFault}
+use Rattle.reason.specs.Faults.{faultTold, noFault, passesTest, unless, groupFault, connectionFault, routeFault, destinationFault, sharesNothing, sharedFault, rowFault}
 use Rattle.reason.specs.Good.{SharesWith}
 use Rattle.reason.specs.declared.Fault.{Fault}
 use Rattle.reason.specs.declared.Fault.the-variants.{
@@ -42,47 +42,47 @@ module _ (good : ℕ → Bool) where
   all-good n h = every-all good n (none-bad good n h)
 
 -- by a number that is the search's answer
-module _ (s : List ℕ) (k : Kind) (i : ℕ) {earlier : ℕ} (e : earlier ≡ firstBad (clearOf s k i) i) {r : Told} where
-  pub shares : earlier < i → r ≡ toldOf Shared earlier 0 → r ≡ sharedFault s k i
+module _ (s : List ℕ) (k : Kind) (i : ℕ) {earlier : ℕ} (e : earlier ≡ firstBad (sharesNothing s k i) i) {r : Told} where
+  pub shares : earlier < i → r ≡ faultTold Shared earlier 0 → r ≡ sharedFault s k i
   unfolding sharedFault
-  shares h q = rw (some-bad (clearOf s k i) i (omega arith)) (q ∙ rw e)
+  shares h q = rw (some-bad (sharesNothing s k i) i (omega arith)) (q ∙ rw e)
 
-  pub shares-none : i ≤ earlier → r ≡ none → r ≡ sharedFault s k i
+  pub shares-none : i ≤ earlier → r ≡ noFault → r ≡ sharedFault s k i
   unfolding sharedFault
-  shares-none h q = rw (all-good (clearOf s k i) i (omega arith)) q
+  shares-none h q = rw (all-good (sharesNothing s k i) i (omega arith)) q
 
 -- a fault whose test some numbers pass is not `Shared`
-not-shared : (f : Fault) (x n : ℕ) → passes f x n ≡ true → f ≡ Shared → ⊥
-unfolding passes
-not-shared f x n h e = false≢true (sym (ap (λ (g : Fault). passes g x n) e) ∙ h)
+not-shared : (f : Fault) (x n : ℕ) → passesTest f x n ≡ true → f ≡ Shared → ⊥
+unfolding passesTest
+not-shared f x n h e = false≢true (sym (ap (λ (g : Fault). passesTest g x n) e) ∙ h)
 
 -- where a row is told, it is an earlier one, and shares
 earlier-shares : (s : List ℕ) (k : Kind) (i : ℕ) → sharedFault s k i .fault ≡ Shared → SharesWith s k i (sharedFault s k i .found)
-unfolding sharedFault toldOf clearIn passes
-earlier-shares s k i = go (decLe i (firstBad (clearOf s k i) i))
+unfolding sharedFault faultTold clearIn passesTest
+earlier-shares s k i = go (decLe i (firstBad (sharesNothing s k i) i))
   where
-    go : Dec (i ≤ firstBad (clearOf s k i) i) → cond (every (clearOf s k i) i) none (toldOf Shared (firstBad (clearOf s k i) i) 0) .fault ≡ Shared
-        → SharesWith s k i (cond (every (clearOf s k i) i) none (toldOf Shared (firstBad (clearOf s k i) i) 0) .found)
-    go (yes h) e = absurd (not-shared Nothing 0 0 refl (rw (all-good (clearOf s k i) i h) at e))
+    go : Dec (i ≤ firstBad (sharesNothing s k i) i) → cond (every (sharesNothing s k i) i) noFault (faultTold Shared (firstBad (sharesNothing s k i) i) 0) .fault ≡ Shared
+        → SharesWith s k i (cond (every (sharesNothing s k i) i) noFault (faultTold Shared (firstBad (sharesNothing s k i) i) 0) .found)
+    go (yes h) e = absurd (not-shared Nothing 0 0 refl (rw (all-good (sharesNothing s k i) i h) at e))
     go (no n) e =
-        let h : firstBad (clearOf s k i) i < i = omega (arith, n) in
-        rw (some-bad (clearOf s k i) i h) (h, not-false _ (found-bad (clearOf s k i) i h))
+        let h : firstBad (sharesNothing s k i) i < i = omega (arith, n) in
+        rw (some-bad (sharesNothing s k i) i h) (h, not-false _ (found-bad (sharesNothing s k i) i h))
 
 -- where `Shared` is told, no test before it has failed
-through : (f : Fault) (x n a b : ℕ) (rest end : Told) → passes f a b ≡ true → (rest .fault ≡ Shared → rest ≡ end) → unless f x n rest .fault ≡ Shared → unless f x n rest ≡ end
-unfolding unless toldOf
-through f x n a b rest end d h = go (passes f x n)
+through : (f : Fault) (x n a b : ℕ) (rest end : Told) → passesTest f a b ≡ true → (rest .fault ≡ Shared → rest ≡ end) → unless f x n rest .fault ≡ Shared → unless f x n rest ≡ end
+unfolding unless faultTold
+through f x n a b rest end d h = go (passesTest f x n)
   where
-    go : (t : Bool) → cond t rest (toldOf f x n) .fault ≡ Shared → cond t rest (toldOf f x n) ≡ end
+    go : (t : Bool) → cond t rest (faultTold f x n) .fault ≡ Shared → cond t rest (faultTold f x n) ≡ end
     go true e = h e
     go false e = absurd (not-shared f a b d e)
 
-group-through : (row : List ℕ) → groupFault row .fault ≡ Shared → groupFault row ≡ none
-unfolding groupFault passes
+group-through : (row : List ℕ) → groupFault row .fault ≡ Shared → groupFault row ≡ noFault
+unfolding groupFault passesTest
 group-through row = through Protocol _ _ 1 1 _ _ refl (through Zero _ _ 0 0 _ _ refl (λ e. refl))
 
-connection-through : (groups : ℕ) (row : List ℕ) → connectionFault groups row .fault ≡ Shared → connectionFault groups row ≡ none
-unfolding connectionFault passes
+connection-through : (groups : ℕ) (row : List ℕ) → connectionFault groups row .fault ≡ Shared → connectionFault groups row ≡ noFault
+unfolding connectionFault passesTest
 connection-through groups row =
     through NoGroup _ _ 0 1 _ _ refl
     (through Automatic _ _ 0 0 _ _ refl
@@ -90,7 +90,7 @@ connection-through groups row =
     (through Zero _ _ 0 0 _ _ refl (λ e. refl))))
 
 route-through : (connections : ℕ) (shared : Told) (row : List ℕ) → routeFault connections shared row .fault ≡ Shared → routeFault connections shared row ≡ shared
-unfolding routeFault passes
+unfolding routeFault passesTest
 route-through connections shared row =
     through NoConnection _ _ 0 1 _ _ refl
     (through Zero _ _ 0 0 _ _ refl
@@ -98,7 +98,7 @@ route-through connections shared row =
     (through Zero _ _ 0 0 _ _ refl (λ e. refl))))
 
 destination-through : (connections size : ℕ) (shared : Told) (row : List ℕ) → destinationFault connections size shared row .fault ≡ Shared → destinationFault connections size shared row ≡ shared
-unfolding destinationFault passes
+unfolding destinationFault passesTest
 destination-through connections size shared row =
     through NoConnection _ _ 0 1 _ _ refl
     (through Trigger _ _ 0 0 _ _ refl
@@ -107,8 +107,8 @@ destination-through connections size shared row =
 
 module _ (s : List ℕ) where
   -- groups and connections are never told to
-  never : {P : Type 0} (t : Told) → t ≡ none → t .fault ≡ Shared → P
-  unfolding toldOf passes
+  never : {P : Type 0} (t : Told) → t ≡ noFault → t .fault ≡ Shared → P
+  unfolding faultTold passesTest
   never t p e = absurd (not-shared Nothing 0 0 refl (ap (λ (u : Told). u .fault) (sym p) ∙ e))
 
   shared : (k : Kind) (i : ℕ) (t : Told) → t ≡ sharedFault s k i → t .fault ≡ Shared → SharesWith s k i (t .found)

@@ -39,67 +39,67 @@ use Rattle.reason.specs.declared.Told.{Told}
 use Rattle.reason.specs.declared.Reason.{Reason}
 
 -- a fault, the number found and the number asked
-unfoldable pub toldOf : Fault → ℕ → ℕ → Told
-toldOf fault found asked = record { fault = fault; found = found; asked = asked }
+unfoldable pub faultTold : Fault → ℕ → ℕ → Told
+faultTold fault found asked = record { fault = fault; found = found; asked = asked }
 
-abbrev pub none : Told
-none = toldOf Nothing 0 0
+abbrev pub noFault : Told
+noFault = faultTold Nothing 0 0
 
 -- the test that a fault names, of the number found and the number asked; `Nothing` names none, and `Shared` is told
 -- only where it fails
-unfoldable pub passes : Fault → ℕ → ℕ → Bool
-passes Nothing found asked = true
-passes Short found asked = leb asked found
-passes Edition found asked = eqb found asked
-passes Number found asked = eqb found asked
-passes WrongKind found asked = eqb found asked
-passes TooMany found asked = leb found asked
-passes Offset found asked = eqb found asked
-passes Length found asked = eqb found asked
-passes Protocol found asked = leb 1 found && leb found asked
-passes Zero found asked = eqb found 0
-passes NoGroup found asked = ltb found asked
-passes Automatic found asked = leb found asked
-passes SendSize found asked = leb 8 found && leb found asked
-passes NoConnection found asked = ltb found asked
-passes Longest found asked = leb found asked
-passes Trigger found asked = leb found asked
-passes Room found asked = leb (found + 8) asked
-passes Shared found asked = false
+unfoldable pub passesTest : Fault → ℕ → ℕ → Bool
+passesTest Nothing found asked = true
+passesTest Short found asked = leb asked found
+passesTest Edition found asked = eqb found asked
+passesTest Number found asked = eqb found asked
+passesTest WrongKind found asked = eqb found asked
+passesTest TooMany found asked = leb found asked
+passesTest Offset found asked = eqb found asked
+passesTest Length found asked = eqb found asked
+passesTest Protocol found asked = leb 1 found && leb found asked
+passesTest Zero found asked = eqb found 0
+passesTest NoGroup found asked = ltb found asked
+passesTest Automatic found asked = leb found asked
+passesTest SendSize found asked = leb 8 found && leb found asked
+passesTest NoConnection found asked = ltb found asked
+passesTest Longest found asked = leb found asked
+passesTest Trigger found asked = leb found asked
+passesTest Room found asked = leb (found + 8) asked
+passesTest Shared found asked = false
 
 -- a fault with its numbers unless they pass its test; else the rest
 unfoldable pub unless : Fault → ℕ → ℕ → Told → Told
-unless fault found asked rest = cond (passes fault found asked) rest (toldOf fault found asked)
+unless fault found asked rest = cond (passesTest fault found asked) rest (faultTold fault found asked)
 
 -- "0 when shorter than 36 or bytes 0..3 are wrong"
 unfoldable pub headFault : List ℕ → Told
 headFault s =
     unless Short (length s) 36
     (unless Edition (be 2 s 0) 1
-    (unless Number (be 2 s 2) 4 none))
+    (unless Number (be 2 s 2) 4 noFault))
 
 -- "wrong kind, too many rows, wrong offset"
 unfoldable pub entryFault : List ℕ → Kind → Told
 entryFault s k =
     unless WrongKind (be 2 s (entryAt k)) (number k)
     (unless TooMany (rowsOf s k) (mostRows k)
-    (unless Offset (be 4 s (entryAt k + 4)) (startOf s k) none))
+    (unless Offset (be 4 s (entryAt k + 4)) (startOf s k) noFault))
 
 -- "2 for a wrong total length"
 unfoldable pub totalFault : List ℕ → Told
-totalFault s = unless Length (length s) (endOf s) none
+totalFault s = unless Length (length s) (endOf s) noFault
 
 unfoldable pub groupFault : List ℕ → Told
 groupFault row =
     unless Protocol (be 1 row 0) 2
-    (unless Zero (be 1 row 1) 1 none)
+    (unless Zero (be 1 row 1) 1 noFault)
 
 unfoldable pub connectionFault : ℕ → List ℕ → Told
 connectionFault groups row =
     unless NoGroup (be 1 row 0) groups
     (unless Automatic (be 1 row 1) 1
     (unless SendSize (be 2 row 8) 1472
-    (unless Zero (be 2 row 10) 10 none)))
+    (unless Zero (be 2 row 10) 10 noFault)))
 
 -- `shared` is told of a row whose fields are right
 unfoldable pub routeFault : ℕ → Told → List ℕ → Told
@@ -117,12 +117,12 @@ destinationFault connections size shared row =
     (unless Room (be 2 row 2) size shared)))
 
 -- row i shares with row j nothing that it may not
-abbrev pub clearOf : List ℕ → Kind → ℕ → ℕ → Bool
-clearOf s k i j = clearIn (share k) (rowBytes s k) (bodyOf s k) i j
+abbrev pub sharesNothing : List ℕ → Kind → ℕ → ℕ → Bool
+sharesNothing s k i j = clearIn (share k) (rowBytes s k) (bodyOf s k) i j
 
 -- the first earlier row with which row i shares what it may not; nothing where there is none
 unfoldable pub sharedFault : List ℕ → Kind → ℕ → Told
-sharedFault s k i = cond (every (clearOf s k i) i) none (toldOf Shared (firstBad (clearOf s k i) i) 0)
+sharedFault s k i = cond (every (sharesNothing s k i) i) noFault (faultTold Shared (firstBad (sharesNothing s k i) i) 0)
 
 unfoldable pub rowFault : List ℕ → Kind → ℕ → Told
 rowFault s Group i = groupFault (rowOf s Group i)
@@ -139,5 +139,5 @@ faultAt s Total = totalFault s
 faultAt s (Row k i) = rowFault s k i
 
 -- the reason of a refusal at a place
-unfoldable pub reasonOf : List ℕ → ℕ → Reason
-reasonOf s place = record { spot = spotOf s place; told = faultAt s (spotOf s place) }
+unfoldable pub reasonAt : List ℕ → ℕ → Reason
+reasonAt s place = record { spot = spotOf s place; told = faultAt s (spotOf s place) }

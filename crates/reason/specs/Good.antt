@@ -9,7 +9,7 @@ use Rattle.layout.specs.Layout.{rowsOf, endOf, rowOf}
 use Rattle.layout.specs.declared.Kind.{Kind}
 use Rattle.scan.specs.Scan.{share}
 use Rattle.table.specs.Table.{headGood, entryGood, rowGood}
-use Rattle.reason.specs.Faults.{none, passes}
+use Rattle.reason.specs.Faults.{noFault, passesTest}
 use Rattle.reason.specs.declared.Spot.{Spot}
 use Rattle.reason.specs.declared.Spot.the-variants.{Head, Entry, Total, Row}
 use Rattle.reason.specs.declared.Told.{Told}
@@ -30,8 +30,8 @@ goodAt s (Row k i) = rowGood s k i
 
 -- of what is good nothing is told, of what is bad a fault whose test its numbers fail
 unfoldable pub Tells : Bool → Told → Type 0
-Tells true t = t ≡ none
-Tells false t = passes (t .fault) (t .found) (t .asked) ≡ false
+Tells true t = t ≡ noFault
+Tells false t = passesTest (t .fault) (t .found) (t .asked) ≡ false
 
 -- row j is earlier than row i, and they share what they may not
 abbrev pub SharesWith : List ℕ → Kind → ℕ → ℕ → Type 0

@@ -10,11 +10,11 @@ use Rattle.reason.specs.declared.Spot.{Spot}
 use Rattle.reason.specs.declared.Spot.the-variants.{Head, Entry, Total, Row}
 
 -- where a spot stands in an image
-unfoldable pub placeOf : List ℕ → Spot → ℕ
-placeOf s Head = 0
-placeOf s Total = 2
-placeOf s (Entry k) = entryAt k
-placeOf s (Row k i) = rowAt s k i
+unfoldable pub spotPlace : List ℕ → Spot → ℕ
+spotPlace s Head = 0
+spotPlace s Total = 2
+spotPlace s (Entry k) = entryAt k
+spotPlace s (Row k i) = rowAt s k i
 
 -- the row of a kind that starts at a place
 abbrev pub rowFrom : List ℕ → Kind → ℕ → Spot

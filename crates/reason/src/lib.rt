@@ -9,8 +9,8 @@ ghost use Rattle.lists.specs.Search.{firstBad};
 ghost use Rattle.layout.specs.Layout.{startOf, rowBytes, rowOf};
 ghost use Rattle.reason.specs.Spots.{rowSpot, spotOf};
 ghost use Rattle.reason.specs.Faults.{
-  toldOf,
-  passes,
+  faultTold,
+  passesTest,
   unless,
   headFault,
   entryFault,
@@ -19,11 +19,11 @@ ghost use Rattle.reason.specs.Faults.{
   connectionFault,
   routeFault,
   destinationFault,
-  clearOf,
+  sharesNothing,
   sharedFault,
   rowFault,
   faultAt,
-  reasonOf,
+  reasonAt,
 };
 use layout::Kind;
 use layout::body_of;
@@ -138,7 +138,7 @@ pub fn spot_of(image: &[u8], place: usize) -> Spot
 // ---- the first test that fails
 
 fn told_of(fault: Fault, found: usize, asked: usize) -> Told
-    ensures { λ r. ⌜ r ≡ toldOf fault found asked ⌝ }
+    ensures { λ r. ⌜ r ≡ faultTold fault found asked ⌝ }
 {
     Told {
         fault,
@@ -159,7 +159,7 @@ fn has_room(longest: usize, size: usize) -> bool
 
 // The test that a fault names, of the number found and the number asked.
 fn passes(fault: Fault, found: usize, asked: usize) -> bool
-    ensures { λ r. ⌜ r ≡ passes fault found asked ⌝ }
+    ensures { λ r. ⌜ r ≡ passesTest fault found asked ⌝ }
 {
     match fault {
         Fault::Nothing => true,
@@ -267,7 +267,7 @@ fn row_of(image: &[u8], k: Kind, i: usize) -> &[u8]
 
 // The first earlier row with which row i shares what it may not; i where there is none.
 fn shared_with(image: &[u8], k: Kind, i: usize) -> usize
-    ensures { λ r. ⌜ r ≡ firstBad (clearOf (now (image .entry)) k i) i ⌝ }
+    ensures { λ r. ⌜ r ≡ firstBad (sharesNothing (now (image .entry)) k i) i ⌝ }
 {
     let row = row_of(image, k, i);
     let mut j = 0;
@@ -323,7 +323,7 @@ fn fault_at(image: &[u8], spot: Spot) -> Told
 
 // The reason of a refusal at a place.
 pub fn reason_of(image: &[u8], place: usize) -> Reason
-    ensures { λ r. ⌜ r ≡ reasonOf (now (image .entry)) place ⌝ }
+    ensures { λ r. ⌜ r ≡ reasonAt (now (image .entry)) place ⌝ }
 {
     let spot = spot_of(image, place);
     let told = fault_at(image, spot);

@@ -19,7 +19,7 @@ use Rattle.gate.proofs.Pass.{gate-at-passed}
 use Rattle.connection.specs.Event.{receiving}
 use Rattle.receive.specs.declared.Answer.{Answer}
 use Rattle.receive.specs.declared.Answer.the-variants.{Done, Refused, NotReceiving}
-use Rattle.receive.specs.Answer.{isDone, judgedOf, answerOf}
+use Rattle.receive.specs.Answer.{isDone, judgedOf, judgedAnswer}
 
 -- WHAT IS KNOWN WHEN NOTHING REFUSES
 pub record Clear (l : Lent) (n : ℕ) (allowed : Bool) : Type 0 where
@@ -37,8 +37,8 @@ judged-clear allowed c p = go allowed (receiving c) refl refl p
     go true false e f q = impossible q
     go false b e f q = impossible q
 
-pub done-clear : (l : Lent) (n : ℕ) (allowed : Bool) → isDone (answerOf l n allowed) ≡ true → Clear l n allowed
-unfolding answerOf
+pub done-clear : (l : Lent) (n : ℕ) (allowed : Bool) → isDone (judgedAnswer l n allowed) ≡ true → Clear l n allowed
+unfolding judgedAnswer
 done-clear l n allowed p = go (gateAt l n) refl p
   where
     go : (g : Gate) → gateAt l n ≡ g → isDone (through g Refused (judgedOf allowed (recordAt (l .state) n))) ≡ true → Clear l n allowed
@@ -68,12 +68,12 @@ module _ (allowed : Bool) (c : Connection) where
 
 -- the gate refuses, or passes
 module _ (l : Lent) (n : ℕ) (allowed : Bool) (asked : Gate) (ea : asked ≡ gateAt l n) where
-  pub answer-refused : (r : Refusal) → asked ≡ Gated.Refused r → Refused r ≡ answerOf l n allowed
-  unfolding answerOf
+  pub answer-refused : (r : Refusal) → asked ≡ Gated.Refused r → Refused r ≡ judgedAnswer l n allowed
+  unfolding judgedAnswer
   answer-refused r e = ap (λ (g : Gate). through g Refused (judgedOf allowed (recordAt (l .state) n))) (sym e ∙ ea)
 
-  pub answer-judged : (a : Answer) → asked ≡ Gated.Pass → a ≡ judgedOf allowed (recordAt (l .state) n) → a ≡ answerOf l n allowed
-  unfolding answerOf
+  pub answer-judged : (a : Answer) → asked ≡ Gated.Pass → a ≡ judgedOf allowed (recordAt (l .state) n) → a ≡ judgedAnswer l n allowed
+  unfolding judgedAnswer
   answer-judged a e j = j ∙ ap (λ (g : Gate). through g Refused (judgedOf allowed (recordAt (l .state) n))) (sym e ∙ ea)
 
   pub asked-there : asked ≡ Gated.Pass → Passed l × (n < rowsOf (l .image) Connections)

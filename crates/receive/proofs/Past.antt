@@ -65,7 +65,7 @@ routed-short routes n (Payload route len held) most p =
 routed-short routes n (Skip bytes) most p = omega arith
 
 -- the part of a sound record
-pub record Whole (part : Part) : Type 0 where
+pub record SoundPart (part : Part) : Type 0 where
   pub shape : shaped part ≡ true
   pub fits : lengthOf part ≤ 1464
 
@@ -76,10 +76,10 @@ module _ (l : Lent) (passed : Passed l) (n : ℕ) (there : n < rowsOf (l .image)
   abbrev s : State
   s = l .state
 
-  pub part-whole : Whole (recordAt s n .part)
+  pub part-whole : SoundPart (recordAt s n .part)
   part-whole = go (decLt n (length (s .connections)))
     where
-      go : Dec (n < length (s .connections)) → Whole (recordAt s n .part)
+      go : Dec (n < length (s .connections)) → SoundPart (recordAt s n .part)
       go (yes h) =
           let one : soundAt image n (recordAt s n) ≡ true = record-at image (s .connections) n (passed .sound) h in
           record {
@@ -87,7 +87,7 @@ module _ (l : Lent) (passed : Passed l) (n : ℕ) (there : n < rowsOf (l .image)
             fits = routed-short (bodyOf image Routes) n (recordAt s n .part) (limits image (passed .table)) (row-routed image n (recordAt s n) one there);
           }
       go (no h) =
-          subst (λ (c : Connection). Whole (c .part)) (sym (List·getD-eq-default (s .connections) zeroRecord (omega arith)))
+          subst (λ (c : Connection). SoundPart (c .part)) (sym (List·getD-eq-default (s .connections) zeroRecord (omega arith)))
           (record { shape = refl; fits = omega arith })
 
 -- a connection's stretch of receive memory
@@ -97,7 +97,7 @@ stretch-length n rx h e = length-take-le 1464 (drop (n * 1464) rx) (omega (arith
 -- SO A TAKE MAY BE MADE
 pub passed-takes : (l : Loan) (n : ℕ) → Passed (sizes l) → n < rowsOf (l .image) Connections → Takes (l .image) (l .state) (l .rx) n
 passed-takes l n passed there =
-    let w : Whole (recordAt (l .state) n .part) = part-whole (sizes l) passed n there in
+    let w : SoundPart (recordAt (l .state) n .part) = part-whole (sizes l) passed n there in
     let h : n < 16 = below-sixteen (l .image) (passed .table) n there in
     record {
       small = h;

@@ -17,7 +17,7 @@ use Rattle.gate.specs.Lent.{Lent}
 use Rattle.receive.specs.declared.Answer.{Answer}
 use Rattle.receive.specs.declared.Answer.the-variants.{Done}
 use Rattle.receive.specs.declared.DatagramWalked.{DatagramWalked}
-use Rattle.receive.specs.Answer.{isDone, answerOf}
+use Rattle.receive.specs.Answer.{isDone, judgedAnswer}
 use Rattle.receive.specs.Walk.{countWalk, walkedAt, walkOn, noneWalked, walkAllowed, walkAnswer, walkOf}
 use Rattle.receive.proofs.Answers.{Clear, done-clear}
 use Rattle.receive.proofs.Past.{below-sixteen}
@@ -34,9 +34,9 @@ walk-is image s n datagram place routes er w after ew ea =
 
 -- THE ENTRY: done, or refused
 module _ (l : Lent) (n : ℕ) (datagram : List ℕ) (place : ℕ) (config : Config) (ec : config ≡ configOf (l .image) n)
-    (answer : Answer) (ea : answer ≡ answerOf l n (not (config .tcp) && leb place (length datagram))) (done : Bool) (ed : done ≡ isDone answer) where
+    (answer : Answer) (ea : answer ≡ judgedAnswer l n (not (config .tcp) && leb place (length datagram))) (done : Bool) (ed : done ≡ isDone answer) where
   same-answer : answer ≡ walkAnswer l n datagram place
-  same-answer = ea ∙ ap (λ (g : Config). answerOf l n (not (g .tcp) && leb place (length datagram))) ec
+  same-answer = ea ∙ ap (λ (g : Config). judgedAnswer l n (not (g .tcp) && leb place (length datagram))) ec
 
   same-done : {b : Bool} → done ≡ b → isDone (walkAnswer l n datagram place) ≡ b
   same-done p = ap isDone (sym same-answer) ∙ sym ed ∙ p

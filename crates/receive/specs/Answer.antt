@@ -26,5 +26,5 @@ unfoldable pub judgedOf : Bool → Connection → Answer
 judgedOf allowed c = cond allowed (cond (receiving c) Done NotReceiving) (Refused Denied)
 
 -- "Checks run 11, 12, 2, 3, then the event's own order"
-unfoldable pub answerOf : Lent → ℕ → Bool → Answer
-answerOf l connection allowed = through (gateAt l connection) Refused (judgedOf allowed (recordAt (l .state) connection))
+unfoldable pub judgedAnswer : Lent → ℕ → Bool → Answer
+judgedAnswer l connection allowed = through (gateAt l connection) Refused (judgedOf allowed (recordAt (l .state) connection))

@@ -22,7 +22,7 @@ use Rattle.gate.specs.Lent.{Lent, Loan, sizes}
 use Rattle.receive.specs.declared.Answer.{Answer}
 use Rattle.receive.specs.declared.Answer.the-variants.{Done}
 use Rattle.receive.specs.declared.SegmentTaken.{SegmentTaken}
-use Rattle.receive.specs.Answer.{isDone, answerOf}
+use Rattle.receive.specs.Answer.{isDone, judgedAnswer}
 
 -- "A drop adds 1 to its protocol's count": TCP's
 abbrev pub dropsAfter : Outcome → ℕ → ℕ
@@ -68,7 +68,7 @@ noneTaken s a = record { answer = a; read = 0; outcome = More; state = s }
 
 -- "Segment: TCP, else 3"
 abbrev pub segmentAnswer : Lent → ℕ → Answer
-segmentAnswer l connection = answerOf l connection (configOf (l .image) connection .tcp)
+segmentAnswer l connection = judgedAnswer l connection (configOf (l .image) connection .tcp)
 
 -- THE SEGMENT TAKE
 unfoldable pub segmentOf : Loan → ℕ → List ℕ → SegmentTaken

@@ -17,7 +17,7 @@ use Rattle.gate.specs.Lent.{Lent}
 use Rattle.receive.specs.declared.Answer.{Answer}
 use Rattle.receive.specs.declared.Answer.the-variants.{Done}
 use Rattle.receive.specs.declared.DatagramWalked.{DatagramWalked}
-use Rattle.receive.specs.Answer.{isDone, answerOf}
+use Rattle.receive.specs.Answer.{isDone, judgedAnswer}
 
 -- "A drop adds 1 to its protocol's count": UDP's
 abbrev pub countWalk : Outcome → State → State
@@ -49,7 +49,7 @@ abbrev pub walkAllowed : List ℕ → ℕ → List ℕ → ℕ → Bool
 walkAllowed image connection datagram place = not (configOf image connection .tcp) && leb place (length datagram)
 
 abbrev pub walkAnswer : Lent → ℕ → List ℕ → ℕ → Answer
-walkAnswer l connection datagram place = answerOf l connection (walkAllowed (l .image) connection datagram place)
+walkAnswer l connection datagram place = judgedAnswer l connection (walkAllowed (l .image) connection datagram place)
 
 -- THE WALK
 unfoldable pub walkOf : Lent → ℕ → List ℕ → ℕ → DatagramWalked

@@ -73,7 +73,7 @@ fn judge(allowed: bool, c: Connection) -> Answer
 
 // The gate (11, 12, 2), then 3, then 4.
 fn answer_at(image: &[u8], state: State, rx: usize, tx: usize, n: usize, allowed: bool) -> Answer
-    ensures { λ r. ⌜ r ≡ Is.answerOf (lent (now (image .entry)) state rx tx) n allowed ⌝ }
+    ensures { λ r. ⌜ r ≡ Is.judgedAnswer (lent (now (image .entry)) state rx tx) n allowed ⌝ }
 {
     let asked = ask_at(image, state, rx, tx, n);
     match asked {

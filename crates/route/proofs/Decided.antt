@@ -10,13 +10,13 @@ use borrow.Author.Tests.{ltb-true, ltb-false, eqb-true, eq-eqb, not-false}
 use lib.Dec.{ltb, eqb}
 use Rattle.feed.specs.declared.Decision.{Decision}
 use Rattle.feed.specs.declared.Decision.the-variants.{Accept}
-use Rattle.feed.specs.On.{isOn}
+use Rattle.switches.specs.Switches.{isOn}
 use Rattle.lists.proofs.Both.{and-left, and-right, and-both, impossible}
 use Rattle.lists.proofs.Search.{none-bad, found-bad}
 use Rattle.rows.specs.declared.RouteRow.{RouteRow}
 use Rattle.rows.specs.Rows.{routeIn}
 use Rattle.route.specs.Route.{rowsIn, counts, passed, rowFor, reasonIn, reasonOf, decisionOf, lookupOf}
-use Rattle.route.specs.Decided.{Bears, Allows, Decided, allowed, no-route, off, too-long, Alone}
+use Rattle.route.specs.Decided.{Bears, Allows, Decided, allowing, no-route, off, too-long, Alone}
 
 -- the row that the search finds, where it finds one, counts
 row-counts : (routes : List ℕ) (connection id : ℕ) → rowFor routes connection id < rowsIn routes → counts (routeIn routes (rowFor routes connection id)) connection id ≡ true
@@ -57,14 +57,14 @@ lookup-decided routes connection switches id n =
     go r k none false ea b eb c ec = no-route (none (ltb-false _ _ ea))
     go r k none true ea false eb c ec = off r (k (ltb-true _ _ ea)) eb
     go r k none true ea true eb true ec = too-long r (k (ltb-true _ _ ea)) eb (ltb-true _ _ ec)
-    go r k none true ea true eb false ec = allowed r (record { bears = k (ltb-true _ _ ea); on = eb; fits = ltb-false _ _ ec })
+    go r k none true ea true eb false ec = allowing r (record { bears = k (ltb-true _ _ ea); on = eb; fits = ltb-false _ _ ec })
 
-pub accepted : (routes : List ℕ) (connection switches id length route : ℕ) → lookupOf routes connection switches id length ≡ Accept route
+pub route-accepted : (routes : List ℕ) (connection switches id length route : ℕ) → lookupOf routes connection switches id length ≡ Accept route
     → Allows routes connection switches id length route
-accepted routes connection switches id length route e = go (lookup-decided routes connection switches id length) e
+route-accepted routes connection switches id length route e = go (lookup-decided routes connection switches id length) e
   where
     go : {d : Decision} → Decided routes connection switches id length d → d ≡ Accept route → Allows routes connection switches id length route
-    go (allowed r a) q = let p : r ≡ route = cc in subst (Allows routes connection switches id length) p a
+    go (allowing r a) q = let p : r ≡ route = cc in subst (Allows routes connection switches id length) p a
     go (no-route h) q = let z : _≡_ {A = ℕ} 0 1 = cc in absurd (omega arith)
     go (off r b h) q = let z : _≡_ {A = ℕ} 0 1 = cc in absurd (omega arith)
     go (too-long r b o l) q = let z : _≡_ {A = ℕ} 0 1 = cc in absurd (omega arith)
@@ -92,19 +92,19 @@ module _ (routes : List ℕ) (connection id : ℕ) (alone : Alone routes) where
     fits-not i j a b fits long = absurd (omega (arith, fits, long, ap (λ (r : ℕ). routeIn routes r .longest) (one-bears i j a b)))
 
     pub decided-once : {d e : Decision} → Says d → Says e → d ≡ e
-    decided-once (allowed i a) (allowed j b) = ap Accept (one-bears i j (a .bears) (b .bears))
-    decided-once (allowed i a) (no-route h) = absurd (h i (a .bears))
-    decided-once (allowed i a) (off j b f) = both-ways i j (a .bears) b (a .on) f
-    decided-once (allowed i a) (too-long j b o l) = fits-not i j (a .bears) b (a .fits) l
-    decided-once (no-route h) (allowed j b) = absurd (h j (b .bears))
+    decided-once (allowing i a) (allowing j b) = ap Accept (one-bears i j (a .bears) (b .bears))
+    decided-once (allowing i a) (no-route h) = absurd (h i (a .bears))
+    decided-once (allowing i a) (off j b f) = both-ways i j (a .bears) b (a .on) f
+    decided-once (allowing i a) (too-long j b o l) = fits-not i j (a .bears) b (a .fits) l
+    decided-once (no-route h) (allowing j b) = absurd (h j (b .bears))
     decided-once (no-route h) (no-route k) = refl
     decided-once (no-route h) (off j b f) = absurd (h j b)
     decided-once (no-route h) (too-long j b o l) = absurd (h j b)
-    decided-once (off i a f) (allowed j b) = both-ways j i (b .bears) a (b .on) f
+    decided-once (off i a f) (allowing j b) = both-ways j i (b .bears) a (b .on) f
     decided-once (off i a f) (no-route h) = absurd (h i a)
     decided-once (off i a f) (off j b g) = refl
     decided-once (off i a f) (too-long j b o l) = both-ways j i b a o f
-    decided-once (too-long i a o l) (allowed j b) = fits-not j i (b .bears) a (b .fits) l
+    decided-once (too-long i a o l) (allowing j b) = fits-not j i (b .bears) a (b .fits) l
     decided-once (too-long i a o l) (no-route h) = absurd (h i a)
     decided-once (too-long i a o l) (off j b f) = both-ways i j a b o f
     decided-once (too-long i a o l) (too-long j b q m) = refl

@@ -14,7 +14,7 @@ use Rattle.rows.specs.declared.RouteRow.{RouteRow}
 use Rattle.layout.proofs.Parts.{row-range}
 use Rattle.rows.specs.Rows.{routeRow, routeIn}
 use Rattle.wire.specs.Be.{be}
-use Rattle.feed.specs.On.{isOn}
+use Rattle.switches.specs.Switches.{isOn}
 use Rattle.route.specs.Route.{rowsIn, counts, passed, rowFor, reasonIn, reasonOf, decisionOf, lookupOf}
 
 -- the row that is read as a part of the body is the body's row
@@ -76,10 +76,10 @@ reason-known routes i switches length k e h =
     go true false false q = absurd (h q)
 
 -- the decision at a reason
-pub accepts : (routes : List ℕ) (connection switches id length row k : ℕ) → row ≡ rowFor routes connection id → k ≡ reasonOf routes row switches length → k ≡ 0
+pub reason-accepts : (routes : List ℕ) (connection switches id length row k : ℕ) → row ≡ rowFor routes connection id → k ≡ reasonOf routes row switches length → k ≡ 0
     → Accept row ≡ lookupOf routes connection switches id length
 unfolding lookupOf decisionOf
-accepts routes connection switches id length row k er ek e =
+reason-accepts routes connection switches id length row k er ek e =
     ap (λ (j : ℕ). decisionOf j row) (sym e ∙ ek) ∙ ap (λ (r : ℕ). decisionOf (reasonOf routes r switches length) r) er
 
 refusal : (k i : ℕ) → (k ≡ 0 → ⊥) → Refuse k ≡ decisionOf k i
@@ -94,9 +94,9 @@ refuses routes connection switches id length row k er ek h =
     refusal k row h ∙ ap (λ (j : ℕ). decisionOf j row) ek ∙ ap (λ (r : ℕ). decisionOf (reasonOf routes r switches length) r) er
 
 -- a drop reason is 20, 21 or 22
-pub refused : (routes : List ℕ) (connection switches id length k : ℕ) → lookupOf routes connection switches id length ≡ Refuse k → Known k
+pub refused-known : (routes : List ℕ) (connection switches id length k : ℕ) → lookupOf routes connection switches id length ≡ Refuse k → Known k
 unfolding lookupOf decisionOf
-refused routes connection switches id length k e = go (reasonOf routes (rowFor routes connection id) switches length) refl e
+refused-known routes connection switches id length k e = go (reasonOf routes (rowFor routes connection id) switches length) refl e
   where
     go : (j : ℕ) → j ≡ reasonOf routes (rowFor routes connection id) switches length → decisionOf j (rowFor routes connection id) ≡ Refuse k → Known k
     go zero p q = let z : _≡_ {A = ℕ} 0 1 = cc in absurd (omega arith)

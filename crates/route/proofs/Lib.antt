@@ -1,4 +1,3 @@
 -- The laws of the lookup. Assumes nothing.
 pub mod Laws
 pub mod Decided
-pub mod On

@@ -5,7 +5,7 @@ use mathlib.Core.Bool.{true, false}
 use mathlib.Core.List.{List}
 use Rattle.feed.specs.declared.Decision.{Decision}
 use Rattle.feed.specs.declared.Decision.the-variants.{Accept, Refuse}
-use Rattle.feed.specs.On.{isOn}
+use Rattle.switches.specs.Switches.{isOn}
 use Rattle.rows.specs.Rows.{routeIn}
 use Rattle.route.specs.Route.{rowsIn}
 
@@ -25,7 +25,7 @@ module _ (routes : List ℕ) (connection switches id n : ℕ) where
 
   -- "First that applies: drop 20 no route, 21 switched off, 22 longer than allowed"
   pub data Decided : Decision → Type 0 where
-    allowed : (r : ℕ) → Allows r → Decided (Accept r)
+    allowing : (r : ℕ) → Allows r → Decided (Accept r)
     no-route : ((r : ℕ) → Bears routes connection id r → ⊥) → Decided (Refuse 20)
     off : (r : ℕ) → Bears routes connection id r → isOn (routeIn routes r .groups) switches ≡ false → Decided (Refuse 21)
     too-long : (r : ℕ) → Bears routes connection id r → isOn (routeIn routes r .groups) switches ≡ true → routeIn routes r .longest < n → Decided (Refuse 22)

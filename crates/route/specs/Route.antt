@@ -9,7 +9,7 @@ use lib.ListN.{length}
 use Rattle.feed.specs.declared.Decision.{Decision}
 use Rattle.feed.specs.declared.Decision.the-variants.{Accept, Refuse}
 use Rattle.feed.specs.Feed.{Routes}
-use Rattle.feed.specs.On.{isOn}
+use Rattle.switches.specs.Switches.{isOn}
 use Rattle.lists.specs.Search.{firstBad}
 use Rattle.rows.specs.declared.RouteRow.{RouteRow}
 use Rattle.rows.specs.Rows.{routeIn}
@@ -19,7 +19,7 @@ unfoldable pub rowsIn : List ℕ → ℕ
 rowsIn routes = cond (leb (length routes / 16) 64) (length routes / 16) 64
 
 -- n is that number, and its rows stand within the body
-pub record Counted (routes : List ℕ) (n : ℕ) : Type 0 where
+pub record RowsCounted (routes : List ℕ) (n : ℕ) : Type 0 where
   pub is : n ≡ rowsIn routes
   pub most : n ≤ 64
   pub within : n ≤ length routes / 16

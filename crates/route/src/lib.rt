@@ -3,8 +3,8 @@
 ghost use mathlib.Core.Path.{_≡_};
 ghost use Prim.Native.Nat.{_≤_};
 ghost use Rattle.rows.specs.Rows.{routeRow};
-ghost use Rattle.feed.specs.On.{isOn};
-ghost use Rattle.route.specs.Route.{Counted, counts, rowFor, reasonIn, reasonOf, lookupOf};
+ghost use Rattle.switches.specs.Switches.{isOn};
+ghost use Rattle.route.specs.Route.{RowsCounted, counts, rowFor, reasonIn, reasonOf, lookupOf};
 use feed::Decision;
 use rows::RouteRow;
 use rows::route_in;
@@ -20,7 +20,7 @@ pub fn is_on(groups: u32, switches: u32) -> bool
 
 // How many rows there are: 64 at most.
 fn rows_in(routes: &[u8]) -> usize
-    ensures { λ r. ⌜ Counted (now (routes .entry)) r ⌝ }
+    ensures { λ r. ⌜ RowsCounted (now (routes .entry)) r ⌝ }
 {
     let n = routes.len() / 16;
     if n <= 64 { n } else { 64 }

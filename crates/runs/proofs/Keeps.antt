@@ -17,7 +17,7 @@ use Rattle.connection.specs.declared.Config.{Config}
 use Rattle.part.specs.Part.{ready}
 use Rattle.connection.specs.declared.Event.{Event as Change}
 use Rattle.connection.specs.Connection.{isOnline}
-use Rattle.connection.specs.Event.{after, empties}
+use Rattle.connection.specs.Event.{recordAfter, empties}
 use Rattle.feed.specs.Feed.{cell, payload}
 use Rattle.connection.proofs.Leaves.{after-leaves}
 use Rattle.connection.proofs.Ticks.{step-either}
@@ -25,7 +25,7 @@ use Rattle.waiting.specs.Waiting.{takeOf}
 use Rattle.waiting.proofs.Taken.{take-part, take-mode}
 use Rattle.stream.specs.Stream.{cellOf}
 use Rattle.world.specs.World.{Held, blank, heldBy, cellAt, follow}
-use Rattle.world.specs.Events.{Own, change, walk, take, on}
+use Rattle.world.specs.Events.{Own, change, walk, takeWaiting, on}
 use Rattle.world.specs.Step.{Table, does, acts}
 use Rattle.runs.specs.Streams.{Quiet, Kept}
 
@@ -47,11 +47,11 @@ kept-follow c h p m q =
     record { going = λ _. follows c h p; gone = λ off. follows c h p ∙ q (ap isOnline (sym m) ∙ off) }
 
 -- the six events of the record alone
-kept-after : (e : Change) (g : Config) (h : Held) → Quiet h → Kept h (follow (after e g (h .connection)) h)
+kept-after : (e : Change) (g : Config) (h : Held) → Quiet h → Kept h (follow (recordAfter e g (h .connection)) h)
 kept-after e g h q = go (empties e) refl (after-leaves e g (h .connection) .part)
   where
     d : Connection
-    d = after e g (h .connection)
+    d = recordAfter e g (h .connection)
 
     go : (b : Bool) → empties e ≡ b → d .part ≡ cond b ready (h .connection .part) → Kept h (follow d h)
     go true n p =
@@ -73,7 +73,7 @@ kept-after e g h q = go (empties e) refl (after-leaves e g (h .connection) .part
 pub data Other : Own → Type 0 where
   a-change : (e : Change) → Other (change e)
   a-walk : (d : List ℕ) (p : ℕ) → Other (walk d p)
-  a-take : (room : ℕ) → Other (take room)
+  a-take : (room : ℕ) → Other (takeWaiting room)
 
 module _ (T : Table) (k : ℕ) (tcp : T .config k .tcp ≡ true) where
   kept-does : (e : Own) → Other e → (h : Held) → Quiet h → Kept h (does T k e h .to)

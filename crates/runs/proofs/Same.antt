@@ -11,12 +11,12 @@ use lib.Dec.{eqb, ltb}
 use native.Mathlib.Decide.{decLt}
 use native.Mathlib.Omega.{arith}
 use borrow.Author.Tests.{eqb-true}
-use Rattle.feed.specs.Feed.{Routes, Cell, segment as segmentOf, drops, Out}
+use Rattle.feed.specs.Feed.{Routes, Cell, segmentRan as segmentOf, drops, Out}
 use Rattle.feed.proofs.Cut.{cut as cut-segment, drops-append}
 use Rattle.world.specs.World.{Held, World, blank, cellAt, withCell}
 use Rattle.world.specs.Events.{Own, segment, Whole, Event, on}
 use Rattle.connection.specs.Event.{receiving}
-use Rattle.world.specs.Step.{Table, countsIf, Acted, acted, streamed, routesAt, does, acts, at, left, step, run, hands, heard}
+use Rattle.world.specs.Step.{Table, countAfterIf, Acted, acted, streamed, routesAt, does, acts, actsAt, left, step, run, hands, heard}
 use Rattle.world.proofs.Counts.{countsIf-comm, countsIf-add}
 use Rattle.world.proofs.Cells.{snug-in, snug-segment, cell-back}
 use Rattle.runs.specs.Same.{Same, swap, cut, join, same, later, both}
@@ -30,15 +30,15 @@ module _ (T : Table) where
       let t = countsIf-comm (T .config i .tcp) (T .config j .tcp) (drops (a .list)) (drops (b .list)) (w .tcp) in
       λ k. record { held = p k; udp = u k; tcp = t k }
 
-  at-other : (w : World) (i j : ℕ) (a : Acted) (b : Own) → (i ≡ j → ⊥) → at T (left T w i a) j b ≡ at T w j b
+  at-other : (w : World) (i j : ℕ) (a : Acted) (b : Own) → (i ≡ j → ⊥) → actsAt T (left T w i a) j b ≡ actsAt T w j b
   at-other w i j a b ne = ap (acts T j b) (getD-set-other (w .held) i j (a .to) blank (λ e. ne (sym e)))
 
   swap-left : (w : World) (i j : ℕ) (a b : Own) → (i ≡ j → ⊥)
-      → left T (left T w i (at T w i a)) j (at T (left T w i (at T w i a)) j b) ≡ left T (left T w j (at T w j b)) i (at T (left T w j (at T w j b)) i a)
+      → left T (left T w i (actsAt T w i a)) j (actsAt T (left T w i (actsAt T w i a)) j b) ≡ left T (left T w j (actsAt T w j b)) i (actsAt T (left T w j (actsAt T w j b)) i a)
   swap-left w i j a b ne =
-      ap (left T (left T w i (at T w i a)) j) (at-other w i j (at T w i a) b ne)
-      ∙ left-comm w i j (at T w i a) (at T w j b) ne
-      ∙ ap (left T (left T w j (at T w j b)) i) (sym (at-other w j i (at T w j b) a (λ e. ne (sym e))))
+      ap (left T (left T w i (actsAt T w i a)) j) (at-other w i j (actsAt T w i a) b ne)
+      ∙ left-comm w i j (actsAt T w i a) (actsAt T w j b) ne
+      ∙ ap (left T (left T w j (actsAt T w j b)) i) (sym (at-other w j i (actsAt T w j b) a (λ e. ne (sym e))))
 
   -- ONE CONNECTION: two acts one after the other, as one
   abbrev pub following : Acted → Acted → Acted
@@ -47,8 +47,8 @@ module _ (T : Table) where
   pub left-following : (w : World) (i : ℕ) (a b : Acted) → left T w i (following a b) ≡ left T (left T w i a) i b
   left-following w i a b =
       let p : set (w .held) i (b .to) ≡ set (set (w .held) i (a .to)) i (b .to) = sym (set-set (w .held) i (a .to) (b .to)) in
-      let c : (q : Bool) (n : ℕ) → countsIf q (drops (a .list ++ b .list)) n ≡ countsIf q (drops (b .list)) (countsIf q (drops (a .list)) n) =
-      λ q n. ap (λ (d : ℕ). countsIf q d n) (drops-append (a .list) (b .list)) ∙ countsIf-add q (drops (a .list)) (drops (b .list)) n in
+      let c : (q : Bool) (n : ℕ) → countAfterIf q (drops (a .list ++ b .list)) n ≡ countAfterIf q (drops (b .list)) (countAfterIf q (drops (a .list)) n) =
+      λ q n. ap (λ (d : ℕ). countAfterIf q d n) (drops-append (a .list) (b .list)) ∙ countsIf-add q (drops (a .list)) (drops (b .list)) n in
       let u = c (not (T .config i .tcp)) (w .udp) in
       let t = c (T .config i .tcp) (w .tcp) in
       λ k. record { held = p k; udp = u k; tcp = t k }
@@ -98,25 +98,25 @@ module _ (T : Table) where
   acts-blank k x false t e p = rw e
 
   -- so the second piece meets what the first one left
-  pub stays : (w : World) (i : ℕ) (x : List ℕ) → Dec (i < length (w .held)) → getD (set (w .held) i (at T w i (segment x) .to)) i blank ≡ at T w i (segment x) .to
-  stays w i x (yes lt) = getD-set-same (w .held) i (at T w i (segment x) .to) blank lt
-  stays w i x (no ge) =
+  pub held-stays : (w : World) (i : ℕ) (x : List ℕ) → Dec (i < length (w .held)) → getD (set (w .held) i (actsAt T w i (segment x) .to)) i blank ≡ actsAt T w i (segment x) .to
+  held-stays w i x (yes lt) = getD-set-same (w .held) i (actsAt T w i (segment x) .to) blank lt
+  held-stays w i x (no ge) =
       let out : length (w .held) ≤ i = omega arith in
-      ap (λ (hs : List Held). getD hs i blank) (set-out (w .held) i (at T w i (segment x) .to) out)
+      ap (λ (hs : List Held). getD hs i blank) (set-out (w .held) i (actsAt T w i (segment x) .to) out)
       ∙ List·getD-eq-default (w .held) blank out
       ∙ sym
       (ap (λ (h : Held). acts T i (segment x) h .to) (List·getD-eq-default (w .held) blank out)
       ∙ ap (λ (a : Acted). a .to) (acts-blank i x (ltb i (T .rows)) (T .config i .tcp) refl refl))
 
-  at-cut : (w : World) (i : ℕ) (x y : List ℕ) → at T w i (segment (x ++ y)) ≡ following (at T w i (segment x)) (at T (left T w i (at T w i (segment x))) i (segment y))
+  at-cut : (w : World) (i : ℕ) (x y : List ℕ) → actsAt T w i (segment (x ++ y)) ≡ following (actsAt T w i (segment x)) (actsAt T (left T w i (actsAt T w i (segment x))) i (segment y))
   at-cut w i x y =
       acts-cut i (getD (w .held) i blank) x y (ltb i (T .rows)) refl
-      ∙ ap (λ (h : Held). following (at T w i (segment x)) (acts T i (segment y) h)) (sym (stays w i x (decLt i (length (w .held)))))
+      ∙ ap (λ (h : Held). following (actsAt T w i (segment x)) (acts T i (segment y) h)) (sym (held-stays w i x (decLt i (length (w .held)))))
 
   cut-left : (w : World) (i : ℕ) (x y : List ℕ)
-      → left T w i (at T w i (segment (x ++ y))) ≡ left T (left T w i (at T w i (segment x))) i (at T (left T w i (at T w i (segment x))) i (segment y))
+      → left T w i (actsAt T w i (segment (x ++ y))) ≡ left T (left T w i (actsAt T w i (segment x))) i (actsAt T (left T w i (actsAt T w i (segment x))) i (segment y))
   cut-left w i x y =
-      ap (left T w i) (at-cut w i x y) ∙ left-following w i (at T w i (segment x)) (at T (left T w i (at T w i (segment x))) i (segment y))
+      ap (left T w i) (at-cut w i x y) ∙ left-following w i (actsAt T w i (segment x)) (actsAt T (left T w i (actsAt T w i (segment x))) i (segment y))
 
 -- of two different numbers at most one is k, so the order of what they hand out does not matter
 one-of : (i j k : ℕ) (X Y Z : List Out) → (i ≡ j → ⊥) → cond (eqb i k) X [] ++ (cond (eqb j k) Y [] ++ Z) ≡ cond (eqb j k) Y [] ++ (cond (eqb i k) X [] ++ Z)
@@ -144,9 +144,9 @@ module _ (T : Table) (whole : Whole → World → World) where
   swap-heard : (k : ℕ) (w : World) (i j : ℕ) (a b : Own) (es : List Event) → (i ≡ j → ⊥) → heard T whole k w (on i a ∷ on j b ∷ es) ≡ heard T whole k w (on j b ∷ on i a ∷ es)
   unfolding heard hands step
   swap-heard k w i j a b es ne =
-      let A : Acted = at T w i a in
-      let B : Acted = at T w j b in
-      let v : World = left T (left T w j B) i (at T (left T w j B) i a) in
+      let A : Acted = actsAt T w i a in
+      let B : Acted = actsAt T w j b in
+      let v : World = left T (left T w j B) i (actsAt T (left T w j B) i a) in
       ap₂ (λ (q : Acted) (v′ : World). cond (eqb i k) (A .list) [] ++ (cond (eqb j k) (q .list) [] ++ heard T whole k v′ es))
       (at-other T w i j A b ne) (swap-left T w i j a b ne)
       ∙ one-of i j k (A .list) (B .list) (heard T whole k v es) ne
@@ -155,8 +155,8 @@ module _ (T : Table) (whole : Whole → World → World) where
   cut-heard : (k : ℕ) (w : World) (i : ℕ) (x y : List ℕ) (es : List Event) → heard T whole k w (on i (segment (x ++ y)) ∷ es) ≡ heard T whole k w (on i (segment x) ∷ on i (segment y) ∷ es)
   unfolding heard hands step
   cut-heard k w i x y es =
-      let A : Acted = at T w i (segment x) in
-      let B : Acted = at T (left T w i A) i (segment y) in
+      let A : Acted = actsAt T w i (segment x) in
+      let B : Acted = actsAt T (left T w i A) i (segment y) in
       ap₂ (λ (q : List Out) (v : World). cond (eqb i k) q [] ++ heard T whole k v es) (ap (λ (q : Acted). q .list) (at-cut T w i x y)) (cut-left T w i x y)
       ∙ both-of (eqb i k) (A .list) (B .list) (heard T whole k (left T (left T w i A) i B) es)
 

@@ -13,12 +13,12 @@ use native.Mathlib.Omega.{arith}
 use borrow.Author.Tests.{eq-eqb, ne-eqb}
 use Rattle.lists.proofs.Both.{and-left, and-right}
 use Rattle.connection.specs.Connection.{isOnline}
-use Rattle.feed.specs.Feed.{Routes, Cell, ready, Ran, ran, segment as segmentOf, pdus, Out}
+use Rattle.feed.specs.Feed.{Routes, Cell, ready, Ran, ran, segmentRan as segmentOf, pdus, Out}
 use Rattle.feed.proofs.Cut.{pdus-append}
 use Rattle.world.specs.World.{Held, World, blank, heldAt, cellAt}
-use Rattle.world.specs.Events.{Own, change, segment, walk, take, Whole, Event, on, all}
+use Rattle.world.specs.Events.{Own, change, segment, walk, takeWaiting, Whole, Event, on, onWhole}
 use Rattle.connection.specs.Event.{receiving}
-use Rattle.world.specs.Step.{Table, Acted, acted, streamed, routesAt, acts, at, step, hands, heard, compared}
+use Rattle.world.specs.Step.{Table, Acted, acted, streamed, routesAt, acts, actsAt, step, hands, heard, compared}
 use Rattle.world.proofs.Cells.{snug-in, snug-segment, cell-back}
 use Rattle.lengths.specs.Listed.{Marked, mark, bytesOf, readTo, readOut, Bytes}
 use Rattle.lengths.proofs.Bytes.{bytes-append, bytes-mark}
@@ -27,7 +27,7 @@ use Rattle.lengths.proofs.Ready.{ready-list}
 use Rattle.lengths.proofs.Reading.{reading}
 use Rattle.runs.specs.Streams.{online, Streams, streams, longer, accepts, reads, ends, streamsOf, listedLater, listedIn, EventBytes, RunBytes, Quiet, Rests, Kept}
 use Rattle.runs.proofs.Keeps.{kept-same, Other, a-change, a-walk, a-take, kept-acts, acts-nothing, kept-set}
-use Rattle.runs.proofs.Same.{does-read, does-refused, stays}
+use Rattle.runs.proofs.Same.{does-read, does-refused, held-stays}
 
 -- streams of bytes
 abbrev LaterBytes : List (List Marked) → Type 0
@@ -64,14 +64,14 @@ module _ (T : Table) (whole : Whole → World → World) (k : ℕ) (tcp : T .con
   reads-other w i (change e) ne = refl
   reads-other w i (segment bs) ne = rw ne
   reads-other w i (walk d p) ne = refl
-  reads-other w i (take room) ne = refl
+  reads-other w i (takeWaiting room) ne = refl
 
   turn-other : (w : World) (i : ℕ) (e : Own) → (i ≡ k → ⊥) → Quiet (heldAt w k) → Turn w (on i e)
   unfolding hands step
   turn-other w i e ne q =
       let f : eqb i k ≡ false = ne-eqb i k ne in
       silent (rw f) (reads-other w i e f)
-      (subst (Kept (heldAt w k)) (sym (getD-set-other (w .held) i k (at T w i e .to) blank (λ p. ne (sym p)))) (kept-same (heldAt w k) q))
+      (subst (Kept (heldAt w k)) (sym (getD-set-other (w .held) i k (actsAt T w i e .to) blank (λ p. ne (sym p)))) (kept-same (heldAt w k) q))
 
   -- its own, if no segment
   reads-none : (w : World) (e : Own) → Other e → reads T whole k w (on k e) ≡ []
@@ -83,7 +83,7 @@ module _ (T : Table) (whole : Whole → World → World) (k : ℕ) (tcp : T .con
   unfolding hands step
   turn-own w e o q =
       silent (rw (eq-eqb k k refl) (acts-nothing T k tcp e o (heldAt w k) (ltb k (T .rows)) refl)) (reads-none w e o)
-      (kept-set (w .held) k (at T w k e .to) q (kept-acts T k tcp e o (heldAt w k) (ltb k (T .rows)) refl q))
+      (kept-set (w .held) k (actsAt T w k e .to) q (kept-acts T k tcp e o (heldAt w k) (ltb k (T .rows)) refl q))
 
   -- a segment: refused, or read
   acts-read : (h : Held) (bs : List ℕ) → ltb k (T .rows) ≡ true → (T .config k .tcp && receiving (h .connection)) ≡ true
@@ -110,8 +110,8 @@ module _ (T : Table) (whole : Whole → World → World) (k : ℕ) (tcp : T .con
       let ms : List Marked = map (mark (sw w)) bs in
       let f : segmentOf (routesAt T k h) (cellAt h) bs ≡ ran (readTo (T .routes k) (cellAt h) ms) (readOut (T .routes k) (cellAt h) ms) =
       segment-reads (T .routes k) (sw w) (cellAt h) bs in
-      let a : at T w k (segment bs) ≡ streamed h (segmentOf (routesAt T k h) (cellAt h) bs) = acts-read h bs t u in
-      let s : heldAt (next w (on k (segment bs))) k ≡ at T w k (segment bs) .to = stays T w k bs (decLt k (length (w .held))) in
+      let a : actsAt T w k (segment bs) ≡ streamed h (segmentOf (routesAt T k h) (cellAt h) bs) = acts-read h bs t u in
+      let s : heldAt (next w (on k (segment bs))) k ≡ actsAt T w k (segment bs) .to = held-stays T w k bs (decLt k (length (w .held))) in
       read ms
       (rw (eq-eqb k k refl) (ap (λ (x : Acted). x .list) a ∙ ap (λ (x : Ran). x .list) f))
       (rw (eq-eqb k k refl, r))
@@ -122,17 +122,17 @@ module _ (T : Table) (whole : Whole → World → World) (k : ℕ) (tcp : T .con
       (ap (λ (x : Held). isOnline (x .connection .mode)) (s ∙ ap (λ (x : Acted). x .to) a) ∙ on-line)
   turn-segment w bs false r q =
       let h : Held = heldAt w k in
-      let a : at T w k (segment bs) ≡ acted h [] = acts-refused h bs (ltb k (T .rows)) refl r in
+      let a : actsAt T w k (segment bs) ≡ acted h [] = acts-refused h bs (ltb k (T .rows)) refl r in
       silent (rw (eq-eqb k k refl) (ap (λ (x : Acted). x .list) a)) (rw (eq-eqb k k refl, r))
-      (subst (Kept h) (sym (stays T w k bs (decLt k (length (w .held))) ∙ ap (λ (x : Acted). x .to) a)) (kept-same h q))
+      (subst (Kept h) (sym (held-stays T w k bs (decLt k (length (w .held))) ∙ ap (λ (x : Acted). x .to) a)) (kept-same h q))
 
   turn-at : (w : World) (e : Own) → Quiet (heldAt w k) → Turn w (on k e)
   turn-at w (change e) q = turn-own w (change e) (a-change e) q
   turn-at w (segment bs) q = turn-segment w bs (readable w) refl q
   turn-at w (walk d p) q = turn-own w (walk d p) (a-walk d p) q
-  turn-at w (take room) q = turn-own w (take room) (a-take room) q
+  turn-at w (takeWaiting room) q = turn-own w (takeWaiting room) (a-take room) q
 
-  turn-whole : (w : World) (e : Whole) → Quiet (heldAt w k) → Turn w (all e)
+  turn-whole : (w : World) (e : Whole) → Quiet (heldAt w k) → Turn w (onWhole e)
   unfolding hands step
   turn-whole w e q = silent refl refl (gentle e w q)
 
@@ -142,7 +142,7 @@ module _ (T : Table) (whole : Whole → World → World) (k : ℕ) (tcp : T .con
       go : Dec (i ≡ k) → Turn w (on i e)
       go (yes p) = subst (λ (j : ℕ). Turn w (on j e)) (sym p) (turn-at w e q)
       go (no ne) = turn-other w i e ne q
-  turn w (all e) q = turn-whole w e q
+  turn w (onWhole e) q = turn-whole w e q
 
   -- so it stays quiet while it is not online
   turn-quiet : (w : World) (e : Event) → Turn w e → Quiet (heldAt (next w e) k)
@@ -216,8 +216,8 @@ module _ (T : Table) (whole : Whole → World → World) (k : ℕ) (tcp : T .con
       go true = subst Bytes (sym (bytes-mark (sw w) bs)) b
       go false = none
   reads-bytes w (on i (walk d p)) b = none
-  reads-bytes w (on i (take room)) b = none
-  reads-bytes w (all e) b = none
+  reads-bytes w (on i (takeWaiting room)) b = none
+  reads-bytes w (onWhole e) b = none
 
   longer-bytes : (x : Bool) (ms : List Marked) (s : Streams) → Bytes (bytesOf ms) → StreamBytes s → StreamBytes (longer x ms s)
   longer-bytes true ms s b (f, l) = (none, (f, l))

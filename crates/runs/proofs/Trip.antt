@@ -6,12 +6,13 @@ use Prim.Native.Nat.{ℕ}
 use mathlib.Core.Path.{_≡_, refl, sym, ap, _∙_}
 use mathlib.Core.List.{List, [], _∷_, _++_, append-nil, flatten, map}
 use borrow.Author.Tests.{eq-eqb}
-use Rattle.feed.specs.Feed.{Routes, Cell, ready, Ran, segment as segmentOf, segments, Pdu, asOut}
-use Rattle.feed.specs.Frame.{Sent, frames, Routed}
+use Rattle.feed.specs.Feed.{Routes, Cell, ready, Ran, segmentRan as segmentOf, segments, Pdu, asOut}
+use Rattle.frame.specs.Frame.{Sent, frames}
+use Rattle.feed.specs.Routed.{Routed}
 use Rattle.feed.proofs.Trip.{round-trip}
 use Rattle.world.specs.World.{World, heldAt}
 use Rattle.world.specs.Events.{segment, Whole, Event, on}
-use Rattle.world.specs.Step.{Table, Acted, routesAt, acts, at, hands, heard}
+use Rattle.world.specs.Step.{Table, Acted, routesAt, acts, actsAt, hands, heard}
 use Rattle.runs.specs.Same.{Same, join, same, later, both}
 use Rattle.runs.specs.Trip.{Reads, asSegments}
 use Rattle.runs.proofs.Same.{does-read, same-heard}
@@ -29,7 +30,7 @@ module _ (T : Table) (whole : Whole → World → World) (w : World) (k : ℕ) (
   abbrev R : Routes
   R = routesAt T k (heldAt w k)
 
-  at-read : (bs : List ℕ) → at T w k (segment bs) .list ≡ segmentOf R ready bs .list
+  at-read : (bs : List ℕ) → actsAt T w k (segment bs) .list ≡ segmentOf R ready bs .list
   unfolding acts
   at-read bs =
       rw (r .there)
@@ -39,7 +40,7 @@ module _ (T : Table) (whole : Whole → World → World) (w : World) (k : ℕ) (
   unfolding heard hands segments flatten
   one-segment {ss} {ps} bs h e =
       rw (eq-eqb k k refl)
-      (append-nil (at T w k (segment bs) .list)
+      (append-nil (actsAt T w k (segment bs) .list)
       ∙ at-read bs
       ∙ sym (append-nil (segmentOf R ready bs .list))
       ∙ ap (λ (q : Ran). q .list) (round-trip R (bs ∷ []) h (append-nil bs ∙ e)))

@@ -10,7 +10,7 @@ use Rattle.connection.specs.Connection.{isOnline}
 use Rattle.feed.specs.Feed.{Routes, Cell, ready, Pdu}
 use Rattle.lengths.specs.Listed.{Marked, mark, listed, listedFrom, Bytes, Shaped}
 use Rattle.world.specs.World.{Held, World, heldAt, cellAt}
-use Rattle.world.specs.Events.{change, segment, walk, take, Whole, Event, on, all}
+use Rattle.world.specs.Events.{change, segment, walk, takeWaiting, Whole, Event, on, onWhole}
 use Rattle.connection.specs.Event.{receiving}
 use Rattle.world.specs.Step.{Table, step}
 
@@ -40,8 +40,8 @@ module _ (T : Table) (whole : Whole → World → World) (k : ℕ) where
   reads w (on i (change e)) = []
   reads w (on i (segment bytes)) = cond (accepts w i) (map (mark (heldAt w k .connection .switches)) bytes) []
   reads w (on i (walk datagram place)) = []
-  reads w (on i (take room)) = []
-  reads w (all e) = []
+  reads w (on i (takeWaiting room)) = []
+  reads w (onWhole e) = []
 
   -- whether an online period of connection k ends at an event: by a loss or a closing tick
   abbrev pub ends : World → Event → Bool
@@ -66,8 +66,8 @@ abbrev pub EventBytes : Event → Type 0
 EventBytes (on i (change e)) = Unit
 EventBytes (on i (segment bytes)) = Bytes bytes
 EventBytes (on i (walk datagram place)) = Unit
-EventBytes (on i (take room)) = Unit
-EventBytes (all e) = Unit
+EventBytes (on i (takeWaiting room)) = Unit
+EventBytes (onWhole e) = Unit
 
 abbrev pub RunBytes : List Event → Type 0
 RunBytes [] = Unit

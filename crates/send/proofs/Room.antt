@@ -14,7 +14,7 @@ use Rattle.destination.specs.Destination.{refusalOf, lookOf}
 use Rattle.lists.specs.Search.{firstBad, every}
 use Rattle.lists.proofs.Both.{and-left, and-right}
 use Rattle.lists.proofs.Search.{none-bad}
-use Rattle.feed.specs.On.{isOn}
+use Rattle.switches.specs.Switches.{isOn}
 use Rattle.rows.specs.declared.DestinationRow.{DestinationRow}
 use Rattle.rows.specs.Rows.{connectionOf, destinationOf}
 use Rattle.state.specs.declared.State.{State}

@@ -10,19 +10,19 @@ use borrow.Author.Tests.{eqb-true, lt-ltb, le-ltb, eq-eqb, ne-eqb}
 use Rattle.destination.specs.Destination.{lookOf}
 use Rattle.lists.specs.Search.{firstBad, every}
 use Rattle.lists.proofs.Both.{and-left, and-right, neither}
-use Rattle.lists.proofs.Search.{Searched, search-start, search-on, search-found, search-ended, Passed, pass-start, pass-on, pass-failed, every-at, every-all}
+use Rattle.lists.proofs.Search.{Searched, search-start, search-on, search-found, search-ended, GoodTo, pass-start, pass-on, pass-failed, every-at, every-all}
 use Rattle.rows.specs.declared.ConnectionRow.{ConnectionRow}
 use Rattle.rows.specs.declared.DestinationRow.{DestinationRow}
 use Rattle.rows.specs.Rows.{connectionOf, destinationOf}
 use Rattle.state.specs.declared.State.{State}
 use Rattle.state.specs.State.{recordAt}
 use Rattle.send.specs.declared.Transmission.the-variants.{Stored, NoDestination, SwitchedOff, RefusedAt}
-use Rattle.send.specs.Verdict.{isOut, passes, decidedAt, verdictOf, joinOf, outcomeOf}
+use Rattle.send.specs.Verdict.{isOut, passes, decidedAt, verdictOf, joinOf, transmissionOf}
 use Rattle.send.specs.Send.{lookAt}
 
 -- a row that does not refuse
 data Passing : ℕ → Type 0 where
-  fits : Passing 0
+  has-fit : Passing 0
   other : Passing 5
   off : Passing 6
 
@@ -30,7 +30,7 @@ passing : (a : ℕ) → passes a ≡ true → Passing a
 passing a h = go (eqb a 0) refl (eqb a 5) refl (eqb a 6) refl h
   where
     go : (x : Bool) → eqb a 0 ≡ x → (y : Bool) → eqb a 5 ≡ y → (z : Bool) → eqb a 6 ≡ z → (x || (y || z)) ≡ true → Passing a
-    go true p y q z r h = subst Passing (sym (eqb-true a 0 p)) fits
+    go true p y q z r h = subst Passing (sym (eqb-true a 0 p)) has-fit
     go false p true q z r h = subst Passing (sym (eqb-true a 5 q)) other
     go false p false q true r h = subst Passing (sym (eqb-true a 6 r)) off
     go false p false q false r h = absurd (let o : _≡_ {A = ℕ} 0 1 = cc in omega arith)
@@ -38,14 +38,14 @@ passing a h = go (eqb a 0) refl (eqb a 5) refl (eqb a 6) refl h
 -- what is seen so far, with one row more
 step : (a b : Bool) (l : ℕ) → (a ≡ true → b ≡ true) → Passing l → joinOf (cond a 5 (cond b 6 0)) l ≡ cond (a && eqb l 5) 5 (cond (b && isOut l) 6 0)
 unfolding joinOf
-step true true l h fits = refl
+step true true l h has-fit = refl
 step true true l h other = refl
 step true true l h off = refl
 step true false l h p = absurd (let o : _≡_ {A = ℕ} 0 1 = cc (h refl) in omega arith)
-step false true l h fits = refl
+step false true l h has-fit = refl
 step false true l h other = refl
 step false true l h off = refl
-step false false l h fits = refl
+step false false l h has-fit = refl
 step false false l h other = refl
 step false false l h off = refl
 
@@ -76,7 +76,7 @@ module _ (look : ℕ → ℕ) where
 
   pub record Scanned (n i v : ℕ) : Type 0 where
     pub searched : Searched good n i
-    pub passed : Passed good n i
+    pub passed : GoodTo good n i
     pub is : v ≡ seenAt i
 
   pub scan-start : (n : ℕ) → Scanned n 0 5
@@ -108,16 +108,16 @@ module _ (look : ℕ → ℕ) where
         let f : i ≡ firstBad good n = search-found good n i (s .searched) h g in
         rw (a, b, ← f, lt-ltb _ _ h)
 
-    pub scan-ended : n ≤ i → outcomeOf v ≡ verdictOf look n
+    pub scan-ended : n ≤ i → transmissionOf v ≡ verdictOf look n
     unfolding verdictOf
     scan-ended h =
         let e : i ≡ n = omega (arith, s .searched .0) in
-        ap outcomeOf (s .is ∙ ap seenAt e ∙ seen-is n (rw e at (s .passed .1))) ∙ go (every five n) (every out n)
+        ap transmissionOf (s .is ∙ ap seenAt e ∙ seen-is n (rw e at (s .passed .1))) ∙ go (every five n) (every out n)
       where
         none : decidedAt look n (firstBad good n) ≡ Stored
         none = rw (← search-ended good n i (s .searched) h, le-ltb i n h)
 
-        go : (a b : Bool) → outcomeOf (cond a 5 (cond b 6 0)) ≡ cond a NoDestination (cond b SwitchedOff (decidedAt look n (firstBad good n)))
+        go : (a b : Bool) → transmissionOf (cond a 5 (cond b 6 0)) ≡ cond a NoDestination (cond b SwitchedOff (decidedAt look n (firstBad good n)))
         go true b = refl
         go false true = refl
         go false false = sym none

@@ -16,7 +16,7 @@ use Rattle.lists.proofs.Each.{part-kept}
 use Rattle.lists.proofs.Fold.{Folded, fold-start, fold-on, fold-ended}
 use Rattle.outbox.specs.Outbox.{appendedOf}
 use Rattle.outbox.proofs.Laid.{appended-is}
-use Rattle.feed.specs.On.{isOn}
+use Rattle.switches.specs.Switches.{isOn}
 use Rattle.rows.specs.declared.DestinationRow.{DestinationRow}
 use Rattle.rows.specs.Rows.{destinationOf}
 use Rattle.state.specs.declared.State.{State}

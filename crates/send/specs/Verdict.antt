@@ -48,5 +48,5 @@ isStored (RefusedAt number destination) = false
 unfoldable pub joinOf : ℕ → ℕ → ℕ
 joinOf seen look = cond (eqb look 5 || eqb seen 0) seen look
 
-abbrev pub outcomeOf : ℕ → Transmission
-outcomeOf seen = cond (eqb seen 5) NoDestination (cond (eqb seen 6) SwitchedOff Stored)
+abbrev pub transmissionOf : ℕ → Transmission
+transmissionOf seen = cond (eqb seen 5) NoDestination (cond (eqb seen 6) SwitchedOff Stored)

@@ -43,7 +43,7 @@ fn join(seen: u8, look: u8) -> u8
 }
 
 fn outcome(seen: u8) -> Transmission
-    ensures { λ r. ⌜ r ≡ Is.outcomeOf seen ⌝ }
+    ensures { λ r. ⌜ r ≡ Is.transmissionOf seen ⌝ }
 {
     match seen {
         5 => Transmission::NoDestination,

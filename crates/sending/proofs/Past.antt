@@ -28,15 +28,15 @@ counted : (image : List ℕ) → Accepts image → (i : ℕ) → i < destination
 counted image a i h = subst (λ (n : ℕ). i < n) (body-rows image (a .laid) Destination) h
 
 -- an accepted table's destinations have a connection's row
-pub row-there : (image : List ℕ) → Accepts image → (i : ℕ) → i < destinations image → destinationOf image i .connection < rowsOf image Connections
-row-there image a i h = a .there i (counted image a i h)
+pub connection-there : (image : List ℕ) → Accepts image → (i : ℕ) → i < destinations image → destinationOf image i .connection < rowsOf image Connections
+connection-there image a i h = a .there i (counted image a i h)
 
 -- and are ready for a store
 pub ready-from : (image : List ℕ) → Accepts image → Ready image
 ready-from image a =
     record {
-      there = λ i h. omega (arith, row-there image a i h, a .most Connections);
-      sized = λ i h. a .sized (destinationOf image i .connection) (row-there image a i h) .1;
+      there = λ i h. omega (arith, connection-there image a i h, a .most Connections);
+      sized = λ i h. a .sized (destinationOf image i .connection) (connection-there image a i h) .1;
       apart = λ i j l h. a .destinationsApart i j l (counted image a j h);
     }
 

@@ -41,8 +41,8 @@ takePast image s n room =
 
 -- taking the waiting bytes of connection n
 module _ (l : Loan) (n : ℕ) (out : List ℕ) where
-  unfoldable pub takenOf : Taken
-  takenOf = through (gateAt (sizes l) n) (notTaken (l .state)) (takePast (l .image) (l .state) n (length out))
+  unfoldable pub takenWaiting : Taken
+  takenWaiting = through (gateAt (sizes l) n) (notTaken (l .state)) (takePast (l .image) (l .state) n (length out))
 
   -- the out buffer afterwards
   unfoldable pub takenOut : List ℕ

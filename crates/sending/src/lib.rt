@@ -1,7 +1,7 @@
 // The entry points of sending: a transmit, and taking the waiting bytes of a connection. Each is lent image, state and both
 // memories, and answers any of them. Assumes nothing: no entry relies on its caller.
 ghost use mathlib.Core.Path.{_≡_};
-ghost use Rattle.sending.specs.Sending.{sendOf, sentMemory, takenOf, takenOut};
+ghost use Rattle.sending.specs.Sending.{sendOf, sentMemory, takenWaiting, takenOut};
 ghost use Rattle.gate.specs.Lent.{loan};
 use gate::Gate;
 use send::Transmission;
@@ -46,7 +46,7 @@ pub fn take_waiting(
     connection: u8,
     out: &mut [u8],
 ) -> Taken
-    ensures { λ r. ⌜ r ≡ takenOf (loan (now (image .entry)) state (now (rx .entry)) (now (tx .entry))) connection (now (out .entry)) ⌝ }
+    ensures { λ r. ⌜ r ≡ takenWaiting (loan (now (image .entry)) state (now (rx .entry)) (now (tx .entry))) connection (now (out .entry)) ⌝ }
     ensures { λ _. ⌜ now (out .exit) ≡ takenOut (loan (now (image .entry)) state (now (rx .entry)) (now (tx .entry))) connection (now (out .entry)) ⌝ }
 {
     let n = connection as usize;

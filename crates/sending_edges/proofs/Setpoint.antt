@@ -14,7 +14,7 @@ use Rattle.rows.specs.declared.DestinationRow.{DestinationRow}
 use Rattle.rows.specs.Rows.{groupRow, connectionRow, destinationRow, destinationOf}
 use Rattle.rows.specs.Rules.{groupGood, connectionGood, routeGood, destinationGood, sizeIn, routesShare, destinationsShare}
 use Rattle.scan.specs.Scan.{share, clearIn, goodIn}
-use Rattle.table.specs.Table.{headGood, entryGood, rule, then, entriesPlace, headPlace, allRowsPlace, checkTable}
+use Rattle.table.specs.Table.{headGood, entryGood, rule, thenCheck, entriesPlace, headPlace, allRowsPlace, checkTable}
 use Rattle.connection.specs.declared.Mode.the-variants.{Online}
 use Rattle.connection.specs.declared.Connection.{Connection}
 use Rattle.connection.specs.Connection.{isOnline}
@@ -22,8 +22,8 @@ use Rattle.connection.specs.Sound.{soundOf, zeroOf}
 use Rattle.state.specs.declared.State.{State}
 use Rattle.state.specs.State.{recordAt}
 use Rattle.state.specs.Fresh.{configOf}
-use Rattle.feed.specs.Frame.{frame}
-use Rattle.feed.specs.On.{isOn}
+use Rattle.frame.specs.Frame.{frame}
+use Rattle.switches.specs.Switches.{isOn}
 use Rattle.gate.specs.Lent.{sizes}
 use Rattle.gate.specs.declared.Gate.{Gate}
 use Rattle.gate.specs.declared.Gate.the-variants.{Pass}
@@ -39,7 +39,7 @@ use Rattle.send.specs.Send.{destinations, Sending, sending, lookAt, checkOf, wa
 use Rattle.sending.specs.Sending.{notSent, sendOf, sentMemory}
 use Rattle.waits.specs.Waits.{waits, framesFrom, addedTo}
 use Rattle.turns.proofs.Entries.{transmit-turn}
-use Rattle.sending_edges.specs.Valves.{valves, setpoint, both}
+use Rattle.sending_edges.specs.Valves.{valves, setpoint, bothValves}
 use Rattle.sending_edges.specs.Setpoint.{valvesWith, TwoValves, Room, Full, Both, Neither, AllOrNone}
 use Rattle.sending_edges.proofs.Transmits.{nothing-stored}
 
@@ -147,30 +147,30 @@ module _ (s : State) (rx tx payload : List ℕ) (v : TwoValves s rx tx payload) 
       full k h a = row s rx tx payload v k h true (lt-ltb _ _ a)
 
 -- SUCH STATES THERE ARE: the last byte that fits at the second valve; one more; and one more at the first
-passes : (soundState valves (both 0 1462) ≡ true) × (soundState valves (both 0 1463) ≡ true) × (soundState valves (both 1463 0) ≡ true)
-unfolding valves be badFrom every rowsOf bodyBytes startOf endOf rowAt partOf bodyOf rowIn groupRow connectionRow destinationRow groupGood connectionGood routeGood destinationGood sizeIn routesShare destinationsShare share clearIn goodIn headGood entryGood rule then entriesPlace headPlace allRowsPlace checkTable configOf soundOf zeroOf soundAt recordsSound soundState
+passes : (soundState valves (bothValves 0 1462) ≡ true) × (soundState valves (bothValves 0 1463) ≡ true) × (soundState valves (bothValves 1463 0) ≡ true)
+unfolding valves be badFrom every rowsOf bodyBytes startOf endOf rowAt partOf bodyOf rowIn groupRow connectionRow destinationRow groupGood connectionGood routeGood destinationGood sizeIn routesShare destinationsShare share clearIn goodIn headGood entryGood rule thenCheck entriesPlace headPlace allRowsPlace checkTable configOf soundOf zeroOf soundAt recordsSound soundState
 passes = (refl, refl, refl)
 
-stands : (a b : ℕ) → soundState valves (both a b) ≡ true → (rx tx : List ℕ) → length rx ≡ 23424 → length tx ≡ 23552 → TwoValves (both a b) rx tx setpoint
+stands : (a b : ℕ) → soundState valves (bothValves a b) ≡ true → (rx tx : List ℕ) → length rx ≡ 23424 → length tx ≡ 23552 → TwoValves (bothValves a b) rx tx setpoint
 stands a b e rx tx received long =
     record {
-      passed = sound-passed (sizes (valvesWith (both a b) rx tx)) received long e;
+      passed = sound-passed (sizes (valvesWith (bothValves a b) rx tx)) received long e;
       sixteen = refl;
       online = λ k h. ups k h;
       stays = λ k h. rests k h;
       short = omega arith;
     }
   where
-    ups : (k : ℕ) → k < 2 → recordAt (both a b) k .mode ≡ Online
+    ups : (k : ℕ) → k < 2 → recordAt (bothValves a b) k .mode ≡ Online
     ups zero h = refl
     ups (suc zero) h = refl
     ups (suc (suc k)) h = absurd (omega arith)
 
-    rests : (k : ℕ) → k < 2 → recordAt (both a b) k .«close_wanted» ≡ false
+    rests : (k : ℕ) → k < 2 → recordAt (bothValves a b) k .«close_wanted» ≡ false
     rests zero h = refl
     rests (suc zero) h = refl
     rests (suc (suc k)) h = absurd (omega arith)
 
 pub a-case : (rx tx : List ℕ) → length rx ≡ 23424 → length tx ≡ 23552
-    → TwoValves (both 0 1462) rx tx setpoint × TwoValves (both 0 1463) rx tx setpoint × TwoValves (both 1463 0) rx tx setpoint
+    → TwoValves (bothValves 0 1462) rx tx setpoint × TwoValves (bothValves 0 1463) rx tx setpoint × TwoValves (bothValves 1463 0) rx tx setpoint
 a-case rx tx received long = (stands 0 1462 (passes .0) rx tx received long, stands 0 1463 (passes .1) rx tx received long, stands 1463 0 (passes .2) rx tx received long)

@@ -10,9 +10,9 @@ use Rattle.waiting.specs.Waiting.{waitingOf, takingOf, takeOf, outOf}
 use Rattle.sending_edges.specs.Valves.{remote, recordOf, holding, service}
 
 -- room for all, and one byte less
-pub room : (takingOf 1472 (holding 1472) ≡ Bytes 1472 (remote 1 1)) × (takingOf 1471 (holding 1472) ≡ Short)
+pub room-exactly : (takingOf 1472 (holding 1472) ≡ Bytes 1472 (remote 1 1)) × (takingOf 1471 (holding 1472) ≡ Short)
 unfolding takingOf
-room = (refl, refl)
+room-exactly = (refl, refl)
 
 -- nothing waiting: 0 bytes and the record's remote, never 9; nothing changes
 pub nothing-waiting : (takingOf 0 (holding 0) ≡ Bytes 0 (remote 1 1)) × (takeOf (service true) 0 (holding 0) ≡ holding 0)

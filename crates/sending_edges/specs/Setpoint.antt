@@ -8,7 +8,7 @@ use lib.ListN.{length}
 use Rattle.connection.specs.declared.Mode.the-variants.{Online}
 use Rattle.state.specs.declared.State.{State}
 use Rattle.state.specs.State.{recordAt}
-use Rattle.feed.specs.Frame.{frame}
+use Rattle.frame.specs.Frame.{frame}
 use Rattle.gate.specs.Lent.{Loan, loan, sizes}
 use Rattle.gate.specs.Gate.{Passed}
 use Rattle.send.specs.declared.Transmission.{Transmission}
@@ -38,21 +38,21 @@ module _ (s : State) (rx tx payload : List ℕ) where
   Full k = 1472 < recordAt s k .used + 8 + length payload
 
   -- after the transmit of PDU 9: the answer, and the bytes that wait on valve k
-  abbrev pub answered : Transmission
-  answered = sendOf (valvesWith s rx tx) 9 payload .answer
+  abbrev pub setpointAnswer : Transmission
+  setpointAnswer = sendOf (valvesWith s rx tx) 9 payload .answer
 
   abbrev pub waitsThen : ℕ → List ℕ
   waitsThen k = waits (sendOf (valvesWith s rx tx) 9 payload .state) (sentMemory (valvesWith s rx tx) 9 payload) k
 
   -- room at both: each has its own frame behind what waited
   pub record Both : Type 0 where
-    pub answer : answered ≡ Stored
+    pub answer : setpointAnswer ≡ Stored
     pub first : waitsThen 0 ≡ waits s tx 0 ++ frame 0x101 payload
     pub second : waitsThen 1 ≡ waits s tx 1 ++ frame 0x102 payload
 
   -- destination d refuses with 8: the whole state and all of send memory stay
   pub record Neither (d : ℕ) : Type 0 where
-    pub answer : answered ≡ RefusedAt 8 d
+    pub answer : setpointAnswer ≡ RefusedAt 8 d
     pub state : sendOf (valvesWith s rx tx) 9 payload .state ≡ s
     pub memory : sentMemory (valvesWith s rx tx) 9 payload ≡ tx
 

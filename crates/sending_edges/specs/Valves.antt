@@ -46,12 +46,12 @@ abbrev pub holding : ℕ → Connection
 holding used = recordOf Online false (remote 1 1) used
 
 -- both valves online, with so many bytes used, and nothing else
-abbrev pub both : ℕ → ℕ → State
-both a b = record { connections = holding a ∷ holding b ∷ replicate 14 zeroRecord; «udp_drops» = 0; «tcp_drops» = 0 }
+abbrev pub bothValves : ℕ → ℕ → State
+bothValves a b = record { connections = holding a ∷ holding b ∷ replicate 14 zeroRecord; «udp_drops» = 0; «tcp_drops» = 0 }
 
 -- a destination of so long a payload, with its groups
-abbrev pub destination : ℕ → ℕ → DestinationRow
-destination longest groups = record { connection = 0; trigger = false; longest = longest; id = 257; pdu = 9; timeout = 0; groups = groups }
+abbrev pub valveDestination : ℕ → ℕ → DestinationRow
+valveDestination longest groups = record { connection = 0; trigger = false; longest = longest; id = 257; pdu = 9; timeout = 0; groups = groups }
 
 -- an automatic connection whose configured remote has a wildcard
 abbrev pub service : Bool → Config

@@ -2,10 +2,10 @@
 // pointer and length (size_t). Everything is total. Assumes nothing.
 ghost use mathlib.Core.Path.{_≡_};
 ghost use lib.ListN.{length};
-ghost use Rattle.frame.specs.Framing.{numberOf, framingOf, framedOut};
+ghost use Rattle.frame.specs.Framing.{framedNumber, framingOf, framedOut};
 ghost use Rattle.table.specs.Table.{checkTable, answerNumber, answerPlace};
 ghost use Rattle.tablewalk.specs.declared.Numbers.{Numbers};
-ghost use Rattle.tablewalk.specs.TableWalk.{tableWalkOf, answerOf, nextAfter, after};
+ghost use Rattle.tablewalk.specs.TableWalk.{tableWalkOf, walkNumber, nextAfter, valueAfter};
 use frame::framing;
 use frame::number_of;
 use table::TableAnswer;
@@ -33,7 +33,7 @@ pub extern "C" fn soad_table_check(image: &[u8], place: &mut usize) -> u32
 // Framing: 0 done, 7 a payload longer than 1,464, 9 an out buffer shorter than 8 + length.
 #[no_mangle]
 pub extern "C" fn soad_frame(id: u32, payload: &[u8], out: &mut [u8]) -> u32
-    ensures { λ r. ⌜ r ≡ numberOf (framingOf (length (now (payload .entry))) (length (now (out .entry)))) ⌝ }
+    ensures { λ r. ⌜ r ≡ framedNumber (framingOf (length (now (payload .entry))) (length (now (out .entry)))) ⌝ }
     ensures { λ _. ⌜ now (out .exit) ≡ framedOut id (now (payload .entry)) (now (out .entry)) ⌝ }
 {
     let answer = framing(id, payload, out);
@@ -57,13 +57,13 @@ pub extern "C" fn soad_walk(
     size: &mut u32,
     at: &mut usize,
 ) -> u32
-    ensures { λ r. ⌜ r ≡ answerOf (tableWalkOf (now (image .entry)) connection switches (now (datagram .entry)) place) ⌝ }
+    ensures { λ r. ⌜ r ≡ walkNumber (tableWalkOf (now (image .entry)) connection switches (now (datagram .entry)) place) ⌝ }
     ensures { λ _. ⌜ now (next .exit) ≡ nextAfter (tableWalkOf (now (image .entry)) connection switches (now (datagram .entry)) place) (now (next .entry)) ⌝ }
-    ensures { λ _. ⌜ now (kind .exit) ≡ after (λ (n : Numbers). n .kind) (tableWalkOf (now (image .entry)) connection switches (now (datagram .entry)) place) (now (kind .entry)) ⌝ }
-    ensures { λ _. ⌜ now (number .exit) ≡ after (λ (n : Numbers). n .number) (tableWalkOf (now (image .entry)) connection switches (now (datagram .entry)) place) (now (number .entry)) ⌝ }
-    ensures { λ _. ⌜ now (id .exit) ≡ after (λ (n : Numbers). n .id) (tableWalkOf (now (image .entry)) connection switches (now (datagram .entry)) place) (now (id .entry)) ⌝ }
-    ensures { λ _. ⌜ now (size .exit) ≡ after (λ (n : Numbers). n .length) (tableWalkOf (now (image .entry)) connection switches (now (datagram .entry)) place) (now (size .entry)) ⌝ }
-    ensures { λ _. ⌜ now (at .exit) ≡ after (λ (n : Numbers). n .at) (tableWalkOf (now (image .entry)) connection switches (now (datagram .entry)) place) (now (at .entry)) ⌝ }
+    ensures { λ _. ⌜ now (kind .exit) ≡ valueAfter (λ (n : Numbers). n .kind) (tableWalkOf (now (image .entry)) connection switches (now (datagram .entry)) place) (now (kind .entry)) ⌝ }
+    ensures { λ _. ⌜ now (number .exit) ≡ valueAfter (λ (n : Numbers). n .number) (tableWalkOf (now (image .entry)) connection switches (now (datagram .entry)) place) (now (number .entry)) ⌝ }
+    ensures { λ _. ⌜ now (id .exit) ≡ valueAfter (λ (n : Numbers). n .id) (tableWalkOf (now (image .entry)) connection switches (now (datagram .entry)) place) (now (id .entry)) ⌝ }
+    ensures { λ _. ⌜ now (size .exit) ≡ valueAfter (λ (n : Numbers). n .length) (tableWalkOf (now (image .entry)) connection switches (now (datagram .entry)) place) (now (size .entry)) ⌝ }
+    ensures { λ _. ⌜ now (at .exit) ≡ valueAfter (λ (n : Numbers). n .at) (tableWalkOf (now (image .entry)) connection switches (now (datagram .entry)) place) (now (at .entry)) ⌝ }
 {
     let answer = walk_table(image, connection, switches, datagram, place);
     match answer {

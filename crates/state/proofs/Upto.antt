@@ -32,5 +32,5 @@ module _ (f : ℕ → Connection → Connection) (s : State) where
       ∙ ap (λ (k : ℕ). withRecords (eachTo f 0 k x) s) (sym (add-one i))
 
   -- all of them
-  pub whole : (n : State) (i : ℕ) → length (s .connections) ≡ i → Upto n i → n ≡ withRecords (each f 0 (s .connections)) s
-  whole n i l e = e ∙ ap (λ (k : ℕ). withRecords (eachTo f 0 k (s .connections)) s) (sym l) ∙ ap (λ l. withRecords l s) (each-all f 0 (s .connections))
+  pub upto-whole : (n : State) (i : ℕ) → length (s .connections) ≡ i → Upto n i → n ≡ withRecords (each f 0 (s .connections)) s
+  upto-whole n i l e = e ∙ ap (λ (k : ℕ). withRecords (eachTo f 0 k (s .connections)) s) (sym l) ∙ ap (λ l. withRecords l s) (each-all f 0 (s .connections))

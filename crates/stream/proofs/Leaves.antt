@@ -10,7 +10,7 @@ use lib.ListN.{length, getD, take, drop, length-append, take-append-drop}
 use lib.Seq.{take-append-seam, drop-append-seam, length-take-le}
 use Rattle.feed.specs.declared.Decision.{Decision}
 use Rattle.feed.specs.declared.Decision.the-variants.{Accept, Refuse}
-use Rattle.feed.specs.Feed.{Routes, header, payload, skip, Cell, cell, Out, nothing, pdu, dropped, fed, Took, goes, ready, takeB, decided, done, feed}
+use Rattle.feed.specs.Feed.{Routes, header, payload, skip, Cell, cell, Out, nothing, pdu, dropped, fed, Took, goes, ready, takeB, decided, pieceDone, feed}
 use Rattle.feed.proofs.Laws.{skipCell, grow}
 use Rattle.layout.proofs.Parts.{part-fits}
 use Rattle.layout.specs.Layout.{partOf}
@@ -20,12 +20,12 @@ use Rattle.part.specs.declared.Part.the-variants.{Header, Payload, Skip}
 use Rattle.part.specs.Part.{shaped}
 use Rattle.route.specs.Route.{lookupOf, rowsIn}
 use Rattle.route.specs.Decided.{Allows}
-use Rattle.route.proofs.Decided.{accepted}
+use Rattle.route.proofs.Decided.{route-accepted}
 use Rattle.rows.specs.Rows.{routeIn}
 use Rattle.wire.specs.Lay.{lay}
 use Rattle.wire.proofs.Lay.{lay-fits, lay-own, lay-length}
 use Rattle.stream.specs.declared.Outcome.the-variants.{More}
-use Rattle.stream.specs.Stream.{cellOf, partFrom, heldIn, none, inSegment, wrote, tookOf, takenOf, rxAfter, payloadAt, lengthOf, Fit}
+use Rattle.stream.specs.Stream.{cellOf, partFrom, heldIn, noneHeld, inSegment, wrote, tookOf, takenOf, rxAfter, payloadAt, lengthOf, Fit}
 use Rattle.stream.proofs.Takes.{header-fit, payload-fit, skip-fit, accepted-short}
 
 -- a law of every byte is a law of a take
@@ -66,7 +66,7 @@ module _ (P : ℕ → ℕ → Type 0) where
 
   module _ (R : Routes) (ok : (i n r : ℕ) → R i n ≡ Accept r → P r n) where
     feed-sane : (c : Cell) (b : ℕ) → b < 256 → Sane c → (Sane (feed R c b .to)) × (Told (feed R c b .out) (feed R c b .to))
-    unfolding feed done
+    unfolding feed pieceDone
     feed-sane (cell zero k) b hb s = ((omega arith, omega arith, omega arith), tt)
     feed-sane (cell (suc zero) (header v)) b hb s =
         let w : ℕ = v * 256 + b in
@@ -153,7 +153,7 @@ decided-tail (Refuse k) i zero = refl
 decided-tail (Refuse k) i (suc n) = refl
 
 feed-tail : (R : Routes) (c : Cell) (b : ℕ) → (q : List ℕ) × (heldIn c ++ b ∷ [] ≡ q ++ tailOf (feed R c b .out) (feed R c b .to))
-unfolding feed done
+unfolding feed pieceDone
 feed-tail R (cell zero k) b = (heldIn (cell zero k) ++ b ∷ [], sym (append-nil _))
 feed-tail R (cell (suc zero) (header v)) b =
     let w : ℕ = v * 256 + b in
@@ -207,7 +207,7 @@ pub record Owns (routes : List ℕ) (connection route n : ℕ) : Type 0 where
 
 owns : (routes : List ℕ) (connection switches i n r : ℕ) → lookupOf routes connection switches i n ≡ Accept r → Owns routes connection r n
 owns routes connection switches i n r e =
-    let a : Allows routes connection switches i n r = accepted routes connection switches i n r e in
+    let a : Allows routes connection switches i n r = route-accepted routes connection switches i n r e in
     record { there = a .bears .there; owned = a .bears .owned; allows = a .fits }
 
 -- THE WHOLE TAKE, from a part and a stretch that fit, of a segment of bytes
@@ -268,11 +268,11 @@ module _ (routes : List ℕ) (connection switches : ℕ) (part : Part) (rx segme
   told-short r p (pdu r′ p′) c e t = let same : p′ ≡ p = cc in subst (λ (l : List ℕ). length l ≤ 1464) same (t .1)
   told-short r p (dropped k i n) c e t = let z : _≡_ {A = ℕ} 0 1 = cc in absurd (omega arith)
 
-  pub handed : (r : ℕ) (p : List ℕ) → tookOf routes connection switches part rx segment .out ≡ pdu r p
+  pub hands-out : (r : ℕ) (p : List ℕ) → tookOf routes connection switches part rx segment .out ≡ pdu r p
       → payloadAt segment (rxAfter routes connection switches part rx segment) (inSegment (cellOf part rx))
       (cond (inSegment (cellOf part rx)) (length segment - length (tookOf routes connection switches part rx segment .rest) - length p) 0) (length p) ≡ p
   unfolding rxAfter tookOf
-  handed r p e =
+  hands-out r p e =
       go (heldIn (cellOf part rx)) (take-last (lookupOf routes connection switches) (cellOf part rx) segment r p e)
       (told-short r p _ (tookOf routes connection switches part rx segment .to) e (taken-sane .1))
     where
@@ -280,7 +280,7 @@ module _ (routes : List ℕ) (connection switches : ℕ) (part : Part) (rx segme
       t = takeB (lookupOf routes connection switches) (cellOf part rx) segment
 
       go : (h : List ℕ) → ((pre : List ℕ) × (h ++ segment ≡ pre ++ (p ++ t .rest))) → length p ≤ 1464
-          → payloadAt segment (wrote (none h) (t .out) (t .to) rx) (none h) (cond (none h) (length segment - length (t .rest) - length p) 0) (length p) ≡ p
+          → payloadAt segment (wrote (noneHeld h) (t .out) (t .to) rx) (noneHeld h) (cond (noneHeld h) (length segment - length (t .rest) - length p) 0) (length p) ≡ p
       go [] f l = middle segment (f .0) p (t .rest) (f .1)
       go (x ∷ h) f l =
           ap (λ (o : Out). partOf (wrote false o (t .to) rx) 0 (length p)) e

@@ -38,26 +38,26 @@ heldIn (cell n (payload r h)) = h
 heldIn (cell n skip) = []
 
 -- "handed out from the segment itself when all of it stands there": when none of it is held before
-abbrev pub none : List ℕ → Bool
-none [] = true
-none (b ∷ bs) = false
+abbrev pub noneHeld : List ℕ → Bool
+noneHeld [] = true
+noneHeld (b ∷ bs) = false
 
 abbrev pub inSegment : Cell → Bool
-inSegment c = none (heldIn c)
+inSegment c = noneHeld (heldIn c)
 
 -- the id that a PDU bears: its route's
 abbrev pub idOf : List ℕ → ℕ → ℕ
 idOf routes r = routeIn routes r .id
 
 -- the outcome: a payload in the segment ends where the take has read to, one in receive memory stands at its front
-abbrev pub outcomeOf : (ℕ → ℕ) → Bool → ℕ → Out → Outcome
-outcomeOf ids s read nothing = More
-outcomeOf ids s read (pdu r p) = Pdu r (ids r) s (cond s (read - length p) 0) (length p)
-outcomeOf ids s read (dropped k i n) = Drop k i n
+abbrev pub takeOutcome : (ℕ → ℕ) → Bool → ℕ → Out → Outcome
+takeOutcome ids s read nothing = More
+takeOutcome ids s read (pdu r p) = Pdu r (ids r) s (cond s (read - length p) 0) (length p)
+takeOutcome ids s read (dropped k i n) = Drop k i n
 
 -- the answer that a take of a segment of n bytes is
 abbrev pub answered : (ℕ → ℕ) → Bool → ℕ → Took → Taken
-answered ids s n t = record { read = n - length (t .rest); outcome = outcomeOf ids s (n - length (t .rest)) (t .out); part = partFrom (t .to) }
+answered ids s n t = record { read = n - length (t .rest); outcome = takeOutcome ids s (n - length (t .rest)) (t .out); part = partFrom (t .to) }
 
 -- receive memory after a take: "only the payload bytes it adds to an unfinished payload, the last ones included but none
 -- of a payload handed out from the segment"

@@ -8,12 +8,12 @@ use Rattle.lists.specs.Search.{badFrom, every}
 use Rattle.layout.specs.Layout.{rowsOf, bodyBytes, startOf, endOf, rowAt, partOf, bodyOf, rowIn}
 use Rattle.rows.specs.Rules.{groupGood, connectionGood, routeGood, destinationGood, sizeIn, routesShare, destinationsShare}
 use Rattle.scan.specs.Scan.{share, clearIn, goodIn}
-use Rattle.table.specs.Table.{headGood, entryGood, rule, then, entriesPlace, headPlace, allRowsPlace, checkTable}
+use Rattle.table.specs.Table.{headGood, entryGood, rule, thenCheck, entriesPlace, headPlace, allRowsPlace, checkTable}
 use Rattle.table.specs.declared.TableAnswer.the-variants.{Accepted, Refused}
 
 -- "A whole image, 86 bytes (one row of each kind)"
-unfoldable pub image : List ℕ
-image =
+unfoldable pub exampleImage : List ℕ
+exampleImage =
     0 ∷ 1 ∷ 0 ∷ 4
     ∷ 0 ∷ 1 ∷ 0 ∷ 1 ∷ 0 ∷ 0 ∷ 0 ∷ 0x24 ∷ 0 ∷ 2 ∷ 0 ∷ 1 ∷ 0 ∷ 0 ∷ 0 ∷ 0x26
     ∷ 0 ∷ 3 ∷ 0 ∷ 1 ∷ 0 ∷ 0 ∷ 0 ∷ 0x36 ∷ 0 ∷ 4 ∷ 0 ∷ 1 ∷ 0 ∷ 0 ∷ 0 ∷ 0x46
@@ -35,20 +35,20 @@ twice =
     ∷ 0 ∷ 1 ∷ 0 ∷ 2 ∷ 0 ∷ 0 ∷ 2 ∷ 2 ∷ 0 ∷ 9 ∷ 0 ∷ 0 ∷ 0 ∷ 0 ∷ 0 ∷ 0
     ∷ 0 ∷ 1 ∷ 0 ∷ 2 ∷ 0 ∷ 0 ∷ 2 ∷ 3 ∷ 0 ∷ 9 ∷ 0 ∷ 0 ∷ 0 ∷ 0 ∷ 0 ∷ 0 ∷ []
 
-pub whole : checkTable image ≡ Accepted
-unfolding image be badFrom every rowsOf bodyBytes startOf endOf rowAt partOf bodyOf rowIn groupGood connectionGood routeGood destinationGood sizeIn routesShare destinationsShare share clearIn goodIn headGood entryGood rule then entriesPlace headPlace allRowsPlace checkTable
-whole = refl
+pub image-whole : checkTable exampleImage ≡ Accepted
+unfolding exampleImage be badFrom every rowsOf bodyBytes startOf endOf rowAt partOf bodyOf rowIn groupGood connectionGood routeGood destinationGood sizeIn routesShare destinationsShare share clearIn goodIn headGood entryGood rule thenCheck entriesPlace headPlace allRowsPlace checkTable
+image-whole = refl
 
 pub places :
     map checkTable
     -- 0: shorter than 36; another edition; another number than 4
-    (take 35 image ∷ set image 1 2 ∷ set image 3 5
+    (take 35 exampleImage ∷ set exampleImage 1 2 ∷ set exampleImage 3 5
     -- a contents entry: wrong kind, too many rows, wrong offset
-    ∷ set image 5 2 ∷ set image 15 17 ∷ set image 27 0x37 ∷ set image 28 1
+    ∷ set exampleImage 5 2 ∷ set exampleImage 15 17 ∷ set exampleImage 27 0x37 ∷ set exampleImage 28 1
     -- 2: a byte too many, a byte too few
-    ∷ (image ++ (0 ∷ [])) ∷ take 85 image
+    ∷ (exampleImage ++ (0 ∷ [])) ∷ take 85 exampleImage
     -- the row: protocol 3; no group 1; send size 7; longest payload 1,465; trigger 2; 8 more than the longest payload do not fit
-    ∷ set image 36 3 ∷ set image 38 1 ∷ set (set image 46 0) 47 7 ∷ set (set image 56 5) 57 0xB9 ∷ set image 71 2 ∷ set (set image 46 0) 47 8
+    ∷ set exampleImage 36 3 ∷ set exampleImage 38 1 ∷ set (set exampleImage 46 0) 47 7 ∷ set (set exampleImage 56 5) 57 0xB9 ∷ set exampleImage 71 2 ∷ set (set exampleImage 46 0) 47 8
     -- the later of two rows that share
     ∷ twice ∷ set twice 77 2 ∷ [])
     ≡
@@ -57,5 +57,5 @@ pub places :
     ∷ Refused 2 ∷ Refused 2
     ∷ Refused 36 ∷ Refused 38 ∷ Refused 38 ∷ Refused 54 ∷ Refused 70 ∷ Refused 70
     ∷ Refused 70 ∷ Refused 102 ∷ []
-unfolding image twice be badFrom every rowsOf bodyBytes startOf endOf rowAt partOf bodyOf rowIn groupGood connectionGood routeGood destinationGood sizeIn routesShare destinationsShare share clearIn goodIn headGood entryGood rule then entriesPlace headPlace allRowsPlace checkTable
+unfolding exampleImage twice be badFrom every rowsOf bodyBytes startOf endOf rowAt partOf bodyOf rowIn groupGood connectionGood routeGood destinationGood sizeIn routesShare destinationsShare share clearIn goodIn headGood entryGood rule thenCheck entriesPlace headPlace allRowsPlace checkTable
 places = refl

@@ -14,7 +14,7 @@ use Rattle.layout.specs.declared.Kind.the-variants.{Group, Connection, Route, D
 use Rattle.rows.specs.Rules.{groupGood, connectionGood, routeGood, destinationGood, sizeIn}
 use Rattle.scan.specs.declared.BadRows.{BadRows}
 use Rattle.scan.specs.Scan.{share, goodIn, badRows}
-use Rattle.table.specs.Table.{rule, demand, then, rowsPlace}
+use Rattle.table.specs.Table.{rule, demand, thenCheck, rowsPlace}
 use Rattle.table.specs.declared.TableAnswer.{TableAnswer}
 use Rattle.table.specs.declared.TableAnswer.the-variants.{Accepted, Refused}
 
@@ -76,11 +76,11 @@ pub last-places : (s : List ℕ) (l : Laid s) (routes destinations connections :
     → routes ≡ bodyOf s Route → destinations ≡ bodyOf s Destination → connections ≡ bodyOf s Connection → x ≡ badRows routes destinations connections
     → a ≡ demand (leb (rowsOf s Route) (x .route)) (rowAt s Route (x .route))
     → b ≡ demand (leb (rowsOf s Destination) (x .destination)) (rowAt s Destination (x .destination))
-    → r ≡ then a b → r ≡ then (rowsPlace s Route) (rowsPlace s Destination)
+    → r ≡ thenCheck a b → r ≡ thenCheck (rowsPlace s Route) (rowsPlace s Destination)
 last-places s l routes destinations connections x a b r er ed ec ex ea eb e =
     let p : a ≡ rowsPlace s Route =
     routes-place s l a (x .route) routes (length connections / 16) er (ap (λ (y : List ℕ). length y / 16) ec ∙ body-rows s l Connection)
     (ap (λ (y : BadRows). y .route) ex) ea in
     let q : b ≡ rowsPlace s Destination =
     destinations-place s l b (x .destination) destinations connections ed ec (ap (λ (y : BadRows). y .destination) ex) eb in
-    e ∙ ap (λ (y : TableAnswer). then y b) p ∙ ap (then (rowsPlace s Route)) q
+    e ∙ ap (λ (y : TableAnswer). thenCheck y b) p ∙ ap (thenCheck (rowsPlace s Route)) q

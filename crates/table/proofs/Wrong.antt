@@ -5,10 +5,10 @@ use mathlib.Core.List.{List}
 use native.Mathlib.Omega.{arith}
 use Rattle.table.specs.Table.{checkTable, answerNumber}
 use Rattle.table.specs.declared.TableAnswer.{TableAnswer}
-use Rattle.table.proofs.Examples.{image, whole}
+use Rattle.table.proofs.Examples.{exampleImage, image-whole}
 
 -- no answers that are always 1 are those of the check
 pub always-refused : (answer : List ℕ → TableAnswer) → ((s : List ℕ) → answerNumber (answer s) ≡ 1) → ((s : List ℕ) → answer s ≡ checkTable s) → ⊥
 always-refused answer one is =
-    let z : _≡_ {A = ℕ} 0 1 = ap answerNumber (sym (is image ∙ whole)) ∙ one image in
+    let z : _≡_ {A = ℕ} 0 1 = ap answerNumber (sym (is exampleImage ∙ image-whole)) ∙ one exampleImage in
     omega arith

@@ -47,21 +47,21 @@ abbrev pub demand : Bool → ℕ → TableAnswer
 demand ok place = cond ok Accepted (Refused place)
 
 -- the first refusal of two
-unfoldable pub then : TableAnswer → TableAnswer → TableAnswer
-then Accepted b = b
-then (Refused p) b = Refused p
+unfoldable pub thenCheck : TableAnswer → TableAnswer → TableAnswer
+thenCheck Accepted b = b
+thenCheck (Refused p) b = Refused p
 
 -- "the first bad contents entry's offset"
 unfoldable pub entriesPlace : List ℕ → TableAnswer
 entriesPlace s =
-    then (demand (entryGood s Group) 4)
-    (then (demand (entryGood s Connection) 12)
-    (then (demand (entryGood s Route) 20)
+    thenCheck (demand (entryGood s Group) 4)
+    (thenCheck (demand (entryGood s Connection) 12)
+    (thenCheck (demand (entryGood s Route) 20)
     (demand (entryGood s Destination) 28)))
 
 -- "0 when .. bytes 0..3 are wrong; then" the contents entries
 unfoldable pub headPlace : List ℕ → TableAnswer
-headPlace s = then (demand (headGood s) 0) (entriesPlace s)
+headPlace s = thenCheck (demand (headGood s) 0) (entriesPlace s)
 
 -- "the first bad row's offset", of a kind and of all in image order
 abbrev pub rowsPlace : List ℕ → Kind → TableAnswer
@@ -69,18 +69,18 @@ rowsPlace s k = demand (leb (rowsOf s k) (badRow s k)) (rowAt s k (badRow s k))
 
 unfoldable pub allRowsPlace : List ℕ → TableAnswer
 allRowsPlace s =
-    then (rowsPlace s Group)
-    (then (rowsPlace s Connection)
-    (then (rowsPlace s Route)
+    thenCheck (rowsPlace s Group)
+    (thenCheck (rowsPlace s Connection)
+    (thenCheck (rowsPlace s Route)
     (rowsPlace s Destination)))
 
 -- "0 when shorter than 36 or bytes 0..3 are wrong; then the first bad contents entry's offset ..; then 2 for a wrong
 -- total length; then the first bad row's offset"
 unfoldable pub checkTable : List ℕ → TableAnswer
 checkTable s =
-    then (demand (leb 36 (length s)) 0)
-    (then (headPlace s)
-    (then (demand (eqb (length s) (endOf s)) 2)
+    thenCheck (demand (leb 36 (length s)) 0)
+    (thenCheck (headPlace s)
+    (thenCheck (demand (eqb (length s) (endOf s)) 2)
     (allRowsPlace s)))
 
 -- the answer's number in document 01: 0 done, 1 table refused

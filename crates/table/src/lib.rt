@@ -10,7 +10,7 @@ ghost use Rattle.table.specs.Table.{
   headGood,
   entryGood,
   demand,
-  then,
+  thenCheck,
   rowsPlace,
   entriesPlace,
   allRowsPlace,
@@ -51,7 +51,7 @@ fn demand_at(ok: bool, place: usize) -> TableAnswer
 }
 
 fn first_refusal(a: TableAnswer, b: TableAnswer) -> TableAnswer
-    ensures { λ r. ⌜ r ≡ then a b ⌝ }
+    ensures { λ r. ⌜ r ≡ thenCheck a b ⌝ }
 {
     match a {
         TableAnswer::Accepted => b,
@@ -110,7 +110,7 @@ fn place_of(image: &[u8], k: Kind, bad: usize) -> TableAnswer
 
 fn after_connections(image: &[u8]) -> TableAnswer
     requires { ⌜ Laid (now image) ⌝ }
-    ensures { λ r. ⌜ r ≡ then (rowsPlace (now (image .entry)) Kind.Route) (rowsPlace (now (image .entry)) Kind.Destination) ⌝ }
+    ensures { λ r. ⌜ r ≡ thenCheck (rowsPlace (now (image .entry)) Kind.Route) (rowsPlace (now (image .entry)) Kind.Destination) ⌝ }
 {
     let routes = body_of(image, Kind::Route);
     let destinations = body_of(image, Kind::Destination);
@@ -123,7 +123,7 @@ fn after_connections(image: &[u8]) -> TableAnswer
 
 fn after_groups(image: &[u8]) -> TableAnswer
     requires { ⌜ Laid (now image) ⌝ }
-    ensures { λ r. ⌜ r ≡ then (rowsPlace (now (image .entry)) Kind.Connection) (then (rowsPlace (now (image .entry)) Kind.Route) (rowsPlace (now (image .entry)) Kind.Destination)) ⌝ }
+    ensures { λ r. ⌜ r ≡ thenCheck (rowsPlace (now (image .entry)) Kind.Connection) (thenCheck (rowsPlace (now (image .entry)) Kind.Route) (rowsPlace (now (image .entry)) Kind.Destination)) ⌝ }
 {
     let bad = first_bad_connection(
         body_of(image, Kind::Connection),

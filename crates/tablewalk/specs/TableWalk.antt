@@ -46,14 +46,14 @@ numbersOf (Pdu route id at n) = record { kind = 1; number = route; id = id; leng
 numbersOf (Drop reason id n) = record { kind = 2; number = reason; id = id; length = n; at = 0 }
 
 -- the answer number of a walk, and an out value after it: a refusal leaves it as it was
-abbrev pub answerOf : TableWalk → ℕ
-answerOf (Refused n) = n
-answerOf (Step w) = 0
+abbrev pub walkNumber : TableWalk → ℕ
+walkNumber (Refused n) = n
+walkNumber (Step w) = 0
 
 abbrev pub nextAfter : TableWalk → ℕ → ℕ
 nextAfter (Refused n) before = before
 nextAfter (Step w) before = w .next
 
-abbrev pub after : (Numbers → ℕ) → TableWalk → ℕ → ℕ
-after value (Refused n) before = before
-after value (Step w) before = value (numbersOf (w .outcome))
+abbrev pub valueAfter : (Numbers → ℕ) → TableWalk → ℕ → ℕ
+valueAfter value (Refused n) before = before
+valueAfter value (Step w) before = value (numbersOf (w .outcome))

@@ -9,7 +9,7 @@ use native.Mathlib.Omega.{arith}
 use borrow.Author.Tests.{eqb-true, eq-eqb, ne-eqb, ltb-true, ltb-false}
 use Rattle.connection.specs.declared.Config.{Config}
 use Rattle.connection.specs.declared.Connection.{Connection}
-use Rattle.connection.specs.Connection.{isOffline, isReconnect, wildcard, withSend, startOf, reachOf, runOf, tickOf}
+use Rattle.connection.specs.Connection.{isOffline, isReconnect, wildcard, withSend, startedOf, reachOf, runOf, tickOf}
 use Rattle.connection.proofs.Ticks.{tick-goes-on}
 use Rattle.lists.specs.Each.{eachTo}
 use Rattle.lists.specs.Fold.{foldFrom}
@@ -23,8 +23,8 @@ use Rattle.ticks.specs.Tick.{tickAt, tickedTo, tickOnce, ticksTo}
 -- A QUIET TICK
 
 module _ (g : Config) (c : Connection) where
-  start-stays : (isOffline (c .mode) && (c .«open_wanted» || g .automatic)) ≡ false → startOf g c ≡ c
-  unfolding startOf
+  start-stays : (isOffline (c .mode) && (c .«open_wanted» || g .automatic)) ≡ false → startedOf g c ≡ c
+  unfolding startedOf
   start-stays p = rw p
 
   reach-stays : (isReconnect (c .mode) && not (g .tcp) && not (wildcard (c .remote))) ≡ false → reachOf g c ≡ c

@@ -16,12 +16,12 @@ use Rattle.gate.specs.declared.Gate.the-variants.{Pass}
 use Rattle.gate.specs.Gate.{gateAt, thenThere, through, Passed}
 use Rattle.gate.proofs.Pass.{passed-gate}
 use Rattle.receive.specs.declared.Answer.the-variants.{Done, Refused, NotReceiving}
-use Rattle.receive.specs.Answer.{isDone, judgedOf, answerOf}
+use Rattle.receive.specs.Answer.{isDone, judgedOf, judgedAnswer}
 use Rattle.connection.specs.Event.{receiving}
 
 pub done-is : (l : Lent) (k : ℕ) (allowed : Bool) → Passed l
-    → isDone (answerOf l k allowed) ≡ (ltb k (rowsOf (l .image) Connections) && (allowed && receiving (recordAt (l .state) k)))
-unfolding answerOf judgedOf gateAt
+    → isDone (judgedAnswer l k allowed) ≡ (ltb k (rowsOf (l .image) Connections) && (allowed && receiving (recordAt (l .state) k)))
+unfolding judgedAnswer judgedOf gateAt
 done-is l k allowed p =
     ap
     (λ (g : Gate).

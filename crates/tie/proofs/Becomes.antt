@@ -24,8 +24,8 @@ use Rattle.rows.specs.Rows.{destinationOf}
 use Rattle.state.specs.declared.State.{State}
 use Rattle.state.specs.State.{recordAt}
 use Rattle.state.specs.Fresh.{configOf}
-use Rattle.feed.specs.Feed.{segment as segmentOf}
-use Rattle.walk.specs.Walk.{walkAt, told}
+use Rattle.feed.specs.Feed.{segmentRan as segmentOf}
+use Rattle.walk.specs.Walk.{walkAt, outsTold}
 use Rattle.stream.specs.Stream.{partFrom}
 use Rattle.choose.specs.Choose.{arriveOf}
 use Rattle.ticks.specs.Tick.{tickAt, tickedTo}
@@ -36,7 +36,7 @@ use Rattle.send.specs.Verdict.{isStored}
 use Rattle.send.specs.Send.{destinations, checkOf, wantedAt}
 use Rattle.waiting.specs.Waiting.{takeOf}
 use Rattle.world.specs.World.{Held, World, blank, heldAt, cellAt, follow, followAll, stateOf, leaves}
-use Rattle.world.specs.Events.{Own, change, segment, walk, take, Whole, datagram, accept, tick, transmit, switchAll, readCount, clearCount}
+use Rattle.world.specs.Events.{Own, change, segment, walk, takeWaiting, Whole, datagram, accept, tick, transmit, switchAll, readCount, clearCount}
 use Rattle.world.specs.Step.{Table, acted, streamed, routesAt, does, acts}
 use Rattle.tie.specs.Send.{withFrame, appendTo, storeIn, transmitIn}
 use Rattle.tie.specs.Whole.{wholeOf}
@@ -44,25 +44,25 @@ use Rattle.tie.proofs.Arrivals.{arrive-is, meeting-length, meeting-at}
 
 -- AN EVENT OF ITS OWN: the record is as it was, or has another receive part, or is what the event or the take makes of it
 pub data Acts (g : Config) (c : Connection) : Own → Connection → Type 0 where
-  idle : (e : Own) → Acts g c e c
-  fed : (bytes : List ℕ) (p : Part) → Acts g c (segment bytes) (withPart p c)
-  changed : (e : Change) → Acts g c (change e) (stepOf e g c .connection)
-  took : (room : ℕ) → Acts g c (take room) (takeOf g room c)
+  acts-idle : (e : Own) → Acts g c e c
+  acts-fed : (bytes : List ℕ) (p : Part) → Acts g c (segment bytes) (withPart p c)
+  acts-changed : (e : Change) → Acts g c (change e) (stepOf e g c .connection)
+  acts-took : (room : ℕ) → Acts g c (takeWaiting room) (takeOf g room c)
 
 does-is : (T : Table) (k : ℕ) (e : Own) (h : Held) → Acts (T .config k) (h .connection) e (does T k e h .to .connection)
 unfolding does
-does-is T k (change e) h = changed e
+does-is T k (change e) h = acts-changed e
 does-is T k (segment bytes) h = go (T .config k .tcp && receiving (h .connection))
   where
     go : (b : Bool) → Acts (T .config k) (h .connection) (segment bytes) (cond b (streamed h (segmentOf (routesAt T k h) (cellAt h) bytes)) (acted h []) .to .connection)
-    go true = fed bytes (partFrom (segmentOf (routesAt T k h) (cellAt h) bytes .to))
-    go false = idle (segment bytes)
+    go true = acts-fed bytes (partFrom (segmentOf (routesAt T k h) (cellAt h) bytes .to))
+    go false = acts-idle (segment bytes)
 does-is T k (walk d p) h = go (not (T .config k .tcp) && leb p (length d) && receiving (h .connection))
   where
-    go : (b : Bool) → Acts (T .config k) (h .connection) (walk d p) (cond b (acted h (told d (walkAt (routesAt T k h) d p .found) [])) (acted h []) .to .connection)
-    go true = idle (walk d p)
-    go false = idle (walk d p)
-does-is T k (take room) h = took room
+    go : (b : Bool) → Acts (T .config k) (h .connection) (walk d p) (cond b (acted h (outsTold d (walkAt (routesAt T k h) d p .found) [])) (acted h []) .to .connection)
+    go true = acts-idle (walk d p)
+    go false = acts-idle (walk d p)
+does-is T k (takeWaiting room) h = acts-took room
 
 pub acts-is : (T : Table) (k : ℕ) (e : Own) (h : Held) → Acts (T .config k) (h .connection) e (acts T k e h .to .connection)
 unfolding acts
@@ -70,7 +70,7 @@ acts-is T k e h = go (ltb k (T .rows))
   where
     go : (b : Bool) → Acts (T .config k) (h .connection) e (cond b (does T k e h) (acted h []) .to .connection)
     go true = does-is T k e h
-    go false = idle e
+    go false = acts-idle e
 
 -- a transmit changes nothing of it at all
 pub record Alike (h h′ : Held) : Type 0 where
@@ -117,12 +117,12 @@ follow-at (c ∷ cs) (h ∷ hs) (suc k) e = follow-at cs hs k (omega arith)
 -- AN EVENT OF A WHOLE GROUP OR MODULE: the record is as it was, met, ticked or switched, and of its held bytes those stay that it still
 -- holds; or it is a transmit
 pub data Becomes (image : List ℕ) (k : ℕ) (h : Held) : Whole → Held → Type 0 where
-  untouched : (e : Whole) → Becomes image k h e h
-  same : (e : Whole) → Becomes image k h e (follow (h .connection) h)
-  met : (e : Whole) (source : Remote) → Becomes image k h e (follow (metOf source (h .connection)) h)
-  ticked : Becomes image k h tick (follow (tickOf (configOf image k) (h .connection)) h)
-  switched : (e : Whole) (n : ℕ) (on : Bool) → Becomes image k h e (follow (switchedOf n on (h .connection)) h)
-  sent : (pdu : ℕ) (payload : List ℕ) (h′ : Held) → Alike h h′ → Becomes image k h (transmit pdu payload) h′
+  becomes-itself : (e : Whole) → Becomes image k h e h
+  as-it-was : (e : Whole) → Becomes image k h e (follow (h .connection) h)
+  becomes-met : (e : Whole) (source : Remote) → Becomes image k h e (follow (metOf source (h .connection)) h)
+  becomes-ticked : Becomes image k h tick (follow (tickOf (configOf image k) (h .connection)) h)
+  becomes-switched : (e : Whole) (n : ℕ) (on : Bool) → Becomes image k h e (follow (switchedOf n on (h .connection)) h)
+  becomes-sent : (pdu : ℕ) (payload : List ℕ) (h′ : Held) → Alike h h′ → Becomes image k h (transmit pdu payload) h′
 
 module _ (image : List ℕ) (k : ℕ) (w : World) where
   abbrev h : Held
@@ -136,7 +136,7 @@ module _ (image : List ℕ) (k : ℕ) (w : World) where
   by-record e f p = subst (λ (c : Connection). By e (f c)) (sym (List·getD-map (λ (x : Held). x .connection) (w .held) k blank)) p
 
   by-same : (e : Whole) → By e (recordAt (stateOf w) k)
-  by-same e = by-record e (λ (c : Connection). c) (same e)
+  by-same e = by-record e (λ (c : Connection). c) (as-it-was e)
 
   left : (e : Whole) (s : State) → length (s .connections) ≡ length (stateOf w .connections) → By e (recordAt s k) → Becomes image k h e (heldAt (leaves s w) k)
   left e s l p = subst (Becomes image k h e) (sym (follow-at (s .connections) (w .held) k (l ∙ length-map (w .held) (λ (x : Held). x .connection)))) p
@@ -145,7 +145,7 @@ module _ (image : List ℕ) (k : ℕ) (w : World) where
   arrived e a group source =
       let m = arrive-is image (stateOf w) a group source in
       let t : State = arriveOf image (stateOf w) a group source .state in
-      left e t (meeting-length (stateOf w) t source m) (meeting-at (stateOf w) t source (By e) k m (by-record e (metOf source) (met e source)) (by-same e))
+      left e t (meeting-length (stateOf w) t source m) (meeting-at (stateOf w) t source (By e) k m (by-record e (metOf source) (becomes-met e source)) (by-same e))
 
   each : (e : Whole) (f : ℕ → Connection → Connection) (n : ℕ) → By e (f k (h .connection)) → By e (getD (eachTo f 0 n (stateOf w .connections)) k zeroRecord)
   each e f n p =
@@ -158,16 +158,16 @@ module _ (image : List ℕ) (k : ℕ) (w : World) where
   becomes (accept group source) = arrived (accept group source) true group source
   becomes tick =
       left tick (tickedTo image (rowsOf image Connections) (stateOf w)) (each-length (tickAt image) 0 (rowsOf image Connections) (stateOf w .connections))
-      (each tick (tickAt image) (rowsOf image Connections) ticked)
-  becomes (transmit pdu payload) = sent pdu payload (heldAt (transmitIn image pdu payload w) k) (alike-transmit image pdu payload w k)
+      (each tick (tickAt image) (rowsOf image Connections) becomes-ticked)
+  becomes (transmit pdu payload) = becomes-sent pdu payload (heldAt (transmitIn image pdu payload w) k) (alike-transmit image pdu payload w k)
   becomes (switchAll n b) = go (ltb n 32)
     where
       go : (x : Bool) → Becomes image k h (switchAll n b) (heldAt (cond x (leaves (switchedAll (rowsOf image Connections) n b (stateOf w)) w) w) k)
       go true =
           left (switchAll n b) (switchedAll (rowsOf image Connections) n b (stateOf w)) (each-length (switchAt n b) 0 (rowsOf image Connections) (stateOf w .connections))
-          (each (switchAll n b) (switchAt n b) (rowsOf image Connections) (switched (switchAll n b) n b))
-      go false = untouched (switchAll n b)
-  becomes (readCount p) = untouched (readCount p)
+          (each (switchAll n b) (switchAt n b) (rowsOf image Connections) (becomes-switched (switchAll n b) n b))
+      go false = becomes-itself (switchAll n b)
+  becomes (readCount p) = becomes-itself (readCount p)
   becomes (clearCount p) =
       left (clearCount p) (clearPast (stateOf w) p .state) (ap length (clear-records (stateOf w) p))
       (subst (λ (l : List Connection). By (clearCount p) (getD l k zeroRecord)) (sym (clear-records (stateOf w) p)) (by-same (clearCount p)))

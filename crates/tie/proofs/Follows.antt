@@ -24,16 +24,16 @@ use Rattle.gate.specs.declared.Gate.the-variants.{Refused}
 use Rattle.gate.specs.Gate.{gateAt, through, Passed}
 use Rattle.gate.proofs.Pass.{passed-gate, passed-gate-at}
 use Rattle.events.specs.declared.Told.{Told}
-use Rattle.events.specs.Change.{refusedBy, toldOf, changeOf, eventOf}
+use Rattle.events.specs.Change.{refusedTold, toldOf, changeOf, eventOf}
 use Rattle.waiting.specs.Waiting.{takeOf}
 use Rattle.sending.specs.declared.Taken.{Taken}
-use Rattle.sending.specs.Sending.{notTaken, takePast, takenOf}
+use Rattle.sending.specs.Sending.{notTaken, takePast, takenWaiting}
 use Rattle.world.specs.World.{Held, World, heldAt, viewOf, follow}
-use Rattle.world.specs.Events.{Own, change, take, Whole, on}
+use Rattle.world.specs.Events.{Own, change, takeWaiting, Whole, on}
 use Rattle.world.specs.Step.{acted, does, acts, left, step}
 use Rattle.world.proofs.View.{view-record, Less}
 use Rattle.tie.specs.Table.{tableOf}
-use Rattle.tie.proofs.Less.{step-less, take-less}
+use Rattle.tie.proofs.Less.{step-less, taking-less}
 use Rattle.tie.proofs.Left.{view-follow, left-nothing}
 
 -- done or refused, the record is the one that the event leaves
@@ -105,7 +105,7 @@ module _ (l : Loan) (whole : Whole → World → World) (passed : Passed (sizes 
   unfolding does
   does-change k e h = refl
 
-  does-take : (k room : ℕ) (h : Held) → does (tableOf image) k (take room) h ≡ acted (follow (takeOf (configOf image k) room (h .connection)) h) []
+  does-take : (k room : ℕ) (h : Held) → does (tableOf image) k (takeWaiting room) h ≡ acted (follow (takeOf (configOf image k) room (h .connection)) h) []
   unfolding does
   does-take k room h = refl
 
@@ -115,14 +115,14 @@ module _ (l : Loan) (whole : Whole → World → World) (passed : Passed (sizes 
   change-view k e =
       made-view k (change e) (λ (c : Connection). stepOf e (configOf image k) c .connection) (eventOf (sizes l) k e .state) (does-change k e)
       (step-less e (configOf image k) (recordAt s k))
-      (λ h. ap (λ (t : Told). t .state) (passes (refusedBy s) (changeOf image s k e) k h) ∙ told-state image s k e)
-      (λ h. ap (λ (t : Told). t .state) (misses (refusedBy s) (changeOf image s k e) k h))
+      (λ h. ap (λ (t : Told). t .state) (passes (refusedTold s) (changeOf image s k e) k h) ∙ told-state image s k e)
+      (λ h. ap (λ (t : Told). t .state) (misses (refusedTold s) (changeOf image s k e) k h))
 
   -- TAKING THE WAITING BYTES into an out buffer
-  pub take-view : (k : ℕ) (out : List ℕ) → viewOf (takenOf l k out .state) rx tx ≡ step (tableOf image) whole w (on k (take (length out)))
-  unfolding takenOf
+  pub take-view : (k : ℕ) (out : List ℕ) → viewOf (takenWaiting l k out .state) rx tx ≡ step (tableOf image) whole w (on k (takeWaiting (length out)))
+  unfolding takenWaiting
   take-view k out =
-      made-view k (take (length out)) (takeOf (configOf image k) (length out)) (takenOf l k out .state) (does-take k (length out))
-      (take-less (configOf image k) (length out) (recordAt s k))
+      made-view k (takeWaiting (length out)) (takeOf (configOf image k) (length out)) (takenWaiting l k out .state) (does-take k (length out))
+      (taking-less (configOf image k) (length out) (recordAt s k))
       (λ h. ap (λ (t : Taken). t .state) (passes (notTaken s) (takePast image s k (length out)) k h))
       (λ h. ap (λ (t : Taken). t .state) (misses (notTaken s) (takePast image s k (length out)) k h))

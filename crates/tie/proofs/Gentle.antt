@@ -8,7 +8,7 @@ use Rattle.connection.specs.declared.Connection.{Connection}
 use Rattle.connection.specs.declared.Config.{Config}
 use Rattle.connection.specs.declared.Remote.{Remote}
 use Rattle.connection.specs.Connection.{metOf, switchedOf, tickOf}
-use Rattle.connection.proofs.Ticks.{Tick, closes, goes-on, tick-is}
+use Rattle.connection.proofs.Ticks.{Tick, closes-wanted, goes-on, tick-is}
 use Rattle.state.specs.Fresh.{configOf}
 use Rattle.world.specs.World.{Held, heldAt, follow}
 use Rattle.world.specs.Events.{Whole}
@@ -16,7 +16,7 @@ use Rattle.runs.specs.Streams.{Quiet, Kept}
 use Rattle.runs.proofs.Keeps.{kept-same, follows, kept-follow}
 use Rattle.runs.proofs.Streams.{Gentle}
 use Rattle.tie.specs.Whole.{wholeOf}
-use Rattle.tie.proofs.Becomes.{Alike, Becomes, untouched, same, met, ticked, switched, sent, becomes}
+use Rattle.tie.proofs.Becomes.{Alike, Becomes, becomes-itself, as-it-was, becomes-met, becomes-ticked, becomes-switched, becomes-sent, becomes}
 
 -- one record
 kept-met : (r : Remote) (h : Held) → Kept h (follow (metOf r (h .connection)) h)
@@ -29,7 +29,7 @@ kept-tick : (g : Config) (h : Held) → g .tcp ≡ true → Quiet h → Kept h (
 kept-tick g h tcp q = go (tickOf g (h .connection)) (tick-is g (h .connection))
   where
     go : (d : Connection) → Tick g (h .connection) d → Kept h (follow d h)
-    go d (closes e) = record { going = λ on. absurd (false≢true on); gone = λ _. refl }
+    go d (closes-wanted e) = record { going = λ on. absurd (false≢true on); gone = λ _. refl }
     go d (goes-on _ e t) =
         record { going = λ _. follows d h (t .part); gone = λ off. follows d h (t .part) ∙ q (sym (t .online tcp) ∙ off) }
 
@@ -41,9 +41,9 @@ pub gentle : (image : List ℕ) (k : ℕ) → configOf image k .tcp ≡ true →
 gentle image k tcp e w q = go e (heldAt (wholeOf image e w) k) (becomes image k w e)
   where
     go : (e : Whole) (h : Held) → Becomes image k (heldAt w k) e h → Kept (heldAt w k) h
-    go _ _ (untouched e) = kept-same (heldAt w k) q
-    go _ _ (same e) = kept-follow (heldAt w k .connection) (heldAt w k) refl refl q
-    go _ _ (met e source) = kept-met source (heldAt w k)
-    go _ _ ticked = kept-tick (configOf image k) (heldAt w k) tcp q
-    go _ _ (switched e n b) = kept-switch n b (heldAt w k) q
-    go _ _ (sent pdu payload h a) = alike-kept (heldAt w k) h q a
+    go _ _ (becomes-itself e) = kept-same (heldAt w k) q
+    go _ _ (as-it-was e) = kept-follow (heldAt w k .connection) (heldAt w k) refl refl q
+    go _ _ (becomes-met e source) = kept-met source (heldAt w k)
+    go _ _ becomes-ticked = kept-tick (configOf image k) (heldAt w k) tcp q
+    go _ _ (becomes-switched e n b) = kept-switch n b (heldAt w k) q
+    go _ _ (becomes-sent pdu payload h a) = alike-kept (heldAt w k) h q a

@@ -29,10 +29,10 @@ use Rattle.connection.specs.declared.Remote.{Remote}
 use Rattle.connection.specs.declared.Refusal.the-variants.{Missing}
 use Rattle.connection.specs.declared.Answer.the-variants.{Done}
 use Rattle.choose.specs.declared.Arrived.{Arrived}
-use Rattle.choose.specs.Choose.{refusedBy, arriveOf}
+use Rattle.choose.specs.Choose.{arrivalRefused, arriveOf}
 use Rattle.events.specs.declared.Told.{Told}
 use Rattle.events.specs.declared.Counted.{Counted}
-use Rattle.events.specs.Change.{refusedBy as notTold}
+use Rattle.events.specs.Change.{refusedTold as notTold}
 use Rattle.events.specs.Module.{switchAt, switchedAll, switchAllOf}
 use Rattle.events.specs.Count.{uncounted, readPast, clearPast, readOf, clearOf}
 use Rattle.events.proofs.Counts.{read-state, clear-records}
@@ -42,15 +42,15 @@ use Rattle.waits.proofs.Append.{append-sixteen, append-long}
 use Rattle.send.specs.declared.Transmitted.{Transmitted}
 use Rattle.tie.proofs.Arrivals.{arrive-is, meeting-length}
 use Rattle.world.specs.World.{World}
-use Rattle.world.specs.Events.{Own, change, segment, walk, take, Whole, datagram, accept, tick, transmit, switchAll, readCount, clearCount, Event, on, all}
-use Rattle.world.specs.Step.{at, step}
+use Rattle.world.specs.Events.{Own, change, segment, walk, takeWaiting, Whole, datagram, accept, tick, transmit, switchAll, readCount, clearCount, Event, on, onWhole}
+use Rattle.world.specs.Step.{actsAt, step}
 use Rattle.world.proofs.View.{view-length}
 use Rattle.runs.specs.Streams.{EventBytes}
 use Rattle.tie.specs.Table.{tableOf}
 use Rattle.tie.specs.Whole.{wholeOf}
 use Rattle.tie.specs.Machine.{Machine, machine, lentTo, loanTo, seen}
 use Rattle.tie.specs.Run.{afterOwn, afterWhole, afterEvent, Good}
-use Rattle.tie.proofs.Segments.{segment-passed}
+use Rattle.tie.proofs.Segments.{segment-event-passed}
 use Rattle.tie.proofs.Steps.{own-view}
 
 -- SIXTEEN RECORDS: an event of a connection replaces one
@@ -59,16 +59,16 @@ unfolding step
 records-left image m m′ k e h =
     sym (view-length (m′ .rx) (m′ .tx) 0 (m′ .state .connections))
     ∙ ap (λ (w : World). length (w .held)) h
-    ∙ length-set (seen m .held) k (at (tableOf image) (seen m) k e .to)
+    ∙ length-set (seen m .held) k (actsAt (tableOf image) (seen m) k e .to)
     ∙ view-length (m .rx) (m .tx) 0 (m .state .connections)
 
 own-passed : (image : List ℕ) (m : Machine) (k : ℕ) (e : Own) → EventBytes (on k e) → Good image m
     → Passed (lentTo image (afterOwn image k e m))
 unfolding afterOwn
 own-passed image m k (change e) b g = event-passed (lentTo image m) (g .passed) k e
-own-passed image m k (segment bytes) b g = segment-passed image k m bytes (g .passed) b (wholeOf image)
+own-passed image m k (segment bytes) b g = segment-event-passed image k m bytes (g .passed) b (wholeOf image)
 own-passed image m k (walk d p) b g = walk-passed (lentTo image m) k d p (g .passed)
-own-passed image m k (take room) b g = taken-passed (loanTo image m) k (replicate room 0) (g .passed)
+own-passed image m k (takeWaiting room) b g = taken-passed (loanTo image m) k (replicate room 0) (g .passed)
 
 own-good : (image : List ℕ) (m : Machine) (k : ℕ) (e : Own) → EventBytes (on k e) → Good image m → Good image (afterOwn image k e m)
 own-good image m k e b g =
@@ -91,7 +91,7 @@ module _ (image : List ℕ) (m : Machine) (g : Good image m) where
   arrival-good a group source =
       with-state (arrivalOf (lentTo image m) a group source .state)
       (arrival-passed (lentTo image m) a group source (g .passed))
-      (past-or (λ (t : Arrived). Sixteen (t .state)) (gateOf (lentTo image m)) (refusedBy s) (arriveOf image s a group source) (λ r. g .sixteen)
+      (past-or (λ (t : Arrived). Sixteen (t .state)) (gateOf (lentTo image m)) (arrivalRefused s) (arriveOf image s a group source) (λ r. g .sixteen)
       (λ _. meeting-length s (arriveOf image s a group source .state) source (arrive-is image s a group source) ∙ g .sixteen))
 
   tick-good : Good image (machine (tickEvent (lentTo image m) .state) (m .rx) (m .tx))
@@ -175,4 +175,4 @@ module _ (image : List ℕ) (m : Machine) (g : Good image m) where
   pub event-good : (e : Event) → EventBytes e → Good image (afterEvent image e m)
   unfolding afterEvent
   event-good (on k e) b = own-good image m k e b g
-  event-good (all e) b = whole-good e
+  event-good (onWhole e) b = whole-good e

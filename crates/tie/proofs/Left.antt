@@ -11,20 +11,20 @@ use Rattle.state.specs.declared.State.{State}
 use Rattle.state.specs.State.{recordAt, withRecord}
 use Rattle.state.specs.Memory.{stretch}
 use Rattle.world.specs.World.{Held, World, blank, heldAt, heldOf, viewOf, follow}
-use Rattle.world.specs.Step.{Table, counts, countsIf, acted, left}
+use Rattle.world.specs.Step.{Table, countAfter, countAfterIf, acted, left}
 use Rattle.world.proofs.View.{view-at, view-one, Less, follow-held}
 
 -- a state with so many drops of a protocol more
 abbrev pub dropsOf : Bool → ℕ → State → State
-dropsOf tcp n s = record { connections = s .connections; «udp_drops» = countsIf (not tcp) n (s .«udp_drops»); «tcp_drops» = countsIf tcp n (s .«tcp_drops») }
+dropsOf tcp n s = record { connections = s .connections; «udp_drops» = countAfterIf (not tcp) n (s .«udp_drops»); «tcp_drops» = countAfterIf tcp n (s .«tcp_drops») }
 
 no-drop : (tcp : Bool) (s : State) → dropsOf tcp 0 s ≡ s
-unfolding counts
+unfolding countAfter
 no-drop true s = refl
 no-drop false s = refl
 
-none : (b : Bool) (n : ℕ) → countsIf b 0 n ≡ n
-unfolding counts
+none : (b : Bool) (n : ℕ) → countAfterIf b 0 n ≡ n
+unfolding countAfter
 none true n = refl
 none false n = refl
 
@@ -39,8 +39,8 @@ module _ (T : Table) (s : State) (rx tx rx′ tx′ : List ℕ) (k : ℕ)
       (λ (l : List Held).
       record {
         held = l;
-        udp = countsIf (not (T .config k .tcp)) (drops os) (s .«udp_drops»);
-        tcp = countsIf (T .config k .tcp) (drops os) (s .«tcp_drops»);
+        udp = countAfterIf (not (T .config k .tcp)) (drops os) (s .«udp_drops»);
+        tcp = countAfterIf (T .config k .tcp) (drops os) (s .«tcp_drops»);
       })
       (view-one rx tx rx′ tx′ k same-rx same-tx (s .connections) c)
 
@@ -59,6 +59,6 @@ pub left-nothing : (T : Table) (w : World) (k : ℕ) → left T w k (acted (held
 unfolding drops
 left-nothing T w k =
     let p : set (w .held) k (heldAt w k) ≡ w .held = set-getD (w .held) k blank in
-    let u : countsIf (not (T .config k .tcp)) 0 (w .udp) ≡ w .udp = none (not (T .config k .tcp)) (w .udp) in
-    let t : countsIf (T .config k .tcp) 0 (w .tcp) ≡ w .tcp = none (T .config k .tcp) (w .tcp) in
+    let u : countAfterIf (not (T .config k .tcp)) 0 (w .udp) ≡ w .udp = none (not (T .config k .tcp)) (w .udp) in
+    let t : countAfterIf (T .config k .tcp) 0 (w .tcp) ≡ w .tcp = none (T .config k .tcp) (w .tcp) in
     λ i. record { held = p i; udp = u i; tcp = t i }

@@ -11,9 +11,9 @@ use Rattle.connection.specs.declared.Remote.{Remote}
 use Rattle.connection.specs.declared.Event.{Event as Change}
 use Rattle.part.specs.Part.{ready}
 use Rattle.connection.specs.Connection.{metOf, switchedOf, closedOf, tickOf}
-use Rattle.connection.specs.Event.{after, empties, stepOf}
+use Rattle.connection.specs.Event.{recordAfter, empties, stepOf}
 use Rattle.connection.proofs.Leaves.{after-leaves}
-use Rattle.connection.proofs.Ticks.{Tick, closes, goes-on, tick-is, step-either}
+use Rattle.connection.proofs.Ticks.{Tick, closes-wanted, goes-on, tick-is, step-either}
 use Rattle.waiting.specs.Waiting.{takeOf}
 use Rattle.waiting.proofs.Taken.{take-part, take-used}
 use Rattle.world.specs.World.{heldBy}
@@ -27,12 +27,12 @@ none-less : (c d : Connection) → heldBy (c .part) ≡ 0 → c .used ≡ 0 → 
 none-less c d p u = record { received = omega arith; waiting = omega arith }
 
 -- the six events of the record alone
-after-less : (e : Change) (g : Config) (c : Connection) → Less (after e g c) c
+after-less : (e : Change) (g : Config) (c : Connection) → Less (recordAfter e g c) c
 after-less e g c = go (empties e) (after-leaves e g c .part) (after-leaves e g c .used)
   where
-    go : (b : Bool) → after e g c .part ≡ cond b ready (c .part) → after e g c .used ≡ cond b 0 (c .used) → Less (after e g c) c
-    go true p u = none-less (after e g c) c (ap heldBy p) u
-    go false p u = same-less (after e g c) c p u
+    go : (b : Bool) → recordAfter e g c .part ≡ cond b ready (c .part) → recordAfter e g c .used ≡ cond b 0 (c .used) → Less (recordAfter e g c) c
+    go true p u = none-less (recordAfter e g c) c (ap heldBy p) u
+    go false p u = same-less (recordAfter e g c) c p u
 
 pub step-less : (e : Change) (g : Config) (c : Connection) → Less (stepOf e g c .connection) c
 step-less e g c = step-either e g c (λ (d : Connection). Less d c) (λ _. less-same c) (λ _. after-less e g c)
@@ -45,8 +45,8 @@ pub switch-less : (n : ℕ) (b : Bool) (c : Connection) → Less (switchedOf n b
 switch-less n b c = same-less (switchedOf n b c) c refl refl
 
 -- the waiting bytes taken
-pub take-less : (g : Config) (room : ℕ) (c : Connection) → Less (takeOf g room c) c
-take-less g room c = record { received = le-of-eq (ap heldBy (take-part g room c)); waiting = fewer (not (ltb room (c .used))) (take-used g room c) }
+pub taking-less : (g : Config) (room : ℕ) (c : Connection) → Less (takeOf g room c) c
+taking-less g room c = record { received = le-of-eq (ap heldBy (take-part g room c)); waiting = fewer (not (ltb room (c .used))) (take-used g room c) }
   where
     fewer : {n : ℕ} (b : Bool) → n ≡ cond b 0 (c .used) → n ≤ c .used
     fewer true e = omega arith
@@ -57,5 +57,5 @@ pub tick-less : (g : Config) (c : Connection) → Less (tickOf g c) c
 tick-less g c = go (tickOf g c) (tick-is g c)
   where
     go : (d : Connection) → Tick g c d → Less d c
-    go d (closes e) = none-less (closedOf g c) c refl refl
+    go d (closes-wanted e) = none-less (closedOf g c) c refl refl
     go d (goes-on _ e t) = same-less d c (t .part) (t .used)

@@ -23,12 +23,12 @@ use Rattle.ticks.specs.declared.Ticked.{Ticked}
 use Rattle.ticks.specs.Tick.{tickAt, tickedTo, unticked, tickEvent}
 use Rattle.events.specs.declared.Told.{Told}
 use Rattle.events.specs.declared.Counted.{Counted}
-use Rattle.events.specs.Change.{refusedBy}
+use Rattle.events.specs.Change.{refusedTold}
 use Rattle.events.specs.Module.{switchAt, switchedAll, switchAllOf}
 use Rattle.events.specs.Count.{uncounted, readPast, clearPast, readOf, clearOf}
 use Rattle.events.proofs.Counts.{read-state, clear-records}
 use Rattle.world.specs.World.{World, viewOf, stateOf, leaves}
-use Rattle.world.specs.Events.{tick, switchAll, readCount, clearCount, all}
+use Rattle.world.specs.Events.{tick, switchAll, readCount, clearCount, onWhole}
 use Rattle.world.specs.Step.{step}
 use Rattle.world.proofs.View.{state-view, Fewer, fewer-same, fewer-each, view-leaves}
 use Rattle.tie.specs.Table.{tableOf}
@@ -68,7 +68,7 @@ module _ (l : Loan) where
 
   -- a tick
   pub tick-view : Passed (sizes l)
-      → viewOf (tickEvent (sizes l) .state) rx tx ≡ step (tableOf image) (wholeOf image) w (all tick)
+      → viewOf (tickEvent (sizes l) .state) rx tx ≡ step (tableOf image) (wholeOf image) w (onWhole tick)
   unfolding tickEvent step tickedTo
   tick-view p =
       ap (λ (t : Ticked). viewOf (t .state) rx tx) (past (unticked s) (record { answer = Done; state = tickedTo image (rowsOf image Connections) s }) p)
@@ -77,14 +77,14 @@ module _ (l : Loan) where
 
   -- a switch on all connections
   pub switch-all-view : (n : ℕ) (b : Bool) → Passed (sizes l)
-      → viewOf (switchAllOf (sizes l) n b .state) rx tx ≡ step (tableOf image) (wholeOf image) w (all (switchAll n b))
+      → viewOf (switchAllOf (sizes l) n b .state) rx tx ≡ step (tableOf image) (wholeOf image) w (onWhole (switchAll n b))
   unfolding switchAllOf step switchedAll
   switch-all-view n b p =
       ap (λ (t : Told). viewOf (t .state) rx tx)
-      (past (refusedBy s) (cond (ltb n 32) (record { answer = Done; state = switchedAll (rowsOf image Connections) n b s }) (refusedBy s Missing)) p)
+      (past (refusedTold s) (cond (ltb n 32) (record { answer = Done; state = switchedAll (rowsOf image Connections) n b s }) (refusedTold s Missing)) p)
       ∙ go (ltb n 32)
     where
-      go : (x : Bool) → viewOf (cond x (record { answer = Done; state = switchedAll (rowsOf image Connections) n b s }) (refusedBy s Missing) .state) rx tx
+      go : (x : Bool) → viewOf (cond x (record { answer = Done; state = switchedAll (rowsOf image Connections) n b s }) (refusedTold s Missing) .state) rx tx
           ≡ cond x (leaves (switchedAll (rowsOf image Connections) n b (stateOf w)) w) w
       go true =
           leaves-view (switchedAll (rowsOf image Connections) n b) s rx tx
@@ -93,12 +93,12 @@ module _ (l : Loan) where
 
   -- a count read, and read and cleared
   pub read-view : (protocol : ℕ) → Passed (sizes l)
-      → viewOf (readOf (sizes l) protocol .state) rx tx ≡ step (tableOf image) (wholeOf image) w (all (readCount protocol))
+      → viewOf (readOf (sizes l) protocol .state) rx tx ≡ step (tableOf image) (wholeOf image) w (onWhole (readCount protocol))
   unfolding readOf step
   read-view n p = ap (λ (t : Counted). viewOf (t .state) rx tx) (past (uncounted s) (readPast s n) p) ∙ ap (λ (t : State). viewOf t rx tx) (read-state s n)
 
   pub clear-view : (protocol : ℕ) → Passed (sizes l)
-      → viewOf (clearOf (sizes l) protocol .state) rx tx ≡ step (tableOf image) (wholeOf image) w (all (clearCount protocol))
+      → viewOf (clearOf (sizes l) protocol .state) rx tx ≡ step (tableOf image) (wholeOf image) w (onWhole (clearCount protocol))
   unfolding clearOf step
   clear-view n p =
       ap (λ (t : Counted). viewOf (t .state) rx tx) (past (uncounted s) (clearPast s n) p)

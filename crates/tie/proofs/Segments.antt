@@ -14,7 +14,7 @@ use Rattle.layout.specs.declared.Kind.the-variants.{Connection as Connections}
 use Rattle.connection.specs.declared.Connection.{Connection}
 use Rattle.state.specs.State.{recordAt}
 use Rattle.state.specs.Fresh.{configOf}
-use Rattle.feed.specs.Feed.{segment as segmentOf}
+use Rattle.feed.specs.Feed.{segmentRan as segmentOf}
 use Rattle.lengths.specs.Listed.{Bytes}
 use Rattle.lengths.proofs.Bytes.{bytes-drop}
 use Rattle.gate.specs.Gate.{Passed}
@@ -25,11 +25,11 @@ use Rattle.receive.specs.Segment.{noneTaken, segmentAnswer, segmentOf as segmen
 use Rattle.world.specs.World.{World, heldAt}
 use Rattle.world.specs.Events.{segment, Whole, on}
 use Rattle.connection.specs.Event.{receiving}
-use Rattle.world.specs.Step.{Acted, acted, streamed, acts, at, left, step}
+use Rattle.world.specs.Step.{Acted, acted, streamed, acts, actsAt, left, step}
 use Rattle.world.proofs.View.{view-record}
 use Rattle.runs.proofs.Same.{does-read, does-refused}
 use Rattle.tie.specs.Table.{tableOf}
-use Rattle.tie.specs.Machine.{Machine, loanTo, lentTo, seen, taken, afterOne, restOf, told, toldBy, goesOn, afterTakes, toldTakes, afterSegment, toldSegment}
+use Rattle.tie.specs.Machine.{Machine, loanTo, lentTo, seen, taken, afterOne, restOf, pduTold, toldBy, goesOn, afterTakes, toldTakes, afterSegment, toldSegment}
 use Rattle.tie.proofs.Left.{left-nothing}
 use Rattle.tie.proofs.Answered.{done-is}
 use Rattle.tie.proofs.Take.{Open, open-after}
@@ -63,7 +63,7 @@ module _ (image : List ℕ) (m : Machine) (k : ℕ) (bs : List ℕ) (not-done : 
   none-told =
       ap (λ (b : Bool). toldBy image k m bs ++ cond b (toldTakes image k (length bs) (afterOne image k m bs) (restOf image k m bs)) []) (stops-here (restOf image k m bs))
       ∙ append-nil (toldBy image k m bs)
-      ∙ ap (λ (t : SegmentTaken). told image k (payloadOf bs (afterOne image k m bs .rx) k (t .outcome)) (t .outcome)) none-taken
+      ∙ ap (λ (t : SegmentTaken). pduTold image k (payloadOf bs (afterOne image k m bs .rx) k (t .outcome)) (t .outcome)) none-taken
 
 module _ (image : List ℕ) (k : ℕ) where
   -- SOUND STAYS SOUND, over all takes
@@ -106,13 +106,13 @@ module _ (image : List ℕ) (k : ℕ) where
     seen-c : heldAt (seen m) k .connection ≡ c
     seen-c = view-record (m .state) (m .rx) (m .tx) k
 
-    at-open : readable ≡ true → at (tableOf image) (seen m) k (segment bs) ≡ streamed (heldAt (seen m) k) (segmentOf (R image k m) (C image k m) bs)
+    at-open : readable ≡ true → actsAt (tableOf image) (seen m) k (segment bs) ≡ streamed (heldAt (seen m) k) (segmentOf (R image k m) (C image k m) bs)
     unfolding acts
     at-open e =
         rw (and-left (ltb k (rowsOf image Connections)) _ e)
         (does-read (tableOf image) k (heldAt (seen m) k) bs (ap (λ (d : Connection). configOf image k .tcp && receiving d) seen-c ∙ and-right (ltb k (rowsOf image Connections)) _ e))
 
-    at-refused : (t : Bool) → ltb k (rowsOf image Connections) ≡ t → (t && (configOf image k .tcp && receiving c)) ≡ false → at (tableOf image) (seen m) k (segment bs) ≡ acted (heldAt (seen m) k) []
+    at-refused : (t : Bool) → ltb k (rowsOf image Connections) ≡ t → (t && (configOf image k .tcp && receiving c)) ≡ false → actsAt (tableOf image) (seen m) k (segment bs) ≡ acted (heldAt (seen m) k) []
     unfolding acts
     at-refused true p e =
         rw p (does-refused (tableOf image) k (heldAt (seen m) k) bs (ap (λ (d : Connection). configOf image k .tcp && receiving d) seen-c ∙ e))
@@ -123,7 +123,7 @@ module _ (image : List ℕ) (k : ℕ) where
     unfolding step segmentOf
     segment-view = go readable refl
       where
-        go : (b : Bool) → readable ≡ b → seen (afterSegment image k m bs) ≡ left (tableOf image) (seen m) k (at (tableOf image) (seen m) k (segment bs))
+        go : (b : Bool) → readable ≡ b → seen (afterSegment image k m bs) ≡ left (tableOf image) (seen m) k (actsAt (tableOf image) (seen m) k (segment bs))
         go true e = takes-view image k (suc (length bs)) m bs (opened e) bytes (omega arith) ∙ ap (left (tableOf image) (seen m) k) (sym (at-open e))
         go false e =
             ap seen (no-segment image m k bs (refused e))
@@ -131,17 +131,17 @@ module _ (image : List ℕ) (k : ℕ) where
             ∙ ap (left (tableOf image) (seen m) k) (sym (at-refused (ltb k (rowsOf image Connections)) refl e))
 
     -- WHAT IT HANDS OUT
-    pub segment-told : toldSegment image k m bs ≡ at (tableOf image) (seen m) k (segment bs) .list
+    pub segment-told : toldSegment image k m bs ≡ actsAt (tableOf image) (seen m) k (segment bs) .list
     unfolding segmentOf
     segment-told = go readable refl
       where
-        go : (b : Bool) → readable ≡ b → toldSegment image k m bs ≡ at (tableOf image) (seen m) k (segment bs) .list
+        go : (b : Bool) → readable ≡ b → toldSegment image k m bs ≡ actsAt (tableOf image) (seen m) k (segment bs) .list
         go true e = takes-told image k (suc (length bs)) m bs (opened e) bytes (omega arith) ∙ ap (λ (a : Acted). a .list) (sym (at-open e))
         go false e = none-told image m k bs (refused e) ∙ ap (λ (a : Acted). a .list) (sym (at-refused (ltb k (rowsOf image Connections)) refl e))
 
     -- SOUND STAYS SOUND
-    pub segment-passed : Passed (lentTo image (afterSegment image k m bs))
-    segment-passed = go readable refl
+    pub segment-event-passed : Passed (lentTo image (afterSegment image k m bs))
+    segment-event-passed = go readable refl
       where
         go : (b : Bool) → readable ≡ b → Passed (lentTo image (afterSegment image k m bs))
         go true e = takes-open (suc (length bs)) m bs (opened e) bytes .passed

@@ -6,7 +6,7 @@ use mathlib.Core.List.{List, _++_}
 use native.Mathlib.Omega.{arith}
 use lib.ListN.{length, set, take, drop}
 use lib.Seq.{take-take}
-use Rattle.feed.specs.Frame.{frame}
+use Rattle.frame.specs.Frame.{frame}
 use Rattle.lists.specs.Fold.{foldFrom}
 use Rattle.lists.proofs.Fold.{fold-alike}
 use Rattle.rows.specs.declared.DestinationRow.{DestinationRow}
@@ -22,8 +22,8 @@ use Rattle.send.specs.Verdict.{isStored}
 use Rattle.send.specs.Send.{destinations, Sending, sending, appendOf, checkOf, wantedAt, storeOf, storeAll, transmitOf, Ready}
 use Rattle.send.proofs.Room.{clear-roomy}
 use Rattle.sending.proofs.Past.{ready-from}
-use Rattle.waits.proofs.Append.{Room, held-own, stretch-other}
-use Rattle.waits.proofs.Held.{Fine, room, fine-step, begin}
+use Rattle.waits.proofs.Append.{RoomThere, held-own, stretch-other}
+use Rattle.waits.proofs.Held.{Fine, room-held, fine-step, begin-fine}
 use Rattle.keeps.proofs.Transmitted.{all-fit}
 use Rattle.world.specs.World.{Held, World, heldBy, heldOf, viewOf}
 use Rattle.world.proofs.View.{state-view, view-at, view-one}
@@ -34,7 +34,7 @@ abbrev seen : List ℕ → Sending → World
 seen rx x = viewOf (x .state) rx (x .memory)
 
 -- ONE APPEND, where header and payload fit the stretch
-module _ (rx payload : List ℕ) (d : DestinationRow) (x : Sending) (r : Room d payload x) where
+module _ (rx payload : List ℕ) (d : DestinationRow) (x : Sending) (r : RoomThere d payload x) where
   abbrev j : ℕ
   j = d .connection
 
@@ -81,7 +81,7 @@ module _ (image rx tx payload : List ℕ) (s : State) (pdu : ℕ) (long : length
       where
         go : (b : Bool) → wantedAt image s pdu payload i ≡ b
             → seen rx (cond b (appendOf (destinationOf image i) payload x) x) ≡ cond b (appendTo (destinationOf image i) payload (seen rx x)) (seen rx x)
-        go true w = append-view rx payload (destinationOf image i) x (room image ready s pdu payload (clear-roomy image s pdu payload clear ready) x i f h w)
+        go true w = append-view rx payload (destinationOf image i) x (room-held image ready s pdu payload (clear-roomy image s pdu payload clear ready) x i f h w)
         go false w = refl
 
     store-view : seen rx (storeAll image s pdu payload tx) ≡ foldFrom (storeIn image s pdu payload) (destinations image) 0 (viewOf s rx tx)
@@ -90,7 +90,7 @@ module _ (image rx tx payload : List ℕ) (s : State) (pdu : ℕ) (long : length
         fold-alike (storeOf image s pdu payload) (storeIn image s pdu payload) (seen rx) Way (destinations image) 0 (sending s tx)
         (λ i x l u f. fine-step image ready s pdu payload (clear-roomy image s pdu payload clear ready) x i f (omega arith))
         (λ i x l u f. one-store i x (omega arith) f)
-        (begin image ready s pdu payload tx sixteen long (all-fit image a s sound) clear)
+        (begin-fine image ready s pdu payload tx sixteen long (all-fit image a s sound) clear)
 
   -- THE WHOLE TRANSMIT
   pub transmit-view : viewOf (transmitOf image s pdu payload tx .state) rx (transmitOf image s pdu payload tx .memory) ≡ transmitIn image pdu payload (viewOf s rx tx)

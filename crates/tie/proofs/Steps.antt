@@ -13,13 +13,13 @@ use Rattle.state.specs.declared.State.{State}
 use Rattle.feed.specs.Feed.{Out}
 use Rattle.table.proofs.Facts.{accepted-facts}
 use Rattle.choose.specs.declared.Arrived.{Arrived}
-use Rattle.choose.specs.Choose.{refusedBy, arriveOf}
+use Rattle.choose.specs.Choose.{arrivalRefused, arriveOf}
 use Rattle.arrivals.specs.Arrivals.{arrivalOf}
 use Rattle.send.specs.declared.Transmitted.{Transmitted}
 use Rattle.send.specs.Send.{transmitOf, transmittedOf}
 use Rattle.sending.specs.Sending.{notSent, sendOf, sentMemory}
 use Rattle.world.specs.World.{Held, World, heldAt, viewOf, stateOf, leaves}
-use Rattle.world.specs.Events.{Own, change, segment, walk, take, Whole, datagram, accept, tick, transmit, switchAll, readCount, clearCount, Event, on, all}
+use Rattle.world.specs.Events.{Own, change, segment, walk, takeWaiting, Whole, datagram, accept, tick, transmit, switchAll, readCount, clearCount, Event, on, onWhole}
 use Rattle.world.specs.Step.{acted, does, acts, step, hands}
 use Rattle.runs.specs.Streams.{EventBytes}
 use Rattle.tie.specs.Table.{tableOf}
@@ -48,7 +48,7 @@ module _ (image : List ℕ) (m : Machine) (good : Good image m) where
 
   arrival-view : (a : Bool) (group : ℕ) (source : Remote) → viewOf (arrivalOf (lentTo image m) a group source .state) rx tx ≡ leaves (arriveOf image (stateOf (seen m)) a group source .state) (seen m)
   unfolding arrivalOf
-  arrival-view a group source = ap (λ (t : Arrived). viewOf (t .state) rx tx) (past (loanTo image m) (refusedBy s) (arriveOf image s a group source) (good .passed)) ∙ arrive-view (loanTo image m) a group source
+  arrival-view a group source = ap (λ (t : Arrived). viewOf (t .state) rx tx) (past (loanTo image m) (arrivalRefused s) (arriveOf image s a group source) (good .passed)) ∙ arrive-view (loanTo image m) a group source
 
   send-view : (pdu : ℕ) (payload : List ℕ) → viewOf (sendOf (loanTo image m) pdu payload .state) rx (sentMemory (loanTo image m) pdu payload) ≡ transmitIn image pdu payload (seen m)
   unfolding sendOf sentMemory
@@ -62,11 +62,11 @@ module _ (image : List ℕ) (m : Machine) (good : Good image m) where
   own-view k (change e) b = change-view (loanTo image m) W (good .passed) k e
   own-view k (segment bytes) b = segment-view image k m bytes (good .passed) b W
   own-view k (walk d p) b = walk-view (loanTo image m) k d p (good .passed) W
-  own-view k (take room) b =
-      take-view (loanTo image m) W (good .passed) k (replicate room 0) ∙ ap (λ (n : ℕ). step (tableOf image) W (seen m) (on k (take n))) (length-replicate room 0)
+  own-view k (takeWaiting room) b =
+      take-view (loanTo image m) W (good .passed) k (replicate room 0) ∙ ap (λ (n : ℕ). step (tableOf image) W (seen m) (on k (takeWaiting n))) (length-replicate room 0)
 
   -- ONE OF A GROUP OR THE MODULE
-  whole-view : (e : Whole) → seen (afterWhole image e m) ≡ step (tableOf image) W (seen m) (all e)
+  whole-view : (e : Whole) → seen (afterWhole image e m) ≡ step (tableOf image) W (seen m) (onWhole e)
   unfolding afterWhole step
   whole-view (datagram group source) = arrival-view false group source
   whole-view (accept group source) = arrival-view true group source
@@ -80,7 +80,7 @@ module _ (image : List ℕ) (m : Machine) (good : Good image m) where
   pub event-view : (e : Event) → EventBytes e → seen (afterEvent image e m) ≡ step (tableOf image) (wholeOf image) (seen m) e
   unfolding afterEvent
   event-view (on k e) b = own-view k e b
-  event-view (all e) b = whole-view e
+  event-view (onWhole e) b = whole-view e
 
   -- WHAT THE CALLER IS GIVEN
   no-list : (k i : ℕ) (e : Own) → ((h : Held) → does (tableOf image) i e h .list ≡ []) → [] ≡ hands (tableOf image) W k (seen m) (on i e)
@@ -97,5 +97,5 @@ module _ (image : List ℕ) (m : Machine) (good : Good image m) where
   event-given k (on i (change e)) b = no-list k i (change e) (λ h. refl)
   event-given k (on i (segment bytes)) b = ap (λ (os : List Out). cond (eqb i k) os []) (segment-told image i m bytes (good .passed) b W)
   event-given k (on i (walk d p)) b = ap (λ (os : List Out). cond (eqb i k) os []) (walk-told (loanTo image m) i d p (good .passed) W)
-  event-given k (on i (take room)) b = no-list k i (take room) (λ h. refl)
-  event-given k (all e) b = refl
+  event-given k (on i (takeWaiting room)) b = no-list k i (takeWaiting room) (λ h. refl)
+  event-given k (onWhole e) b = refl

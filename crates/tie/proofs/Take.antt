@@ -19,25 +19,25 @@ use Rattle.state.specs.Fresh.{configOf}
 use Rattle.feed.specs.Feed.{Out, nothing, pdu, dropped, emit, Took, takeB, drops}
 use Rattle.feed.proofs.Cut.{take-rest}
 use Rattle.lengths.specs.Listed.{Bytes}
-use Rattle.stream.specs.Stream.{cellOf, partFrom, heldIn, inSegment, outcomeOf, tookOf, takenOf, payloadAt}
-use Rattle.stream.proofs.Leaves.{leaves-cell, leaves-length, handed}
+use Rattle.stream.specs.Stream.{cellOf, partFrom, heldIn, inSegment, takeOutcome, tookOf, takenOf, payloadAt}
+use Rattle.stream.proofs.Leaves.{leaves-cell, leaves-length, hands-out}
 use Rattle.route.specs.Route.{lookupOf}
 use Rattle.gate.proofs.Pass.{passed-gate-at}
 use Rattle.gate.specs.Lent.{sizes, received}
 use Rattle.receive.specs.declared.SegmentTaken.{SegmentTaken}
-use Rattle.receive.specs.Answer.{isDone, judgedOf, answerOf}
+use Rattle.receive.specs.Answer.{isDone, judgedOf, judgedAnswer}
 use Rattle.receive.specs.Segment.{countTake, takenAt, stretchAt, takeOn, memoryOn, Takes, segmentAnswer, segmentOf, memoryOf, payloadOf}
 use Rattle.receive.proofs.Answers.{Clear}
 use Rattle.receive.proofs.Past.{passed-takes}
 use Rattle.receive.proofs.Keeps.{in-range, take-clear}
 use Rattle.state.specs.Memory.{stretch}
 use Rattle.world.specs.World.{Held, blank, heldAt, heldBy, heldOf, viewOf, cellAt, withCell}
-use Rattle.world.specs.Step.{counts, acted, left}
+use Rattle.world.specs.Step.{countAfter, acted, left}
 use Rattle.world.proofs.View.{view-length, view-at}
 use Rattle.state.proofs.Stretch.{stretch-apart, stretch-own}
 use Rattle.runs.proofs.Keeps.{cell-follow}
 use Rattle.tie.specs.Table.{tableOf}
-use Rattle.tie.specs.Machine.{Machine, loanTo, lentTo, seen, taken, afterOne, restOf, told, toldBy}
+use Rattle.tie.specs.Machine.{Machine, loanTo, lentTo, seen, taken, afterOne, restOf, pduTold, toldBy}
 use Rattle.tie.proofs.Left.{dropsOf, view-left}
 
 -- a machine whose connection k takes segments: nothing refuses a take on it
@@ -52,8 +52,8 @@ held-bytes (Skip bytes) st = refl
 
 -- the count after a take
 count-is : (ids : ℕ → ℕ) (b : Bool) (n : ℕ) (o : Out) (s : State) (k : ℕ) (c : Connection)
-    → countTake (outcomeOf ids b n o) (withRecord k c s) ≡ withRecord k c (dropsOf true (drops (emit o [])) s)
-unfolding drops counts
+    → countTake (takeOutcome ids b n o) (withRecord k c s) ≡ withRecord k c (dropsOf true (drops (emit o [])) s)
+unfolding drops countAfter
 count-is ids b n nothing s k c = refl
 count-is ids b n (pdu r p) s k c = refl
 count-is ids b n (dropped q i l) s k c = refl
@@ -89,7 +89,7 @@ module _ (image : List ℕ) (k : ℕ) (m : Machine) (segment : List ℕ) (o : Op
 
   -- nothing refuses it
   done : isDone (segmentAnswer (lentTo image m) k) ≡ true
-  unfolding answerOf judgedOf
+  unfolding judgedAnswer judgedOf
   done = rw (passed-gate-at (lentTo image m) k (o .passed) (o .there), o .allows, o .receives)
 
   taken-is : taken image k m segment ≡ takeOn image s rx k segment
@@ -104,9 +104,9 @@ module _ (image : List ℕ) (k : ℕ) (m : Machine) (segment : List ℕ) (o : Op
   unfolding takeOn
   answer-done = ap (λ (t : SegmentTaken). isDone (t .answer)) taken-is
 
-  pub rest-is : restOf image k m segment ≡ tookAt .rest
+  pub rest-took : restOf image k m segment ≡ tookAt .rest
   unfolding takeOn takenOf tookOf
-  rest-is = ap (λ (t : SegmentTaken). drop (t .read) segment) taken-is ∙ take-rest (lookupOf routes k (c .switches)) (cellOf (c .part) st) segment
+  rest-took = ap (λ (t : SegmentTaken). drop (t .read) segment) taken-is ∙ take-rest (lookupOf routes k (c .switches)) (cellOf (c .part) st) segment
 
   -- its state, its stretch
   state-is : taken image k m segment .state ≡ withRecord k c′ (dropsOf true (drops (emit (tookAt .out) [])) s)
@@ -152,7 +152,7 @@ module _ (image : List ℕ) (k : ℕ) (m : Machine) (segment : List ℕ) (o : Op
 
   -- WHAT IT HANDS OUT
   told-is : (out : Out) → tookAt .out ≡ out
-      → told image k (payloadOf segment (memoryOn image s rx k segment) k (takenAt image s rx k segment .outcome)) (takenAt image s rx k segment .outcome) ≡ emit out []
+      → pduTold image k (payloadOf segment (memoryOn image s rx k segment) k (takenAt image s rx k segment .outcome)) (takenAt image s rx k segment .outcome) ≡ emit out []
   unfolding takenOf tookOf payloadOf
   told-is nothing e = rw e
   told-is (pdu r p) e =
@@ -162,13 +162,13 @@ module _ (image : List ℕ) (k : ℕ) (m : Machine) (segment : List ℕ) (o : Op
       (λ (z : List ℕ).
       payloadAt segment z (inSegment (cellOf (c .part) st)) (cond (inSegment (cellOf (c .part) st)) (length segment - length (tookAt .rest) - length p) 0) (length p))
       own
-      ∙ handed routes k (c .switches) (c .part) st segment (takes .fit) bytes r p e))
+      ∙ hands-out routes k (c .switches) (c .part) st segment (takes .fit) bytes r p e))
   told-is (dropped q i n) e = rw e
 
   pub one-told : toldBy image k m segment ≡ emit (tookAt .out) []
   unfolding takeOn
   one-told =
-      ap₂ (λ (t : SegmentTaken) (z : List ℕ). told image k (payloadOf segment z k (t .outcome)) (t .outcome)) taken-is memory-is ∙ told-is (tookAt .out) refl
+      ap₂ (λ (t : SegmentTaken) (z : List ℕ). pduTold image k (payloadOf segment z k (t .outcome)) (t .outcome)) taken-is memory-is ∙ told-is (tookAt .out) refl
 
   -- and nothing refuses the next one
   pub open-after : Open image k (afterOne image k m segment)

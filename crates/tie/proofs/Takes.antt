@@ -19,7 +19,7 @@ use Rattle.world.proofs.Cells.{snug-in, snug-take, cell-back}
 use Rattle.runs.proofs.Same.{left-following}
 use Rattle.tie.specs.Table.{tableOf}
 use Rattle.tie.specs.Machine.{Machine, seen, taken, afterOne, restOf, toldBy, goesOn, afterTakes, toldTakes}
-use Rattle.tie.proofs.Take.{Open, tookAt, answer-done, rest-is, one-view, cell-is, switches-is, one-told, open-after, held-after}
+use Rattle.tie.proofs.Take.{Open, tookAt, answer-done, rest-took, one-view, cell-is, switches-is, one-told, open-after, held-after}
 
 module _ (image : List ℕ) (k : ℕ) where
   -- the takes as the world has them, on connection k of a machine
@@ -50,7 +50,7 @@ module _ (image : List ℕ) (k : ℕ) where
         ∙ ap (λ (u : Took). left (tableOf image) (seen m) k (acted (withCell (u .to) h) (emit (u .out) []))) (sym (took-is m segment o bytes))
 
     rest-same : restOf image k m segment ≡ t .rest
-    rest-same = rest-is image k m segment o bytes ∙ ap (λ (u : Took). u .rest) (sym (took-is m segment o bytes))
+    rest-same = rest-took image k m segment o bytes ∙ ap (λ (u : Took). u .rest) (sym (took-is m segment o bytes))
 
     held-one : heldAt (seen (afterOne image k m segment)) k ≡ withCell (t .to) h
     held-one =

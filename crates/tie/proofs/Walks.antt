@@ -16,9 +16,9 @@ use Rattle.state.specs.declared.State.{State}
 use Rattle.state.specs.State.{recordAt, withRecord}
 use Rattle.state.specs.Fresh.{configOf}
 use Rattle.feed.specs.Feed.{drops}
-use Rattle.walk.specs.Walk.{Found, the-end, a-pdu, a-drop, walkAt, told}
+use Rattle.walk.specs.Walk.{Found, the-end, a-pdu, a-drop, walkAt, outsTold}
 use Rattle.route.specs.Route.{lookupOf}
-use Rattle.datagram.specs.Datagram.{outcomeOf, walkedOf}
+use Rattle.datagram.specs.Datagram.{walkOutcome, walkedOf}
 use Rattle.gate.specs.Lent.{Loan, sizes}
 use Rattle.gate.specs.Gate.{Passed}
 use Rattle.receive.specs.Answer.{isDone}
@@ -26,7 +26,7 @@ use Rattle.receive.specs.Walk.{countWalk, walkOn, walkAllowed, walkAnswer, walk
 use Rattle.world.specs.World.{Held, World, heldAt, viewOf}
 use Rattle.world.specs.Events.{walk, Whole, on}
 use Rattle.connection.specs.Event.{receiving}
-use Rattle.world.specs.Step.{Acted, counts, acted, does, acts, at, left, step}
+use Rattle.world.specs.Step.{Acted, countAfter, acted, does, acts, actsAt, left, step}
 use Rattle.world.proofs.View.{view-at}
 use Rattle.datagram.specs.declared.Outcome.the-variants.{End}
 use Rattle.tie.specs.Table.{tableOf}
@@ -35,8 +35,8 @@ use Rattle.tie.proofs.Left.{dropsOf, view-left, left-nothing}
 use Rattle.tie.proofs.Answered.{done-is}
 
 -- the count after it
-count-is : (f : Found) (d : List ℕ) (s : State) → countWalk (outcomeOf f) s ≡ dropsOf false (drops (told d f [])) s
-unfolding drops counts
+count-is : (f : Found) (d : List ℕ) (s : State) → countWalk (walkOutcome f) s ≡ dropsOf false (drops (outsTold d f [])) s
+unfolding drops countAfter
 count-is the-end d s = refl
 count-is (a-pdu r p n i) d s = refl
 count-is (a-drop k i n) d s = refl
@@ -70,7 +70,7 @@ module _ (l : Loan) (k : ℕ) (d : List ℕ) (place : ℕ) (passed : Passed (siz
   is-done : isDone (walkAnswer (sizes l) k d place) ≡ readable
   is-done = done-is (sizes l) k allowed passed
 
-  walk-state : (b : Bool) → readable ≡ b → walkOf (sizes l) k d place .state ≡ cond b (dropsOf false (drops (told d found [])) s) s
+  walk-state : (b : Bool) → readable ≡ b → walkOf (sizes l) k d place .state ≡ cond b (dropsOf false (drops (outsTold d found [])) s) s
   unfolding walkOf walkOn walkedOf
   walk-state true e = rw (is-done ∙ e) (count-is found d s)
   walk-state false e = rw (is-done ∙ e)
@@ -79,7 +79,7 @@ module _ (l : Loan) (k : ℕ) (d : List ℕ) (place : ℕ) (passed : Passed (siz
   seen-c : heldAt w k .connection ≡ recordAt s k
   seen-c = ap (λ (h : Held). h .connection) (view-at s rx tx k)
 
-  acts-made : readable ≡ true → acts (tableOf image) k (walk d place) (heldAt w k) ≡ acted (heldAt w k) (told d found [])
+  acts-made : readable ≡ true → acts (tableOf image) k (walk d place) (heldAt w k) ≡ acted (heldAt w k) (outsTold d found [])
   unfolding acts does
   acts-made e =
       rw (and-left (ltb k (rowsOf image Connections)) _ e, seen-c, and-right (ltb k (rowsOf image Connections)) _ e)
@@ -90,13 +90,13 @@ module _ (l : Loan) (k : ℕ) (d : List ℕ) (place : ℕ) (passed : Passed (siz
   acts-refused false p e = rw p
 
   -- a drop more, and the records as they were
-  dropped-view : configOf image k .tcp ≡ false → viewOf (dropsOf false (drops (told d found [])) s) rx tx ≡ left (tableOf image) w k (acted (heldAt w k) (told d found []))
+  dropped-view : configOf image k .tcp ≡ false → viewOf (dropsOf false (drops (outsTold d found [])) s) rx tx ≡ left (tableOf image) w k (acted (heldAt w k) (outsTold d found []))
   dropped-view udp =
-      let n : ℕ = drops (told d found []) in
+      let n : ℕ = drops (outsTold d found []) in
       ap (λ (l : List Connection). viewOf (record { connections = l; «udp_drops» = dropsOf false n s .«udp_drops»; «tcp_drops» = dropsOf false n s .«tcp_drops» }) rx tx) (sym (set-getD (s .connections) k zeroRecord))
       ∙ ap (λ (b : Bool). viewOf (withRecord k (recordAt s k) (dropsOf b n s)) rx tx) (sym udp)
-      ∙ view-left (tableOf image) s rx tx rx tx k (λ j ne. refl) (λ j ne. refl) (recordAt s k) (told d found [])
-      ∙ ap (λ (h : Held). left (tableOf image) w k (acted h (told d found []))) (sym (view-at s rx tx k))
+      ∙ view-left (tableOf image) s rx tx rx tx k (λ j ne. refl) (λ j ne. refl) (recordAt s k) (outsTold d found [])
+      ∙ ap (λ (h : Held). left (tableOf image) w k (acted h (outsTold d found []))) (sym (view-at s rx tx k))
 
   pub walk-view : viewOf (walkOf (sizes l) k d place .state) rx tx ≡ step (tableOf image) whole w (on k (walk d place))
   unfolding step
@@ -114,19 +114,19 @@ module _ (l : Loan) (k : ℕ) (d : List ℕ) (place : ℕ) (passed : Passed (siz
           ∙ ap (left (tableOf image) w k) (sym (acts-refused (ltb k (rowsOf image Connections)) refl e))
 
   -- WHAT IT HANDS OUT
-  told-found : (f : Found) → toldWalk d (outcomeOf f) ≡ told d f []
+  told-found : (f : Found) → toldWalk d (walkOutcome f) ≡ outsTold d f []
   told-found the-end = refl
   told-found (a-pdu r p n i) = refl
   told-found (a-drop q i n) = refl
 
-  walk-out : (b : Bool) → readable ≡ b → walkOf (sizes l) k d place .outcome ≡ cond b (outcomeOf found) End
+  walk-out : (b : Bool) → readable ≡ b → walkOf (sizes l) k d place .outcome ≡ cond b (walkOutcome found) End
   unfolding walkOf walkOn walkedOf
   walk-out true e = rw (is-done ∙ e)
   walk-out false e = rw (is-done ∙ e)
 
-  pub walk-told : toldWalk d (walkOf (sizes l) k d place .outcome) ≡ at (tableOf image) w k (walk d place) .list
+  pub walk-told : toldWalk d (walkOf (sizes l) k d place .outcome) ≡ actsAt (tableOf image) w k (walk d place) .list
   walk-told = go readable refl
     where
-      go : (b : Bool) → readable ≡ b → toldWalk d (walkOf (sizes l) k d place .outcome) ≡ at (tableOf image) w k (walk d place) .list
+      go : (b : Bool) → readable ≡ b → toldWalk d (walkOf (sizes l) k d place .outcome) ≡ actsAt (tableOf image) w k (walk d place) .list
       go true e = ap (toldWalk d) (walk-out true e) ∙ told-found found ∙ ap (λ (a : Acted). a .list) (sym (acts-made e))
       go false e = ap (toldWalk d) (walk-out false e) ∙ ap (λ (a : Acted). a .list) (sym (acts-refused (ltb k (rowsOf image Connections)) refl e))

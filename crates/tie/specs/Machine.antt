@@ -47,13 +47,13 @@ module _ (image : List ℕ) (k : ℕ) where
   restOf m segment = drop (taken m segment .read) segment
 
   -- what it found: a PDU, with the payload that the caller is given, or a drop
-  abbrev pub told : List ℕ → Outcome → List Out
-  told payload Found.More = []
-  told payload (Found.Pdu route id inside at n) = pdu route payload ∷ []
-  told payload (Found.Drop reason id n) = dropped reason id n ∷ []
+  abbrev pub pduTold : List ℕ → Outcome → List Out
+  pduTold payload Found.More = []
+  pduTold payload (Found.Pdu route id inside at n) = pdu route payload ∷ []
+  pduTold payload (Found.Drop reason id n) = dropped reason id n ∷ []
 
   abbrev pub toldBy : Machine → List ℕ → List Out
-  toldBy m segment = told (payloadOf segment (afterOne m segment .rx) k (taken m segment .outcome)) (taken m segment .outcome)
+  toldBy m segment = pduTold (payloadOf segment (afterOne m segment .rx) k (taken m segment .outcome)) (taken m segment .outcome)
 
   -- A SEGMENT EVENT: "the caller's takes over one segment until all is read, one take at least"; a take that is refused ends it. At
   -- most f takes

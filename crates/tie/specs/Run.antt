@@ -16,8 +16,8 @@ use Rattle.events.specs.Count.{readOf, clearOf}
 use Rattle.ticks.specs.Tick.{tickEvent}
 use Rattle.arrivals.specs.Arrivals.{datagramOf, acceptOf}
 use Rattle.receive.specs.Walk.{walkOf}
-use Rattle.sending.specs.Sending.{sendOf, sentMemory, takenOf}
-use Rattle.world.specs.Events.{Own, change, segment, walk, take, Whole, datagram, accept, tick, transmit, switchAll, readCount, clearCount, Event, on, all}
+use Rattle.sending.specs.Sending.{sendOf, sentMemory, takenWaiting}
+use Rattle.world.specs.Events.{Own, change, segment, walk, takeWaiting, Whole, datagram, accept, tick, transmit, switchAll, readCount, clearCount, Event, on, onWhole}
 use Rattle.tie.specs.Machine.{Machine, machine, lentTo, loanTo, afterSegment, toldSegment}
 
 -- WHAT A WALK FOUND: a PDU, with the payload that stands at its place, or a drop
@@ -33,7 +33,7 @@ module _ (image : List ℕ) where
   afterOwn k (change e) m = machine (eventOf (lentTo image m) k e .state) (m .rx) (m .tx)
   afterOwn k (segment bytes) m = afterSegment image k m bytes
   afterOwn k (walk d place) m = machine (walkOf (lentTo image m) k d place .state) (m .rx) (m .tx)
-  afterOwn k (take room) m = machine (takenOf (loanTo image m) k (replicate room 0) .state) (m .rx) (m .tx)
+  afterOwn k (takeWaiting room) m = machine (takenWaiting (loanTo image m) k (replicate room 0) .state) (m .rx) (m .tx)
 
   -- of a whole group or module
   unfoldable pub afterWhole : Whole → Machine → Machine
@@ -48,15 +48,15 @@ module _ (image : List ℕ) where
 
   unfoldable pub afterEvent : Event → Machine → Machine
   afterEvent (on k e) m = afterOwn k e m
-  afterEvent (all e) m = afterWhole e m
+  afterEvent (onWhole e) m = afterWhole e m
 
   -- the outcomes that the caller is given for connection k: PDUs, and drops with their reason, id and length
   unfoldable pub given : ℕ → Event → Machine → List Out
   given k (on i (change e)) m = []
   given k (on i (segment bytes)) m = cond (eqb i k) (toldSegment image i m bytes) []
   given k (on i (walk d place)) m = cond (eqb i k) (toldWalk d (walkOf (lentTo image m) i d place .outcome)) []
-  given k (on i (take room)) m = []
-  given k (all e) m = []
+  given k (on i (takeWaiting room)) m = []
+  given k (onWhole e) m = []
 
   -- A RUN: each call is lent the memory that the last one left
   unfoldable pub afterRun : Machine → List Event → Machine

@@ -4,7 +4,7 @@ use Prim.Native.Nat.{ℕ, _+_}
 use mathlib.Core.Bool.{cond}
 use mathlib.Core.List.{List, _++_}
 use lib.ListN.{length, set}
-use Rattle.feed.specs.Frame.{frame}
+use Rattle.frame.specs.Frame.{frame}
 use Rattle.lists.specs.Fold.{foldFrom}
 use Rattle.rows.specs.declared.DestinationRow.{DestinationRow}
 use Rattle.rows.specs.Rows.{destinationOf}

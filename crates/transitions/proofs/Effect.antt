@@ -11,8 +11,8 @@ use Rattle.connection.specs.declared.Refusal.the-variants.{Denied}
 use Rattle.connection.specs.declared.Answer.the-variants.{Done}
 use Rattle.connection.specs.declared.Event.{Event}
 use Rattle.connection.specs.declared.Event.the-variants.{Open, Close, Connected, Lost, SetRemote, Switch}
-use Rattle.connection.specs.Connection.{isOffline, isReconnect, isOnline, wildcard, withMode, withSend, become, closedOf, startOf, reachOf, runOf, tickOf}
-use Rattle.connection.specs.Event.{allowed, after, refusedBy, stepOf}
+use Rattle.connection.specs.Connection.{isOffline, isReconnect, isOnline, wildcard, withMode, withSend, become, closedOf, startedOf, reachOf, runOf, tickOf}
+use Rattle.connection.specs.Event.{allowed, recordAfter, refusedBy, stepOf}
 use Rattle.connection.specs.Sound.{Sound}
 use Rattle.connection.proofs.Ticks.{step-either}
 use Rattle.lists.proofs.Both.{impossible, and-left, and-right, and-both}
@@ -146,29 +146,29 @@ decided true c d = refl
 decided false c d = refl
 
 -- an event that leaves mode and wishes, allowed or not
-stays-put : (e : Event) (g : Config) (c : Connection) → placeOf (after e g c) ≡ placeOf c → placeOf (stepOf e g c .connection) ≡ placeOf c
+stays-put : (e : Event) (g : Config) (c : Connection) → placeOf (recordAfter e g c) ≡ placeOf c → placeOf (stepOf e g c .connection) ≡ placeOf c
 stays-put e g c p = step-either e g c (λ (d : Connection). placeOf d ≡ placeOf c) (λ _. refl) (λ _. p)
 
 step-effect : (e : Event) (g : Config) (c : Connection)
     → placeOf (stepOf e g c .connection) ≡ effect (happeningOf e) (g .tcp) (g .automatic) (wildcard (c .remote)) (c .mode) (c .«open_wanted») (c .«close_wanted»)
 unfolding stepOf effect
-step-effect Open g c = decided (allowed Open g c) c (after Open g c)
-step-effect Close g c = decided (allowed Close g c) c (after Close g c)
-step-effect Connected g c = decided (allowed Connected g c) c (after Connected g c)
-step-effect Lost g c = decided (allowed Lost g c) c (after Lost g c)
+step-effect Open g c = decided (allowed Open g c) c (recordAfter Open g c)
+step-effect Close g c = decided (allowed Close g c) c (recordAfter Close g c)
+step-effect Connected g c = decided (allowed Connected g c) c (recordAfter Connected g c)
+step-effect Lost g c = decided (allowed Lost g c) c (recordAfter Lost g c)
 step-effect (SetRemote r) g c = stays-put (SetRemote r) g c refl
 step-effect (Switch n on) g c = stays-put (Switch n on) g c refl
 
-start-place : (g : Config) (c : Connection) → placeOf (startOf g c) ≡ startP (g .automatic) (placeOf c)
-unfolding startOf
+start-place : (g : Config) (c : Connection) → placeOf (startedOf g c) ≡ startP (g .automatic) (placeOf c)
+unfolding startedOf
 start-place g c = go (isOffline (c .mode) && (c .«open_wanted» || g .automatic))
   where
     go : (b : Bool) → placeOf (cond b (withMode Reconnect false (c .«close_wanted») c) c) ≡ cond b (at Reconnect false (c .«close_wanted»)) (placeOf c)
     go true = refl
     go false = refl
 
-start-remote : (g : Config) (c : Connection) → startOf g c .remote ≡ c .remote
-unfolding startOf
+start-remote : (g : Config) (c : Connection) → startedOf g c .remote ≡ c .remote
+unfolding startedOf
 start-remote g c = go (isOffline (c .mode) && (c .«open_wanted» || g .automatic))
   where
     go : (b : Bool) → cond b (withMode Reconnect false (c .«close_wanted») c) c .remote ≡ c .remote
@@ -196,14 +196,14 @@ tick-effect : (g : Config) (c : Connection)
 unfolding tickOf effect
 tick-effect g c = go (c .«close_wanted»)
   where
-    on : placeOf (runOf (reachOf g (startOf g c))) ≡ reachP (g .tcp) (wildcard (c .remote)) (startP (g .automatic) (placeOf c))
+    on : placeOf (runOf (reachOf g (startedOf g c))) ≡ reachP (g .tcp) (wildcard (c .remote)) (startP (g .automatic) (placeOf c))
     on =
-        run-place (reachOf g (startOf g c))
-        ∙ reach-place g (startOf g c)
-        ∙ ap (λ r. reachP (g .tcp) (wildcard r) (placeOf (startOf g c))) (start-remote g c)
+        run-place (reachOf g (startedOf g c))
+        ∙ reach-place g (startedOf g c)
+        ∙ ap (λ r. reachP (g .tcp) (wildcard r) (placeOf (startedOf g c))) (start-remote g c)
         ∙ ap (reachP (g .tcp) (wildcard (c .remote))) (start-place g c)
 
-    go : (b : Bool) → placeOf (cond b (closedOf g c) (runOf (reachOf g (startOf g c)))) ≡ cond b (at Offline false false) (reachP (g .tcp) (wildcard (c .remote)) (startP (g .automatic) (placeOf c)))
+    go : (b : Bool) → placeOf (cond b (closedOf g c) (runOf (reachOf g (startedOf g c)))) ≡ cond b (at Offline false false) (reachP (g .tcp) (wildcard (c .remote)) (startP (g .automatic) (placeOf c)))
     go true = refl
     go false = on
 

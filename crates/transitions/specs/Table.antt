@@ -38,11 +38,11 @@ happeningOf (Switch n on) = stays
 
 -- what a column asks
 pub data Asks : Type 0 where
-  any : Asks
+  either : Asks
   is : Bool → Asks
 
 pub data AsksMode : Type 0 where
-  every : AsksMode
+  anyMode : AsksMode
   only : Mode → AsksMode
 
 pub data Row : Type 0 where
@@ -51,31 +51,31 @@ pub data Row : Type 0 where
 -- THE TABLE. Columns: event; TCP; automatic; a wildcard in the remote; mode; open wanted; close wanted; what it becomes
 unfoldable pub table : List Row
 table =
-    row opens any (is false) any (only Offline) any (is false) (at Offline true false)
-    ∷ row closes any (is false) any (only Offline) (is true) any (at Offline false true)
-    ∷ row closes any (is false) any (only Reconnect) any any (at Reconnect false true)
-    ∷ row closes any (is false) any (only Online) any any (at Online false true)
-    ∷ row connects (is true) any (is false) (only Reconnect) any (is false) (at Online false false)
-    ∷ row loses (is true) any any (only Online) any (is false) (at Reconnect false false)
-    ∷ row loses (is true) any any (only Online) any (is true) (at Reconnect false true)
-    ∷ row ticks any any any every any (is true) (at Offline false false)
-    ∷ row ticks (is false) any (is false) (only Offline) (is true) (is false) (at Online false false)
-    ∷ row ticks (is false) (is true) (is false) (only Offline) any (is false) (at Online false false)
-    ∷ row ticks any any any (only Offline) (is true) (is false) (at Reconnect false false)
-    ∷ row ticks any (is true) any (only Offline) any (is false) (at Reconnect false false)
-    ∷ row ticks (is false) any (is false) (only Reconnect) any (is false) (at Online false false)
+    row opens either (is false) either (only Offline) either (is false) (at Offline true false)
+    ∷ row closes either (is false) either (only Offline) (is true) either (at Offline false true)
+    ∷ row closes either (is false) either (only Reconnect) either either (at Reconnect false true)
+    ∷ row closes either (is false) either (only Online) either either (at Online false true)
+    ∷ row connects (is true) either (is false) (only Reconnect) either (is false) (at Online false false)
+    ∷ row loses (is true) either either (only Online) either (is false) (at Reconnect false false)
+    ∷ row loses (is true) either either (only Online) either (is true) (at Reconnect false true)
+    ∷ row ticks either either either anyMode either (is true) (at Offline false false)
+    ∷ row ticks (is false) either (is false) (only Offline) (is true) (is false) (at Online false false)
+    ∷ row ticks (is false) (is true) (is false) (only Offline) either (is false) (at Online false false)
+    ∷ row ticks either either either (only Offline) (is true) (is false) (at Reconnect false false)
+    ∷ row ticks either (is true) either (only Offline) either (is false) (at Reconnect false false)
+    ∷ row ticks (is false) either (is false) (only Reconnect) either (is false) (at Online false false)
     ∷ []
 
-abbrev pub number : Happening → ℕ
-number opens = 1
-number closes = 2
-number connects = 3
-number loses = 4
-number stays = 5
-number ticks = 0
+abbrev pub happeningNumber : Happening → ℕ
+happeningNumber opens = 1
+happeningNumber closes = 2
+happeningNumber connects = 3
+happeningNumber loses = 4
+happeningNumber stays = 5
+happeningNumber ticks = 0
 
 abbrev pub meets : Asks → Bool → Bool
-meets any b = true
+meets either b = true
 meets (is a) b = Bool·beq a b
 
 abbrev pub modeNumber : Mode → ℕ
@@ -84,12 +84,12 @@ modeNumber Reconnect = 1
 modeNumber Online = 2
 
 abbrev pub meetsMode : AsksMode → Mode → Bool
-meetsMode every m = true
+meetsMode anyMode m = true
 meetsMode (only n) m = eqb (modeNumber n) (modeNumber m)
 
-abbrev pub fits : Row → Happening → Bool → Bool → Bool → Place → Bool
-fits (row h t a w m o k to) happening tcp automatic wild (at mode opened closed) =
-    eqb (number h) (number happening)
+abbrev pub rowFits : Row → Happening → Bool → Bool → Bool → Place → Bool
+rowFits (row h t a w m o k to) happening tcp automatic wild (at mode opened closed) =
+    eqb (happeningNumber h) (happeningNumber happening)
     && meets t tcp && meets a automatic && meets w wild && meetsMode m mode && meets o opened && meets k closed
 
 abbrev pub target : Row → Place
@@ -99,7 +99,7 @@ target (row h t a w m o k to) = to
 unfoldable pub firstIn : List Row → Happening → Bool → Bool → Bool → Place → Place
 firstIn [] happening tcp automatic wild place = place
 firstIn (r ∷ rs) happening tcp automatic wild place =
-    cond (fits r happening tcp automatic wild place) (target r) (firstIn rs happening tcp automatic wild place)
+    cond (rowFits r happening tcp automatic wild place) (target r) (firstIn rs happening tcp automatic wild place)
 
 -- the place after an event: of a connection that is TCP or not, automatic or not, its remote with a wildcard or not
 unfoldable pub move : Happening → Bool → Bool → Bool → Place → Place

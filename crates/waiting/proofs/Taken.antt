@@ -62,9 +62,9 @@ module _ (g : Config) (c : Connection) (waiting out : List ℕ) where
   abbrev Answers : Drained → List ℕ → Type 0
   Answers r o = (r ≡ record { answer = takingOf (length out) c; connection = takeOf g (length out) c }) × (o ≡ outOf c waiting out)
 
-  pub take-short : length out < c .used → Answers (record { answer = Short; connection = c }) out
+  pub taking-short : length out < c .used → Answers (record { answer = Short; connection = c }) out
   unfolding takingOf takeOf outOf
-  take-short h = (rw (lt-ltb _ _ h, or-true (eqb (c .used) 0)), rw (lt-ltb _ _ h))
+  taking-short h = (rw (lt-ltb _ _ h, or-true (eqb (c .used) 0)), rw (lt-ltb _ _ h))
 
   module _ (h : c .used ≤ length out) (o : List ℕ) (e : o ≡ lay out 0 waiting) where
     pub take-nothing : c .used ≡ 0 → Answers (record { answer = Bytes (c .used) (c .remote); connection = c }) o

@@ -8,7 +8,7 @@ use lib.Seq.{take-take, getD-set-same, getD-set-other}
 use Rattle.connection.specs.declared.Connection.{Connection}
 use Rattle.connection.specs.Connection.{zeroRecord}
 use Rattle.destination.specs.Destination.{sentOf}
-use Rattle.feed.specs.Frame.{frame}
+use Rattle.frame.specs.Frame.{frame}
 use Rattle.outbox.proofs.Laid.{frame-length}
 use Rattle.rows.specs.declared.DestinationRow.{DestinationRow}
 use Rattle.state.specs.State.{recordAt}
@@ -21,7 +21,7 @@ use Rattle.wire.proofs.Lay.{lay-length, lay-held}
 use Rattle.waits.specs.Waits.{waits}
 
 -- sixteen records, send memory of its length, and room in the connection's stretch
-pub record Room (d : DestinationRow) (payload : List ℕ) (x : Sending) : Type 0 where
+pub record RoomThere (d : DestinationRow) (payload : List ℕ) (x : Sending) : Type 0 where
   pub sixteen : length (x .state .connections) ≡ 16
   pub long : length (x .memory) ≡ 23552
   pub small : d .connection < 16
@@ -40,7 +40,7 @@ module _ (d : DestinationRow) (payload : List ℕ) (x : Sending) where
   unfolding appendOf
   append-long = lay-length (x .memory) _ (frame (d .id) payload)
 
-  module _ (r : Room d payload x) where
+  module _ (r : RoomThere d payload x) where
     pub append-own : recordAt (appendOf d payload x .state) (d .connection) ≡ sentOf d (recordAt (x .state) (d .connection) .used + 8 + length payload) (recordAt (x .state) (d .connection))
     unfolding appendOf
     append-own = getD-set-same (x .state .connections) (d .connection) _ zeroRecord (omega (arith, r .sixteen, r .small))

@@ -9,7 +9,7 @@ use native.Mathlib.Decide.{ℕ-discrete}
 use lib.Dec.{eqb}
 use lib.ListN.{length}
 use borrow.Author.Tests.{eqb-true, eqb-false}
-use Rattle.feed.specs.Frame.{frame}
+use Rattle.frame.specs.Frame.{frame}
 use Rattle.lists.specs.Fold.{foldFrom}
 use Rattle.lists.proofs.Both.{impossible}
 use Rattle.lists.proofs.Fold.{fold-goes}
@@ -22,7 +22,7 @@ use Rattle.send.specs.Send.{destinations, Sending, sending, appendOf, wantedAt,
 use Rattle.send.proofs.Room.{clear-roomy}
 use Rattle.send.proofs.Store.{wanted-apart}
 use Rattle.waits.specs.Waits.{waits, goesTo, framesFrom}
-use Rattle.waits.proofs.Append.{Room, append-other, append-sixteen, append-long, stretch-other, waits-own, waits-other, append-fits}
+use Rattle.waits.proofs.Append.{RoomThere, append-other, append-sixteen, append-long, stretch-other, waits-own, waits-other, append-fits}
 
 -- a call whose check refuses nothing
 module _ (image : List ℕ) (ready : Ready image) (s : State) (pdu : ℕ) (payload : List ℕ) (roomy : Roomy image s pdu payload) where
@@ -36,8 +36,8 @@ module _ (image : List ℕ) (ready : Ready image) (s : State) (pdu : ℕ) (paylo
     pub fits : (k : ℕ) → recordAt (x .state) k .used ≤ 1472
     pub same : (j : ℕ) → i ≤ j → j < destinations image → wantedAt image s pdu payload j ≡ true → recordAt (x .state) (destinationOf image j .connection) ≡ recordAt s (destinationOf image j .connection)
 
-  pub room : (x : Sending) (i : ℕ) → Fine x i → i < destinations image → wantedAt image s pdu payload i ≡ true → Room (destinationOf image i) payload x
-  room x i f h w = record { sixteen = f .sixteen; long = f .long; small = ready .there i h; fits = rw (f .same i (omega arith) h w) (roomy i h w) }
+  pub room-held : (x : Sending) (i : ℕ) → Fine x i → i < destinations image → wantedAt image s pdu payload i ≡ true → RoomThere (destinationOf image i) payload x
+  room-held x i f h w = record { sixteen = f .sixteen; long = f .long; small = ready .there i h; fits = rw (f .same i (omega arith) h w) (roomy i h w) }
 
   pub fine-step : (x : Sending) (i : ℕ) → Fine x i → i < destinations image → Fine (storeOf image s pdu payload x i) (suc i)
   unfolding storeOf
@@ -49,7 +49,7 @@ module _ (image : List ℕ) (ready : Ready image) (s : State) (pdu : ℕ) (paylo
           record {
             sixteen = append-sixteen (destinationOf image i) payload x (f .sixteen);
             long = append-long (destinationOf image i) payload x ∙ f .long;
-            fits = λ k. append-fits (destinationOf image i) payload x (room x i f h w) k (f .fits k) (ℕ-discrete (dest i) k);
+            fits = λ k. append-fits (destinationOf image i) payload x (room-held x i f h w) k (f .fits k) (ℕ-discrete (dest i) k);
             same = λ j l u q. append-other (destinationOf image i) payload x (dest j) (λ z. wanted-apart image s pdu payload ready i j (omega arith) u w q (sym z)) ∙ f .same j (omega arith) u q;
           }
 
@@ -73,8 +73,8 @@ module _ (image : List ℕ) (ready : Ready image) (s : State) (pdu : ℕ) (paylo
         row-cases x i (λ (b : Bool) (y : Sending). waits (y .state) (y .memory) k ≡ waits (x .state) (x .memory) k ++ cond b (frame (destinationOf image i .id) payload) [])
         (λ w e.
         subst (λ (m : ℕ). waits (appendOf (destinationOf image i) payload x .state) (appendOf (destinationOf image i) payload x .memory) m ≡ waits (x .state) (x .memory) m ++ frame (destinationOf image i .id) payload)
-        e (waits-own (destinationOf image i) payload x (room x i f h w)))
-        (λ w ne. waits-other (destinationOf image i) payload x (room x i f h w) k (f .fits k) ne ∙ sym (append-nil (waits (x .state) (x .memory) k)))
+        e (waits-own (destinationOf image i) payload x (room-held x i f h w)))
+        (λ w ne. waits-other (destinationOf image i) payload x (room-held x i f h w) k (f .fits k) ne ∙ sym (append-nil (waits (x .state) (x .memory) k)))
         (sym (append-nil (waits (x .state) (x .memory) k)))
 
     -- a row that does not append to it keeps its whole stretch and its record
@@ -84,7 +84,7 @@ module _ (image : List ℕ) (ready : Ready image) (s : State) (pdu : ℕ) (paylo
     keeps-step : (x : Sending) (i : ℕ) → Fine x i → i < destinations image → goesTo image s pdu payload k i ≡ false → Keeps x (storeOf image s pdu payload x i)
     keeps-step x i f h =
         row-cases x i (λ (b : Bool) (y : Sending). b ≡ false → Keeps x y) (λ w e g. impossible (sym g))
-        (λ w ne g. (stretch-other (destinationOf image i) payload x (room x i f h w) k (λ z. ne (sym z)), append-other (destinationOf image i) payload x k ne)) (λ g. (refl, refl))
+        (λ w ne g. (stretch-other (destinationOf image i) payload x (room-held x i f h w) k (λ z. ne (sym z)), append-other (destinationOf image i) payload x k ne)) (λ g. (refl, refl))
 
     -- all rows from i on
     waits-fold : (n i : ℕ) (x : Sending) → i + n ≤ destinations image → Fine x i
@@ -109,17 +109,17 @@ module _ (image : List ℕ) (ready : Ready image) (s : State) (pdu : ℕ) (paylo
 -- ---- the laws: of a call that the check passed, on a state whose send bytes are within their stretches
 module _ (image : List ℕ) (ready : Ready image) (s : State) (pdu : ℕ) (payload tx : List ℕ) (sixteen : length (s .connections) ≡ 16) (long : length tx ≡ 23552)
     (fits : (k : ℕ) → recordAt s k .used ≤ 1472) (clear : isStored (checkOf image s pdu (length payload)) ≡ true) where
-  pub begin : Fine image ready s pdu payload (clear-roomy image s pdu payload clear ready) (sending s tx) 0
-  begin = record { sixteen = sixteen; long = long; fits = fits; same = λ j l u q. refl }
+  pub begin-fine : Fine image ready s pdu payload (clear-roomy image s pdu payload clear ready) (sending s tx) 0
+  begin-fine = record { sixteen = sixteen; long = long; fits = fits; same = λ j l u q. refl }
 
   module _ (k : ℕ) where
     -- what waits: the old bytes, and a frame for each of the connection's destinations
     pub waits-after : waits (storeAll image s pdu payload tx .state) (storeAll image s pdu payload tx .memory) k ≡ waits s tx k ++ framesFrom image s pdu payload k (destinations image) 0
     unfolding storeAll
-    waits-after = waits-fold image ready s pdu payload (clear-roomy image s pdu payload clear ready) k (destinations image) 0 (sending s tx) (omega arith) begin
+    waits-after = waits-fold image ready s pdu payload (clear-roomy image s pdu payload clear ready) k (destinations image) 0 (sending s tx) (omega arith) begin-fine
 
     -- a connection with none of them keeps its whole stretch and its record
     pub others-stay : ((i : ℕ) → i < destinations image → goesTo image s pdu payload k i ≡ false)
         → (stretch 1472 k (storeAll image s pdu payload tx .memory) ≡ stretch 1472 k tx) × (recordAt (storeAll image s pdu payload tx .state) k ≡ recordAt s k)
     unfolding storeAll
-    others-stay none = keeps-fold image ready s pdu payload (clear-roomy image s pdu payload clear ready) k (destinations image) (sending s tx) (omega arith) begin none
+    others-stay none = keeps-fold image ready s pdu payload (clear-roomy image s pdu payload clear ready) k (destinations image) (sending s tx) (omega arith) begin-fine none

@@ -8,7 +8,7 @@ use Rattle.connection.specs.declared.Config.{Config}
 use Rattle.connection.specs.declared.Connection.{Connection}
 use Rattle.connection.specs.declared.Event.{Event}
 use Rattle.connection.specs.Event.{known, allowed, empties as drops}
-use Rattle.feed.specs.Frame.{frame}
+use Rattle.frame.specs.Frame.{frame}
 use Rattle.rows.specs.Rows.{destinationOf}
 use Rattle.state.specs.declared.State.{State}
 use Rattle.state.specs.State.{recordAt}
@@ -88,5 +88,5 @@ since (adds bytes ∷ ts) = cond (anyEmpties ts) (since ts) (bytes ++ since ts)
 since (empties why ∷ ts) = since ts
 
 -- which connection events empty the waiting bytes: a loss that is allowed
-abbrev pub loses : Event → Config → Connection → Bool
-loses e g c = drops e && (known e && allowed e g c)
+abbrev pub emptiedBy : Event → Config → Connection → Bool
+emptiedBy e g c = drops e && (known e && allowed e g c)

@@ -12,17 +12,17 @@ use lib.Seq.{drop-drop, length-take-le}
 use Rattle.feed.specs.declared.Decision.{Decision}
 use Rattle.feed.specs.declared.Decision.the-variants.{Accept, Refuse}
 use Rattle.feed.specs.Feed.{Routes, Out, pdu, dropped}
-use Rattle.feed.specs.Frame.{Sent}
+use Rattle.frame.specs.Frame.{Sent}
 use Rattle.lengths.specs.Head.{Head, ended, short, beyond, whole, headOf}
 use Rattle.lengths.specs.Split.{sent, Split, splitBy, splits}
-use Rattle.lengths.proofs.Heads.{View, at-end, at-short, at-beyond, at-whole, view, head-end, whole-fits}
+use Rattle.lengths.proofs.Heads.{View, none-left, at-short, at-beyond, at-whole, view, head-end, whole-fits}
 use Rattle.lengths.proofs.Splits.{split-enough}
-use Rattle.wire.proofs.Part.{rest-is}
-use Rattle.walk.specs.Walk.{the-end, Walked, walked, wholeAt, stepOf, walkAt, Forward, told, walks, placeAfter, judge, leftOver, listOf}
+use Rattle.wire.proofs.Part.{part-to-end}
+use Rattle.walk.specs.Walk.{the-end, Walked, walked, wholeAt, walkStep, walkAt, Forward, outsTold, walks, placeAfterSteps, judge, leftOver, listOf}
 
 -- a whole PDU stands within the datagram
 pub whole-place : (d : List ℕ) (p i n : ℕ) → p ≤ length d → headOf (take (length d - p) (drop p d)) ≡ whole i n → p + 8 + n ≤ length d
-whole-place d p i n le e = omega (arith, whole-fits (drop p d) i n (ap headOf (sym (rest-is d p)) ∙ e), length-drop p d)
+whole-place d p i n le e = omega (arith, whole-fits (drop p d) i n (ap headOf (sym (part-to-end d p)) ∙ e), length-drop p d)
 
 whole-next : (q : Decision) (p i n : ℕ) → wholeAt q p i n .next ≡ p + 8 + n
 whole-next (Accept r) p i n = refl
@@ -33,8 +33,8 @@ pub forward : (R : Routes) (d : List ℕ) (p : ℕ) → p < length d → Forward
 unfolding walkAt
 forward R d p lt = go (headOf (drop p d)) (view (drop p d))
   where
-    go : (h : Head) → View (drop p d) h → Forward (length d) p (stepOf R (length d) p h .next)
-    go ended (at-end e) = absurd (omega (arith, length-drop p d))
+    go : (h : Head) → View (drop p d) h → Forward (length d) p (walkStep R (length d) p h .next)
+    go ended (none-left e) = absurd (omega (arith, length-drop p d))
     go short (at-short a b) = record { more = lt; within = omega arith }
     go (beyond _ _) (at-beyond a b) = record { more = lt; within = omega arith }
     go (whole i n) (at-whole a) = rw (whole-next (R i n) p i n) (record { more = omega arith; within = omega (arith, length-drop p d) })
@@ -42,7 +42,7 @@ forward R d p lt = go (headOf (drop p d)) (view (drop p d))
 -- at the end it answers the end, as often as asked, and the place stays
 pub at-last : (R : Routes) (d : List ℕ) → walkAt R d (length d) ≡ walked the-end (length d)
 unfolding walkAt
-at-last R d = ap (stepOf R (length d) (length d)) (sym (head-end (drop (length d) d) (omega (arith, length-drop (length d) d))))
+at-last R d = ap (walkStep R (length d) (length d)) (sym (head-end (drop (length d) d) (omega (arith, length-drop (length d) d))))
 
 pub next-within : (R : Routes) (d : List ℕ) (p : ℕ) → p ≤ length d → walkAt R d p .next ≤ length d
 next-within R d p le = go (decLt p (length d))
@@ -55,21 +55,21 @@ next-within R d p le = go (decLt p (length d))
         omega arith
 
 -- AT MOST AS MANY STEPS AS BYTES reach the end, and one more answers it
-pub reaches : (R : Routes) (f : ℕ) (d : List ℕ) (p : ℕ) → p ≤ length d → length d ≤ p + f → placeAfter R f d p ≡ length d
-unfolding placeAfter
+pub reaches : (R : Routes) (f : ℕ) (d : List ℕ) (p : ℕ) → p ≤ length d → length d ≤ p + f → placeAfterSteps R f d p ≡ length d
+unfolding placeAfterSteps
 reaches R zero d p le h = omega arith
 reaches R (suc f) d p le h = go (decLt p (length d)) (reaches R f d (walkAt R d p .next))
   where
-    go : Dec (p < length d) → (walkAt R d p .next ≤ length d → length d ≤ walkAt R d p .next + f → placeAfter R f d (walkAt R d p .next) ≡ length d)
-        → placeAfter R f d (walkAt R d p .next) ≡ length d
+    go : Dec (p < length d) → (walkAt R d p .next ≤ length d → length d ≤ walkAt R d p .next + f → placeAfterSteps R f d (walkAt R d p .next) ≡ length d)
+        → placeAfterSteps R f d (walkAt R d p .next) ≡ length d
     go (yes lt) more = let w : Forward (length d) p (walkAt R d p .next) = forward R d p lt in more (w .within) (omega (arith, w .more))
     go (no nlt) more =
         let e : p ≡ length d = omega arith in
         let q : walkAt R d p .next ≡ length d = ap (λ (x : ℕ). walkAt R d x .next) e ∙ ap (λ (w : Walked). w .next) (at-last R d) in
         more (omega arith) (omega arith)
 
-pub ends : (R : Routes) (d : List ℕ) → walkAt R d (placeAfter R (length d) d 0) ≡ walked the-end (length d)
-ends R d = ap (walkAt R d) (reaches R (length d) d 0 (omega arith) (omega arith)) ∙ at-last R d
+pub steps-end : (R : Routes) (d : List ℕ) → walkAt R d (placeAfterSteps R (length d) d 0) ≡ walked the-end (length d)
+steps-end R d = ap (walkAt R d) (reaches R (length d) d 0 (omega arith) (omega arith)) ∙ at-last R d
 
 walks-end : (R : Routes) (f : ℕ) (d : List ℕ) → walks R f d (length d) ≡ []
 unfolding walks
@@ -89,7 +89,7 @@ walks-splits R (suc f) d p le h = go (λ q a b. walks-splits R f d q a b) (headO
     l = drop p d
 
     both : ((q : ℕ) → q ≤ length d → length d ≤ q + f → walks R f d q ≡ listBy R (splits f (drop q d))) → (q : Decision) (i n : ℕ) → p + 8 + n ≤ length d → R i n ≡ q
-        → told d (wholeAt q p i n .found) (walks R f d (wholeAt q p i n .next))
+        → outsTold d (wholeAt q p i n .found) (walks R f d (wholeAt q p i n .next))
         ≡ judge (R i (length (take n (drop 8 l)))) (sent i (take n (drop 8 l))) ∷ listBy R (splits f (drop (8 + n) l))
     both more q i n w e =
         let size : length (take n (drop 8 l)) ≡ n = length-take-le n (drop 8 l) (omega (arith, length-drop 8 l, length-drop p d)) in
@@ -98,7 +98,7 @@ walks-splits R (suc f) d p le h = go (λ q a b. walks-splits R f d q a b) (headO
         by q e size later
       where
         by : (q : Decision) → R i n ≡ q → length (take n (drop 8 l)) ≡ n → walks R f d (p + 8 + n) ≡ listBy R (splits f (drop (8 + n) l))
-            → told d (wholeAt q p i n .found) (walks R f d (wholeAt q p i n .next))
+            → outsTold d (wholeAt q p i n .found) (walks R f d (wholeAt q p i n .next))
             ≡ judge (R i (length (take n (drop 8 l)))) (sent i (take n (drop 8 l))) ∷ listBy R (splits f (drop (8 + n) l))
         by (Accept r) e size later =
             ap₂ (λ (x : List ℕ) (y : List Out). pdu r (take n x) ∷ y) (sym (drop-drop 8 p d)) later
@@ -108,7 +108,7 @@ walks-splits R (suc f) d p le h = go (λ q a b. walks-splits R f d q a b) (headO
             ∙ sym (ap (λ (o : Decision). judge o (sent i (take n (drop 8 l))) ∷ listBy R (splits f (drop (8 + n) l))) (ap (R i) size ∙ e))
 
     go : ((q : ℕ) → q ≤ length d → length d ≤ q + f → walks R f d q ≡ listBy R (splits f (drop q d))) → (h : Head) → View l h → headOf l ≡ h
-        → told d (stepOf R (length d) p h .found) (walks R f d (stepOf R (length d) p h .next)) ≡ listBy R (splitBy (splits f) l h)
+        → outsTold d (walkStep R (length d) p h .found) (walks R f d (walkStep R (length d) p h .next)) ≡ listBy R (splitBy (splits f) l h)
     go more ended v e = sym (ap leftOver e)
     go more short v e = ap (λ (y : List Out). dropped 23 0 0 ∷ y) (walks-end R f d) ∙ sym (ap leftOver e)
     go more (beyond i n) v e = ap (λ (y : List Out). dropped 23 i n ∷ y) (walks-end R f d) ∙ sym (ap leftOver e)

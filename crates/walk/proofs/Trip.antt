@@ -10,10 +10,11 @@ use lib.Seq.{drop-drop, drop-append-seam, take-append-seam}
 use Rattle.feed.specs.declared.Decision.{Decision}
 use Rattle.feed.specs.declared.Decision.the-variants.{Accept}
 use Rattle.feed.specs.Feed.{Routes, Out, pdu, Pdu, asOut}
-use Rattle.feed.specs.Frame.{frame, Sent, frames, Fits, Routed, none, one}
+use Rattle.frame.specs.Frame.{frame, Sent, frames, Fits}
+use Rattle.feed.specs.Routed.{Routed, routed-none, routed-one}
 use Rattle.lengths.specs.Head.{headOf}
 use Rattle.lengths.proofs.Splits.{head-frame, frame-body, frame-long}
-use Rattle.walk.specs.Walk.{the-end, a-pdu, Walked, walked, wholeAt, stepOf, walkAt, told, walks, placeAfter}
+use Rattle.walk.specs.Walk.{the-end, a-pdu, Walked, walked, wholeAt, walkStep, walkAt, outsTold, walks, placeAfterSteps}
 use Rattle.walk.proofs.Steps.{at-last}
 
 -- ONE STEP at a frame that stands behind the bytes `before`
@@ -21,8 +22,8 @@ step-frame : (R : Routes) (d before more : List ℕ) (s : Sent) (r : ℕ) → d 
     → walkAt R d (length before) ≡ walked (a-pdu r (length before + 8) (length (s .body)) (s .id)) (length before + 8 + length (s .body))
 unfolding walkAt
 step-frame R d before more s r e fits ac =
-    ap (λ (l : List ℕ). stepOf R (length d) (length before) (headOf l)) (ap (drop (length before)) e ∙ drop-append-seam before (frame (s .id) (s .body) ++ more))
-    ∙ ap (stepOf R (length d) (length before)) (sym (head-frame s more fits))
+    ap (λ (l : List ℕ). walkStep R (length d) (length before) (headOf l)) (ap (drop (length before)) e ∙ drop-append-seam before (frame (s .id) (s .body) ++ more))
+    ∙ ap (walkStep R (length d) (length before)) (sym (head-frame s more fits))
     ∙ ap (λ (q : Decision). wholeAt q (length before) (s .id) (length (s .body))) ac
 
 -- the payload that it names
@@ -45,19 +46,19 @@ later-frames before more s =
 
 trip : (R : Routes) (d before : List ℕ) {ss : List Sent} {ps : List Pdu} → Routed R ss ps → d ≡ before ++ frames ss → walks R (length ss) d (length before) ≡ map asOut ps
 unfolding walks frames
-trip R d before none e = refl
-trip R d before (one {s} {r} {ss} {ps} fits ac h) e =
-    ap (λ (w : Walked). told d (w .found) (walks R (length ss) d (w .next))) (step-frame R d before (frames ss) s r e fits ac)
+trip R d before routed-none e = refl
+trip R d before (routed-one {s} {r} {ss} {ps} fits ac h) e =
+    ap (λ (w : Walked). outsTold d (w .found) (walks R (length ss) d (w .next))) (step-frame R d before (frames ss) s r e fits ac)
     ∙ ap₂ (λ (b : List ℕ) (os : List Out). pdu r b ∷ os) (body-at d before (frames ss) s e)
     (ap (walks R (length ss) d) (place-behind before s)
     ∙ trip R d (before ++ (frame (s .id) (s .body) ++ [])) h (e ∙ later-frames before (frames ss) s))
 
-trip-place : (R : Routes) (d before : List ℕ) {ss : List Sent} {ps : List Pdu} → Routed R ss ps → d ≡ before ++ frames ss → placeAfter R (length ss) d (length before) ≡ length d
-unfolding placeAfter frames
-trip-place R d before none e = ap length (sym (e ∙ append-nil before))
-trip-place R d before (one {s} {r} {ss} {ps} fits ac h) e =
-    ap (λ (w : Walked). placeAfter R (length ss) d (w .next)) (step-frame R d before (frames ss) s r e fits ac)
-    ∙ ap (placeAfter R (length ss) d) (place-behind before s)
+trip-place : (R : Routes) (d before : List ℕ) {ss : List Sent} {ps : List Pdu} → Routed R ss ps → d ≡ before ++ frames ss → placeAfterSteps R (length ss) d (length before) ≡ length d
+unfolding placeAfterSteps frames
+trip-place R d before routed-none e = ap length (sym (e ∙ append-nil before))
+trip-place R d before (routed-one {s} {r} {ss} {ps} fits ac h) e =
+    ap (λ (w : Walked). placeAfterSteps R (length ss) d (w .next)) (step-frame R d before (frames ss) s r e fits ac)
+    ∙ ap (placeAfterSteps R (length ss) d) (place-behind before s)
     ∙ trip-place R d (before ++ (frame (s .id) (s .body) ++ [])) h (e ∙ later-frames before (frames ss) s)
 
 -- the PDUs, a step each ..
@@ -66,5 +67,5 @@ round-trip R {ss} {ps} h = trip R (frames ss) [] h refl
 
 -- .. and then the end
 pub then-the-end : (R : Routes) {ss : List Sent} {ps : List Pdu} → Routed R ss ps
-    → walkAt R (frames ss) (placeAfter R (length ss) (frames ss) 0) ≡ walked the-end (length (frames ss))
+    → walkAt R (frames ss) (placeAfterSteps R (length ss) (frames ss) 0) ≡ walked the-end (length (frames ss))
 then-the-end R {ss} {ps} h = ap (walkAt R (frames ss)) (trip-place R (frames ss) [] h refl) ∙ at-last R (frames ss)

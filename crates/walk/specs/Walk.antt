@@ -6,7 +6,7 @@ use lib.ListN.{length, take, drop}
 use Rattle.feed.specs.declared.Decision.{Decision}
 use Rattle.feed.specs.declared.Decision.the-variants.{Accept, Refuse}
 use Rattle.feed.specs.Feed.{Routes, Out, pdu, dropped}
-use Rattle.feed.specs.Frame.{Sent}
+use Rattle.frame.specs.Frame.{Sent}
 use Rattle.lengths.specs.Head.{Head, ended, short, beyond, whole, headOf}
 use Rattle.lengths.specs.Split.{split}
 
@@ -32,15 +32,15 @@ wholeAt (Refuse k) p i n = walked (a-drop k i n) (p + 8 + n)
 
 -- "1..7 bytes left, or a length beyond the end, is drop 23 (reported id and length are 0 for the former) and the place becomes
 -- the end; 23 is tested before 20, 21, 22": at place p of a datagram of m bytes, by what stands there
-abbrev pub stepOf : Routes → ℕ → ℕ → Head → Walked
-stepOf R m p ended = walked the-end m
-stepOf R m p short = walked (a-drop 23 0 0) m
-stepOf R m p (beyond i n) = walked (a-drop 23 i n) m
-stepOf R m p (whole i n) = wholeAt (R i n) p i n
+abbrev pub walkStep : Routes → ℕ → ℕ → Head → Walked
+walkStep R m p ended = walked the-end m
+walkStep R m p short = walked (a-drop 23 0 0) m
+walkStep R m p (beyond i n) = walked (a-drop 23 i n) m
+walkStep R m p (whole i n) = wholeAt (R i n) p i n
 
 -- A STEP OF THE WALK: datagram d, place p (0 .. its length)
 unfoldable pub walkAt : Routes → List ℕ → ℕ → Walked
-walkAt R d p = stepOf R (length d) p (headOf (drop p d))
+walkAt R d p = walkStep R (length d) p (headOf (drop p d))
 
 -- "with the next place": from place p forward to q, and not past the end m
 pub record Forward (m p q : ℕ) : Type 0 where
@@ -48,19 +48,19 @@ pub record Forward (m p q : ℕ) : Type 0 where
   pub within : q ≤ m
 
 -- THE WALK: steps from place p until the end, at most f, each with the payload that it names
-abbrev pub told : List ℕ → Found → List Out → List Out
-told d the-end later = []
-told d (a-pdu r p n i) later = pdu r (take n (drop p d)) ∷ later
-told d (a-drop k i n) later = dropped k i n ∷ later
+abbrev pub outsTold : List ℕ → Found → List Out → List Out
+outsTold d the-end later = []
+outsTold d (a-pdu r p n i) later = pdu r (take n (drop p d)) ∷ later
+outsTold d (a-drop k i n) later = dropped k i n ∷ later
 
 unfoldable pub walks : Routes → ℕ → List ℕ → ℕ → List Out
 walks R zero d p = []
-walks R (suc f) d p = told d (walkAt R d p .found) (walks R f d (walkAt R d p .next))
+walks R (suc f) d p = outsTold d (walkAt R d p .found) (walks R f d (walkAt R d p .next))
 
 -- the place after f steps
-unfoldable pub placeAfter : Routes → ℕ → List ℕ → ℕ → ℕ
-placeAfter R zero d p = p
-placeAfter R (suc f) d p = placeAfter R f d (walkAt R d p .next)
+unfoldable pub placeAfterSteps : Routes → ℕ → List ℕ → ℕ → ℕ
+placeAfterSteps R zero d p = p
+placeAfterSteps R (suc f) d p = placeAfterSteps R f d (walkAt R d p .next)
 
 -- THE LIST OF A DATAGRAM by lengths alone, with no place and no step: what the routes say to each whole PDU, and 23 for what is
 -- left over. Nothing is carried to the next datagram.

@@ -17,13 +17,13 @@ be-add m (suc n) s at =
     rw (add-suc, be-add m n s at, pow-suc, add-mul, mul-assoc, add-assoc, add-assoc at m n)
 
 -- one byte
-pub one : (s : List ℕ) (at r : ℕ) → r ≡ byteAt s at → r < 256 → Number 1 s at r
+pub number-one : (s : List ℕ) (at r : ℕ) → r ≡ byteAt s at → r < 256 → Number 1 s at r
 unfolding be
-one s at r e h = record { is = rw (zero-mul, zero-add, add-zero) e; small = h }
+number-one s at r e h = record { is = rw (zero-mul, zero-add, add-zero) e; small = h }
 
 -- side by side
-pub join : (m n : ℕ) {s : List ℕ} {at a b : ℕ} → Number m s at a → Number n s (at + m) b → Number (m + n) s at (a * 256 ^ n + b)
-join m n {s} {at} x y =
+pub number-join : (m n : ℕ) {s : List ℕ} {at a b : ℕ} → Number m s at a → Number n s (at + m) b → Number (m + n) s at (a * 256 ^ n + b)
+number-join m n {s} {at} x y =
     record {
       is = rw (be-add m n s at, x .is, y .is);
       small = rw (pow-add 256 m n) (digits-lt (x .small) (y .small));
@@ -38,8 +38,8 @@ past (suc w) s at h = rw (past w s at h, beyond (at + w) (omega arith))
     beyond : (n : ℕ) → length s ≤ n → byteAt s n ≡ 0
     beyond n l = List·getD-eq-default s 0 l
 
-pub none : (w : ℕ) (s : List ℕ) (at : ℕ) → length s ≤ at → 0 < 256 ^ w → Number w s at 0
-none w s at h p = record { is = sym (past w s at h); small = p }
+pub number-none : (w : ℕ) (s : List ℕ) (at : ℕ) → length s ≤ at → 0 < 256 ^ w → Number w s at 0
+number-none w s at h p = record { is = sym (past w s at h); small = p }
 
 -- four bytes, the last the highest, turned round
 module _ (a b d e : ℕ) (ha : a < 256) (hb : b < 256) (hd : d < 256) (he : e < 256) where
@@ -66,8 +66,8 @@ pub turned-number : {s : List ℕ} {at r x : ℕ} → Little s at r → x ≡ tu
 turned-number {s} {at} {r} {x} l e =
     let third : at + 2 + 1 ≡ at + 3 = omega arith in
     let four : Number 4 s at ((byteAt s at * 256 + byteAt s (at + 1)) * 65536 + (byteAt s (at + 2) * 256 + byteAt s (at + 3))) =
-    join 2 2 (join 1 1 (one s at _ refl (l .first)) (one s (at + 1) _ refl (l .second)))
-    (join 1 1 (one s (at + 2) _ refl (l .third)) (one s (at + 2 + 1) _ (ap (byteAt s) (sym third)) (l .fourth))) in
+    number-join 2 2 (number-join 1 1 (number-one s at _ refl (l .first)) (number-one s (at + 1) _ refl (l .second)))
+    (number-join 1 1 (number-one s (at + 2) _ refl (l .third)) (number-one s (at + 2 + 1) _ (ap (byteAt s) (sym third)) (l .fourth))) in
     let is : x ≡ (byteAt s at * 256 + byteAt s (at + 1)) * 65536 + (byteAt s (at + 2) * 256 + byteAt s (at + 3)) =
     e ∙ ap turn (l .is) ∙ turned-is (byteAt s at) (byteAt s (at + 1)) (byteAt s (at + 2)) (byteAt s (at + 3)) (l .first) (l .second) (l .third) (l .fourth) in
     record { is = is ∙ four .is; small = rw is (four .small) }

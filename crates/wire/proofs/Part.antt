@@ -22,5 +22,5 @@ be-front zero s t at h = refl
 be-front (suc w) s t at h = rw (be-front w s t at (omega arith), List·getD-append s t 0 (at + w) (omega arith))
 
 -- `&s[a..]`, as the borrow checker says it, is all that stands from a on
-pub rest-is : (s : List ℕ) (a : ℕ) → take (length s - a) (drop a s) ≡ drop a s
-rest-is s a = take-all (length s - a) (drop a s) (omega (arith, length-drop a s))
+pub part-to-end : (s : List ℕ) (a : ℕ) → take (length s - a) (drop a s) ≡ drop a s
+part-to-end s a = take-all (length s - a) (drop a s) (omega (arith, length-drop a s))

@@ -21,8 +21,8 @@ room-left at n long h = go (leb n (long - at)) refl
     go true e = e ∙ sym (le-leb (at + n) long (omega (arith, leb-true n (long - at) e)))
     go false e = e ∙ sym (lt-leb (at + n) long (omega (arith, leb-false n (long - at) e)))
 
-pub room : (at n long : ℕ) {ok : Bool} → ok ≡ leb (at + n) long → ok ≡ true → at + n ≤ long
-room at n long e t = leb-true (at + n) long (sym e ∙ t)
+pub room-there : (at n long : ℕ) {ok : Bool} → ok ≡ leb (at + n) long → ok ≡ true → at + n ≤ long
+room-there at n long e t = leb-true (at + n) long (sym e ∙ t)
 
 -- no room: nothing is laid
 pub unlaid : (d : List ℕ) (at : ℕ) (x : List ℕ) {ok : Bool} → ok ≡ leb (at + length x) (length d) → ok ≡ false → d ≡ lay d at x

@@ -11,7 +11,7 @@ use Rattle.part.specs.declared.Part.{Part}
 use Rattle.part.specs.declared.Part.the-variants.{Header, Payload, Skip}
 use Rattle.feed.specs.declared.Decision.{Decision}
 use Rattle.feed.specs.declared.Decision.the-variants.{Accept, Refuse}
-use Rattle.feed.specs.Feed.{Routes, Kind, header, payload, skip, Cell, cell, Ran, decided, add, done, feed, after, stops, took, takeB, segment}
+use Rattle.feed.specs.Feed.{Routes, PieceKind, header, payload, skip, Cell, cell, Ran, decided, withByte, pieceDone, feed, after, stops, took, takeB, segmentRan}
 use Rattle.feed.proofs.Cut.{segment-feeds}
 use Rattle.stream.specs.Stream.{cellOf, partFrom, heldIn}
 
@@ -34,8 +34,8 @@ snug-decided (Accept r) i (suc n) = tt
 snug-decided (Refuse k) i zero = omega arith
 snug-decided (Refuse k) i (suc n) = tt
 
-snug-done : (R : Routes) (k : Kind) → Snug (done R k .to)
-unfolding done
+snug-done : (R : Routes) (k : PieceKind) → Snug (pieceDone R k .to)
+unfolding pieceDone
 snug-done R (header v) = snug-decided (R (v / 2 ^ 32) (v % 2 ^ 32)) (v / 2 ^ 32) (v % 2 ^ 32)
 snug-done R (payload r h) = omega arith
 snug-done R skip = omega arith
@@ -43,7 +43,7 @@ snug-done R skip = omega arith
 snug-feed : (R : Routes) (c : Cell) (b : ℕ) → Snug c → Snug (feed R c b .to)
 unfolding feed
 snug-feed R (cell zero k) b s = omega arith
-snug-feed R (cell (suc zero) k) b s = snug-done R (add k b)
+snug-feed R (cell (suc zero) k) b s = snug-done R (withByte k b)
 snug-feed R (cell (suc (suc n)) (header v)) b s = omega arith
 snug-feed R (cell (suc (suc n)) (payload r h)) b s = tt
 snug-feed R (cell (suc (suc n)) skip) b s = tt
@@ -53,7 +53,7 @@ unfolding after
 snug-after R c [] s = s
 snug-after R c (b ∷ bs) s = snug-after R (feed R c b .to) bs (snug-feed R c b s)
 
-pub snug-segment : (R : Routes) (c : Cell) (bs : List ℕ) → Snug c → Snug (segment R c bs .to)
+pub snug-segment : (R : Routes) (c : Cell) (bs : List ℕ) → Snug c → Snug (segmentRan R c bs .to)
 snug-segment R c bs s = subst Snug (sym (ap (λ (r : Ran). r .to) (segment-feeds R c bs))) (snug-after R c bs s)
 
 pub snug-take : (R : Routes) (c : Cell) (bs : List ℕ) → Snug c → Snug (takeB R c bs .to)

@@ -81,26 +81,26 @@ follow-held rx tx i c d l =
 
 -- all records
 pub data Fewer : List Connection → List Connection → Type 0 where
-  none : Fewer [] []
-  one : {c d : Connection} {cs ds : List Connection} → Less c d → Fewer cs ds → Fewer (c ∷ cs) (d ∷ ds)
+  fewer-none : Fewer [] []
+  fewer-one : {c d : Connection} {cs ds : List Connection} → Less c d → Fewer cs ds → Fewer (c ∷ cs) (d ∷ ds)
 
 pub fewer-same : (cs : List Connection) → Fewer cs cs
-fewer-same [] = none
-fewer-same (c ∷ cs) = one (less-same c) (fewer-same cs)
+fewer-same [] = fewer-none
+fewer-same (c ∷ cs) = fewer-one (less-same c) (fewer-same cs)
 
 pub fewer-set : (cs : List Connection) (i : ℕ) (c : Connection) → Less c (getD cs i zeroRecord) → Fewer (set cs i c) cs
-fewer-set [] i c l = none
-fewer-set (x ∷ cs) zero c l = one l (fewer-same cs)
-fewer-set (x ∷ cs) (suc i) c l = one (less-same x) (fewer-set cs i c l)
+fewer-set [] i c l = fewer-none
+fewer-set (x ∷ cs) zero c l = fewer-one l (fewer-same cs)
+fewer-set (x ∷ cs) (suc i) c l = fewer-one (less-same x) (fewer-set cs i c l)
 
 pub fewer-each : (f : ℕ → Connection → Connection) → ((k : ℕ) (c : Connection) → Less (f k c) c) → (k n : ℕ) (cs : List Connection) → Fewer (eachTo f k n cs) cs
 fewer-each f h k zero cs = fewer-same cs
-fewer-each f h k (suc n) [] = none
-fewer-each f h k (suc n) (c ∷ cs) = one (h k c) (fewer-each f h (suc k) n cs)
+fewer-each f h k (suc n) [] = fewer-none
+fewer-each f h k (suc n) (c ∷ cs) = fewer-one (h k c) (fewer-each f h (suc k) n cs)
 
 view-fewer : (rx tx : List ℕ) (k : ℕ) {cs ds : List Connection} → Fewer cs ds → viewFrom rx tx k cs ≡ followAll cs (viewFrom rx tx k ds)
-view-fewer rx tx k none = refl
-view-fewer rx tx k (one {c} {d} {cs} {ds} l f) = ap₂ (λ (x : Held) (r : List Held). x ∷ r) (follow-held rx tx k c d l) (view-fewer rx tx (suc k) f)
+view-fewer rx tx k fewer-none = refl
+view-fewer rx tx k (fewer-one {c} {d} {cs} {ds} l f) = ap₂ (λ (x : Held) (r : List Held). x ∷ r) (follow-held rx tx k c d l) (view-fewer rx tx (suc k) f)
 
 -- AN EVENT THAT WRITES NO MEMORY and leaves records that hold no more
 pub view-leaves : (s t : State) (rx tx : List ℕ) → Fewer (t .connections) (s .connections) → viewOf t rx tx ≡ leaves t (viewOf s rx tx)

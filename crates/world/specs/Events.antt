@@ -13,7 +13,7 @@ pub data Own : Type 0 where
   change : Change → Own
   segment : List ℕ → Own
   walk : List ℕ → ℕ → Own
-  take : ℕ → Own
+  takeWaiting : ℕ → Own
 
 -- "Group and module events: datagram, accept, tick, transmit, switching a group on all connections, reading or reading and
 -- clearing a count"
@@ -29,4 +29,4 @@ pub data Whole : Type 0 where
 -- an event of connection k, or of a whole group or module
 pub data Event : Type 0 where
   on : ℕ → Own → Event
-  all : Whole → Event
+  onWhole : Whole → Event

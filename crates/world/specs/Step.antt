@@ -8,11 +8,11 @@ use lib.Dec.{eqb, leb, ltb}
 use Rattle.connection.specs.declared.Config.{Config}
 use Rattle.connection.specs.Event.{receiving, stepOf}
 use Rattle.state.specs.State.{counted}
-use Rattle.feed.specs.Feed.{Routes, Out, Ran, segment as segmentOf, Pdu, pdus, drops}
-use Rattle.walk.specs.Walk.{walkAt, told}
+use Rattle.feed.specs.Feed.{Routes, Out, Ran, segmentRan as segmentOf, Pdu, pdus, drops}
+use Rattle.walk.specs.Walk.{walkAt, outsTold}
 use Rattle.waiting.specs.Waiting.{takeOf}
 use Rattle.world.specs.World.{Held, World, heldAt, cellAt, withCell, follow}
-use Rattle.world.specs.Events.{Own, change, segment, walk, take, Whole, Event, on, all}
+use Rattle.world.specs.Events.{Own, change, segment, walk, takeWaiting, Whole, Event, on, onWhole}
 
 -- what the accepted table says: how many connections there are, each one's row, and what its routes say as its switches stand
 pub record Table : Type 0 where
@@ -21,14 +21,14 @@ pub record Table : Type 0 where
   pub routes : ℕ → ℕ → Routes
 
 -- "Two drop counts, UDP and TCP, stop at 4,294,967,295": a count after so many drops
-unfoldable pub counts : ℕ → ℕ → ℕ
-counts zero n = n
-counts (suc drops) n = counts drops (counted n)
+unfoldable pub countAfter : ℕ → ℕ → ℕ
+countAfter zero n = n
+countAfter (suc drops) n = countAfter drops (counted n)
 
 -- only where the drops are of this protocol
-abbrev pub countsIf : Bool → ℕ → ℕ → ℕ
-countsIf true drops n = counts drops n
-countsIf false drops n = n
+abbrev pub countAfterIf : Bool → ℕ → ℕ → ℕ
+countAfterIf true drops n = countAfter drops n
+countAfterIf false drops n = n
 
 -- WHAT DEMAND 3 COMPARES of the outcomes that a connection has given in a run: for now its PDUs
 abbrev pub compared : List Out → List Pdu
@@ -57,32 +57,32 @@ module _ (T : Table) where
   does k (segment bytes) h = cond (T .config k .tcp && receiving (h .connection)) (streamed h (segmentOf (routesAt k h) (cellAt h) bytes)) (acted h [])
   does k (walk datagram place) h =
       cond (not (T .config k .tcp) && leb place (length datagram) && receiving (h .connection))
-      (acted h (told datagram (walkAt (routesAt k h) datagram place .found) []))
+      (acted h (outsTold datagram (walkAt (routesAt k h) datagram place .found) []))
       (acted h [])
-  does k (take room) h = acted (follow (takeOf (T .config k) room (h .connection)) h) []
+  does k (takeWaiting room) h = acted (follow (takeOf (T .config k) room (h .connection)) h) []
 
   -- "connection .. number not there": 2
   unfoldable pub acts : ℕ → Own → Held → Acted
   acts k e h = cond (ltb k (T .rows)) (does k e h) (acted h [])
 
   -- at connection k of a world
-  abbrev pub at : World → ℕ → Own → Acted
-  at w k e = acts k e (heldAt w k)
+  abbrev pub actsAt : World → ℕ → Own → Acted
+  actsAt w k e = acts k e (heldAt w k)
 
   -- a world after what connection k did: its record, and its protocol's count
   abbrev pub left : World → ℕ → Acted → World
   left w k a =
       record {
         held = set (w .held) k (a .to);
-        udp = countsIf (not (T .config k .tcp)) (drops (a .list)) (w .udp);
-        tcp = countsIf (T .config k .tcp) (drops (a .list)) (w .tcp);
+        udp = countAfterIf (not (T .config k .tcp)) (drops (a .list)) (w .udp);
+        tcp = countAfterIf (T .config k .tcp) (drops (a .list)) (w .tcp);
       }
 
   -- ONE EVENT; `whole` says what an event of a whole group or module makes of the world
   module _ (whole : Whole → World → World) where
     unfoldable pub step : World → Event → World
-    step w (on k e) = left w k (at w k e)
-    step w (all e) = whole e w
+    step w (on k e) = left w k (actsAt w k e)
+    step w (onWhole e) = whole e w
 
     -- A RUN
     unfoldable pub run : World → List Event → World
@@ -91,8 +91,8 @@ module _ (T : Table) where
 
     -- the outcomes that connection k gives at an event, and in a run: PDUs, and drops with their reason, id and length
     unfoldable pub hands : ℕ → World → Event → List Out
-    hands k w (on i e) = cond (eqb i k) (at w i e .list) []
-    hands k w (all e) = []
+    hands k w (on i e) = cond (eqb i k) (actsAt w i e .list) []
+    hands k w (onWhole e) = []
 
     unfoldable pub heard : ℕ → World → List Event → List Out
     heard k w [] = []

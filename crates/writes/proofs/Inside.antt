@@ -20,7 +20,7 @@ use Rattle.connection.specs.declared.Connection.{Connection}
 use Rattle.state.specs.State.{recordAt}
 use Rattle.state.specs.Memory.{stretch}
 use Rattle.stream.specs.declared.Outcome.{Outcome}
-use Rattle.stream.specs.Stream.{cellOf, partFrom, inSegment, idOf, outcomeOf, tookOf, takenOf, Fit}
+use Rattle.stream.specs.Stream.{cellOf, partFrom, inSegment, idOf, takeOutcome, tookOf, takenOf, Fit}
 use Rattle.stream.proofs.Takes.{payload-fit, accepted-short}
 use Rattle.stream.proofs.Leaves.{Sane, Told, PartHolds, part-sane, take-sane}
 use Rattle.receive.specs.Segment.{segmentOf}
@@ -36,8 +36,8 @@ use Rattle.sending.specs.Sending.{notSent, sendOf}
 use Rattle.sending.proofs.Past.{ready-from}
 use Rattle.world.specs.World.{heldBy}
 use Rattle.tie.specs.Machine.{Machine, lentTo, loanTo, taken, afterOne}
-use Rattle.writes.specs.Writes.{Within, addedBy, holds, TakeWrites, SegmentWrites, now, later, FrameWrites}
-use Rattle.writes.proofs.Segment.{answered, takes, outcome-is, record-is}
+use Rattle.writes.specs.Writes.{Within, addedBy, payloadHeld, TakeWrites, SegmentWrites, by-first-take, by-later-take, FrameWrites}
+use Rattle.writes.proofs.Segment.{isAnswered, takes-here, outcome-is, record-is}
 
 -- payloads of 1,464 bytes at most
 abbrev Short : ℕ → ℕ → Type 0
@@ -45,7 +45,7 @@ Short r n = n ≤ 1464
 
 -- the bytes held and those added are no more
 bound : (ids : ℕ → ℕ) (inside : Bool) (held read : ℕ) (out : Out) (to : Cell) → held ≤ 1464 → Sane Short to → Told Short out to
-    → held + addedBy (outcomeOf ids inside read out) held (heldBy (partFrom to)) ≤ 1464
+    → held + addedBy (takeOutcome ids inside read out) held (heldBy (partFrom to)) ≤ 1464
 bound ids inside held read nothing (cell n (header v)) h s t = omega arith
 bound ids inside held read nothing (cell n (payload r p)) h s t = omega (arith, s .1)
 bound ids inside held read nothing (cell n skip) h s t = omega arith
@@ -74,28 +74,28 @@ module _ (routes : List ℕ) (k switches : ℕ) (part : Part) (st bytes : List �
 module _ (image : List ℕ) (k i : ℕ) where
   module _ (m : Machine) (bytes : List ℕ) where
     abbrev Fits : ℕ → Type 0
-    Fits n = holds k m + n ≤ 1464
+    Fits n = payloadHeld k m + n ≤ 1464
 
-    none-added : answered image k m bytes ≡ false → addedBy (taken image k m bytes .outcome) (holds k m) (holds k (afterOne image k m bytes)) ≡ 0
+    none-added : isAnswered image k m bytes ≡ false → addedBy (taken image k m bytes .outcome) (payloadHeld k m) (payloadHeld k (afterOne image k m bytes)) ≡ 0
     unfolding segmentOf
     none-added e = rw e (omega arith)
 
-    take-fits : Bytes bytes → answered image k m bytes ≡ true → Fits (addedBy (taken image k m bytes .outcome) (holds k m) (holds k (afterOne image k m bytes)))
+    take-fits : Bytes bytes → isAnswered image k m bytes ≡ true → Fits (addedBy (taken image k m bytes .outcome) (payloadHeld k m) (payloadHeld k (afterOne image k m bytes)))
     take-fits small e =
         subst Fits
-        (ap₂ (λ (o : Outcome) (c : Connection). addedBy o (holds k m) (heldBy (c .part))) (sym (outcome-is image k m bytes e)) (sym (record-is image k m bytes e)))
-        (added-fits (bodyOf image Routes) k (recordAt (m .state) k .switches) (recordAt (m .state) k .part) (stretch 1464 k (m .rx)) bytes (takes image k m bytes e .fit) small)
+        (ap₂ (λ (o : Outcome) (c : Connection). addedBy o (payloadHeld k m) (heldBy (c .part))) (sym (outcome-is image k m bytes e)) (sym (record-is image k m bytes e)))
+        (added-fits (bodyOf image Routes) k (recordAt (m .state) k .switches) (recordAt (m .state) k .part) (stretch 1464 k (m .rx)) bytes (takes-here image k m bytes e .fit) small)
 
     take-inside : Bytes bytes → TakeWrites image k m bytes i → Within (k * 1464) 1464 i
-    take-inside small w = go (answered image k m bytes) refl
+    take-inside small w = go (isAnswered image k m bytes) refl
       where
-        go : (b : Bool) → answered image k m bytes ≡ b → Within (k * 1464) 1464 i
+        go : (b : Bool) → isAnswered image k m bytes ≡ b → Within (k * 1464) 1464 i
         go true e = (omega (arith, w), omega (arith, w, take-fits small e))
         go false e = absurd (omega (arith, w, none-added e))
 
   pub segment-inside : {m : Machine} {bytes : List ℕ} → SegmentWrites image k i m bytes → Bytes bytes → Within (k * 1464) 1464 i
-  segment-inside (now m bytes w) small = take-inside m bytes small w
-  segment-inside (later m bytes more w) small = segment-inside w (bytes-drop (taken image k m bytes .read) bytes small)
+  segment-inside (by-first-take m bytes w) small = take-inside m bytes small w
+  segment-inside (by-later-take m bytes more w) small = segment-inside w (bytes-drop (taken image k m bytes .read) bytes small)
 
 -- SEND MEMORY: the frame at destination row d of a stored transmit
 module _ (image : List ℕ) (m : Machine) (pdu : ℕ) (payload : List ℕ) where

@@ -26,7 +26,7 @@ use Rattle.receive.proofs.Past.{passed-takes}
 use Rattle.receive.proofs.Keeps.{in-range, count-records}
 use Rattle.world.specs.World.{heldBy}
 use Rattle.tie.specs.Machine.{Machine, lentTo, loanTo, taken, afterOne, restOf, goesOn, afterTakes}
-use Rattle.writes.specs.Writes.{Within, addedBy, holds, TakeWrites, SegmentWrites, now, later}
+use Rattle.writes.specs.Writes.{Within, addedBy, payloadHeld, TakeWrites, SegmentWrites, by-first-take, by-later-take}
 use Rattle.writes.proofs.Laid.{part-other}
 use Rattle.writes.proofs.Take.{Lays, take-lays}
 
@@ -36,19 +36,19 @@ module _ (image : List ℕ) (k : ℕ) where
     abbrev s : State
     s = m .state
 
-    abbrev pub answered : Bool
-    answered = isDone (segmentAnswer (lentTo image m) k)
+    abbrev pub isAnswered : Bool
+    isAnswered = isDone (segmentAnswer (lentTo image m) k)
 
     -- that is made
-    module _ (done : answered ≡ true) where
+    module _ (done : isAnswered ≡ true) where
       clear : Clear (lentTo image m) k (configOf image k .tcp)
       clear = done-clear (lentTo image m) k (configOf image k .tcp) done
 
-      pub takes : Takes image s (m .rx) k
-      takes = passed-takes (loanTo image m) k (clear .passed) (clear .there)
+      pub takes-here : Takes image s (m .rx) k
+      takes-here = passed-takes (loanTo image m) k (clear .passed) (clear .there)
 
-      abbrev pub after : Connection
-      after = withPart (takenAt image s (m .rx) k bytes .part) (recordAt s k)
+      abbrev pub connectionAfter : Connection
+      connectionAfter = withPart (takenAt image s (m .rx) k bytes .part) (recordAt s k)
 
       taken-is : taken image k m bytes ≡ takeOn image s (m .rx) k bytes
       unfolding segmentOf
@@ -62,45 +62,45 @@ module _ (image : List ℕ) (k : ℕ) where
       unfolding takeOn
       outcome-is = ap (λ (t : SegmentTaken). t .outcome) taken-is
 
-      pub record-is : recordAt (afterOne image k m bytes .state) k ≡ after
+      pub record-is : recordAt (afterOne image k m bytes .state) k ≡ connectionAfter
       unfolding takeOn
       record-is =
           ap (λ (t : SegmentTaken). recordAt (t .state) k) taken-is
-          ∙ ap (λ (cs : List Connection). getD cs k zeroRecord) (count-records (takenAt image s (m .rx) k bytes .outcome) (withRecord k after s))
-          ∙ getD-set-same (s .connections) k after zeroRecord (in-range s k (clear .receives))
+          ∙ ap (λ (cs : List Connection). getD cs k zeroRecord) (count-records (takenAt image s (m .rx) k bytes .outcome) (withRecord k connectionAfter s))
+          ∙ getD-set-same (s .connections) k connectionAfter zeroRecord (in-range s k (clear .receives))
 
-      laid : Lays (stretch 1464 k (m .rx)) (stretchAt image s (m .rx) k bytes) (holds k m)
-          (addedBy (takenAt image s (m .rx) k bytes .outcome) (holds k m) (heldBy (takenAt image s (m .rx) k bytes .part)))
-      laid = take-lays (bodyOf image Routes) k (recordAt s k .switches) (recordAt s k .part) (stretch 1464 k (m .rx)) bytes (takes .fit)
+      laid : Lays (stretch 1464 k (m .rx)) (stretchAt image s (m .rx) k bytes) (payloadHeld k m)
+          (addedBy (takenAt image s (m .rx) k bytes .outcome) (payloadHeld k m) (heldBy (takenAt image s (m .rx) k bytes .part)))
+      laid = take-lays (bodyOf image Routes) k (recordAt s k .switches) (recordAt s k .part) (stretch 1464 k (m .rx)) bytes (takes-here .fit)
 
-      added-is : length (laid .0) ≡ addedBy (taken image k m bytes .outcome) (holds k m) (holds k (afterOne image k m bytes))
+      added-is : length (laid .0) ≡ addedBy (taken image k m bytes .outcome) (payloadHeld k m) (payloadHeld k (afterOne image k m bytes))
       added-is =
           laid .1 .0
-          ∙ ap₂ (λ (o : Outcome) (c : Connection). addedBy o (holds k m) (heldBy (c .part))) (sym outcome-is) (sym record-is)
+          ∙ ap₂ (λ (o : Outcome) (c : Connection). addedBy o (payloadHeld k m) (heldBy (c .part))) (sym outcome-is) (sym record-is)
 
       made-stays : (i : ℕ) → (TakeWrites image k m bytes i → ⊥) → byteAt (afterOne image k m bytes .rx) i ≡ byteAt (m .rx) i
       unfolding memoryOn
       made-stays i not =
           ap (λ (l : List ℕ). byteAt l i) memory-is
           ∙ ap (λ (l : List ℕ). byteAt (lay (m .rx) (k * 1464) l) i) (laid .1 .1)
-          ∙ part-other (m .rx) (k * 1464) 1464 (holds k m) (laid .0) i (omega (arith, takes .small, takes .room))
-          (λ w. not (subst (λ (n : ℕ). Within (k * 1464 + holds k m) n i) added-is w))
+          ∙ part-other (m .rx) (k * 1464) 1464 (payloadHeld k m) (laid .0) i (omega (arith, takes-here .small, takes-here .room))
+          (λ w. not (subst (λ (n : ℕ). Within (k * 1464 + payloadHeld k m) n i) added-is w))
 
     -- or refused
-    refused-same : answered ≡ false → afterOne image k m bytes .rx ≡ m .rx
+    refused-same : isAnswered ≡ false → afterOne image k m bytes .rx ≡ m .rx
     unfolding memoryOf
     refused-same e = rw e
 
     pub take-stays : (i : ℕ) → (TakeWrites image k m bytes i → ⊥) → byteAt (afterOne image k m bytes .rx) i ≡ byteAt (m .rx) i
-    take-stays i not = go answered refl
+    take-stays i not = go isAnswered refl
       where
-        go : (b : Bool) → answered ≡ b → byteAt (afterOne image k m bytes .rx) i ≡ byteAt (m .rx) i
+        go : (b : Bool) → isAnswered ≡ b → byteAt (afterOne image k m bytes .rx) i ≡ byteAt (m .rx) i
         go true e = made-stays e i not
         go false e = ap (λ (l : List ℕ). byteAt l i) (refused-same e)
 
     take-long : length (afterOne image k m bytes .rx) ≡ length (m .rx)
     unfolding memoryOf memoryOn
-    take-long = go answered
+    take-long = go isAnswered
       where
         go : (b : Bool) → length (cond b (memoryOn image s (m .rx) k bytes) (m .rx)) ≡ length (m .rx)
         go true = lay-length (m .rx) (k * 1464) (stretchAt image s (m .rx) k bytes)
@@ -115,13 +115,13 @@ module _ (image : List ℕ) (k : ℕ) where
       (takes-stay f (afterOne image k m bytes) (restOf image k m bytes) i)
     where
       one : byteAt (afterOne image k m bytes .rx) i ≡ byteAt (m .rx) i
-      one = take-stays m bytes i (λ w. not (now m bytes w))
+      one = take-stays m bytes i (λ w. not (by-first-take m bytes w))
 
       go : (b : Bool) → goesOn image k (isDone (taken image k m bytes .answer)) (restOf image k m bytes) ≡ b
           → ((SegmentWrites image k i (afterOne image k m bytes) (restOf image k m bytes) → ⊥)
           → byteAt (afterTakes image k f (afterOne image k m bytes) (restOf image k m bytes) .rx) i ≡ byteAt (afterOne image k m bytes .rx) i)
           → byteAt (cond b (afterTakes image k f (afterOne image k m bytes) (restOf image k m bytes)) (afterOne image k m bytes) .rx) i ≡ byteAt (m .rx) i
-      go true e rest = rest (λ w. not (later m bytes e w)) ∙ one
+      go true e rest = rest (λ w. not (by-later-take m bytes e w)) ∙ one
       go false e rest = one
 
   pub takes-long : (f : ℕ) (m : Machine) (bytes : List ℕ) → length (afterTakes image k f m bytes .rx) ≡ length (m .rx)

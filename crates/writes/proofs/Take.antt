@@ -14,7 +14,7 @@ use Rattle.feed.proofs.Laws.{rest-whole, rest-short}
 use Rattle.part.specs.declared.Part.{Part}
 use Rattle.part.specs.declared.Part.the-variants.{Header, Payload, Skip}
 use Rattle.route.specs.Route.{lookupOf}
-use Rattle.stream.specs.Stream.{partFrom, heldIn, inSegment, idOf, outcomeOf, wrote, tookOf, takenOf, rxAfter, Fit}
+use Rattle.stream.specs.Stream.{partFrom, heldIn, inSegment, idOf, takeOutcome, wrote, tookOf, takenOf, rxAfter, Fit}
 use Rattle.stream.proofs.Takes.{payload-fit}
 use Rattle.world.specs.World.{heldBy}
 use Rattle.writes.specs.Writes.{addedBy}
@@ -30,7 +30,7 @@ none-laid st at = ([], (refl, sym (lay-nothing st at)))
 module _ (ids : ℕ → ℕ) (st : List ℕ) where
   -- what a take writes, with what it adds
   abbrev Wrote : Bool → ℕ → ℕ → Out → Cell → Type 0
-  Wrote inside held read out to = Lays st (wrote inside out to st) held (addedBy (outcomeOf ids inside read out) held (heldBy (partFrom to)))
+  Wrote inside held read out to = Lays st (wrote inside out to st) held (addedBy (takeOutcome ids inside read out) held (heldBy (partFrom to)))
 
   held-long : (to : Cell) → length (heldIn to) ≡ heldBy (partFrom to) - 0
   held-long (cell n (header v)) = refl

@@ -6,7 +6,7 @@ use mathlib.Core.List.{List}
 use native.Mathlib.Omega.{arith}
 use lib.ListN.{length}
 use Rattle.wire.specs.Be.{byteAt}
-use Rattle.feed.specs.Frame.{frame}
+use Rattle.frame.specs.Frame.{frame}
 use Rattle.outbox.proofs.Laid.{frame-length}
 use Rattle.lists.proofs.Fold.{fold-goes, fold-keeps}
 use Rattle.table.proofs.Facts.{accepted-facts}
@@ -25,9 +25,9 @@ use Rattle.send.proofs.Store.{wanted-apart}
 use Rattle.sending.specs.Sending.{sendOf, sentMemory}
 use Rattle.sending.proofs.Past.{ready-from}
 use Rattle.waits.proofs.Append.{append-other, append-long}
-use Rattle.world.specs.Events.{transmit, all}
+use Rattle.world.specs.Events.{transmit, onWhole}
 use Rattle.tie.specs.Machine.{Machine, lentTo, loanTo}
-use Rattle.writes.specs.Writes.{Within, FrameWrites, WritesTx, appends}
+use Rattle.writes.specs.Writes.{Within, FrameWrites, WritesTx, by-transmit}
 use Rattle.writes.proofs.Laid.{lay-other}
 
 module _ (image : List ℕ) (m : Machine) (pdu : ℕ) (payload : List ℕ) where
@@ -71,7 +71,7 @@ module _ (image : List ℕ) (m : Machine) (pdu : ℕ) (payload : List ℕ) where
         fold-goes (storeOf image s pdu payload) Kept (destinations image) 0 (sending s (m .tx)) (λ d x l u kept. store-kept not d x (omega arith) kept) (refl, λ j l u q. refl) .0
 
   -- THE EVENT
-  pub sent-stays : (i : ℕ) → (WritesTx image m (all (transmit pdu payload)) i → ⊥) → byteAt (sentMemory (loanTo image m) pdu payload) i ≡ byteAt (m .tx) i
+  pub sent-stays : (i : ℕ) → (WritesTx image m (onWhole (transmit pdu payload)) i → ⊥) → byteAt (sentMemory (loanTo image m) pdu payload) i ≡ byteAt (m .tx) i
   unfolding sentMemory transmitOf sendOf
   sent-stays i not = gate (gateOf (lentTo image m)) refl
     where
@@ -82,7 +82,7 @@ module _ (image : List ℕ) (m : Machine) (pdu : ℕ) (payload : List ℕ) where
       past g false e = refl
       past g true e =
           stored-kept (ready-from image (accepted-facts image (gate-passed (lentTo image m) g .table))) i
-          (λ d l w at. not (appends pdu payload d i (rw g e) l w at))
+          (λ d l w at. not (by-transmit pdu payload d i (rw g e) l w at))
 
       gate : (g : Gate) → gateOf (lentTo image m) ≡ g → byteAt (through g (λ r. m .tx) (cond (isStored check) (storeAll image s pdu payload (m .tx)) (sending s (m .tx)) .memory)) i ≡ byteAt (m .tx) i
       gate Pass e = past e (isStored check) refl

@@ -4,11 +4,11 @@ use mathlib.Core.Path.{_≡_, refl, ap}
 use mathlib.Core.List.{List}
 use lib.ListN.{length}
 use Rattle.wire.specs.Be.{byteAt}
-use Rattle.world.specs.Events.{Own, change, segment, walk, take, Whole, datagram, accept, tick, transmit, switchAll, readCount, clearCount, Event, on, all}
+use Rattle.world.specs.Events.{Own, change, segment, walk, takeWaiting, Whole, datagram, accept, tick, transmit, switchAll, readCount, clearCount, Event, on, onWhole}
 use Rattle.tie.specs.Machine.{Machine}
 use Rattle.tie.specs.Run.{afterOwn, afterWhole, afterEvent}
 use Rattle.demands.proofs.Waiting.{own-tx}
-use Rattle.writes.specs.Writes.{WritesRx, adds, WritesTx, Writes}
+use Rattle.writes.specs.Writes.{WritesRx, by-segment, WritesTx, Writes}
 use Rattle.writes.proofs.Segment.{takes-stay, takes-long}
 use Rattle.writes.proofs.Transmit.{sent-stays, sent-long}
 
@@ -19,14 +19,14 @@ module _ (image : List ℕ) (m : Machine) where
   own-long k (change e) = refl
   own-long k (segment bytes) = takes-long image k (suc (length bytes)) m bytes
   own-long k (walk d p) = refl
-  own-long k (take room) = refl
+  own-long k (takeWaiting room) = refl
 
   own-stays : (k : ℕ) (e : Own) (i : ℕ) → (WritesRx image m (on k e) i → ⊥) → byteAt (afterOwn image k e m .rx) i ≡ byteAt (m .rx) i
   unfolding afterOwn
   own-stays k (change e) i not = refl
-  own-stays k (segment bytes) i not = takes-stay image k (suc (length bytes)) m bytes i (λ w. not (adds k bytes i w))
+  own-stays k (segment bytes) i not = takes-stay image k (suc (length bytes)) m bytes i (λ w. not (by-segment k bytes i w))
   own-stays k (walk d p) i not = refl
-  own-stays k (take room) i not = refl
+  own-stays k (takeWaiting room) i not = refl
 
   -- of a whole group or module: only a transmit writes, and only send memory
   whole-rx : (e : Whole) → afterWhole image e m .rx ≡ m .rx
@@ -49,7 +49,7 @@ module _ (image : List ℕ) (m : Machine) where
   whole-long (readCount p) = refl
   whole-long (clearCount p) = refl
 
-  whole-stays : (e : Whole) (i : ℕ) → (WritesTx image m (all e) i → ⊥) → byteAt (afterWhole image e m .tx) i ≡ byteAt (m .tx) i
+  whole-stays : (e : Whole) (i : ℕ) → (WritesTx image m (onWhole e) i → ⊥) → byteAt (afterWhole image e m .tx) i ≡ byteAt (m .tx) i
   unfolding afterWhole
   whole-stays (datagram group source) i not = refl
   whole-stays (accept group source) i not = refl
@@ -69,7 +69,7 @@ module _ (image : List ℕ) (m : Machine) where
         rx-stays = own-stays k e;
         tx-stays = λ i not. ap (λ (l : List ℕ). byteAt l i) (own-tx image k e m);
       }
-  writes-only (all e) =
+  writes-only (onWhole e) =
       record {
         rx-long = ap length (whole-rx e);
         tx-long = whole-long e;

@@ -16,7 +16,7 @@ use Rattle.send.specs.Verdict.{isStored}
 use Rattle.send.specs.Send.{destinations, wantedAt}
 use Rattle.sending.specs.Sending.{sendOf}
 use Rattle.world.specs.World.{heldBy}
-use Rattle.world.specs.Events.{segment, transmit, Event, on, all}
+use Rattle.world.specs.Events.{segment, transmit, Event, on, onWhole}
 use Rattle.tie.specs.Machine.{Machine, loanTo, taken, afterOne, restOf, goesOn}
 use Rattle.tie.specs.Run.{afterEvent}
 
@@ -34,24 +34,24 @@ addedBy (Pdu route id true at n) before after = 0
 addedBy (Drop reason id n) before after = 0
 
 -- how many payload bytes connection k holds in receive memory
-abbrev pub holds : ℕ → Machine → ℕ
-holds k m = heldBy (recordAt (m .state) k .part)
+abbrev pub payloadHeld : ℕ → Machine → ℕ
+payloadHeld k m = heldBy (recordAt (m .state) k .part)
 
 module _ (image : List ℕ) (k : ℕ) where
   -- ONE TAKE writes place i: the bytes that it adds stand behind those held before it, in the connection's stretch
   abbrev pub TakeWrites : Machine → List ℕ → ℕ → Type 0
-  TakeWrites m bytes i = Within (k * 1464 + holds k m) (addedBy (taken image k m bytes .outcome) (holds k m) (holds k (afterOne image k m bytes))) i
+  TakeWrites m bytes i = Within (k * 1464 + payloadHeld k m) (addedBy (taken image k m bytes .outcome) (payloadHeld k m) (payloadHeld k (afterOne image k m bytes))) i
 
   -- A SEGMENT EVENT writes it: its first take does, or, where another follows (as in `afterTakes`), one of those
   pub data SegmentWrites (i : ℕ) : Machine → List ℕ → Type 0 where
-    now : (m : Machine) (bytes : List ℕ) → TakeWrites m bytes i → SegmentWrites i m bytes
-    later : (m : Machine) (bytes : List ℕ) → goesOn image k (isDone (taken image k m bytes .answer)) (restOf image k m bytes) ≡ true
+    by-first-take : (m : Machine) (bytes : List ℕ) → TakeWrites m bytes i → SegmentWrites i m bytes
+    by-later-take : (m : Machine) (bytes : List ℕ) → goesOn image k (isDone (taken image k m bytes .answer)) (restOf image k m bytes) ≡ true
         → SegmentWrites i (afterOne image k m bytes) (restOf image k m bytes) → SegmentWrites i m bytes
 
 module _ (image : List ℕ) (m : Machine) where
   -- AN EVENT WRITES PLACE i OF RECEIVE MEMORY: only a segment event writes any
   pub data WritesRx : Event → ℕ → Type 0 where
-    adds : (k : ℕ) (bytes : List ℕ) (i : ℕ) → SegmentWrites image k i m bytes → WritesRx (on k (segment bytes)) i
+    by-segment : (k : ℕ) (bytes : List ℕ) (i : ℕ) → SegmentWrites image k i m bytes → WritesRx (on k (segment bytes)) i
 
   -- A FRAME writes place i of send memory: header and payload at destination row d, behind the bytes used on its connection
   abbrev pub FrameWrites : ℕ → List ℕ → ℕ → Type 0
@@ -60,8 +60,8 @@ module _ (image : List ℕ) (m : Machine) where
   -- AN EVENT WRITES PLACE i OF SEND MEMORY: "the bytes a transmit appends", where it is stored, one frame at each destination of the PDU that
   -- is switched on at the call (no two destinations share PDU and connection: at most one frame on each connection)
   pub data WritesTx : Event → ℕ → Type 0 where
-    appends : (pdu : ℕ) (payload : List ℕ) (d i : ℕ) → isStored (sendOf (loanTo image m) pdu payload .answer) ≡ true
-        → d < destinations image → wantedAt image (m .state) pdu payload d ≡ true → FrameWrites d payload i → WritesTx (all (transmit pdu payload)) i
+    by-transmit : (pdu : ℕ) (payload : List ℕ) (d i : ℕ) → isStored (sendOf (loanTo image m) pdu payload .answer) ≡ true
+        → d < destinations image → wantedAt image (m .state) pdu payload d ≡ true → FrameWrites d payload i → WritesTx (onWhole (transmit pdu payload)) i
 
 -- THE STATEMENT: "all other lent bytes stay", and both memories are as long as they were
 pub record Writes (image : List ℕ) (m : Machine) (e : Event) : Type 0 where

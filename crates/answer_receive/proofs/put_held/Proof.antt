@@ -5,7 +5,7 @@ use mathlib.Core.Path.{sym, ap, _∙_}
 use Prim.Native.Nat.{ℕ, _+_}
 use lib.ListN.{length}
 use Rattle.pieces.specs.Pieces.{afterOf}
-use Rattle.pieces.proofs.Pieces.{stays, moves}
+use Rattle.pieces.proofs.Pieces.{place-stays, moves}
 use Rattle.answering.proofs.Chain.{unlaid}
 use Rattle.answer_receive.specs.Segment.{heldBytes}
 use Rattle.answer_receive.proofs.Written.{length-held, held-laid}
@@ -16,13 +16,13 @@ add-long : tie.Need-add-long
 add-long c = omega arith
 
 returns : tie.Need-returns
-returns c = let a = c .before .before .before .args in (stays (length (a .out .now)) (a .place) (length (heldBytes (a .read) (a .route) (a .id) (a .n) (a .payload .now))) (omega (arith, length-held (a .read) (a .route) (a .id) (a .n) (a .payload .now))), unlaid (a .out .now) (a .place) (length (a .payload .now) + 15) (heldBytes (a .read) (a .route) (a .id) (a .n) (a .payload .now)) (length-held (a .read) (a .route) (a .id) (a .n) (a .payload .now)) (omega arith))
+returns c = let a = c .before .before .before .args in (place-stays (length (a .out .now)) (a .place) (length (heldBytes (a .read) (a .route) (a .id) (a .n) (a .payload .now))) (omega (arith, length-held (a .read) (a .route) (a .id) (a .n) (a .payload .now))), unlaid (a .out .now) (a .place) (length (a .payload .now) + 15) (heldBytes (a .read) (a .route) (a .id) (a .n) (a .payload .now)) (length-held (a .read) (a .route) (a .id) (a .n) (a .payload .now)) (omega arith))
 
 sub-if2 : tie.Need-sub-if2
 sub-if2 c = search needs
 
 returns-2 : tie.Need-returns-2
-returns-2 c = let a = c .before .before .before .before .args in (stays (length (a .out .now)) (a .place) (length (heldBytes (a .read) (a .route) (a .id) (a .n) (a .payload .now))) (omega (arith, length-held (a .read) (a .route) (a .id) (a .n) (a .payload .now))), unlaid (a .out .now) (a .place) (length (a .payload .now) + 15) (heldBytes (a .read) (a .route) (a .id) (a .n) (a .payload .now)) (length-held (a .read) (a .route) (a .id) (a .n) (a .payload .now)) (omega arith))
+returns-2 c = let a = c .before .before .before .before .args in (place-stays (length (a .out .now)) (a .place) (length (heldBytes (a .read) (a .route) (a .id) (a .n) (a .payload .now))) (omega (arith, length-held (a .read) (a .route) (a .id) (a .n) (a .payload .now))), unlaid (a .out .now) (a .place) (length (a .payload .now) + 15) (heldBytes (a .read) (a .route) (a .id) (a .n) (a .payload .now)) (length-held (a .read) (a .route) (a .id) (a .n) (a .payload .now)) (omega arith))
 
 put-found-requires : tie.Need-put-found-requires
 put-found-requires c κs = search needs

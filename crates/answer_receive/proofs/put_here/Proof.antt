@@ -5,7 +5,7 @@ use mathlib.Core.Path.{sym, ap, _∙_}
 use Prim.Native.Nat.{ℕ, _+_}
 use lib.ListN.{length}
 use Rattle.pieces.specs.Pieces.{afterOf}
-use Rattle.pieces.proofs.Pieces.{stays, moves}
+use Rattle.pieces.proofs.Pieces.{place-stays, moves}
 use Rattle.answering.proofs.Chain.{unlaid}
 use Rattle.answer_receive.specs.Segment.{hereBytes}
 use Rattle.answer_receive.proofs.Written.{length-here, here-laid}
@@ -13,13 +13,13 @@ use Rattle.answer_receive.proofs.put_here.Statement.{statement}
 use Rattle.answer_receive.proofs.put_here.Tie as tie
 
 returns : tie.Need-returns
-returns c = let a = c .before .before .args in (stays (length (a .out .now)) (a .place) (length (hereBytes (a .read) (a .route) (a .id) (a .n) (a .from) (a .at))) (omega (arith, length-here (a .read) (a .route) (a .id) (a .n) (a .from) (a .at))), unlaid (a .out .now) (a .place) (19) (hereBytes (a .read) (a .route) (a .id) (a .n) (a .from) (a .at)) (length-here (a .read) (a .route) (a .id) (a .n) (a .from) (a .at)) (omega arith))
+returns c = let a = c .before .before .args in (place-stays (length (a .out .now)) (a .place) (length (hereBytes (a .read) (a .route) (a .id) (a .n) (a .from) (a .at))) (omega (arith, length-here (a .read) (a .route) (a .id) (a .n) (a .from) (a .at))), unlaid (a .out .now) (a .place) (19) (hereBytes (a .read) (a .route) (a .id) (a .n) (a .from) (a .at)) (length-here (a .read) (a .route) (a .id) (a .n) (a .from) (a .at)) (omega arith))
 
 sub-if2 : tie.Need-sub-if2
 sub-if2 c = search needs
 
 returns-2 : tie.Need-returns-2
-returns-2 c = let a = c .before .before .before .args in (stays (length (a .out .now)) (a .place) (length (hereBytes (a .read) (a .route) (a .id) (a .n) (a .from) (a .at))) (omega (arith, length-here (a .read) (a .route) (a .id) (a .n) (a .from) (a .at))), unlaid (a .out .now) (a .place) (19) (hereBytes (a .read) (a .route) (a .id) (a .n) (a .from) (a .at)) (length-here (a .read) (a .route) (a .id) (a .n) (a .from) (a .at)) (omega arith))
+returns-2 c = let a = c .before .before .before .args in (place-stays (length (a .out .now)) (a .place) (length (hereBytes (a .read) (a .route) (a .id) (a .n) (a .from) (a .at))) (omega (arith, length-here (a .read) (a .route) (a .id) (a .n) (a .from) (a .at))), unlaid (a .out .now) (a .place) (19) (hereBytes (a .read) (a .route) (a .id) (a .n) (a .from) (a .at)) (length-here (a .read) (a .route) (a .id) (a .n) (a .from) (a .at)) (omega arith))
 
 put-found-requires : tie.Need-put-found-requires
 put-found-requires c κs = search needs

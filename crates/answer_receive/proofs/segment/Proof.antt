@@ -5,7 +5,7 @@ use lib.ListN.{length}
 use borrow.Author.Needs.{needs}
 use Rattle.gate.specs.Lent.{loan}
 use Rattle.answer_receive.specs.Segment.{allTakes}
-use Rattle.answer_receive.proofs.Room.{all-fit, segment-roomy, segment-long, segment-small}
+use Rattle.answer_receive.proofs.Room.{takes-fit, segment-roomy, segment-long, segment-small}
 use Rattle.answer_receive.proofs.Run.{all-told}
 use Rattle.answer_receive.proofs.segment.Statement.{statement}
 use Rattle.answer_receive.proofs.segment.Tie as tie
@@ -48,7 +48,7 @@ returns-3 c =
     let p = c .before .before .put-takes .ensures in
     rw (segment-roomy (loan (a .image .now) (a .state) (a .rx .now) (a .tx .now)) (a .out .now) (a .connection) (a .segment .now) (i .before .if1 .left) (i .if2 .left))
     (all-told (allTakes (loan (a .image .now) (a .state) (a .rx .now) (a .tx .now)) (a .connection) (a .segment .now)) (a .tx .now) (a .out .now)
-    (omega (arith, i .if2 .left, all-fit (loan (a .image .now) (a .state) (a .rx .now) (a .tx .now)) (a .connection) (a .segment .now))) (h .0) (h .1 .0) (h .1 .1) (p .0) (p .1))
+    (omega (arith, i .if2 .left, takes-fit (loan (a .image .now) (a .state) (a .rx .now) (a .tx .now)) (a .connection) (a .segment .now))) (h .0) (h .1 .0) (h .1 .1) (p .0) (p .1))
 
 pub segment-spec : {M : Type 1} → statement M
 segment-spec =

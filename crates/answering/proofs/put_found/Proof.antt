@@ -1,19 +1,19 @@
 -- `answering::put_found` meets its contract. Assumes nothing.
 use Rattle.answering.proofs.Chain.{found-laid, length-found, unlaid}
 use native.Mathlib.Omega.{arith}
-use Rattle.answering.specs.Answers.{found}
+use Rattle.answering.specs.Answers.{foundBytes}
 use borrow.Author.Needs.{needs}
 use Rattle.answering.proofs.put_found.Statement.{statement}
 use Rattle.answering.proofs.put_found.Tie as tie
 
 returns : tie.Need-returns
-returns c = let a = c .before .before .args in unlaid (a .out .now) (a .at) 14 (found (a .first) (a .kind) (a .which) (a .id) (a .n)) (length-found (a .first) (a .kind) (a .which) (a .id) (a .n)) (omega arith)
+returns c = let a = c .before .before .args in unlaid (a .out .now) (a .at) 14 (foundBytes (a .first) (a .kind) (a .which) (a .id) (a .n)) (length-found (a .first) (a .kind) (a .which) (a .id) (a .n)) (omega arith)
 
 sub-if2 : tie.Need-sub-if2
 sub-if2 c = search needs
 
 returns-2 : tie.Need-returns-2
-returns-2 c = let a = c .before .before .before .args in unlaid (a .out .now) (a .at) 14 (found (a .first) (a .kind) (a .which) (a .id) (a .n)) (length-found (a .first) (a .kind) (a .which) (a .id) (a .n)) (omega arith)
+returns-2 c = let a = c .before .before .before .args in unlaid (a .out .now) (a .at) 14 (foundBytes (a .first) (a .kind) (a .which) (a .id) (a .n)) (length-found (a .first) (a .kind) (a .which) (a .id) (a .n)) (omega arith)
 
 put-number-requires : tie.Need-put-number-requires
 put-number-requires c κs = search needs

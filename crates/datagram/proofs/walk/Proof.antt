@@ -1,14 +1,14 @@
 -- `datagram::walk` meets its contract. Assumes nothing.
 use native.Mathlib.Omega.{arith}
 use borrow.Author.Needs.{needs}
-use Rattle.datagram.proofs.Laws.{at-end, in-the-middle}
+use Rattle.datagram.proofs.Laws.{walk-at-end, in-the-middle}
 use Rattle.datagram.proofs.walk.Statement.{statement}
 use Rattle.datagram.proofs.walk.Tie as tie
 
 returns : tie.Need-returns
 returns c =
     let a = c .before .before .before .args in
-    at-end (a .datagram .now) (a .place) (a .routes .now) (a .connection) (a .switches) (c .if1 .taken)
+    walk-at-end (a .datagram .now) (a .place) (a .routes .now) (a .connection) (a .switches) (c .if1 .taken)
 
 sub-walk-rest : tie.Need-sub-walk-rest
 sub-walk-rest c = search needs

@@ -2,7 +2,7 @@
 use lib.ListN.{length}
 use Prim.Native.Nat.{_+_}
 use borrow.Author.Needs.{needs}
-use Rattle.datagram.proofs.Laws.{stands, judged}
+use Rattle.datagram.proofs.Laws.{stands-at-front, judged}
 use Rattle.route.specs.Route.{lookupOf}
 use Rattle.lengths.proofs.Heads.{head-short, head-beyond}
 use Rattle.lengths.specs.Head.{short, beyond}
@@ -16,7 +16,7 @@ returns : tie.Need-returns
 returns c =
     let s = c .before .before .before in
     let a = s .args in
-    stands (lookupOf (a .routes .now) (a .connection) (a .switches)) (a .place + length (a .rest .now)) (a .place) (a .rest .now) short (head-short (a .rest .now) (s .pre .0) (c .if1 .taken))
+    stands-at-front (lookupOf (a .routes .now) (a .connection) (a .switches)) (a .place + length (a .rest .now)) (a .place) (a .rest .now) short (head-short (a .rest .now) (s .pre .0) (c .if1 .taken))
 
 be32-requires : tie.Need-be32-requires
 be32-requires c κs = search needs
@@ -38,7 +38,7 @@ returns-2 c =
     let k = c .before in
     let e = k .before .before in
     let a = e .before .before .before .args in
-    stands (lookupOf (a .routes .now) (a .connection) (a .switches)) (a .place + length (a .rest .now)) (a .place) (a .rest .now) (beyond (k .before .be32 .result) (k .be322 .result))
+    stands-at-front (lookupOf (a .routes .now) (a .connection) (a .switches)) (a .place + length (a .rest .now)) (a .place) (a .rest .now) (beyond (k .before .be32 .result) (k .be322 .result))
     (head-beyond (a .rest .now) _ _ (e .if1 .left) (k .before .be32 .ensures .is) (k .be322 .ensures .is) (c .if2 .taken))
 
 cast-lookup : tie.Need-cast-lookup

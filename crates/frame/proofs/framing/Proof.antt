@@ -3,14 +3,14 @@ use mathlib.Core.Path.{_∙_}
 use lib.ListN.{length}
 use borrow.Author.Needs.{needs}
 use Rattle.frame.specs.declared.Framed.the-variants.{Done, TooLong, NoRoom}
-use Rattle.frame.proofs.Laws.{too-long, no-room, fits, out-at, frame-is}
+use Rattle.frame.proofs.Laws.{framing-too-long, framing-no-room, framing-fits, out-at, frame-is}
 use Rattle.frame.proofs.framing.Statement.{statement}
 use Rattle.frame.proofs.framing.Tie as tie
 
 returns : tie.Need-returns
 returns c =
     let a = c .before .before .before .args in
-    let e = too-long (length (a .payload .now)) (length (a .out .now)) (c .if1 .taken) in
+    let e = framing-too-long (length (a .payload .now)) (length (a .out .now)) (c .if1 .taken) in
     (e, out-at (a .id) (a .payload .now) (a .out .now) TooLong e)
 
 add-if2 : tie.Need-add-if2
@@ -19,7 +19,7 @@ add-if2 c = search needs
 returns-2 : tie.Need-returns-2
 returns-2 c =
     let a = c .before .before .before .before .args in
-    let e = no-room (length (a .payload .now)) (length (a .out .now)) (c .before .if1 .left) (c .if2 .taken) in
+    let e = framing-no-room (length (a .payload .now)) (length (a .out .now)) (c .before .if1 .left) (c .if2 .taken) in
     (e, out-at (a .id) (a .payload .now) (a .out .now) NoRoom e)
 
 put32-requires : tie.Need-put32-requires
@@ -44,7 +44,7 @@ returns-3 c =
     let k₁ = k₂ .before .before .before .before in
     let t = k₁ .before .before in
     let a = t .before .before .before .before .args in
-    let e = fits (length (a .payload .now)) (length (a .out .now)) (t .before .if1 .left) (t .if2 .left) in
+    let e = framing-fits (length (a .payload .now)) (length (a .out .now)) (t .before .if1 .left) (t .if2 .left) in
     (e, frame-is (a .id) (a .payload .now) (a .out .now) _ _ _ (t .if2 .left) (k₁ .put32 .ensures) (k₂ .put322 .ensures) (k₃ .copy-in .ensures) ∙ out-at (a .id) (a .payload .now) (a .out .now) Done e)
 
 pub framing-spec : {M : Type 1} → statement M

@@ -4,7 +4,7 @@ use mathlib.Core.Path.{_≡_, ap, _∙_}
 use native.Mathlib.Omega.{arith}
 use borrow.Author.Needs.{needs}
 use Rattle.state.specs.Fresh.{emptyState}
-use Rattle.state.proofs.Upto.{Upto, turn, whole}
+use Rattle.state.proofs.Upto.{Upto, turn, upto-whole}
 use Rattle.given.specs.Given.{givenAt, recordIn}
 use Rattle.given.proofs.records_in.Statement.{statement}
 use Rattle.given.proofs.records_in.Tie as tie
@@ -46,7 +46,7 @@ loop-again : tie.Need-loop-again Inv-loop μ-loop
 loop-again c = let l = c .before .before .before .loop in let h : l .i < 16 = omega arith in (omega arith, turn (givenAt _) emptyState _ _ _ h (l .inv .1) (c .record-in .ensures ∙ ap recordIn (c .before .bytes-from .ensures .0)))
 
 returns : tie.Need-returns Inv-loop μ-loop
-returns c = let l = c .before .loop in let e : 16 ≡ l .i = omega arith in whole (givenAt _) emptyState _ _ e (l .inv .1)
+returns c = let l = c .before .loop in let e : 16 ≡ l .i = omega arith in upto-whole (givenAt _) emptyState _ _ e (l .inv .1)
 
 pub records-in-spec : {M : Type 1} → statement M
 records-in-spec =

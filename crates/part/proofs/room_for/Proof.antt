@@ -1,7 +1,7 @@
 -- `part::room_for` meets its contract: one power for each number of bytes. Assumes nothing.
 use native.Mathlib.Omega.{arith}
 use Rattle.part.specs.Part.{roomFor}
-use Rattle.part.proofs.Powers.{none-for, step}
+use Rattle.part.proofs.Powers.{none-for, next-up}
 use Rattle.part.proofs.room_for.Statement.{statement}
 use Rattle.part.proofs.room_for.Tie as tie
 
@@ -40,10 +40,10 @@ returns-8 c = rw (c .match .keys8)
 returns-9 : tie.Need-returns-9
 returns-9 c =
     let r = c .match .rest in
-    let two = step 1 _ (step 0 _ (omega arith) (r .0 .0 .0 .0 .0 .0 .0 .1)) (r .0 .0 .0 .0 .0 .0 .1) in
-    let four = step 3 _ (step 2 _ two (r .0 .0 .0 .0 .0 .1)) (r .0 .0 .0 .0 .1) in
-    let six = step 5 _ (step 4 _ four (r .0 .0 .0 .1)) (r .0 .0 .1) in
-    none-for _ (step 7 _ (step 6 _ six (r .0 .1)) (r .1))
+    let two = next-up 1 _ (next-up 0 _ (omega arith) (r .0 .0 .0 .0 .0 .0 .0 .1)) (r .0 .0 .0 .0 .0 .0 .1) in
+    let four = next-up 3 _ (next-up 2 _ two (r .0 .0 .0 .0 .0 .1)) (r .0 .0 .0 .0 .1) in
+    let six = next-up 5 _ (next-up 4 _ four (r .0 .0 .0 .1)) (r .0 .0 .1) in
+    none-for _ (next-up 7 _ (next-up 6 _ six (r .0 .1)) (r .1))
 
 pub room-for-spec : {M : Type 1} → statement M
 room-for-spec =

@@ -1,15 +1,15 @@
 -- `pieces::after` meets its contract. Assumes nothing.
 use native.Mathlib.Omega.{arith}
-use Rattle.pieces.proofs.Pieces.{stays, moves}
+use Rattle.pieces.proofs.Pieces.{place-stays, moves}
 use borrow.Author.Needs.{needs}
 use Rattle.pieces.proofs.after.Statement.{statement}
 use Rattle.pieces.proofs.after.Tie as tie
 
 returns : tie.Need-returns
-returns c = let a = c .before .args in stays (a .long) (a .at) (a .n) (omega arith)
+returns c = let a = c .before .args in place-stays (a .long) (a .at) (a .n) (omega arith)
 
 returns-2 : tie.Need-returns-2
-returns-2 c = let a = c .before .before .args in stays (a .long) (a .at) (a .n) (omega arith)
+returns-2 c = let a = c .before .before .args in place-stays (a .long) (a .at) (a .n) (omega arith)
 
 add-result : tie.Need-add-result
 add-result c = search needs

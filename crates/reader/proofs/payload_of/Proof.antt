@@ -43,7 +43,7 @@ use denote.Triple.Walked.{says, Stays, stay-none, walkOf, goes-none, Walks, ends
 use denote.Exit.{yes}
 use denote.Triple.Clauses.{ensured, lasts}
 use Rattle.datagram.specs.declared.Outcome.{Outcome}
-use Rattle.reader.specs.Reader.{Found}
+use Rattle.reader.specs.Reader.{PayloadFound}
 use Rattle.reader.specs.declared.DatagramReader.{DatagramReader}
 use Rattle.reader.proofs.DatagramReader as T
 use Rattle.reader.proofs.DatagramReader.Laws as T′
@@ -80,7 +80,7 @@ module _ {M : Type 1} (𝓤 : URA M) (H : Heap 𝓤) (A : Atoms 𝓤) (W : Given
 
   -- what both contracts say of the part
   abbrev Says : RefT (List ℕ) → Type 0
-  Says r = Found (d .datagram) o r
+  Says r = PayloadFound (d .datagram) o r
 
   abbrev xs : DatagramReader × (Outcome × Unit {0})
   xs = (d, (o, tt))

@@ -1,6 +1,6 @@
 -- `reason::connection_fault` meets its contract, by one law applied at each test. Assumes nothing.
 use Rattle.reason.specs.declared.Fault.the-variants.{NoGroup, Automatic, SendSize, Zero}
-use Rattle.reason.proofs.Asks.{next}
+use Rattle.reason.proofs.Asks.{next-fault}
 use mathlib.Core.Path.{refl}
 use Rattle.reason.specs.Faults.{connectionFault}
 use borrow.Author.Needs.{needs}
@@ -40,10 +40,10 @@ returns c =
     let a₃ = c .before .before in
     let a₂ = a₃ .before .before in
     let a₁ = a₂ .before .before in
-    next NoGroup (c .ask4 .ensures) (c .before .be82 .ensures .is) refl
-    (next Automatic (a₃ .ask3 .ensures) (a₃ .before .be8 .ensures .is) refl
-    (next SendSize (a₂ .ask2 .ensures) (a₂ .before .be162 .ensures .is) refl
-    (next Zero (a₁ .ask .ensures) (a₁ .before .be16 .ensures .is) refl (a₁ .before .before .told-of .ensures))))
+    next-fault NoGroup (c .ask4 .ensures) (c .before .be82 .ensures .is) refl
+    (next-fault Automatic (a₃ .ask3 .ensures) (a₃ .before .be8 .ensures .is) refl
+    (next-fault SendSize (a₂ .ask2 .ensures) (a₂ .before .be162 .ensures .is) refl
+    (next-fault Zero (a₁ .ask .ensures) (a₁ .before .be16 .ensures .is) refl (a₁ .before .before .told-of .ensures))))
 
 pub connection-fault-spec : {M : Type 1} → statement M
 connection-fault-spec =

@@ -1,6 +1,6 @@
 -- `reason::destination_fault` meets its contract, by one law applied at each test. Assumes nothing.
 use Rattle.reason.specs.declared.Fault.the-variants.{NoConnection, Trigger, Longest, Room}
-use Rattle.reason.proofs.Asks.{next}
+use Rattle.reason.proofs.Asks.{next-fault}
 use mathlib.Core.Path.{refl}
 use Rattle.reason.specs.Faults.{destinationFault}
 use borrow.Author.Needs.{needs}
@@ -35,10 +35,10 @@ returns c =
     let a₂ = a₃ .before .before in
     let a₁ = a₂ .before in
     let l = a₁ .before .be16 .ensures .is in
-    next NoConnection (c .ask4 .ensures) (c .before .be82 .ensures .is) refl
-    (next Trigger (a₃ .ask3 .ensures) (a₃ .before .be8 .ensures .is) refl
-    (next Longest (a₂ .ask2 .ensures) l refl
-    (next Room (a₁ .ask .ensures) l refl refl)))
+    next-fault NoConnection (c .ask4 .ensures) (c .before .be82 .ensures .is) refl
+    (next-fault Trigger (a₃ .ask3 .ensures) (a₃ .before .be8 .ensures .is) refl
+    (next-fault Longest (a₂ .ask2 .ensures) l refl
+    (next-fault Room (a₁ .ask .ensures) l refl refl)))
 
 pub destination-fault-spec : {M : Type 1} → statement M
 destination-fault-spec =

@@ -1,6 +1,6 @@
 -- `reason::entry_fault` meets its contract, by one law applied at each test. Assumes nothing.
 use Rattle.reason.specs.declared.Fault.the-variants.{WrongKind, TooMany, Offset}
-use Rattle.reason.proofs.Asks.{next}
+use Rattle.reason.proofs.Asks.{next-fault}
 use Prim.Native.Nat.{ℕ, _+_}
 use mathlib.Core.Path.{_∙_, ap}
 use Rattle.wire.specs.Be.{be}
@@ -53,9 +53,9 @@ returns c =
     let a₁ = a₂ .before .before .before in
     let e = a₁ .before .before .before .before in
     let s = now (e .before .before .args .image) in
-    next WrongKind (c .ask3 .ensures) (c .before .before .be16 .ensures .is ∙ ap (be 2 s) (e .entry-at .ensures .0)) (c .before .kind-number .ensures)
-    (next TooMany (a₂ .ask2 .ensures) (a₂ .before .before .rows-of .ensures .0) (a₂ .before .most-rows .ensures)
-    (next Offset (a₁ .ask .ensures) (a₁ .before .before .be32 .ensures .is ∙ ap (λ (x : ℕ). be 4 s (x + 4)) (e .entry-at .ensures .0)) (a₁ .before .start-of .ensures .0)
+    next-fault WrongKind (c .ask3 .ensures) (c .before .before .be16 .ensures .is ∙ ap (be 2 s) (e .entry-at .ensures .0)) (c .before .kind-number .ensures)
+    (next-fault TooMany (a₂ .ask2 .ensures) (a₂ .before .before .rows-of .ensures .0) (a₂ .before .most-rows .ensures)
+    (next-fault Offset (a₁ .ask .ensures) (a₁ .before .before .be32 .ensures .is ∙ ap (λ (x : ℕ). be 4 s (x + 4)) (e .entry-at .ensures .0)) (a₁ .before .start-of .ensures .0)
     (a₁ .before .before .before .told-of .ensures)))
 
 pub entry-fault-spec : {M : Type 1} → statement M

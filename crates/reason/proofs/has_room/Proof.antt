@@ -1,5 +1,5 @@
 -- `reason::has_room` meets its contract. Assumes nothing.
-use Rattle.reason.proofs.Asks.{no-room, room-left}
+use Rattle.reason.proofs.Asks.{no-room, size-left}
 use Rattle.reason.proofs.has_room.Statement.{statement}
 use Rattle.reason.proofs.has_room.Tie as tie
 
@@ -7,7 +7,7 @@ returns : tie.Need-returns
 returns c = no-room _ _ (c .if1 .taken)
 
 returns-2 : tie.Need-returns-2
-returns-2 c = room-left _ _ (c .if1 .left)
+returns-2 c = size-left _ _ (c .if1 .left)
 
 pub has-room-spec : {M : Type 1} → statement M
 has-room-spec = tie.close (tie.spec returns returns-2)

@@ -1,5 +1,5 @@
 -- `reason::passes` meets its contract, fault by fault. Assumes nothing.
-use Rattle.reason.specs.Faults.{passes}
+use Rattle.reason.specs.Faults.{passesTest}
 use borrow.Author.Needs.{needs}
 use Rattle.reason.proofs.passes.Statement.{statement}
 use Rattle.reason.proofs.passes.Tie as tie
@@ -62,75 +62,75 @@ enum-told-18 : tie.Need-enum-told-18
 enum-told-18 c = search needs
 
 returns : tie.Need-returns
-unfolding passes
+unfolding passesTest
 returns c = rw (c .enum-told .given .1)
 
 returns-2 : tie.Need-returns-2
-unfolding passes
+unfolding passesTest
 returns-2 c = rw (c .enum-told2 .given .1)
 
 returns-3 : tie.Need-returns-3
-unfolding passes
+unfolding passesTest
 returns-3 c = rw (c .enum-told3 .given .1)
 
 returns-4 : tie.Need-returns-4
-unfolding passes
+unfolding passesTest
 returns-4 c = rw (c .enum-told4 .given .1)
 
 returns-5 : tie.Need-returns-5
-unfolding passes
+unfolding passesTest
 returns-5 c = rw (c .enum-told5 .given .1)
 
 returns-6 : tie.Need-returns-6
-unfolding passes
+unfolding passesTest
 returns-6 c = rw (c .enum-told6 .given .1)
 
 returns-7 : tie.Need-returns-7
-unfolding passes
+unfolding passesTest
 returns-7 c = rw (c .enum-told7 .given .1)
 
 returns-8 : tie.Need-returns-8
-unfolding passes
+unfolding passesTest
 returns-8 c = rw (c .enum-told8 .given .1)
 
 returns-9 : tie.Need-returns-9
-unfolding passes
+unfolding passesTest
 returns-9 c = rw (c .enum-told9 .given .1)
 
 returns-10 : tie.Need-returns-10
-unfolding passes
+unfolding passesTest
 returns-10 c = rw (c .enum-told10 .given .1)
 
 returns-11 : tie.Need-returns-11
-unfolding passes
+unfolding passesTest
 returns-11 c = rw (c .enum-told11 .given .1)
 
 returns-12 : tie.Need-returns-12
-unfolding passes
+unfolding passesTest
 returns-12 c = rw (c .enum-told12 .given .1)
 
 returns-13 : tie.Need-returns-13
-unfolding passes
+unfolding passesTest
 returns-13 c = rw (c .enum-told13 .given .1)
 
 returns-14 : tie.Need-returns-14
-unfolding passes
+unfolding passesTest
 returns-14 c = rw (c .enum-told14 .given .1)
 
 returns-15 : tie.Need-returns-15
-unfolding passes
+unfolding passesTest
 returns-15 c = rw (c .enum-told15 .given .1)
 
 returns-16 : tie.Need-returns-16
-unfolding passes
+unfolding passesTest
 returns-16 c = rw (c .enum-told16 .given .1)
 
 returns-17 : tie.Need-returns-17
-unfolding passes
+unfolding passesTest
 returns-17 c = rw (c .before .enum-told17 .given .1) (c .has-room .ensures)
 
 returns-18 : tie.Need-returns-18
-unfolding passes
+unfolding passesTest
 returns-18 c = rw (c .enum-told18 .given .1)
 
 pub passes-spec : {M : Type 1} → statement M

@@ -1,5 +1,5 @@
 -- `reason::reason_of` meets its contract. Assumes nothing.
-use Rattle.reason.specs.Faults.{reasonOf}
+use Rattle.reason.specs.Faults.{reasonAt}
 use borrow.Author.Needs.{needs}
 use Rattle.reason.proofs.reason_of.Statement.{statement}
 use Rattle.reason.proofs.reason_of.Tie as tie
@@ -11,7 +11,7 @@ fault-at-requires : tie.Need-fault-at-requires
 fault-at-requires c κs = search needs
 
 returns : tie.Need-returns
-unfolding reasonOf
+unfolding reasonAt
 returns c = cc
 
 pub reason-of-spec : {M : Type 1} → statement M

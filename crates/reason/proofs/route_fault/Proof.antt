@@ -1,6 +1,6 @@
 -- `reason::route_fault` meets its contract, by one law applied at each test. Assumes nothing.
 use Rattle.reason.specs.declared.Fault.the-variants.{NoConnection, Zero, Longest}
-use Rattle.reason.proofs.Asks.{next}
+use Rattle.reason.proofs.Asks.{next-fault}
 use mathlib.Core.Path.{refl}
 use Rattle.reason.specs.Faults.{routeFault}
 use borrow.Author.Needs.{needs}
@@ -37,10 +37,10 @@ returns c =
     let a₃ = c .before .before in
     let a₂ = a₃ .before .before in
     let a₁ = a₂ .before .before in
-    next NoConnection (c .ask4 .ensures) (c .before .be82 .ensures .is) refl
-    (next Zero (a₃ .ask3 .ensures) (a₃ .before .be8 .ensures .is) refl
-    (next Longest (a₂ .ask2 .ensures) (a₂ .before .be162 .ensures .is) refl
-    (next Zero (a₁ .ask .ensures) (a₁ .before .be16 .ensures .is) refl refl)))
+    next-fault NoConnection (c .ask4 .ensures) (c .before .be82 .ensures .is) refl
+    (next-fault Zero (a₃ .ask3 .ensures) (a₃ .before .be8 .ensures .is) refl
+    (next-fault Longest (a₂ .ask2 .ensures) (a₂ .before .be162 .ensures .is) refl
+    (next-fault Zero (a₁ .ask .ensures) (a₁ .before .be16 .ensures .is) refl refl)))
 
 pub route-fault-spec : {M : Type 1} → statement M
 route-fault-spec =

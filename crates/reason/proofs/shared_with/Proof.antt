@@ -1,5 +1,5 @@
 -- `reason::shared_with` meets its contract. The loop's invariant: what is left of the search has the whole one's answer. Assumes nothing.
-use Rattle.reason.specs.Faults.{clearOf}
+use Rattle.reason.specs.Faults.{sharesNothing}
 use Rattle.scan.proofs.Rows.{clear-pair, shared-pair}
 use Rattle.scan.specs.Scan.{share}
 use Rattle.layout.specs.Layout.{rowBytes, bodyOf}
@@ -11,7 +11,7 @@ use Rattle.reason.proofs.shared_with.Statement.{statement}
 use Rattle.reason.proofs.shared_with.Tie as tie
 
 abbrev Inv-loop : tie.InvT-loop
-Inv-loop image k i row j₀ j = Searched (clearOf image k i) i j
+Inv-loop image k i row j₀ j = Searched (sharesNothing image k i) i j
 
 abbrev μ-loop : tie.MeasureT-loop
 μ-loop image k i row j₀ j = i - j

@@ -1,11 +1,11 @@
 -- `reason::told_of` meets its contract. Assumes nothing.
-use Rattle.reason.specs.Faults.{toldOf}
+use Rattle.reason.specs.Faults.{faultTold}
 use mathlib.Core.Path.{refl}
 use Rattle.reason.proofs.told_of.Statement.{statement}
 use Rattle.reason.proofs.told_of.Tie as tie
 
 returns : tie.Need-returns
-unfolding toldOf
+unfolding faultTold
 returns c = refl
 
 pub told-of-spec : {M : Type 1} → statement M

@@ -1,6 +1,6 @@
 -- `route::is_on` meets its contract. Assumes nothing.
 use mathlib.Core.Path.{refl}
-use Rattle.feed.specs.On.{isOn}
+use Rattle.switches.specs.Switches.{isOn}
 use Rattle.route.proofs.is_on.Statement.{statement}
 use Rattle.route.proofs.is_on.Tie as tie
 

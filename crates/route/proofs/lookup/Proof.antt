@@ -1,7 +1,7 @@
 -- `route::lookup` meets its contract. Assumes nothing.
 use native.Mathlib.Omega.{arith}
 use borrow.Author.Needs.{needs}
-use Rattle.route.proofs.Laws.{accepts, refuses, reason-known}
+use Rattle.route.proofs.Laws.{reason-accepts, refuses, reason-known}
 use Rattle.route.proofs.lookup.Statement.{statement}
 use Rattle.route.proofs.lookup.Tie as tie
 
@@ -17,7 +17,7 @@ cast-t9 c = search needs
 returns : tie.Need-returns
 returns c =
     let r = c .before in
-    accepts _ _ _ _ _ _ _ (r .before .find .ensures .0) (r .reason-of .ensures) (c .match .keys1)
+    reason-accepts _ _ _ _ _ _ _ (r .before .find .ensures .0) (r .reason-of .ensures) (c .match .keys1)
 
 returns-2 : tie.Need-returns-2
 returns-2 c =

@@ -2,7 +2,7 @@
 use Rattle.scan.proofs.Rows.{clear-pair, shared-pair}
 use Rattle.scan.specs.Scan.{share, clearIn}
 use Rattle.layout.proofs.Parts.{row-in, row-range}
-use Rattle.lists.proofs.Search.{Passed, pass-start, pass-on, pass-failed, pass-ended}
+use Rattle.lists.proofs.Search.{GoodTo, pass-start, pass-on, pass-failed, pass-ended}
 use borrow.Author.Needs.{needs}
 use native.Mathlib.Nat.{lt-trans}
 use native.Mathlib.Omega.{arith}
@@ -11,7 +11,7 @@ use Rattle.scan.proofs.fresh.Statement.{statement}
 use Rattle.scan.proofs.fresh.Tie as tie
 
 abbrev Inv-loop : tie.InvT-loop
-Inv-loop body k i own row j₀ j = Passed (clearIn (share k) 16 body i) i j
+Inv-loop body k i own row j₀ j = GoodTo (clearIn (share k) 16 body i) i j
 
 abbrev μ-loop : tie.MeasureT-loop
 μ-loop body k i own row j₀ j = i - j

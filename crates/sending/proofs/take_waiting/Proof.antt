@@ -6,7 +6,7 @@ use native.Mathlib.Omega.{arith}
 use denote.Ref.{now}
 use Rattle.state.specs.State.{recordAt}
 use Rattle.waiting.specs.Waiting.{outOf}
-use Rattle.sending.specs.Sending.{takenOf, takenOut}
+use Rattle.sending.specs.Sending.{takenWaiting, takenOut}
 use Rattle.gate.proofs.Pass.{in-sixteen}
 use Rattle.sending.proofs.Past.{taken-is}
 use borrow.Author.Needs.{needs}
@@ -48,14 +48,14 @@ element-set-from-next : tie.Need-element-set-from-next
 element-set-from-next c = small (c .before .before .before .before .before .before .before .before)
 
 returns : tie.Need-returns
-unfolding takenOf takenOut
+unfolding takenWaiting takenOut
 returns c = (rw (← c .before .before .before .ask-at .ensures, c .before .asked .given .1), rw (← c .before .before .before .ask-at .ensures, c .before .asked .given .1))
 
 same-length : tie.Need-same-length
 same-length c = search needs
 
 returns-2 : tie.Need-returns-2
-unfolding takenOf takenOut
+unfolding takenWaiting takenOut
 returns-2 c =
     let t = c .before .before .before in
     let g = t .before .before .before in

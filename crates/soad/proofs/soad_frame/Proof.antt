@@ -1,7 +1,7 @@
 -- `soad::soad_frame` meets its contract. Assumes nothing.
 use mathlib.Core.Path.{ap, _∙_}
 use borrow.Author.Needs.{needs}
-use Rattle.frame.specs.Framing.{numberOf}
+use Rattle.frame.specs.Framing.{framedNumber}
 use Rattle.soad.proofs.soad_frame.Statement.{statement}
 use Rattle.soad.proofs.soad_frame.Tie as tie
 
@@ -15,7 +15,7 @@ same-length : tie.Need-same-length
 same-length c = search needs
 
 returns : tie.Need-returns
-returns c = (c .number-of .ensures ∙ ap numberOf (c .before .before .before .framing .ensures .0), c .before .before .before .framing .ensures .1)
+returns c = (c .number-of .ensures ∙ ap framedNumber (c .before .before .before .framing .ensures .0), c .before .before .before .framing .ensures .1)
 
 pub soad-frame-spec : {M : Type 1} → statement M
 soad-frame-spec = tie.close (tie.spec framing-requires number-of-requires same-length returns)

@@ -6,7 +6,7 @@ use native.Mathlib.Omega.{arith}
 use borrow.Author.Needs.{needs}
 use Rattle.connection.specs.Connection.{freshOf}
 use Rattle.state.specs.Fresh.{freshAt, freshState, emptyState}
-use Rattle.state.proofs.Upto.{Upto, turn, whole}
+use Rattle.state.proofs.Upto.{Upto, turn, upto-whole}
 use Rattle.state.proofs.fresh_state.Statement.{statement}
 use Rattle.state.proofs.fresh_state.Tie as tie
 
@@ -51,7 +51,7 @@ returns : tie.Need-returns Inv-loop μ-loop
 unfolding freshState
 returns c =
     let l : 16 ≡ c .before .loop .i = omega arith in
-    whole (freshAt _) emptyState _ _ l (c .before .loop .inv .1)
+    upto-whole (freshAt _) emptyState _ _ l (c .before .loop .inv .1)
 
 pub fresh-state-spec : {M : Type 1} → statement M
 fresh-state-spec =

@@ -5,7 +5,7 @@ use native.Mathlib.Numerals.{add-one}
 use native.Mathlib.Omega.{arith}
 use mathlib.Core.Path.{_≡_, refl, ap}
 use Prim.Native.Nat.{ℕ, _+_, _-_, _*_, _^_, _≤_, _<_}
-use Rattle.feed.proofs.Laws.{spelt-take, grow, room}
+use Rattle.feed.proofs.Laws.{spelt-take, grow, value-room}
 use Rattle.feed.specs.Feed.{spelt}
 use Rattle.stream.proofs.gather.Statement.{statement}
 use Rattle.stream.proofs.gather.Tie as tie
@@ -22,7 +22,7 @@ loop-holds c = (omega arith, refl, rw add-zero (c .pre .0))
 mul-w : tie.Need-mul-w Inv-loop μ-loop
 mul-w c =
     let l = c .before .loop in
-    omega (arith, room _ (l .w) (omega arith) (l .inv .2))
+    omega (arith, value-room _ (l .w) (omega arith) (l .inv .2))
 
 shared-slice-read-w : tie.Need-shared-slice-read-w Inv-loop μ-loop
 shared-slice-read-w c = omega arith
@@ -33,7 +33,7 @@ cast-w c = omega (arith, c .shared-slice-known .given (c .before .before .loop .
 add-w : tie.Need-add-w Inv-loop μ-loop
 add-w c =
     let l = c .before .before .loop in
-    omega (arith, room _ (l .w) (omega arith) (l .inv .2), c .shared-slice-known .given (l .i))
+    omega (arith, value-room _ (l .w) (omega arith) (l .inv .2), c .shared-slice-known .given (l .i))
 
 add-i : tie.Need-add-i Inv-loop μ-loop
 add-i c = omega arith

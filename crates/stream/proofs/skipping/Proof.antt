@@ -1,6 +1,6 @@
 -- `stream::skipping` meets its contract. Assumes nothing.
 use borrow.Author.Needs.{needs}
-use Rattle.stream.proofs.Takes.{skip-some}
+use Rattle.stream.proofs.Takes.{skip-left}
 use Rattle.stream.proofs.skipping.Statement.{statement}
 use Rattle.stream.proofs.skipping.Tie as tie
 
@@ -8,7 +8,7 @@ returns : tie.Need-returns
 returns c = search needs
 
 returns-2 : tie.Need-returns-2
-returns-2 c = skip-some _ (c .if1 .left)
+returns-2 c = skip-left _ (c .if1 .left)
 
 pub skipping-spec : {M : Type 1} → statement M
 skipping-spec = tie.close (tie.spec returns returns-2)

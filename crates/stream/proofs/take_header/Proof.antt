@@ -5,7 +5,7 @@ use Prim.Native.Nat.{_-_, _/_}
 use native.Mathlib.Omega.{arith}
 use borrow.Author.Needs.{needs}
 use Rattle.stream.proofs.Takes.{header-part, header-dropped, header-accepted, accepted-short, accepted-id}
-use Rattle.wire.proofs.Part.{rest-is}
+use Rattle.wire.proofs.Part.{part-to-end}
 use Rattle.stream.specs.Stream.{idOf}
 use Rattle.route.specs.Route.{lookupOf}
 use Rattle.stream.proofs.take_header.Statement.{statement}
@@ -65,7 +65,7 @@ take-body-requires c κs =
     let l = k .before .before in
     let s = l .before .before .before .before .before .before in (
       omega (arith, accepted-short (s .args .routes .now) _ _ _ _ _ (sym (l .lookup .ensures) ∙ k .route .given .1) (s .pre .0), s .pre .1),
-      rw rest-is (omega (arith, length-drop (8 - s .args .held) (s .args .rest .now))),
+      rw part-to-end (omega (arith, length-drop (8 - s .args .held) (s .args .rest .now))),
     )
 
 enum-known-reason : tie.Need-enum-known-reason

@@ -2,7 +2,7 @@
 use mathlib.Core.Path.{sym, ap}
 use native.Mathlib.Omega.{arith}
 use borrow.Author.Needs.{needs}
-use Rattle.stream.proofs.Takes.{begun, resumed}
+use Rattle.stream.proofs.Takes.{begun-here, resumed}
 use Rattle.stream.specs.Stream.{idOf}
 use Rattle.rows.specs.declared.RouteRow.{RouteRow}
 use Rattle.stream.proofs.take_payload.Statement.{statement}
@@ -21,7 +21,7 @@ returns : tie.Need-returns
 returns c =
     let k = c .before .before in
     let a = k .before .before .before .before .before .before .before .args in
-    λ R. begun (idOf (a .routes .now)) R (a .route) (a .size) (a .held) _ (a .rx .now) (a .segment .now) _ _ (k .before .before .if1 .taken) (omega arith)
+    λ R. begun-here (idOf (a .routes .now)) R (a .route) (a .size) (a .held) _ (a .rx .now) (a .segment .now) _ _ (k .before .before .if1 .taken) (omega arith)
     (k .take-body .ensures R 0 (idOf (a .routes .now)) (sym (ap (λ (r : RouteRow). r .id) (k .before .before .before .route-in .ensures))))
 
 take-rest-requires : tie.Need-take-rest-requires

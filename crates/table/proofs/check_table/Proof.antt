@@ -1,5 +1,5 @@
 -- `table::check_table` meets its contract. Assumes nothing.
-use Rattle.table.specs.Table.{checkTable, then}
+use Rattle.table.specs.Table.{checkTable, thenCheck}
 use Rattle.layout.specs.Layout.{endOf}
 use native.Mathlib.Omega.{arith}
 use denote.Ref.{now}
@@ -11,7 +11,7 @@ use Rattle.table.proofs.check_table.Statement.{statement}
 use Rattle.table.proofs.check_table.Tie as tie
 
 returns : tie.Need-returns
-unfolding checkTable then
+unfolding checkTable thenCheck
 returns c = rw (lt-leb 36 (length (now (c .before .before .args .image))) (omega arith))
 
 head-place-requires : tie.Need-head-place-requires
@@ -30,17 +30,17 @@ all-rows-place-requires : tie.Need-all-rows-place-requires
 all-rows-place-requires c κs = search needs
 
 returns-2 : tie.Need-returns-2
-unfolding checkTable then
+unfolding checkTable thenCheck
 returns-2 c = rw (le-leb 36 (length (now (c .before .before .before .before .before .before .args .image))) (omega arith), sym (c .before .before .before .head-place .ensures) ∙ c .before .head .given .1)
 
 returns-3 : tie.Need-returns-3
-unfolding checkTable then
+unfolding checkTable thenCheck
 returns-3 c =
     let s = now (c .before .before .before .before .before .before .before .before .args .image) in
     rw (le-leb 36 (length s) (omega arith), sym (c .before .before .before .before .before .head-place .ensures) ∙ c .before .before .before .enum-told .given .1, eq-eqb (length s) (endOf s) (omega arith)) (c .all-rows-place .ensures)
 
 returns-4 : tie.Need-returns-4
-unfolding checkTable then
+unfolding checkTable thenCheck
 returns-4 c =
     let s = now (c .before .before .before .before .before .before .before .args .image) in
     rw (le-leb 36 (length s) (omega arith), sym (c .before .before .before .before .head-place .ensures) ∙ c .before .before .enum-told .given .1, ne-eqb (length s) (endOf s) (λ e. c .if2 .left (e ∙ sym (c .before .end-of .ensures))))

@@ -1,6 +1,6 @@
 -- `text::hex` meets its contract. Assumes nothing.
 use borrow.Author.Needs.{needs}
-use Rattle.pieces.proofs.Pieces.{stays, moves, unwritten, nothing}
+use Rattle.pieces.proofs.Pieces.{place-stays, moves, unwritten, empty-piece}
 use Rattle.text.proofs.Digits.{hex-length, hex-next, hex-all}
 use native.Mathlib.Omega.{arith}
 use Prim.Native.Nat.{ℕ, _+_, _*_, _-_, _≤_}
@@ -20,7 +20,7 @@ abbrev μ-loop : tie.MeasureT-loop
 μ-loop out₀ at bytes n i₀ out i = length bytes - i
 
 returns : tie.Need-returns Inv-loop μ-loop
-returns c = let a = c .before .before .before .args in (stays (length (a .out .now)) (a .at) (length (hexOf (a .bytes .now))) (omega arith), unwritten (a .out .now) (a .at) (hexOf (a .bytes .now)) (omega arith))
+returns c = let a = c .before .before .before .args in (place-stays (length (a .out .now)) (a .at) (length (hexOf (a .bytes .now))) (omega arith), unwritten (a .out .now) (a .at) (hexOf (a .bytes .now)) (omega arith))
 
 sub-if2 : tie.Need-sub-if2 Inv-loop μ-loop
 sub-if2 c = search needs
@@ -29,10 +29,10 @@ mul-if2 : tie.Need-mul-if2 Inv-loop μ-loop
 mul-if2 c = omega arith
 
 returns-2 : tie.Need-returns-2 Inv-loop μ-loop
-returns-2 c = let a = c .before .before .before .before .args in (stays (length (a .out .now)) (a .at) (length (hexOf (a .bytes .now))) (omega (arith, hex-length (a .bytes .now))), unwritten (a .out .now) (a .at) (hexOf (a .bytes .now)) (omega (arith, hex-length (a .bytes .now))))
+returns-2 c = let a = c .before .before .before .before .args in (place-stays (length (a .out .now)) (a .at) (length (hexOf (a .bytes .now))) (omega (arith, hex-length (a .bytes .now))), unwritten (a .out .now) (a .at) (hexOf (a .bytes .now)) (omega (arith, hex-length (a .bytes .now))))
 
 loop-holds : tie.Need-loop-holds Inv-loop μ-loop
-loop-holds c = let a = c .before .before .before .before .args in (omega arith, nothing (a .out .now) (a .at) (omega arith))
+loop-holds c = let a = c .before .before .before .before .args in (omega arith, empty-piece (a .out .now) (a .at) (omega arith))
 
 mul-put16 : tie.Need-mul-put16 Inv-loop μ-loop
 mul-put16 c = omega arith

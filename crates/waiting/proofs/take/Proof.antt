@@ -2,7 +2,7 @@
 use mathlib.Core.Path.{ap, _∙_}
 use Rattle.connection.specs.declared.Connection.{Connection}
 use Rattle.waiting.specs.Waiting.{afterTake}
-use Rattle.waiting.proofs.Taken.{take-short, take-nothing, take-some}
+use Rattle.waiting.proofs.Taken.{taking-short, take-nothing, take-some}
 use borrow.Author.Needs.{needs}
 use Rattle.waiting.proofs.take.Statement.{statement}
 use Rattle.waiting.proofs.take.Tie as tie
@@ -11,7 +11,7 @@ cast-if1 : tie.Need-cast-if1
 cast-if1 c = search needs
 
 returns : tie.Need-returns
-returns c = take-short _ _ _ _ (c .if1 .taken)
+returns c = taking-short _ _ _ _ (c .if1 .taken)
 
 copy-in-requires : tie.Need-copy-in-requires
 copy-in-requires c κs = search needs

@@ -1,5 +1,5 @@
 -- `wire::be16` meets its contract. Assumes nothing.
-use Rattle.wire.proofs.Join.{join, none}
+use Rattle.wire.proofs.Join.{number-join, number-none}
 use native.Mathlib.Omega.{arith}
 use borrow.Author.Needs.{needs}
 use Rattle.wire.proofs.be16.Statement.{statement}
@@ -21,10 +21,10 @@ add-result : tie.Need-add-result
 add-result c = search needs
 
 returns : tie.Need-returns
-returns c = join 1 1 (search needs) (search needs)
+returns c = number-join 1 1 (search needs) (search needs)
 
 returns-2 : tie.Need-returns-2
-returns-2 c = none 2 _ _ (search needs) (omega arith)
+returns-2 c = number-none 2 _ _ (search needs) (omega arith)
 
 pub be16-spec : {M : Type 1} → statement M
 be16-spec =

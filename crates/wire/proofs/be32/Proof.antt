@@ -1,12 +1,12 @@
 -- `wire::be32` meets its contract. Assumes nothing.
-use Rattle.wire.proofs.Join.{join, none, turned-number}
+use Rattle.wire.proofs.Join.{number-join, number-none, turned-number}
 use native.Mathlib.Omega.{arith}
 use borrow.Author.Needs.{needs}
 use Rattle.wire.proofs.be32.Statement.{statement}
 use Rattle.wire.proofs.be32.Tie as tie
 
 returns : tie.Need-returns
-returns c = none 4 _ _ (search needs) (omega arith)
+returns c = number-none 4 _ _ (search needs) (omega arith)
 
 sub-if2 : tie.Need-sub-if2
 sub-if2 c = search needs
@@ -39,7 +39,7 @@ add-result : tie.Need-add-result
 add-result c = search needs
 
 returns-3 : tie.Need-returns-3
-returns-3 c = join 2 2 (search needs) (search needs)
+returns-3 c = number-join 2 2 (search needs) (search needs)
 
 pub be32-spec : {M : Type 1} → statement M
 be32-spec =

@@ -1,5 +1,5 @@
 -- `wire::be8` meets its contract. Assumes nothing.
-use Rattle.wire.proofs.Join.{one, none}
+use Rattle.wire.proofs.Join.{number-one, number-none}
 use native.Mathlib.Omega.{arith}
 use borrow.Author.Needs.{needs}
 use Rattle.wire.proofs.be8.Statement.{statement}
@@ -12,10 +12,10 @@ wide-requires : tie.Need-wide-requires
 wide-requires c κs = search needs
 
 returns : tie.Need-returns
-returns c = one _ _ _ (c .wide .ensures .0) (c .wide .ensures .1)
+returns c = number-one _ _ _ (c .wide .ensures .0) (c .wide .ensures .1)
 
 returns-2 : tie.Need-returns-2
-returns-2 c = none 1 _ _ (search needs) (omega arith)
+returns-2 c = number-none 1 _ _ (search needs) (omega arith)
 
 pub be8-spec : {M : Type 1} → statement M
 be8-spec = tie.close (tie.spec shared-slice-read-wide wide-requires returns returns-2)

@@ -1,6 +1,6 @@
 -- `wire::copy_in` meets its contract. The loop's invariant: the first j bytes are copied. Assumes nothing.
 use Rattle.wire.proofs.Lay.{lay-copied}
-use Rattle.wire.proofs.Room.{room, unlaid}
+use Rattle.wire.proofs.Room.{room-there, unlaid}
 use lib.Seq.{paste, paste-zero, paste-suc}
 use lib.ListN.{length, getD, set, length-set}
 use borrow.Author.Needs.{needs}
@@ -30,7 +30,7 @@ returns c =
 loop-holds : tie.Need-loop-holds Inv-loop μ-loop
 loop-holds c =
     let a = c .before .before .before .before .args in
-    (room _ _ _ (c .before .has-room .ensures) (not-false _ (c .if1 .left)), refl, omega arith, refl, paste-zero (a .d .now) (a .at) (a .s .now))
+    (room-there _ _ _ (c .before .has-room .ensures) (not-false _ (c .if1 .left)), refl, omega arith, refl, paste-zero (a .d .now) (a .at) (a .s .now))
 
 shared-slice-read-d : tie.Need-shared-slice-read-d Inv-loop μ-loop
 shared-slice-read-d c = omega arith

@@ -2,7 +2,7 @@
 use Prim.Native.Nat.{_+_, _≤_}
 use lib.ListN.{length}
 use Rattle.wire.proofs.Spell.{put-join}
-use Rattle.wire.proofs.Room.{room, unput}
+use Rattle.wire.proofs.Room.{room-there, unput}
 use native.Mathlib.Omega.{arith}
 use borrow.Author.Needs.{needs}
 use Rattle.wire.proofs.put32.Statement.{statement}
@@ -21,7 +21,7 @@ add-put16 : tie.Need-add-put16
 add-put16 c =
     let k = c .before .before .before .before .before in
     let a = k .before .before .before .args in
-    let h : a .at + 4 ≤ length (a .d .now) = room _ _ _ (k .before .has-room .ensures) (k .if1 .taken) in
+    let h : a .at + 4 ≤ length (a .d .now) = room-there _ _ _ (k .before .has-room .ensures) (k .if1 .taken) in
     omega arith
 
 cast-put16-2 : tie.Need-cast-put16-2
@@ -39,7 +39,7 @@ returns c =
     let k₁ = k₂ .before .before .before .before in
     let k₀ = k₁ .before .before in
     let a = k₀ .before .before .before .args in
-    put-join 2 2 (a .d .now) (k₁ .put16 .last .0) (k₂ .put162 .last .0) (a .at) (a .v) (room _ _ _ (k₀ .before .has-room .ensures) (k₀ .if1 .taken)) (k₁ .put16 .ensures) (k₂ .put162 .ensures) (omega arith)
+    put-join 2 2 (a .d .now) (k₁ .put16 .last .0) (k₂ .put162 .last .0) (a .at) (a .v) (room-there _ _ _ (k₀ .before .has-room .ensures) (k₀ .if1 .taken)) (k₁ .put16 .ensures) (k₂ .put162 .ensures) (omega arith)
 
 returns-2 : tie.Need-returns-2
 returns-2 c =

@@ -2,7 +2,7 @@
 use Prim.Native.Nat.{_+_, _≤_}
 use lib.ListN.{length}
 use Rattle.wire.proofs.Spell.{put-one}
-use Rattle.wire.proofs.Room.{room, unput}
+use Rattle.wire.proofs.Room.{room-there, unput}
 use native.Mathlib.Omega.{arith}
 use borrow.Author.Needs.{needs}
 use Rattle.wire.proofs.put8.Statement.{statement}
@@ -14,7 +14,7 @@ has-room-requires c κs = search needs
 slice-write-d : tie.Need-slice-write-d
 slice-write-d c =
     let a = c .before .before .before .args in
-    let h : a .at + 1 ≤ length (a .d .now) = room _ _ _ (c .before .has-room .ensures) (c .if1 .taken) in
+    let h : a .at + 1 ≤ length (a .d .now) = room-there _ _ _ (c .before .has-room .ensures) (c .if1 .taken) in
     omega arith
 
 same-length : tie.Need-same-length
@@ -23,7 +23,7 @@ same-length c = search needs
 returns : tie.Need-returns
 returns c =
     let a = c .before .before .before .args in
-    let h : a .at + 1 ≤ length (a .d .now) = room _ _ _ (c .before .has-room .ensures) (c .if1 .taken) in
+    let h : a .at + 1 ≤ length (a .d .now) = room-there _ _ _ (c .before .has-room .ensures) (c .if1 .taken) in
     put-one (a .d .now) (a .at) (a .v) (search needs) (omega arith)
 
 returns-2 : tie.Need-returns-2

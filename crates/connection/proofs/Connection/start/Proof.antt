@@ -1,5 +1,5 @@
 -- `Connection::start` meets its contract. Assumes nothing.
-use Rattle.connection.specs.Connection.{startOf}
+use Rattle.connection.specs.Connection.{startedOf}
 use borrow.Author.Needs.{needs}
 use Rattle.connection.proofs.Connection.start.Statement.{statement}
 use Rattle.connection.proofs.Connection.start.Tie as tie
@@ -8,11 +8,11 @@ is-offline-requires : tie.Need-is-offline-requires
 is-offline-requires c κs = search needs
 
 returns : tie.Need-returns
-unfolding startOf
+unfolding startedOf
 returns c = rw (← c .before .before .before .before .is-offline .ensures, c .before .if1 .taken)
 
 returns-2 : tie.Need-returns-2
-unfolding startOf
+unfolding startedOf
 returns-2 c = rw (← c .before .before .before .is-offline .ensures, c .if1 .left)
 
 pub start-spec : {M : Type 1} → statement M

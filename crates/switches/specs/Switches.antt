@@ -1,4 +1,5 @@
--- WHETHER A ROUTE OR A DESTINATION IS ON (document 01, "Headers and streams"). Assumes nothing: these are definitions.
+-- ROUTING SWITCHES: whether a route or a destination is on (document 01, "Headers and streams"; of a destination "by the routes' rule, at the
+-- call"). Assumes nothing: these are definitions.
 use Prim.Native.Nat.{ℕ}
 use mathlib.Core.Path.{_≡_}
 use mathlib.Core.Bool.{Bool, not, _||_}

@@ -11,7 +11,7 @@ use lib.Dec.{eqb}
 use lib.Pow.{shr-le, shr-shr}
 use borrow.Author.Tests.{eqb-true, eqb-false, eq-eqb, ne-eqb}
 use Rattle.wire.specs.Bits.{bitAt}
-use Rattle.feed.specs.On.{isOn, Shared}
+use Rattle.switches.specs.Switches.{isOn, Shared}
 
 -- a shared bit of the halves is one of the words
 double : (a b : ℕ) → Shared (a / 2) (b / 2) → Shared a b

@@ -1,0 +1,2 @@
+-- The laws of routing switches. Assumes nothing.
+pub mod Switches

@@ -1,0 +1,2 @@
+-- What others cite of routing switches. Assumes nothing.
+pub mod Switches
