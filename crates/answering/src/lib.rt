@@ -1,5 +1,5 @@
 // The answer of an event, written into a lent out buffer (docs/EVENTS.md): all of it, or nothing where it does not fit; and how
-// many bytes it is. Assumes nothing: every function is total.
+// many bytes it is. Every function is total.
 ghost use mathlib.Core.Path.{_≡_};
 ghost use lib.ListN.{length};
 ghost use Rattle.wire.specs.Lay.{spell, lay};

@@ -1,5 +1,5 @@
 -- A datagram and an accept, as a caller sees them: the gate (11, 12), then 2, 3, and 10 or the chosen connection. A refusal
--- carries its number, and the state stays. Assumes nothing.
+-- carries its number, and the state stays.
 use Prim.Native.Nat.{ℕ}
 use mathlib.Core.Bool.{Bool, true, false}
 use mathlib.Core.List.{List}
@@ -13,10 +13,10 @@ use Rattle.choose.specs.Choose.{refusedBy, arriveOf}
 unfoldable pub arrivalOf : List ℕ → State → ℕ → ℕ → Bool → ℕ → Remote → Arrived
 arrivalOf image s rx tx accept group source = through (gateOf image s rx tx) (refusedBy s) (arriveOf image s accept group source)
 
--- "A datagram event names a UDP group and a source"
+-- R7.1: a datagram event names a UDP group and a source
 abbrev pub datagramOf : List ℕ → State → ℕ → ℕ → ℕ → Remote → Arrived
 datagramOf image s rx tx group source = arrivalOf image s rx tx false group source
 
--- "An accept event does the same for a TCP group"
+-- R7.2: an accept event does the same for a TCP group
 abbrev pub acceptOf : List ℕ → State → ℕ → ℕ → ℕ → Remote → Arrived
 acceptOf image s rx tx group source = arrivalOf image s rx tx true group source

@@ -1,6 +1,6 @@
 // Reads a table image from standard input and lists its rows with names and units, or says at which byte it is refused
 // and why. The last line is OK or REFUSED. The check, its place and its reason are proved; the wording is tried by
-// stored output. Assumes nothing.
+// stored output.
 use layout::Kind;
 use layout::kind_number;
 use layout::rows_of;

@@ -1,4 +1,4 @@
--- DEMAND 1: "A refusal carries its number and changes neither state nor lent memory": of every event, and of many ticks under one check,
+-- R4.7, a refusal changes neither state nor lent memory: of every event, and of many ticks under one check,
 -- from any table, state and memory. Assumes nothing.
 use Prim.Native.Nat.{ℕ}
 use mathlib.Core.Path.{_≡_, refl, ap, _∙_}

@@ -1,4 +1,4 @@
--- UNIQUENESS ("Show that two answers allowed for one input are equal"): one law serves every contract that is an equation, of an answer
+-- UNIQUENESS (R13.2, two answers allowed for one input are equal): one law serves every contract that is an equation, of an answer
 -- and of memory alike; a number with its bound is one of them. Assumes nothing.
 use Prim.Native.Nat.{ℕ}
 use mathlib.Core.Path.{_≡_, sym, _∙_}

@@ -85,7 +85,7 @@ twice-not : (a : Bool) → not (not a) ≡ a
 twice-not true = refl
 twice-not false = refl
 
--- the same test of each
+-- tests that agree at each number agree over all of them
 every-same : (f g : ℕ → Bool) (n : ℕ) → ((i : ℕ) → f i ≡ g i) → every f n ≡ every g n
 unfolding every
 every-same f g zero h = refl

@@ -1,6 +1,4 @@
--- FRAMING (document 01, "Headers and streams"): the wire form of a PDU, and of PDUs one after the other; and when a reader's
--- routes accept what was framed.
--- Assumes nothing: these are definitions.
+-- FRAMING (R6.1): the wire form of a PDU, and of PDUs one after the other; and when a reader's routes accept what was framed (R5.17).
 use Prim.Native.Nat.{ℕ, _^_, _<_}
 use mathlib.Core.Path.{_≡_}
 use mathlib.Core.List.{List, [], _∷_, _++_}
@@ -9,7 +7,7 @@ use Rattle.wire.specs.Lay.{spell}
 use Rattle.feed.specs.declared.Decision.the-variants.{Accept}
 use Rattle.feed.specs.Feed.{Routes, Pdu, handed}
 
--- "Id 4 bytes, length 4 bytes, payload."
+-- R6.1: id 4 bytes, length 4 bytes, payload
 unfoldable pub frame : ℕ → List ℕ → List ℕ
 frame i p = spell 4 i ++ (spell 4 (length p) ++ p)
 
@@ -31,8 +29,7 @@ abbrev pub AllFit : List Sent → Type 0
 AllFit [] = Unit {0}
 AllFit (s ∷ ss) = Fits s × AllFit ss
 
--- "with routes for those ids, switched on and allowing those lengths": what was sent, and beside it the PDUs of the routes
--- that accept it
+-- R5.17, routes for those ids, switched on and allowing those lengths: what was sent, and beside it the PDUs of the routes that accept it
 pub data Routed (R : Routes) : List Sent → List Pdu → Type 0 where
   none : Routed R [] []
   one : {s : Sent} {r : ℕ} {ss : List Sent} {ps : List Pdu} → Fits s → R (s .id) (length (s .body)) ≡ Accept r → Routed R ss ps

@@ -1,4 +1,4 @@
--- What others cite of reading. Assumes nothing.
+-- What others cite of reading.
 pub mod Feed
 pub mod Frame
 pub mod On

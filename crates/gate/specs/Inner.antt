@@ -1,5 +1,5 @@
 -- What the contracts of the inner functions cite: the same rules by the bodies, asked for once, and a quick way for records that hold
--- nothing. They say nothing that the rules of Gate and Sound do not say. Assumes nothing: these are definitions.
+-- nothing. They say nothing that the rules of Gate and Sound do not say.
 use Prim.Native.Nat.{ℕ}
 use mathlib.Core.Bool.{Bool, cond, not, _&&_}
 use mathlib.Core.List.{List}
@@ -25,7 +25,7 @@ rulesFrom row group =
       switches = 0;
     }
 
--- the same out of the bodies
+-- what they ask of row n, out of the bodies of connections and groups
 abbrev pub rulesIn : List ℕ → List ℕ → ℕ → Config
 rulesIn connections groups n = rulesFrom (briefIn connections n) (groupIn groups (briefIn connections n .group))
 
@@ -34,7 +34,7 @@ abbrev pub soundIn : ℕ → List ℕ → List ℕ → List ℕ → ℕ → Conn
 soundIn rows connections groups routes n c =
     cond (ltb n rows) (soundOf (configIn connections groups n) c && routed routes n (c .part)) (zeroOf c)
 
--- a record that holds nothing, wants nothing and waits for nothing: of the rules only "an online remote has no wildcard" is left
+-- a record that holds nothing, wants nothing and waits for nothing: of the rules only R3.9 (an online remote has no wildcard) is left
 abbrev pub quiet : Connection → Bool
 quiet c =
     emptyPart (c .part) && eqb (c .used) 0 && eqb (c .timer) 0 && not (c .due) && not (c .«open_wanted») && not (c .«close_wanted»)

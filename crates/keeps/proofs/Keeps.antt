@@ -1,4 +1,4 @@
--- "Every event leaves a sound state sound": what passes the gate passes it again after a connection event, a switch on all connections, a
+-- R3.13, every event leaves a sound state sound: what passes the gate passes it again after a connection event, a switch on all connections, a
 -- count read or cleared, and a tick. Assumes nothing.
 use Prim.Native.Nat.{ℕ, _<_}
 use mathlib.Core.Path.{_≡_, ap, _∙_}

@@ -53,7 +53,7 @@ module _ (n : ℕ) (body : List ℕ) (i : ℕ) where
   unfolding rowIn
   row-is h = rw (lt-ltb i (length body / n) h)
 
-  -- the same of `&body[i * n..i * n + n]`
+  -- `&body[i * n..i * n + n]` is row i of the body
   pub row-range : i < length body / n → take (i * n + n - i * n) (drop (i * n) body) ≡ rowIn n body i
   row-range h = rw (add-sub-cancel-left) (sym (row-is h))
 

@@ -1,5 +1,4 @@
 -- Numbered things and a test of each.
--- Assumes nothing.
 use Prim.Native.Nat.{ℕ, zero, suc}
 use mathlib.Core.Bool.{Bool, true, cond, _&&_}
 

@@ -1,4 +1,4 @@
--- Header and payload laid into send memory. Assumes nothing.
+-- Header and payload laid into send memory.
 use Prim.Native.Nat.{ℕ}
 use mathlib.Core.Bool.{cond}
 use mathlib.Core.List.{List}

@@ -1,4 +1,4 @@
--- THE DECISION ON A HEADER, of an accepted table: it has the ground that document 01 gives for it, and no other decision has one; one row
+-- THE DECISION ON A HEADER, of an accepted table: it has the ground that R5.5 gives for it, and no other decision has one; one row
 -- at most bears an id on a connection. Assumes nothing.
 use Prim.Native.Nat.{ℕ}
 use mathlib.Core.Path.{_≡_}

@@ -1,9 +1,9 @@
-// The state before the first call: each connection opened, a tick, each connected. Assumes nothing.
+// The state before the first call: each connection opened, a tick, each connected.
 use connection::Event;
 use state::State;
 use state::fresh_state;
 
-// The same event on each connection.
+// An event on each connection.
 fn each(image: &[u8], state: State, rx: &[u8], tx: &[u8], event: Event) -> State {
     let mut next = state;
     let mut i: u8 = 0;

@@ -1,4 +1,4 @@
-// The text of an answer, from its bytes (docs/EVENTS.md). Assumes nothing.
+// The text of an answer, from its bytes (docs/EVENTS.md).
 use crate::words::address;
 use crate::words::bytes;
 use crate::words::hex32;

@@ -1,4 +1,4 @@
-// The text of an event: its name and arguments, as docs/EVENTS.md has them. Assumes nothing.
+// The text of an event: its name and arguments, as docs/EVENTS.md has them.
 use crate::words::address;
 use crate::words::hex16;
 use crate::words::said;

@@ -1,4 +1,4 @@
-// Numbers, ids, bytes and addresses as docs/EVENTS.md prints them. Assumes nothing.
+// Numbers, ids, bytes and addresses as docs/EVENTS.md prints them.
 use connection::Remote;
 use pieces::put_piece;
 use text::decimal;

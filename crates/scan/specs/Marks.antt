@@ -1,6 +1,6 @@
 -- A small number of what two rows may not share: rows with different numbers do not share it. It makes the search quick,
 -- and says nothing of its answer. It is a multiplicative hash (the first factor is 2^32 over the golden ratio, the
--- second any odd number): rising and stepped keys spread well. Assumes nothing.
+-- second any odd number): rising and stepped keys spread well.
 use Prim.Native.Nat.{ℕ, _+_, _*_, _/_, _%_}
 use mathlib.Core.List.{List}
 use Rattle.wire.specs.Be.{be}

@@ -1,5 +1,5 @@
 // The first bad row of each kind's body. A row is tested by itself first; then, where its mark was met before, against
-// each earlier row. The marks make the search quick; no public contract shows them. Assumes nothing.
+// each earlier row. The marks make the search quick; no public contract shows them.
 ghost use mathlib.Core.Path.{_≡_};
 ghost use mathlib.Core.Bool.{true};
 ghost use Prim.Native.Nat.{ℕ, _/_, _<_};
@@ -84,7 +84,7 @@ fn fresh(body: &[u8], k: Kind, i: usize) -> bool
     true
 }
 
-// The same; where the row's mark is new (`old` is not 1) no earlier row can share it.
+// Whether row i shares with no earlier row what it may not; where its mark is new (`old` is not 1) no earlier row can share it.
 fn fresh_if(body: &[u8], k: Kind, i: usize, old: u8) -> bool
     requires { ⌜ (i < length (now body) / 16) × ((old ≡ 1 → ⊥) → every (clearIn (share k) 16 (now body) i) i ≡ true) ⌝ }
     ensures { λ r. ⌜ r ≡ every (clearIn (share k) 16 (now (body .entry)) i) i ⌝ }
