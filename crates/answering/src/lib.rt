@@ -47,7 +47,7 @@ pub fn put_refused(out: &mut [u8], number: u16, place: usize) -> usize
     6
 }
 
-// Document 01's number of a refusal.
+// The number of a refusal (R4.1).
 fn refusal_number(reason: Refusal) -> u16
     ensures { λ r. ⌜ r ≡ refusalNumber reason ⌝ }
 {
