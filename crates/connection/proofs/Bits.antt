@@ -1,4 +1,4 @@
--- What a switch is worth. Assumes nothing.
+-- What a switch is worth.
 use Prim.Native.Nat.{ℕ, zero, suc, _-_, _+_, _<_, _≤_, _*_, _/_, _%_, _^_, max}
 use mathlib.Core.Path.{_≡_, refl, sym, ap, _∙_}
 use mathlib.Core.Bool.{Bool, true, false, cond}

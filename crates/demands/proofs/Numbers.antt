@@ -1,5 +1,4 @@
 -- WHICH NUMBERS (R4.1): from any table, state and memory each event is answered one of the numbers listed for it.
--- Assumes nothing.
 use Prim.Native.Nat.{ℕ, _+_}
 use mathlib.Core.Path.{_≡_, refl, sym, subst}
 use mathlib.Core.Bool.{Bool, true, false, cond, not, _||_, or-true}

@@ -1,5 +1,4 @@
 -- WHEN EACH NUMBER IS GIVEN: from any table, state and memory the number of an event is that of its first check that fails.
--- Assumes nothing.
 use Prim.Native.Nat.{ℕ, zero, suc, _+_, _<_}
 use mathlib.Core.Path.{_≡_, refl, sym, ap, _∙_}
 use mathlib.Core.Bool.{Bool, true, false, cond, not, _&&_, _||_}

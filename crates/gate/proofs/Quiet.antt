@@ -1,5 +1,4 @@
 -- A record that holds nothing, wants nothing and waits for nothing is sound when its remote has no wildcard or it is not online.
--- Assumes nothing.
 use Prim.Native.Nat.{ℕ}
 use mathlib.Core.Path.{_≡_, refl}
 use mathlib.Core.Bool.{Bool, true, false, not, _&&_, _||_}

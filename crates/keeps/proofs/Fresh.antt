@@ -1,4 +1,4 @@
--- The fresh state of an accepted table passes the gate; without rows it is all zero. Assumes nothing.
+-- The fresh state of an accepted table passes the gate; without rows it is all zero.
 use Prim.Native.Nat.{ℕ, zero, suc, _≤_}
 use mathlib.Core.Path.{_≡_, refl, sym, ap, ap₂}
 use mathlib.Core.Bool.{Bool, true, false}

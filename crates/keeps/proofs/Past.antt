@@ -1,4 +1,4 @@
--- An entry, refused at the gate or past it. Assumes nothing.
+-- An entry, refused at the gate or past it.
 use Prim.Native.Nat.{ℕ}
 use mathlib.Core.Path.{_≡_, refl}
 use mathlib.Core.Bool.{true}

@@ -1,4 +1,4 @@
--- Where bodies and rows lie. Assumes nothing.
+-- Where bodies and rows lie.
 use Prim.Native.Nat.{ℕ, _+_, _-_, _*_, _/_, _<_, _≤_}
 use mathlib.Core.Path.{_≡_, sym, ap, _∙_}
 use mathlib.Core.List.{List, []}

@@ -1,4 +1,4 @@
--- The laws of the lookup. Assumes nothing.
+-- The laws of the lookup.
 pub mod Laws
 pub mod Decided
 pub mod On

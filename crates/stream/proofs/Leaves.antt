@@ -1,5 +1,5 @@
 -- What a take leaves: its part and receive memory are the stream's cell again, shaped and within its route's limit; and the
--- payload that it names is the PDU's. Assumes nothing.
+-- payload that it names is the PDU's.
 use Prim.Native.Nat.{ℕ, zero, suc, _+_, _-_, _*_, _/_, _%_, _^_, _≤_, _<_}
 use mathlib.Core.Path.{_≡_, refl, sym, ap, ap₂, _∙_, subst}
 use mathlib.Core.Bool.{Bool, true, false, cond}

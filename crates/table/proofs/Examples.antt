@@ -1,4 +1,4 @@
--- The whole image of R1.12 and images with one fault each, computed: one of each kind of place. Assumes nothing.
+-- The whole image of R1.12 and images with one fault each, computed: one of each kind of place.
 use Prim.Native.Nat.{ℕ}
 use mathlib.Core.Path.{_≡_, refl}
 use mathlib.Core.List.{List, [], _∷_, _++_, map}

@@ -1,4 +1,4 @@
--- A tick of a connection that rests, and one turn of a tick's loop over the records. Assumes nothing.
+-- A tick of a connection that rests, and one turn of a tick's loop over the records.
 use Prim.Native.Nat.{ℕ, _+_, _<_}
 use mathlib.Core.Path.{_≡_, refl, sym, ap, _∙_}
 use mathlib.Core.Bool.{true, false, not, _&&_}

@@ -1,4 +1,4 @@
--- `answer_receive::take_all` meets its contract. Assumes nothing.
+-- `answer_receive::take_all` meets its contract.
 use Prim.Native.Nat.{ℕ, _+_, _-_}
 use mathlib.Core.Path.{_≡_, refl, sym, ap, _∙_}
 use mathlib.Core.Bool.{Bool, _&&_}

@@ -1,4 +1,4 @@
--- `answer_receive::take_once` meets its contract. Assumes nothing.
+-- `answer_receive::take_once` meets its contract.
 use mathlib.Core.Path.{sym, _∙_}
 use lib.ListN.{length}
 use borrow.Author.Tests.{not-false, not-true}

@@ -1,4 +1,4 @@
--- `gate::each_sound` meets its contract. The invariant: the tests of the records below i are joined. Assumes nothing.
+-- `gate::each_sound` meets its contract. The invariant: the tests of the records below i are joined.
 use Prim.Native.Nat.{ℕ, _<_, _≤_, _-_}
 use mathlib.Core.Path.{_≡_, refl, ap, _∙_}
 use mathlib.Core.Bool.{true, _&&_}

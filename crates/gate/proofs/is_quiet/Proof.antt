@@ -1,4 +1,4 @@
--- `gate::is_quiet` meets its contract. Assumes nothing.
+-- `gate::is_quiet` meets its contract.
 use borrow.Author.Needs.{needs}
 use Rattle.gate.proofs.is_quiet.Statement.{statement}
 use Rattle.gate.proofs.is_quiet.Tie as tie

@@ -1,4 +1,4 @@
--- `gate::is_sound` meets its contract. Assumes nothing.
+-- `gate::is_sound` meets its contract.
 use mathlib.Core.Path.{sym, _∙_}
 use denote.Ref.{now}
 use borrow.Author.Tests.{lt-ltb, le-ltb}

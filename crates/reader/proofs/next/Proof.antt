@@ -2,7 +2,6 @@
 -- slice and the number. All that the proof knows of `walk_datagram` is that it meets its contract.
 -- The struct and the slices are Copy: what each owns is had twice, one copy is kept whole for the exit, and the other goes to the callee, beside the
 -- lifetimes' tokens, which come back. What the state owns is plain, and made anew.
--- Assumes nothing.
 use mathlib.Core.Path.{_≡_, refl}
 use Prim.Native.Nat.{ℕ, _<_, _^_}
 use mathlib.Core.List.{List, [], _∷_}

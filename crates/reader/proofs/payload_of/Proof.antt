@@ -2,7 +2,6 @@
 -- outcome. All that the proof knows of `payload_in` is that it meets its contract.
 -- The struct is Copy: what it owns is had twice, one copy is kept whole for the exit, and of the other what the datagram owns goes to the callee,
 -- beside the lifetime's token, which comes back. What the outcome owns is plain, and made anew.
--- Assumes nothing.
 use mathlib.Core.Path.{_≡_, refl}
 use Prim.Native.Nat.{ℕ}
 use mathlib.Core.List.{List, [], _∷_}

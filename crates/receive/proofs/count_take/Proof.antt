@@ -1,4 +1,4 @@
--- `receive::count_take` meets its contract. Assumes nothing.
+-- `receive::count_take` meets its contract.
 use borrow.Author.Needs.{needs}
 use Rattle.receive.proofs.count_take.Statement.{statement}
 use Rattle.receive.proofs.count_take.Tie as tie

@@ -1,4 +1,4 @@
--- `receive::walk_datagram` meets its contract. Assumes nothing.
+-- `receive::walk_datagram` meets its contract.
 use lib.ListN.{length}
 use Rattle.receive.proofs.Walking.{may-walk, walk-done, walk-none}
 use borrow.Author.Needs.{needs}

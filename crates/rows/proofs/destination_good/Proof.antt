@@ -1,4 +1,4 @@
--- `rows::destination_good` meets its contract. Assumes nothing.
+-- `rows::destination_good` meets its contract.
 use Rattle.rows.specs.Rules.{destinationGood}
 use borrow.Author.Needs.{needs}
 use Rattle.rows.proofs.destination_good.Statement.{statement}

@@ -1,5 +1,5 @@
 -- `scan::first_bad_route` meets its contract. The loop's invariant: what is left of the search has the whole one's answer, and
--- the marks of the rows passed are noted. Assumes nothing.
+-- the marks of the rows passed are noted.
 use Rattle.scan.proofs.Marks.{Noted, noted-new, noted-more, routes-marked}
 use Rattle.scan.proofs.Rows.{At, bad-row, shared-row, good-row}
 use Rattle.scan.specs.Marks.{routeMark}

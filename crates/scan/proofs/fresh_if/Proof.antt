@@ -1,4 +1,4 @@
--- `scan::fresh_if` meets its contract. Assumes nothing.
+-- `scan::fresh_if` meets its contract.
 use mathlib.Core.Path.{sym}
 use borrow.Author.Needs.{needs}
 use Rattle.scan.proofs.fresh_if.Statement.{statement}

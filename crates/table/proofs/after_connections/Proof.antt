@@ -1,4 +1,4 @@
--- `table::after_connections` meets its contract. Assumes nothing.
+-- `table::after_connections` meets its contract.
 use Rattle.table.proofs.Answers.{then-refused, then-accepted}
 use Rattle.table.proofs.Places.{routes-place, destinations-place}
 use Rattle.table.specs.Table.{rowsPlace}

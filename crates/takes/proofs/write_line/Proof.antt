@@ -1,4 +1,4 @@
--- `takes::write_line` meets its contract. Assumes nothing.
+-- `takes::write_line` meets its contract.
 use mathlib.Core.Path.{sym}
 use lib.Seq.{length-take-le}
 use borrow.Author.Needs.{needs}

@@ -1,4 +1,4 @@
--- `ticks::tick_one` meets its contract. Assumes nothing.
+-- `ticks::tick_one` meets its contract.
 use borrow.Author.Needs.{needs}
 use mathlib.Core.Path.{sym, ap, _∙_}
 use Rattle.ticks.proofs.Turns.{rests-tick}
