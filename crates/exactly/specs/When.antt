@@ -121,7 +121,7 @@ module _ (image : List ℕ) (m : Machine) where
     sends = nowhere ∷ allOff ∷ askedFrom (destinations image) 0
 
   -- THE CHECKS OF AN EVENT (R4.2): 11, 12, 2, 3, then the event's own. When a connection event is not allowed (3) is R4.5:
-  -- connection/specs/Event `openAllowed` and its fellows
+  -- connection/specs/Event `openAllowed`, `closeAllowed` and the rest
   unfoldable pub checksFor : Event → List Check
   checksFor (on k (change Open)) = firstOf k (check (not (openAllowed (row k) (here k))) 3 ∷ [])
   checksFor (on k (change Close)) = firstOf k (check (not (closeAllowed (row k) (here k))) 3 ∷ [])

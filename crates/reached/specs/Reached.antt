@@ -1,4 +1,4 @@
--- NO NUMBER IS LISTED IN VAIN: for each kind of event and each number listed for it (demands/specs/Numbers, `numbersFor`) a table, a state
+-- EACH LISTED NUMBER DOES OCCUR: for each kind of event and each number listed for it (demands/specs/Numbers, `numbersFor`) a table, a state
 -- and an event of that kind that is answered that number.
 use Prim.Native.Nat.{ℕ}
 use mathlib.Core.Path.{_≡_}
