@@ -1,4 +1,4 @@
--- THE DISPATCHER: the step of the event that a number and a body spell, with its answer in an out buffer, the new state and all
+-- THE DISPATCHER (R16.1): the step of the event that a number and a body spell, with its answer in an out buffer, the new state and all
 -- memory (docs/EVENTS.md).
 use Prim.Native.Nat.{ℕ}
 use mathlib.Core.Bool.{cond}

@@ -1,4 +1,4 @@
--- Numbered things and a test of each.
+-- Numbered things and a test of each: the first bad one (of rows, R1.10).
 use Prim.Native.Nat.{ℕ, zero, suc}
 use mathlib.Core.Bool.{Bool, true, cond, _&&_}
 

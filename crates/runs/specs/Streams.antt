@@ -1,4 +1,4 @@
--- THE STREAM OF A TCP CONNECTION in a run: the bytes of its accepted segments, each beside the switch word that stands when it is
+-- R15.5, THE STREAM OF A TCP CONNECTION in a run: the bytes of its accepted segments, each beside the switch word that stands when it is
 -- read; one stream for each online period.
 use Prim.Native.Nat.{ℕ}
 use mathlib.Core.Path.{_≡_}
