@@ -1,4 +1,4 @@
-/* events.c: the entry points in plain C by the rules of document 01. */
+/* events.c: the entry points in plain C by docs/RULES.md. */
 #include "events.h"
 
 #include "system.h"

@@ -1,4 +1,4 @@
-/* table.c: the check of the table image and the lookup of a route, in plain C by the rules of document 01. */
+/* table.c: the check of the table image and the lookup of a route, in plain C by docs/RULES.md. */
 #include "table.h"
 
 #include "system.h"

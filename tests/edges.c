@@ -1,6 +1,6 @@
 /* edges.c: the table check as the bench computer would call it.
  *
- *   edges          the 86-byte image of document 01, then each single-byte change of it (86 x 255), a line each
+ *   edges          the 86-byte image of R1.12 (docs/RULES.md), then each single-byte change of it (86 x 255), a line each
  *   edges FILE ..  the image in each file, a line each
  *
  * A line is what was checked, then "accepted" or "refused at PLACE".

@@ -1,4 +1,4 @@
-//! The events, and what the core answers to each: document 01, "Answer numbers", "Connection events and others".
+//! The events, and what the core answers to each: sections 4 and 8 of the rules.
 
 use crate::connection::{close, connected, lost, open, set_remote, switch, tick};
 use crate::fault::{or, seeded, Fault};

@@ -30,7 +30,7 @@ pub fn walk(image: &[u8], connection: u64, switches: u32, datagram: &[u8], place
     numbers.number(image.len() as u64, 4).bytes(image).bytes(datagram).0
 }
 
-/// The answer that document 01 gives to a request.
+/// The answer that the rules give to a request.
 pub fn expected(request: &[u8]) -> Vec<u8> {
     let (function, arguments) = request.split_first().expect("a request names a function");
     match *function {

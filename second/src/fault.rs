@@ -1,5 +1,5 @@
-//! Seeded faults: wrong readings of document 01 that the model takes on request, so that the comparison can be tried. Without
-//! a request none is on, and the model is document 01's.
+//! Seeded faults: wrong readings of the rules that the model takes on request, so that the comparison can be tried. Without
+//! a request none is on, and the model is that of the rules.
 
 use std::cell::Cell;
 

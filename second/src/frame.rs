@@ -1,4 +1,4 @@
-//! Document 01, framing: "takes an id, a payload and an out buffer, checks 7 and then 9, and writes header and payload to the
+//! Section 6 of the rules, framing: "takes an id, a payload and an out buffer, checks 7 and then 9, and writes header and payload to the
 //! buffer's front; the bytes after them stay."
 
 use crate::bytes::Writer;

@@ -1,4 +1,4 @@
-//! Document 01, "Headers and streams": a header, which receive route counts for it, and why it is dropped.
+//! R5.1 to R5.6: a header, which receive route counts for it, and why it is dropped.
 
 use crate::bytes::number;
 use crate::fault::{or, seeded, Fault};

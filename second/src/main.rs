@@ -1,4 +1,4 @@
-//! The second program: document 01 written down once more, independently, and compared with the C functions of libsoad.a and
+//! The second program: the rules (docs/RULES.md) written down once more, independently, and compared with the C functions of libsoad.a and
 //! with the program `run`.
 
 mod bytes;

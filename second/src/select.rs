@@ -1,4 +1,4 @@
-//! Document 01, "Datagrams": which connection of a group a source belongs to.
+//! R7.1 to R7.6: which connection of a group a source belongs to.
 
 use crate::fault::{or, seeded, Fault};
 use crate::state::{Mode, Record, State, RECORDS};

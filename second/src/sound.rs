@@ -1,4 +1,4 @@
-//! Document 01, "Sound": each rule by itself.
+//! Section 3 of the rules, soundness: each rule by itself.
 
 use crate::state::{Mode, Record, State};
 use crate::stream::{Part, READY};

@@ -1,4 +1,4 @@
-//! Document 01, "State and memory": the sixteen records, lent memory, and what is fresh.
+//! Section 2 of the rules: the sixteen records, lent memory, and what is fresh.
 
 use crate::fault::{seeded, Fault};
 use crate::stream::{Part, READY};

@@ -1,4 +1,4 @@
-//! Document 01, "Headers and streams": the take, a byte at a time.
+//! R5.8 to R5.14: the take, a byte at a time.
 
 use crate::fault::{or, seeded, Fault};
 use crate::header::{lookup, Header};

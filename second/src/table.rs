@@ -1,4 +1,4 @@
-//! Document 01, "The table image": rows, parse and check. The sentences of document 01 stand in quotes.
+//! The table image (section 1 of the rules): rows, parse and check.
 
 use crate::bytes::{number, Reader, Writer};
 use crate::fault::{or, seeded, Fault};
@@ -253,7 +253,7 @@ fn read_destination(mut row: Reader, table: &Table) -> Option<Destination> {
     good.then_some(Destination { connection, trigger: trigger == 1, longest, id, pdu, timeout, groups })
 }
 
-/// The 86-byte image of document 01.
+/// The 86-byte image of R1.12.
 pub fn whole_image() -> Vec<u8> {
     crate::bytes::unhex(
         "00 01 00 04

@@ -1,4 +1,4 @@
-//! Document 01, "Transmit" and "Take waiting bytes".
+//! Transmit and take waiting: section 10 of the rules.
 
 use crate::fault::{or, seeded, Fault};
 use crate::frame::spell;

@@ -1,4 +1,4 @@
-//! Document 01, "Datagrams": the walk through one datagram.
+//! R7.7 to R7.12: the walk through one datagram.
 
 use crate::fault::{or, seeded, Fault};
 use crate::header::{lookup, Header, CUT, HEADER};

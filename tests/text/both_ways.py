@@ -85,7 +85,7 @@ def examples():
     rows = ("group 0 UDP\nconnection 0 group 0 automatic remote any port any send 1472 bytes switches 0x00000001\n"
             "route 0 connection 0 longest 2 bytes id 0x00000101 pdu 0x0007 groups 0x00000001\n"
             "destination 0 connection 0 trigger longest 2 bytes id 0x00000202 pdu 0x0009 timeout 0 ticks groups 0x00000000\n")
-    there_and_back("table", rows, whole, rows, "the image of document 01")
+    there_and_back("table", rows, whole, rows, "the image of R1.12")
     empty = bytes.fromhex("00010004" "0001000000000024" "0002000000000024" "0003000000000024" "0004000000000024")
     there_and_back("table", "\n", empty, "# nothing\n", "the table without rows")
     other = contents("examples", "debarker-too-long.table")  # refused by the check, and not here

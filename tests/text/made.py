@@ -1,5 +1,5 @@
 """Rows of a table and entries of a script, each made twice from the pages and never by the tools: as the words a person writes, and as
-bytes (the table image of document 01; docs/EVENTS.md). A word is a str, a Num, bytes (shown in hex), a Host or a Port."""
+bytes (section 1 of docs/RULES.md; docs/EVENTS.md). A word is a str, a Num, bytes (shown in hex), a Host or a Port."""
 import struct
 from collections import namedtuple
 
@@ -62,7 +62,7 @@ def address(rand):
     return words, b"\4" + bytes(12) + data
 
 
-# Tables that document 01 accepts.
+# Tables that the rules accept.
 
 def connection_row(rand, groups, send):
     group, automatic, switches = rand.randrange(groups), rand.randrange(2), number(rand, 4)

@@ -1,4 +1,4 @@
--- The answers of the events that write no memory, as bytes (docs/EVENTS.md, "The answer"). Assumes nothing: these are definitions.
+-- The answers of the events that write no memory, as bytes (R16.2; docs/EVENTS.md, "The answer").
 use Prim.Native.Nat.{ℕ}
 use mathlib.Core.Bool.{Bool}
 use lib.ListN.{length}

@@ -1,4 +1,4 @@
-// The events that write no memory, each with its answer written to an out buffer. Assumes nothing: every function is total.
+// The events that write no memory, each with its answer written to an out buffer. Every function is total.
 ghost use mathlib.Core.Path.{_≡_};
 ghost use lib.ListN.{length};
 ghost use Rattle.wire.specs.Lay.{lay};

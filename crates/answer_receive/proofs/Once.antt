@@ -1,4 +1,4 @@
--- One take past the gate is the entry point's, on the state that part and drop count are put back into. Assumes nothing.
+-- One take past the gate is the entry point's, on the state that part and drop count are put back into.
 use Prim.Native.Nat.{ℕ, _+_, _-_, _*_, _<_, _≤_}
 use mathlib.Core.Path.{_≡_, refl, sym, ap, ap₂, _∙_}
 use mathlib.Core.Bool.{true, false}

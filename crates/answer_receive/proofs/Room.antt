@@ -1,5 +1,5 @@
 -- THE WHOLE ANSWER OF A SEGMENT EVENT FITS: whatever the takes find, it has no more bytes than `answerRoom` says, and an out buffer of so
--- many is not refused. A take after another is never refused. And what is refused for its length. Assumes nothing.
+-- many is not refused. A take after another is never refused. And what is refused for its length.
 use Prim.Native.Nat.{ℕ, zero, suc, _+_, _-_, _*_, _≤_, _<_}
 use mathlib.Core.Path.{_≡_, refl, sym, ap, ap₂, _∙_, subst}
 use mathlib.Core.Bool.{Bool, true, false, cond}

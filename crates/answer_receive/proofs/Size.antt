@@ -1,5 +1,5 @@
 -- HOW MANY BYTES A TAKE'S ANSWER HAS, against the bytes it reads. A take that stops leaves no header byte and no payload byte held, so
--- the next one that stops has read a whole header, and its PDU stands in the segment. Assumes nothing.
+-- the next one that stops has read a whole header, and its PDU stands in the segment.
 use Prim.Native.Nat.{ℕ, zero, suc, _+_, _-_, _*_, _/_, _%_, _^_, _≤_, _<_}
 use mathlib.Core.Path.{_≡_, refl, sym, ap, _∙_}
 use mathlib.Core.Bool.{Bool, true, false, cond, false≢true}

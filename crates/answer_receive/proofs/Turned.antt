@@ -1,4 +1,4 @@
--- The takes of a segment event past its one gate: a turn of the loop over part and drop count is a take of the event. Assumes nothing.
+-- The takes of a segment event past its one gate: a turn of the loop over part and drop count is a take of the event.
 use Prim.Native.Nat.{ℕ, _+_, _<_, _≤_}
 use mathlib.Core.Path.{_≡_, sym, ap, ap₂, _∙_, subst}
 use mathlib.Core.Bool.{true}

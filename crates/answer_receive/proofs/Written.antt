@@ -1,4 +1,4 @@
--- The bytes of a walk and of a take, as they are written. Assumes nothing.
+-- The bytes of a walk and of a take, as they are written.
 use Prim.Native.Nat.{ℕ, _+_, _%_, _≤_, _<_}
 use mathlib.Core.Path.{_≡_, sym, ap, _∙_}
 use mathlib.Core.List.{List, _++_}

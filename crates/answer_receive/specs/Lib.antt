@@ -1,4 +1,4 @@
--- What the contracts of this crate cite. Assumes nothing.
+-- What the contracts of this crate cite.
 pub mod Long
 pub mod Walk
 pub mod Segment

@@ -1,4 +1,4 @@
--- BYTES THAT ARE TOO LONG FOR AN EVENT (docs/EVENTS.md, "A script"). Assumes nothing: these are definitions.
+-- BYTES THAT ARE TOO LONG FOR AN EVENT (R16.1; docs/EVENTS.md, "A script").
 use Prim.Native.Nat.{ℕ}
 use mathlib.Core.Bool.{Bool}
 use mathlib.Core.List.{List}

@@ -1,5 +1,4 @@
--- A segment event: "the takes over one segment until all is read, one at least", and its answer as bytes (docs/EVENTS.md).
--- Assumes nothing: these are definitions.
+-- A segment event (R5.14), the takes over one segment until all is read, one at least; and its answer as bytes (R16.2; docs/EVENTS.md).
 use Prim.Native.Nat.{ℕ, zero, suc, _+_, _*_}
 use mathlib.Core.Bool.{Bool, true, false, cond, _&&_}
 use mathlib.Core.List.{List, [], _++_}
@@ -85,7 +84,7 @@ module _ (l : Loan) (connection : ℕ) (segment : List ℕ) where
         at = r .at + takeAt (lends r) connection segment (r .at) .read;
       }
 
-  -- "until all is read": a take follows where bytes are left and this one was not refused
+  -- R5.14, until all is read: a take follows where bytes are left and this one was not refused
   abbrev pub takeFollows : Progress → Bool
   takeFollows r = isDone (r .answer) && ltb (r .at) (length segment)
 

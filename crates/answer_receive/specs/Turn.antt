@@ -1,5 +1,4 @@
--- What the inner functions hand back of a take and of all takes, and the front of the event's answer. Assumes nothing: these are
--- definitions.
+-- What the inner functions hand back of a take and of all takes, and the front of the event's answer.
 use Prim.Native.Nat.{ℕ, _+_, _*_, _<_, _≤_}
 use mathlib.Core.Path.{_≡_}
 use mathlib.Core.Bool.{true}

@@ -1,4 +1,4 @@
--- The answer of a walk as bytes (docs/EVENTS.md, "The answer"). Assumes nothing: these are definitions.
+-- The answer of a walk as bytes (R16.2; docs/EVENTS.md, "The answer").
 use Prim.Native.Nat.{ℕ}
 use mathlib.Core.Bool.{cond}
 use mathlib.Core.List.{List, _++_}

@@ -1,5 +1,5 @@
 // A walk and a segment event, each with its answer written to an out buffer. A segment event is the takes over one segment until all
-// is read, one at least. Assumes nothing: every public function is total.
+// is read, one at least. Every public function is total.
 ghost use mathlib.Core.Path.{_≡_};
 ghost use Prim.Native.Nat.{_+_, _≤_};
 ghost use lib.ListN.{length};

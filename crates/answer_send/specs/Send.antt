@@ -1,5 +1,4 @@
--- The answers of a datagram, an accept, a transmit and a take of waiting bytes, as bytes (docs/EVENTS.md, "The answer").
--- Assumes nothing: these are definitions.
+-- The answers of a datagram, an accept, a transmit and a take of waiting bytes, as bytes (R16.2; docs/EVENTS.md, "The answer").
 use Prim.Native.Nat.{ℕ, min}
 use mathlib.Core.List.{List}
 use lib.ListN.{length, take, replicate}

@@ -1,5 +1,5 @@
 // A datagram, an accept, a transmit and a take of waiting bytes, each with its answer written to an out buffer.
-// Assumes nothing: every function is total.
+// Every function is total.
 ghost use mathlib.Core.Path.{_≡_};
 ghost use Prim.Native.Nat.{_≤_};
 ghost use lib.ListN.{length};

@@ -1,4 +1,4 @@
--- Numbers and bytes written one after the other. Assumes nothing.
+-- Numbers and bytes written one after the other.
 use Prim.Native.Nat.{ℕ, _+_, _*_, _/_, _%_, _^_, _≤_, _<_}
 use mathlib.Core.Path.{_≡_, refl, sym, ap, _∙_}
 use mathlib.Core.List.{List, _++_}

@@ -1,4 +1,4 @@
--- An answer is written and handed back. Assumes nothing.
+-- An answer is written and handed back.
 use Prim.Native.Nat.{ℕ}
 use mathlib.Core.Path.{_≡_, ap, ap₂, _∙_}
 use mathlib.Core.List.{List}

@@ -1,4 +1,4 @@
--- The answer of an event as bytes (docs/EVENTS.md, "The answer"). Assumes nothing: these are definitions.
+-- The answer of an event as bytes (R16.2; docs/EVENTS.md, "The answer").
 use Prim.Native.Nat.{ℕ}
 use mathlib.Core.List.{List, _++_}
 use lib.ListN.{length}

@@ -1,5 +1,5 @@
 // The answer of an event, written into a lent out buffer (docs/EVENTS.md): all of it, or nothing where it does not fit; and how
-// many bytes it is. Assumes nothing: every function is total.
+// many bytes it is. Every function is total.
 ghost use mathlib.Core.Path.{_≡_};
 ghost use lib.ListN.{length};
 ghost use Rattle.wire.specs.Lay.{spell, lay};
@@ -47,7 +47,7 @@ pub fn put_refused(out: &mut [u8], number: u16, place: usize) -> usize
     6
 }
 
-// Document 01's number of a refusal.
+// The number of a refusal (R4.1).
 fn refusal_number(reason: Refusal) -> u16
     ensures { λ r. ⌜ r ≡ refusalNumber reason ⌝ }
 {

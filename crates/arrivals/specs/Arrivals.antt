@@ -1,5 +1,5 @@
 -- A datagram and an accept, as a caller sees them: the gate (11, 12), then 2, 3, and 10 or the chosen connection. A refusal
--- carries its number, and the state stays. Assumes nothing.
+-- carries its number, and the state stays.
 use Prim.Native.Nat.{ℕ}
 use mathlib.Core.Bool.{Bool, true, false}
 use Rattle.connection.specs.declared.Remote.{Remote}
@@ -11,10 +11,10 @@ use Rattle.choose.specs.Choose.{arrivalRefused, arriveOf}
 unfoldable pub arrivalOf : Lent → Bool → ℕ → Remote → Arrived
 arrivalOf l accept group source = through (gateOf l) (arrivalRefused (l .state)) (arriveOf (l .image) (l .state) accept group source)
 
--- "A datagram event names a UDP group and a source"
+-- R7.1: a datagram event names a UDP group and a source
 abbrev pub datagramOf : Lent → ℕ → Remote → Arrived
 datagramOf l group source = arrivalOf l false group source
 
--- "An accept event does the same for a TCP group"
+-- R7.2: an accept event does the same for a TCP group
 abbrev pub acceptOf : Lent → ℕ → Remote → Arrived
 acceptOf l group source = arrivalOf l true group source

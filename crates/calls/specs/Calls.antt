@@ -1,5 +1,4 @@
--- The call that an event number and a body spell, row by row as docs/EVENTS.md has them ("Event numbers and bodies").
--- Assumes nothing: these are definitions.
+-- The call that an event number and a body spell, row by row as docs/EVENTS.md has them ("Event numbers and bodies"): R16.1.
 use Prim.Native.Nat.{ℕ, _+_}
 use mathlib.Core.Bool.{Bool, true, false, cond, _&&_}
 use mathlib.Core.List.{List}

@@ -1,5 +1,5 @@
 // The call that an event number and a body spell (docs/EVENTS.md). Bytes stay in the body: a call names where they begin, and
-// they end the body. Assumes nothing: every function is total.
+// they end the body. Every function is total.
 ghost use denote.Ref.{ptr};
 ghost use Rattle.wire.specs.Place.{behind, fromAt};
 ghost use mathlib.Core.Path.{_≡_};

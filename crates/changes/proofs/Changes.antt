@@ -1,5 +1,5 @@
 -- EACH EVENT CHANGES A SOUND STATE: the table holds, by computation over the whole of it (`changes-hold`); and so the event of each
--- row changes the row's state, which is sound (`each-changes`). Assumes nothing.
+-- row changes the row's state, which is sound (`each-changes`).
 use Prim.Native.Nat.{ℕ, zero, suc, _<_}
 use mathlib.Core.Path.{_≡_, refl, sym, ap, _∙_}
 use mathlib.Core.Bool.{true, _&&_}

@@ -1,2 +1,2 @@
--- The table holds, and what follows for each event. Assumes nothing.
+-- The table holds, and what follows for each event.
 pub mod Changes

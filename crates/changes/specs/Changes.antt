@@ -1,7 +1,6 @@
 -- WHAT EACH EVENT CHANGES, as one table: a state that is sound over the edges' image, an event, and a number of the state before
 -- and after it. One statement says all of it: `Hold` of the table.
 -- Every entry that can change the state is in it; reading a count is not, for it changes nothing.
--- Assumes nothing: these are definitions.
 use Prim.Native.Nat.{ℕ}
 use mathlib.Core.Bool.{Bool, true, false, not, _&&_}
 use mathlib.Core.Path.{_≡_}

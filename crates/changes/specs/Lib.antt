@@ -1,2 +1,2 @@
--- What each event changes, as one table. Assumes nothing.
+-- What each event changes, as one table.
 pub mod Changes

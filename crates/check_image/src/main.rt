@@ -1,6 +1,6 @@
 // Reads a table image from standard input and lists its rows with names and units, or says at which byte it is refused
 // and why. The last line is OK or REFUSED. The check, its place and its reason are proved; the wording is tried by
-// stored output (the patterns are those of crate words). Assumes nothing.
+// stored output (the patterns are those of crate words).
 use layout::Kind;
 use layout::body_of;
 use layout::kind_number;

@@ -1,4 +1,4 @@
--- Each answer of an arrival, as the code gives it. Assumes nothing.
+-- Each answer of an arrival, as the code gives it.
 use Prim.Native.Nat.{ℕ, _<_, _≤_}
 use mathlib.Core.Path.{_≡_, ap, ap₂, sym, _∙_}
 use mathlib.Core.Bool.{Bool, true, false, not, _||_}

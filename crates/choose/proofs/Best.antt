@@ -1,4 +1,4 @@
--- One pass finds the best, and there is only one best. Assumes nothing.
+-- One pass finds the best, and there is only one best.
 use Prim.Native.Nat.{ℕ, zero, suc, _+_, _<_, _≤_}
 use mathlib.Core.Path.{_≡_, refl, sym, ap, subst}
 use mathlib.Core.Logic.{⊎-elim}

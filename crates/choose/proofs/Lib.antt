@@ -1,4 +1,4 @@
--- Laws of the crate. Assumes nothing.
+-- Laws of the crate.
 pub mod Best
 pub mod Scores
 pub mod Pass

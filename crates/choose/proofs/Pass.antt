@@ -1,4 +1,4 @@
--- The one pass over the records, at the places where the loop stands. Assumes nothing.
+-- The one pass over the records, at the places where the loop stands.
 use Prim.Native.Nat.{ℕ, _+_, _<_, _≤_}
 use mathlib.Core.Path.{_≡_, ap}
 use mathlib.Core.Bool.{Bool}

@@ -1,4 +1,4 @@
--- A member's score, as the code finds it. Assumes nothing.
+-- A member's score, as the code finds it.
 use Prim.Native.Nat.{ℕ, _+_}
 use mathlib.Core.Path.{_≡_, refl, ap₂, _∙_}
 use mathlib.Core.Bool.{Bool, true, false, not, _&&_, _||_}

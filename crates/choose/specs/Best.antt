@@ -1,5 +1,4 @@
--- The best of numbered candidates, each with a score that is 0 where it is none.
--- Assumes nothing.
+-- The best of numbered candidates, each with a score that is 0 where it is none (R7.5).
 use Prim.Native.Nat.{ℕ, _<_, _≤_}
 use mathlib.Core.Path.{_≡_}
 use mathlib.Core.Bool.{cond}

@@ -1,5 +1,4 @@
--- Which member of a group a source belongs to, and what becomes of it (document 01, "Datagrams"; 004, 00525).
--- Assumes nothing.
+-- Which member of a group a source belongs to, and what becomes of it: R7.1 to R7.6 (requirement 00525 of the standard).
 use Prim.Native.Nat.{ℕ, _+_}
 use mathlib.Core.Bool.{Bool, true, false, cond, not, _&&_, _||_}
 use mathlib.Core.List.{List}
@@ -27,15 +26,15 @@ abbrev pub oneOf : Bool → ℕ
 oneOf true = 1
 oneOf false = 0
 
--- how a match ranks: "the one with more fields equal wins"
+-- R7.5: how a match ranks, by the number of fields that are equal
 unfoldable pub rankOf : Fields → ℕ
 rankOf equal = oneOf (equal .address) + oneOf (equal .port)
 
--- "A field matches when equal, or 0 in the record"
+-- R7.4: a field matches when it is equal, or 0 in the record
 abbrev pub matches : Fields → Fields → Bool
 matches equal wild = (equal .address || wild .address) && (equal .port || wild .port)
 
--- "Members count if reconnect or online without close wanted"; an accept: "over members in reconnect without close wanted"
+-- R7.3: members count in reconnect or online, for an accept only in reconnect, and never with close wanted
 abbrev pub memberCounts : Bool → Connection → Bool
 memberCounts accept c = (isReconnect (c .mode) || (not accept && isOnline (c .mode))) && not (c .«close_wanted»)
 
@@ -58,7 +57,7 @@ module _ (image : List ℕ) (s : State) (accept : Bool) (group : ℕ) (source : 
   unfoldable pub chosenIn : Chosen
   chosenIn = chosenOf scoreAt 16
 
--- "It becomes online with the source as remote"; the answer names it
+-- R7.6: it becomes online with the source as remote, and the answer names it
 abbrev pub meet : State → Remote → Chosen → Arrived
 meet s source Nobody = record { answer = Unmatched; state = s }
 meet s source (At k) =
@@ -71,7 +70,7 @@ arrivalRefused s r = record { answer = Refused r; state = s }
 abbrev pub protocolOf : Bool → ℕ
 protocolOf accept = cond accept 2 1
 
--- 3 for the other protocol, "a source with address 0 or port 0"
+-- R7.1, R7.2: 3 for a group of the other protocol, and for a source with address 0 or port 0
 unfoldable pub deniedOf : List ℕ → Bool → ℕ → Remote → Bool
 deniedOf image accept group source = not (eqb (groupOf image group .protocol) (protocolOf accept)) || wildcard source
 
@@ -82,7 +81,7 @@ arriveOf image s accept group source =
     (cond (deniedOf image accept group source) (arrivalRefused s Denied)
     (meet s source (chosenIn image s accept group source)))
 
--- document 01's number of an answer
+-- R4.1: the number of an answer
 abbrev pub arrivalNumber : Arrival → ℕ
 arrivalNumber (Met k) = 0
 arrivalNumber (Refused r) = refusalNumber r

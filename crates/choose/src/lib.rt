@@ -1,5 +1,5 @@
 // Which member of a group a source belongs to: one pass over the records, more equal fields first, then the lowest number.
-// Assumes nothing: every function is total.
+// Every function is total.
 ghost use mathlib.Core.Path.{_≡_};
 ghost use Prim.Native.Nat.{_≤_, _<_};
 ghost use Rattle.choose.specs.Choose as Is;

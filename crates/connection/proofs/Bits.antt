@@ -1,4 +1,4 @@
--- What a switch is worth. Assumes nothing.
+-- What a switch is worth.
 use Prim.Native.Nat.{ℕ, zero, suc, _-_, _+_, _<_, _≤_, _*_, _/_, _%_, _^_, max}
 use mathlib.Core.Path.{_≡_, refl, sym, ap, _∙_}
 use mathlib.Core.Bool.{Bool, true, false, cond}
@@ -72,7 +72,7 @@ other-bit n k ne = go (leb k n) refl
         ap (λ (m : ℕ). bitAt k (2 ^ m)) e ∙ low-bit k (n - suc k)
     go false h = ap (λ (x : ℕ). x % 2) (div-eq-of-lt (pow-lt (leb-false k n h)))
 
--- "switch n is the bit worth 2 to the n": it is on or off afterwards, and every other bit stays
+-- R2.3, R8.8, switch n is the bit worth 2 to the n: it is on or off afterwards, and every other bit stays
 pub switch-own : (n : ℕ) (on : Bool) (w : ℕ) → n < 32 → bitAt n (switchOf n on w) ≡ cond on 1 0
 unfolding switchOf worth
 switch-own n on w h = rw (lt-ltb n 32 h) (go on)

@@ -1,4 +1,4 @@
--- Each method leaves a sound record sound. Assumes nothing.
+-- Each method leaves a sound record sound.
 use Prim.Native.Nat.{ℕ, _-_}
 use lib.Dec.{eqb, leb, ltb, leb·zero}
 use mathlib.Core.Path.{_≡_, refl, sym, ap, _∙_}

@@ -1,4 +1,4 @@
--- What an event of the record alone leaves of the bytes held and of the mode: said once for every law above. Assumes nothing.
+-- What an event of the record alone leaves of the bytes held and of the mode: said once for every law above.
 use mathlib.Core.Path.{_≡_, refl, sym}
 use mathlib.Core.Bool.{Bool, true, false, cond}
 use Rattle.part.specs.Part.{ready}

@@ -1,4 +1,4 @@
--- The laws of the crate. Assumes nothing.
+-- The laws of the crate.
 pub mod Bits
 pub mod Ticks
 pub mod Rules

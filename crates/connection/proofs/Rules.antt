@@ -1,4 +1,4 @@
--- The rules of a sound record, from the test and back; the zero record. Assumes nothing.
+-- The rules of a sound record, from the test and back; the zero record.
 use lib.Dec.{eqb}
 use mathlib.Core.Path.{_≡_, refl}
 use mathlib.Core.Bool.{Bool, true, false, not, _&&_}

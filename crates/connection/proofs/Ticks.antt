@@ -1,4 +1,4 @@
--- The two ways of an event, and of a tick. Assumes nothing.
+-- The two ways of an event, and of a tick.
 use mathlib.Core.Path.{_≡_, refl, sym, ap, _∙_}
 use mathlib.Core.Bool.{Bool, true, false, cond, not, _&&_, _||_}
 use lib.Dec.{eqb}

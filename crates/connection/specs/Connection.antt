@@ -1,4 +1,4 @@
--- One connection record, and what each event makes of it, in the words of document 01. Assumes nothing.
+-- One connection record (R2.2), and what each event makes of it (sections 8 and 9 of the rules).
 use Prim.Native.Nat.{ℕ, _-_, _^_}
 use lib.Dec.{eqb, ltb}
 use lib.Bits.{bitOr, bitXor}
@@ -113,7 +113,7 @@ withSend u t d c =
       due = d;
     }
 
--- "Fresh: offline, nothing wanted or held, remote and switches from the table"
+-- R2.12: a fresh record is offline, wants and holds nothing, and has remote and switches from the table
 abbrev pub freshOf : Config → Connection
 freshOf g =
     record {
@@ -141,31 +141,31 @@ become m c = withMode m (c .«open_wanted») (c .«close_wanted») c
 abbrev pub emptied : Connection → Connection
 emptied c = withPart ready (withSend 0 0 false c)
 
--- "Open .. sets open wanted"
+-- R8.3: open sets open wanted
 abbrev pub openOf : Connection → Connection
 openOf c = withMode (c .mode) true (c .«close_wanted») c
 
--- "Close .. sets close wanted, clears open"
+-- R8.4: close sets close wanted and clears open wanted
 abbrev pub closeOf : Connection → Connection
 closeOf c = withMode (c .mode) false true c
 
--- "Connected .. becomes online"
+-- R8.5: connected becomes online
 abbrev pub connectedOf : Connection → Connection
 connectedOf c = become Online c
 
--- "Lost .. becomes reconnect, held bytes dropped, remote as configured"
+-- R8.6: lost becomes reconnect, drops what it holds, and takes the configured remote
 abbrev pub lostOf : Config → Connection → Connection
 lostOf g c = become Reconnect (withRemote (g .remote) (emptied c))
 
--- "Set remote"
+-- R8.7: set remote
 abbrev pub remoteOf : Remote → Connection → Connection
 remoteOf r c = withRemote r c
 
--- "It becomes online with the source as remote"
+-- R7.6: it becomes online with the source as remote
 abbrev pub metOf : Remote → Connection → Connection
 metOf source c = become Online (withRemote source c)
 
--- "switch n is the bit worth 2 to the n"; a number above 31 is no switch
+-- R2.3: switch n is the bit worth 2 to the n; a number above 31 is no switch
 unfoldable pub worth : ℕ → ℕ
 worth n = cond (ltb n 32) (2 ^ n) 0
 
@@ -173,26 +173,26 @@ worth n = cond (ltb n 32) (2 ^ n) 0
 unfoldable pub switchOf : ℕ → Bool → ℕ → ℕ
 switchOf n on w = cond on (bitOr w (worth n)) (bitXor (bitOr w (worth n)) (worth n))
 
--- "Switch one routing group of one connection"
+-- R8.8: one switch of one connection
 abbrev pub switchedOf : ℕ → Bool → Connection → Connection
 switchedOf n on c = withSwitches (switchOf n on (c .switches)) c
 
--- "Close wanted: back to the fresh record except switches"
+-- R9.2: with close wanted back to the fresh record, but for the switches
 abbrev pub closedOf : Config → Connection → Connection
 closedOf g c = withSwitches (c .switches) (freshOf g)
 
--- "offline with open wanted or automatic becomes reconnect, open cleared"
+-- R9.3: offline with open wanted or automatic becomes reconnect, open wanted cleared
 unfoldable pub startedOf : Config → Connection → Connection
 startedOf g c = cond (isOffline (c .mode) && (c .«open_wanted» || g .automatic)) (withMode Reconnect false (c .«close_wanted») c) c
 
--- "then UDP reconnect without wildcard becomes online"
+-- R9.4: then UDP reconnect without wildcard becomes online
 unfoldable pub reachOf : Config → Connection → Connection
 reachOf g c = cond (isReconnect (c .mode) && not (g .tcp) && not (wildcard (c .remote))) (become Online c) c
 
--- "a running timer falls by 1 and at 0 becomes due"
+-- R9.5: a running timer falls by 1 and at 0 becomes due
 unfoldable pub runOf : Connection → Connection
 runOf c = cond (eqb (c .timer) 0) c (withSend (c .used) (c .timer - 1) (eqb (c .timer) 1 || c .due) c)
 
--- Tick: "Close wanted: .. nothing more this tick. Otherwise: .."
+-- R9.1, a tick: with close wanted R9.2 and nothing more; otherwise R9.3, R9.4, R9.5
 unfoldable pub tickOf : Config → Connection → Connection
 tickOf g c = cond (c .«close_wanted») (closedOf g c) (runOf (reachOf g (startedOf g c)))

@@ -1,4 +1,5 @@
--- The connection events that concern the record alone: when each is allowed, what it leaves, and document 01's numbers. Assumes nothing.
+-- The connection events that concern the record alone: when each is allowed (R4.5), what it leaves (section 8 of the rules), and the
+-- numbers of answers (R4.1).
 use Prim.Native.Nat.{ℕ}
 use lib.Dec.{ltb}
 use mathlib.Core.Bool.{Bool, true, false, cond, not, _&&_, _||_}
@@ -13,7 +14,7 @@ use Rattle.connection.specs.declared.Event.{Event}
 use Rattle.connection.specs.declared.Event.the-variants.{Open, Close, Connected, Lost, SetRemote, Switch}
 use Rattle.connection.specs.Connection.{isOffline, isReconnect, isOnline, wildcard, openOf, closeOf, connectedOf, lostOf, remoteOf, switchedOf}
 
--- document 01's numbers
+-- R4.1: the numbers
 abbrev pub refusalNumber : Refusal → ℕ
 refusalNumber Memory = 11
 refusalNumber Unsound = 12
@@ -24,23 +25,23 @@ abbrev pub answerNumber : Answer → ℕ
 answerNumber Done = 0
 answerNumber (Refused r) = refusalNumber r
 
--- "Open: non-automatic, offline, no close wanted, else 3"
+-- R4.5, open: non-automatic, offline, no close wanted
 abbrev pub openAllowed : Config → Connection → Bool
 openAllowed g c = not (g .automatic) && isOffline (c .mode) && not (c .«close_wanted»)
 
--- "Close: non-automatic, and open wanted or not offline, else 3"
+-- R4.5, close: non-automatic, and open wanted or not offline
 abbrev pub closeAllowed : Config → Connection → Bool
 closeAllowed g c = not (g .automatic) && (c .«open_wanted» || not (isOffline (c .mode)))
 
--- "Connected: TCP, reconnect, no close wanted, remote without wildcard, else 3"
+-- R4.5, connected: TCP, reconnect, no close wanted, remote without wildcard
 abbrev pub connectedAllowed : Config → Connection → Bool
 connectedAllowed g c = g .tcp && isReconnect (c .mode) && not (c .«close_wanted») && not (wildcard (c .remote))
 
--- "Lost: TCP online, else 3"
+-- R4.5, lost: TCP online
 abbrev pub lostAllowed : Config → Connection → Bool
 lostAllowed g c = g .tcp && isOnline (c .mode)
 
--- "Set remote: not online, else 3"
+-- R4.5, set remote: not online
 abbrev pub remoteAllowed : Connection → Bool
 remoteAllowed c = not (isOnline (c .mode))
 

@@ -1,4 +1,4 @@
--- The definitions of the crate. Assumes nothing.
+-- The definitions of the crate.
 pub mod Connection
 pub mod Event
 pub mod Sound

@@ -1,5 +1,4 @@
--- When one record is sound: a rule for each sentence of document 01's paragraph that speaks of the record and its table row
--- alone. Assumes nothing.
+-- When one record is sound: the rules of section 3 that speak of the record and its table row alone.
 use lib.Dec.{eqb, leb, ltb}
 use mathlib.Core.Path.{_≡_}
 use mathlib.Core.Bool.{Bool, true, not, _&&_, _||_}
@@ -8,42 +7,43 @@ use Rattle.connection.specs.declared.Connection.{Connection}
 use Rattle.connection.specs.declared.Config.{Config}
 use Rattle.connection.specs.Connection.{isOffline, isOnline, wildFields, wildcard}
 
--- "send used at most the send size"
+-- R3.2: the bytes used are at most the send size
 abbrev pub usedFits : Config → Connection → Bool
 usedFits g c = leb (c .used) (g .size)
 
--- "an unfinished payload holds fewer bytes than its length"; 0..7 header bytes, at least one byte to skip
+-- R3.3: fewer payload bytes than the length; 0..7 header bytes; at least one byte to skip
 abbrev pub partShaped : Connection → Bool
 partShaped c = shaped (c .part)
 
--- "only an online TCP connection has a receive part, of one kind"
+-- R3.5: only an online TCP connection has a receive part
 abbrev pub receives : Config → Connection → Bool
 receives g c = emptyPart (c .part) || (isOnline (c .mode) && g .tcp)
 
--- "only an online one has send bytes"
+-- R3.6: only an online connection has bytes used
 abbrev pub sends : Connection → Bool
 sends c = eqb (c .used) 0 || isOnline (c .mode)
 
--- "timer or due only with send bytes"
+-- R3.7: timer or due only with bytes used
 abbrev pub timed : Connection → Bool
 timed c = (eqb (c .timer) 0 && not (c .due)) || ltb 0 (c .used)
 
--- "never both"
+-- R3.8: never both
 abbrev pub neverBoth : Connection → Bool
 neverBoth c = eqb (c .timer) 0 || not (c .due)
 
--- "an online remote has no wildcard"
+-- R3.9: an online remote has no wildcard
 abbrev pub onlineRemote : Connection → Bool
 onlineRemote c = not (isOnline (c .mode)) || not (wildcard (c .remote))
 
--- "open wanted only on a non-automatic offline record and never with close wanted"
+-- R3.10: open wanted only on a non-automatic offline record, and never with close wanted
 abbrev pub openRule : Config → Connection → Bool
 openRule g c = not (c .«open_wanted») || (not (g .automatic) && isOffline (c .mode) && not (c .«close_wanted»))
 
--- "close wanted never on an automatic UDP record nor on an automatic offline one"
+-- R3.11: close wanted never on an automatic UDP record, nor on an automatic offline one
 abbrev pub closeRule : Config → Connection → Bool
 closeRule g c = not (c .«close_wanted») || not (g .automatic) || (g .tcp && not (isOffline (c .mode)))
 
+-- R3.2, R3.3, R3.5 to R3.11: all of them
 unfoldable pub soundOf : Config → Connection → Bool
 soundOf g c =
     usedFits g c
@@ -56,7 +56,7 @@ soundOf g c =
     && openRule g c
     && closeRule g c
 
--- the same rules, each by its name
+-- these rules as facts, each by its name
 pub record Sound (g : Config) (c : Connection) : Type 0 where
   pub fits : usedFits g c ≡ true
   pub shape : partShaped c ≡ true
@@ -68,7 +68,7 @@ pub record Sound (g : Config) (c : Connection) : Type 0 where
   pub opening : openRule g c ≡ true
   pub closing : closeRule g c ≡ true
 
--- "records past the row count are all zero"
+-- R2.14, R3.1: records past the row count are all zero
 unfoldable pub zeroOf : Connection → Bool
 zeroOf c =
     isOffline (c .mode)

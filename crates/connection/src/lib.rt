@@ -1,5 +1,5 @@
 // One connection record and what each event makes of it. Methods take the record by value and return it.
-// Assumes nothing: every function is total.
+// Every function is total.
 ghost use mathlib.Core.Path.{_≡_};
 ghost use Rattle.connection.specs.Connection as Is;
 ghost use Rattle.connection.specs.Event as Ev;

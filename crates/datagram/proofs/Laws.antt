@@ -1,4 +1,4 @@
--- A step of the walk, by the tests that led there. Assumes nothing.
+-- A step of the walk, by the tests that led there.
 use Prim.Native.Nat.{ℕ, _+_, _-_, _≤_}
 use mathlib.Core.Path.{_≡_, ap, _∙_}
 use mathlib.Core.List.{List}

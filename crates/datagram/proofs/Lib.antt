@@ -1,2 +1,2 @@
--- The laws of a step. Assumes nothing.
+-- The laws of a step.
 pub mod Laws

@@ -1,4 +1,4 @@
--- A step of the walk as its function answers it. Assumes nothing: these are definitions.
+-- A step of the walk as its function answers it.
 use Prim.Native.Nat.{ℕ}
 use mathlib.Core.List.{List}
 use Rattle.route.specs.Route.{lookupOf}
@@ -8,13 +8,13 @@ use Rattle.datagram.specs.declared.Outcome.{Outcome}
 use Rattle.datagram.specs.declared.Outcome.the-variants.{End, Pdu, Drop}
 use Rattle.datagram.specs.declared.Walked.{Walked}
 
--- "gives the next PDU, a drop, or the end"
+-- R7.8, R7.10: the next PDU, a drop, or the end
 abbrev pub walkOutcome : Found → Outcome
 walkOutcome the-end = End
 walkOutcome (a-pdu route place n id) = Pdu route id place n
 walkOutcome (a-drop reason id n) = Drop reason id n
 
--- "with the next place"
+-- R7.8: with the next place
 abbrev pub stepped : reading.Walked → Walked
 stepped w = record { outcome = walkOutcome (w .found); next = w .next }
 

@@ -1,5 +1,4 @@
 // A step of the walk over a datagram: what stands at a place, and the next place. Total: a place beyond the end is the end.
-// Assumes nothing.
 ghost use mathlib.Core.Path.{_≡_};
 ghost use Prim.Native.Nat.{_+_, _<_, _^_};
 ghost use lib.ListN.{length};

@@ -1,4 +1,4 @@
--- AN ONLINE PERIOD of a TCP connection ends by a loss or a closing tick, and by nothing else. Assumes nothing.
+-- AN ONLINE PERIOD of a TCP connection ends by a loss or a closing tick, and by nothing else.
 use Prim.Native.Nat.{ℕ}
 use mathlib.Core.Path.{_≡_, refl, sym, ap, _∙_, subst}
 use mathlib.Core.Bool.{Bool, true, false, not, false≢true}

@@ -1,4 +1,4 @@
--- The demands: 1 (Refusals, Refused, Numbers, Single), 2 (Waiting from Empties, Trip from Walking), 3 (Three from Runs, Ends); uniqueness (Unique). Assumes nothing.
+-- The demands: 1 (Refusals, Refused, Numbers, Single), 2 (Waiting from Empties, Trip from Walking), 3 (Three from Runs, Ends); uniqueness (Unique).
 pub mod Runs
 pub mod Refused
 pub mod Refusals

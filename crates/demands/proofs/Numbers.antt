@@ -1,5 +1,4 @@
--- WHICH NUMBERS (document 01, "Answer numbers"): from any table, state and memory each event is answered one of the numbers listed for it.
--- Assumes nothing.
+-- WHICH NUMBERS (R4.1): from any table, state and memory each event is answered one of the numbers listed for it.
 use Prim.Native.Nat.{ℕ, _+_}
 use mathlib.Core.Path.{_≡_, refl, sym, subst, _∙_}
 use mathlib.Core.Bool.{Bool, true, false, cond, not, _||_, or-true}
@@ -285,7 +284,7 @@ module _ (image : List ℕ) (m : Machine) where
         go false false true p = look-refuses k (found-bad (λ i. passes (look i)) rows (ltb-true k rows p))
         go false false false p = tt
 
-    -- "the first refusal deciding with its destination named": by 4, 7 or 8
+    -- R10.2: the first refusal decides and names its destination: by 4, 7 or 8
     pub refused-at : (number d : ℕ) → checkOf image s pdu (length payload) ≡ Sent.RefusedAt number d → among number (4 ∷ 7 ∷ 8 ∷ []) ≡ true
     refused-at number d e = subst Checked e checked
 

@@ -1,5 +1,5 @@
--- DEMAND 1: "A refusal carries its number and changes neither state nor lent memory": of every event, and of many ticks under one check,
--- from any table, state and memory. Assumes nothing.
+-- R4.7, a refusal changes neither state nor lent memory: of every event, and of many ticks under one check,
+-- from any table, state and memory.
 use Prim.Native.Nat.{ℕ}
 use mathlib.Core.Path.{_≡_, refl, ap, _∙_}
 use mathlib.Core.Bool.{Bool, true, false, cond, or-true}

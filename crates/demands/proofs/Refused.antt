@@ -1,7 +1,6 @@
--- DEMAND 1, of any table, state and memory: where the gate refuses, it is by 11 or 12 as document 01 says; every event of a run is answered
+-- DEMAND 1, of any table, state and memory: where the gate refuses, it is by 11 or 12 as R4.3 says; every event of a run is answered
 -- that number, and leaves state and lent memory as they were. So from any machine of sixteen records a run passes the gate and keeps it
 -- good, or is refused throughout and leaves it as it is.
--- Assumes nothing.
 use Prim.Native.Nat.{ℕ}
 use mathlib.Core.Path.{_≡_, refl, sym, ap, ap₂, _∙_, subst}
 use mathlib.Core.Bool.{Bool, true, false, cond, not, _||_, false≢true}

@@ -1,6 +1,5 @@
 -- THE DEMANDS, OF THE ENTRY POINTS. Start from one accepted table, one sound state and memory of the right lengths, each call lent the
 -- memory that the last one left; take any run of events.
--- Assumes nothing.
 use Prim.Native.Nat.{ℕ, zero, suc, _<_}
 use mathlib.Core.Path.{_≡_, refl, sym, ap, ap₂, _∙_, subst}
 use mathlib.Core.Bool.{true}

@@ -1,6 +1,5 @@
 -- ONE TAKE IS A SEGMENT EVENT, of just the bytes that it reads, from any table, state and memory: so a caller who takes once, does
 -- something else and takes the rest later makes a run of events too.
--- Assumes nothing.
 use Prim.Native.Nat.{ℕ, zero, suc, _+_, _-_, _≤_, _*_, _/_, _%_, _^_}
 use mathlib.Core.Path.{_≡_, refl, sym, ap, ap₂, _∙_}
 use mathlib.Core.Bool.{Bool, true, false, cond}

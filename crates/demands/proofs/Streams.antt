@@ -1,5 +1,5 @@
 -- THE STREAMS OF A TCP CONNECTION IN A RUN OF THE MACHINE are those of the world's run: so demand 3's list is read off the machine's own
--- records; and what ends an online period there. Assumes nothing.
+-- records; and what ends an online period there.
 use Prim.Native.Nat.{ℕ, _<_}
 use mathlib.Core.Path.{_≡_, refl, sym, ap, ap₂, _∙_, subst}
 use mathlib.Core.Bool.{Bool, true, cond, not, _&&_}

@@ -1,6 +1,6 @@
 -- DEMAND 3, ONE THEOREM: from one accepted table, one sound state and memory of the right lengths, runs that count as the same end in the
 -- same state, have handed out the same PDUs, and these are exactly demand 2's. And such a start: a fresh state with any memory of the right
--- lengths. Assumes nothing.
+-- lengths.
 use Prim.Native.Nat.{ℕ}
 use mathlib.Core.Path.{_≡_, refl}
 use mathlib.Core.List.{List}

@@ -2,7 +2,6 @@
 -- stored since nothing waited; cut into segments in any way, a TCP connection of another machine that is online, ready and at a header's
 -- first byte, with routes for those ids, switched on and allowing those lengths, hands out the same PDUs in the same order; and so does a
 -- UDP connection, walked over them as one datagram. Just these PDUs, and no drop.
--- Assumes nothing.
 use Prim.Native.Nat.{ℕ, _*_, _≤_, _<_}
 use mathlib.Core.Path.{_≡_, refl, sym, ap, _∙_, subst}
 use mathlib.Core.List.{List, [], flatten, map}

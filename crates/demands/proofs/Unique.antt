@@ -1,5 +1,5 @@
--- UNIQUENESS ("Show that two answers allowed for one input are equal"): one law serves every contract that is an equation, of an answer
--- and of memory alike; a number with its bound is one of them. Assumes nothing.
+-- UNIQUENESS (R13.2, two answers allowed for one input are equal): one law serves every contract that is an equation, of an answer
+-- and of memory alike; a number with its bound is one of them.
 use Prim.Native.Nat.{ℕ}
 use mathlib.Core.Path.{_≡_, sym, _∙_}
 use mathlib.Core.List.{List}

@@ -1,6 +1,5 @@
 -- SEND BUFFERS OVER RUNS: what waits on a connection is what waited at the start and the frames stored since, or only the frames stored
 -- since the last loss, closing tick or non-empty take. So from nothing waiting it is the frames of the PDUs that were stored, by name.
--- Assumes nothing.
 use Prim.Native.Nat.{ℕ, zero, suc, _*_, _≤_}
 use mathlib.Core.Path.{_≡_, refl, sym, ap, ap₂, _∙_, subst}
 use mathlib.Core.Bool.{Bool, true, false, cond, _&&_}

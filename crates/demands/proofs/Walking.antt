@@ -1,5 +1,5 @@
 -- A WALK OVER A DATAGRAM, through events: each step at the place that the answer before it gave, a UDP connection that is online without
--- close wanted hands out what the definition's walk does. Assumes nothing.
+-- close wanted hands out what the definition's walk does.
 use Prim.Native.Nat.{ℕ, zero, suc, _≤_}
 use mathlib.Core.Path.{_≡_, refl, sym, ap, ap₂, _∙_, subst}
 use mathlib.Core.Bool.{true}

@@ -1,4 +1,4 @@
--- WHAT ENDS AN ONLINE PERIOD of a TCP connection: a loss, or a tick with close wanted. Assumes nothing: this is a definition.
+-- WHAT ENDS AN ONLINE PERIOD (R15.6) of a TCP connection: a loss, or a tick with close wanted.
 use Prim.Native.Nat.{ℕ}
 use mathlib.Core.Path.{_≡_}
 use mathlib.Core.Bool.{true}

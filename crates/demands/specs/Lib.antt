@@ -1,5 +1,5 @@
 -- Answer numbers of events and runs, calls in any order, any run by its gate, what events make of waiting bytes, the sides of the round
--- trip, what ends an online period, and the statement of demand 3. Assumes nothing.
+-- trip, what ends an online period, and the statement of demand 3.
 pub mod Numbers
 pub mod Order
 pub mod Waits

@@ -1,6 +1,5 @@
--- THE ANSWER NUMBER OF AN EVENT, as its entry point gives it (document 01, "Answer numbers"); of a segment event that of its first take;
--- and the numbers that an event can be answered with at all.
--- Assumes nothing: these are definitions.
+-- THE ANSWER NUMBER OF AN EVENT (R4.1), as its entry point gives it; of a segment event that of its first take; and the numbers that an
+-- event can be answered with at all.
 use Prim.Native.Nat.{ℕ}
 use mathlib.Core.Bool.{Bool, true, false, cond, _||_}
 use mathlib.Core.List.{List, [], _∷_}

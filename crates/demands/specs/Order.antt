@@ -1,5 +1,4 @@
--- CALLS IN ANY ORDER: whole events, and single takes of a segment, so that other calls may stand between two takes of one segment.
--- Assumes nothing: these are definitions.
+-- CALLS IN ANY ORDER (R15.7): whole events, and single takes of a segment, so that other calls may stand between two takes of one segment.
 use Prim.Native.Nat.{ℕ}
 use mathlib.Core.Bool.{cond}
 use mathlib.Core.List.{List, [], _∷_, _++_}

@@ -1,6 +1,5 @@
 -- ANY RUN FROM ANY START, by what the gate says there: it refuses, and every event of the run is answered its number, 11 or 12; or it
 -- passes, and passes again at the end.
--- Assumes nothing: these are definitions.
 use Prim.Native.Nat.{ℕ}
 use mathlib.Core.Path.{_≡_}
 use mathlib.Core.Bool.{false}
@@ -21,7 +20,7 @@ use Rattle.demands.specs.Numbers.{numbersIn}
 abbrev pub gateHere : List ℕ → Machine → Gate
 gateHere image m = gateOf (lentTo image m)
 
--- which number it refuses with, and why: "lent receive or send memory has another length" 11; "state or table not sound" 12
+-- R4.1: which number it refuses with, and why: 11, lent memory of another length; 12, state or table not sound
 pub data Shut (image : List ℕ) (m : Machine) : ℕ → Type 0 where
   other-length : ((length (m .rx) ≡ 23424) × (length (m .tx) ≡ 23552) → ⊥) → Shut image m 11
   not-sound : length (m .rx) ≡ 23424 → length (m .tx) ≡ 23552 → soundState image (m .state) ≡ false → Shut image m 12

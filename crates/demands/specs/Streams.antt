@@ -1,6 +1,5 @@
--- THE STREAMS OF A TCP CONNECTION in a run of the machine: the bytes of its accepted segments, each beside the switch word that stands when
+-- R15.5, THE STREAMS OF A TCP CONNECTION in a run of the machine: the bytes of its accepted segments, each beside the switch word that stands when
 -- it is read; one stream for each online period.
--- Assumes nothing: these are definitions.
 use Prim.Native.Nat.{ℕ}
 use mathlib.Core.Bool.{Bool, cond, not, _&&_}
 use mathlib.Core.List.{List, [], _∷_, map}

@@ -1,4 +1,4 @@
--- DEMAND 3, as one statement of two runs from one machine. Assumes nothing: this is a definition.
+-- DEMAND 3 (R15.3 to R15.5), as one statement of two runs from one machine.
 use Prim.Native.Nat.{ℕ, _<_}
 use mathlib.Core.Path.{_≡_}
 use mathlib.Core.Bool.{true}

@@ -1,7 +1,6 @@
--- THE ROUND TRIP'S TWO SIDES: the bytes that a take of the waiting bytes gives out; and who reads them: a TCP connection that is there,
+-- R5.17, THE ROUND TRIP'S TWO SIDES: the bytes that a take of the waiting bytes gives out; and who reads them: a TCP connection that is there,
 -- online without close wanted, and at a header's first byte, given them in segments; or a UDP connection that is there and online without
 -- close wanted, given them as one datagram.
--- Assumes nothing: these are definitions.
 use Prim.Native.Nat.{ℕ, zero, suc, _<_}
 use mathlib.Core.Path.{_≡_}
 use mathlib.Core.Bool.{true, false}

@@ -1,6 +1,5 @@
--- WHAT AN EVENT MAKES OF THE BYTES WAITING ON A CONNECTION, by the event: a loss, a closing tick and a non-empty take empty them; a stored
+-- R10.10, WHAT AN EVENT MAKES OF THE BYTES WAITING ON A CONNECTION, by the event: a loss, a closing tick and a non-empty take empty them; a stored
 -- transmit adds the frames of its switched-on destinations there; every other event leaves them. And the PDUs whose frames these bytes are.
--- Assumes nothing: these are definitions.
 use Prim.Native.Nat.{ℕ, zero, suc}
 use mathlib.Core.Bool.{Bool, cond, not, _&&_}
 use mathlib.Core.List.{List, [], _∷_, _++_}

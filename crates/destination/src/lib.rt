@@ -1,5 +1,5 @@
 // One destination of a transmit: what it says to a payload, and what an append makes of its connection's record.
-// Assumes nothing: every function is total.
+// Every function is total.
 ghost use mathlib.Core.Path.{_≡_};
 ghost use Rattle.destination.specs.Destination.{refusalOf, lookOf, timerOf, sentOf};
 use connection::Connection;

@@ -1,5 +1,5 @@
 -- A SEGMENT OR WALK CALL CARRIES 4,090 BYTES AT MOST, for its body has 4,096 at most: so they are not too long for an event, and an out
--- buffer of 16,384 bytes has room for the answer. Assumes nothing.
+-- buffer of 16,384 bytes has room for the answer.
 use Prim.Native.Nat.{ℕ, _+_, _-_, _≤_}
 use mathlib.Core.Path.{_≡_, refl}
 use mathlib.Core.Bool.{Bool, true, false, cond, _&&_}

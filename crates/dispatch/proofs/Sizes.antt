@@ -1,4 +1,4 @@
--- HOW MANY BYTES THE ANSWERS HAVE: 6 at most, a walk's 20, a take of waiting bytes 25 and the bytes. Assumes nothing.
+-- HOW MANY BYTES THE ANSWERS HAVE: 6 at most, a walk's 20, a take of waiting bytes 25 and the bytes.
 use Prim.Native.Nat.{ℕ, _+_, _≤_}
 use mathlib.Core.Path.{_≡_, refl}
 use mathlib.Core.Bool.{Bool, true, false, cond}

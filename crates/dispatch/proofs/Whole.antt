@@ -1,4 +1,4 @@
--- EVERY ANSWER OF THE DISPATCHER STANDS WHOLE in its out buffer of 16,384 bytes: nothing is left out. Assumes nothing.
+-- EVERY ANSWER OF THE DISPATCHER STANDS WHOLE in its out buffer of 16,384 bytes: nothing is left out.
 use Prim.Native.Nat.{ℕ, _+_, _≤_}
 use mathlib.Core.Path.{_≡_, refl, sym, ap, _∙_, subst}
 use mathlib.Core.Bool.{Bool, true, false, cond}

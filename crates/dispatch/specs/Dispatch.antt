@@ -1,5 +1,5 @@
--- THE DISPATCHER: the step of the event that a number and a body spell, with its answer in an out buffer, the new state and all
--- memory (docs/EVENTS.md). Assumes nothing: these are definitions.
+-- THE DISPATCHER (R16.1): the step of the event that a number and a body spell, with its answer in an out buffer, the new state and all
+-- memory (docs/EVENTS.md).
 use Prim.Native.Nat.{ℕ}
 use mathlib.Core.Bool.{cond}
 use mathlib.Core.List.{List}

@@ -1,3 +1,3 @@
--- What the contracts of this crate cite. Assumes nothing.
+-- What the contracts of this crate cite.
 pub mod Dispatch
 pub mod Whole

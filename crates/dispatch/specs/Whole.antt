@@ -1,4 +1,4 @@
--- AN ANSWER THAT STANDS WHOLE in the out buffer. Assumes nothing: this is a definition.
+-- AN ANSWER THAT STANDS WHOLE in the out buffer (R16.2).
 use Prim.Native.Nat.{ℕ, _≤_}
 use mathlib.Core.List.{List, _++_}
 use lib.ListN.{length, drop}

@@ -1,4 +1,4 @@
-// One dispatcher for all events: an event number and a body in, the answer into a lent out buffer. Assumes nothing: it is total.
+// One dispatcher for all events: an event number and a body in, the answer into a lent out buffer. It is total.
 ghost use mathlib.Core.Path.{_≡_};
 ghost use Rattle.answering.specs.Answers.{dispatched};
 ghost use Rattle.dispatch.specs.Dispatch.{effectOf, dispatchOf};

@@ -1,5 +1,5 @@
 -- THE ANSWER THAT STANDS IN THE OUT BUFFER IS NAMED: where the dispatcher says that n bytes are written, they are all n bytes of the call's
--- answer, and every byte behind them is as it was. Assumes nothing.
+-- answer, and every byte behind them is as it was.
 use Prim.Native.Nat.{ℕ, zero, suc, _+_, _≤_}
 use mathlib.Core.Path.{_≡_, refl, sym, ap, ap₂, _∙_, subst}
 use mathlib.Core.Bool.{Bool, true, false, cond, _&&_, false≢true}

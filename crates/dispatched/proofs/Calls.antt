@@ -1,5 +1,4 @@
 -- A RUN OF CALLS IS A RUN OF THE MACHINE over the events that they spell: so what demands say of runs holds of the dispatcher.
--- Assumes nothing.
 use Prim.Native.Nat.{ℕ, zero, suc}
 use mathlib.Core.Path.{_≡_, refl, sym, ap, _∙_, subst}
 use mathlib.Core.Bool.{Bool, true, false, cond}

@@ -1,4 +1,4 @@
--- A DROP FITS the widths in which an answer spells its reason, id and length: of a take, and of a walk over bytes. Assumes nothing.
+-- A DROP FITS the widths in which an answer spells its reason, id and length: of a take, and of a walk over bytes.
 use Prim.Native.Nat.{ℕ, zero, suc, _+_, _-_, _*_, _/_, _%_, _^_, _≤_, _<_}
 use mathlib.Core.Path.{_≡_, refl, subst}
 use mathlib.Core.List.{List, [], _∷_}

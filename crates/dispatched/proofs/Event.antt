@@ -1,5 +1,5 @@
 -- A CALL OF THE DISPATCHER LEAVES WHAT ITS EVENTS MAKE OF THE MACHINE: of any image, state, memories, number, body and out buffer, refusals
--- included. Assumes nothing.
+-- included.
 use Prim.Native.Nat.{ℕ, _≤_}
 use mathlib.Core.Path.{_≡_, refl, ap, _∙_}
 use mathlib.Core.Bool.{Bool, true, false, cond}

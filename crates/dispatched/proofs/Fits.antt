@@ -1,5 +1,5 @@
 -- THE ANSWERS ARE READ BACK: what takes and walks find fits the widths that the answer spells it in, so a reader of the bytes gets exactly
--- the PDUs and drops that the call tells. Assumes nothing.
+-- the PDUs and drops that the call tells.
 use Prim.Native.Nat.{ℕ, zero, suc, _+_, _-_, _/_, _≤_, _<_}
 use mathlib.Core.Path.{_≡_, refl, sym, ap, _∙_, subst}
 use mathlib.Core.Bool.{Bool, true, false, cond, true≢false}

@@ -1,6 +1,5 @@
 -- WHAT STANDS IN THE BYTES OF A TAKE OR A WALK IS READ BACK: kind, route or reason, id, length, place and payload, where they fit their
 -- widths.
--- Assumes nothing.
 use Prim.Native.Nat.{ℕ, _+_, _^_, _<_}
 use mathlib.Core.Path.{_≡_, refl, sym, ap, ap₂, _∙_}
 use mathlib.Core.Bool.{Bool, true, false}

@@ -1,5 +1,5 @@
 -- THE SEGMENT EVENT OF THE DISPATCHER IS THE MACHINE'S: all takes over a segment leave the state and the receive memory that the machine's
--- segment event leaves. Of any image, state, memory and segment. Assumes nothing.
+-- segment event leaves. Of any image, state, memory and segment.
 use Prim.Native.Nat.{ℕ, zero, suc, _+_}
 use mathlib.Core.Path.{_≡_, refl, sym, ap, _∙_}
 use mathlib.Core.Bool.{Bool, true, false, cond, _&&_}

@@ -1,5 +1,5 @@
 -- THE ANSWER OF A SEGMENT EVENT TELLS ITS TAKES, one after the other, and the PDUs that they tell are those that the machine's segment event
--- hands out. Of any image, state, memory and segment. Assumes nothing.
+-- hands out. Of any image, state, memory and segment.
 use Prim.Native.Nat.{ℕ, zero, suc, _+_}
 use mathlib.Core.Path.{_≡_, refl, sym, ap, ap₂, _∙_}
 use mathlib.Core.Bool.{Bool, true, false, cond, _&&_, true≢false}

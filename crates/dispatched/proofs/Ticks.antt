@@ -1,4 +1,4 @@
--- MANY TICKS UNDER ONE CHECK ARE A RUN of that many tick events: of any image, state and memory. Assumes nothing.
+-- MANY TICKS UNDER ONE CHECK ARE A RUN of that many tick events: of any image, state and memory.
 use Prim.Native.Nat.{ℕ, zero, suc}
 use mathlib.Core.Path.{_≡_, refl, sym, ap, _∙_}
 use mathlib.Core.List.{List}

@@ -1,5 +1,4 @@
 -- THE ANSWERS OF CALLS TELL THE OUTCOMES THAT THE MACHINE GIVES in the run that they spell: so demand 3 holds of the dispatcher.
--- Assumes nothing.
 use Prim.Native.Nat.{ℕ, zero, suc}
 use mathlib.Core.Path.{_≡_, refl, sym, ap, ap₂, _∙_}
 use mathlib.Core.Bool.{Bool, true, false, cond}

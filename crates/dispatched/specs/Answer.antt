@@ -1,5 +1,4 @@
--- THE BYTES OF AN ANSWER (docs/EVENTS.md, "The answer"), call by call; those of a segment event as its takes tell them.
--- Assumes nothing: these are definitions.
+-- THE BYTES OF AN ANSWER (R16.2; docs/EVENTS.md, "The answer"), call by call; those of a segment event as its takes tell them.
 use Prim.Native.Nat.{ℕ}
 use mathlib.Core.List.{List, []}
 use lib.ListN.{length, take, replicate}

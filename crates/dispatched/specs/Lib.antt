@@ -1,4 +1,4 @@
--- What the laws of this crate speak of. Assumes nothing.
+-- What the laws of this crate speak of.
 pub mod Spelt
 pub mod Told
 pub mod Answer

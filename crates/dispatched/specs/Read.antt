@@ -1,5 +1,5 @@
--- READING AN ANSWER (docs/EVENTS.md, "The answer"): the PDUs and drops that a caller gets out of the bytes of an answer, with the segment or
--- datagram that he handed in, and by nothing else. Assumes nothing: these are definitions.
+-- READING AN ANSWER (R16.3; docs/EVENTS.md, "The answer"): the PDUs and drops that a caller gets out of the bytes of an answer, with the
+-- segment or datagram that he handed in, and by nothing else.
 use Prim.Native.Nat.{ℕ, zero, suc, _+_}
 use mathlib.Core.Bool.{Bool, cond}
 use mathlib.Core.List.{List, [], _∷_, _++_}

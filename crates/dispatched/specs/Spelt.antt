@@ -1,6 +1,5 @@
--- THE EVENTS THAT A CALL OF THE DISPATCHER SPELLS (docs/EVENTS.md, "Event numbers and bodies"), and calls one after the other, each lent
--- the memory that the last one left.
--- Assumes nothing: these are definitions.
+-- THE EVENTS THAT A CALL OF THE DISPATCHER SPELLS (R16.3; docs/EVENTS.md, "Event numbers and bodies"), and calls one after the other, each
+-- lent the memory that the last one left.
 use Prim.Native.Nat.{ℕ}
 use mathlib.Core.Bool.{cond}
 use mathlib.Core.List.{List, [], _∷_, _++_}

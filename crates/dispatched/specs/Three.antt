@@ -1,4 +1,4 @@
--- DEMAND 3, OF THE DISPATCHER, as one statement of two lists of calls from one machine. Assumes nothing: this is a definition.
+-- DEMAND 3, OF THE DISPATCHER (R16.3), as one statement of two lists of calls from one machine.
 use Prim.Native.Nat.{ℕ, _<_}
 use mathlib.Core.Path.{_≡_}
 use mathlib.Core.Bool.{true}

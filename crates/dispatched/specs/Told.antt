@@ -1,5 +1,5 @@
--- THE TAKES WHOSE BYTES AN ANSWER IS (docs/EVENTS.md, "The answer"): those of a segment event, each as its answer tells it, and the outcomes
--- that they tell, and that a walk's answer tells: PDUs and drops. Assumes nothing: these are definitions.
+-- THE TAKES WHOSE BYTES AN ANSWER IS (R16.3; docs/EVENTS.md, "The answer"): those of a segment event, each as its answer tells it, and
+-- the outcomes that they tell, and that a walk's answer tells: PDUs and drops.
 use Prim.Native.Nat.{ℕ, zero, suc, _+_}
 use mathlib.Core.Bool.{Bool, true, false, cond}
 use mathlib.Core.List.{List, [], _∷_, _++_}

@@ -1,4 +1,4 @@
--- THE EDGES HOLD, by computation over the whole table (`edges-hold`); and so each of them does (`each-edge`). Assumes nothing.
+-- THE EDGES HOLD, by computation over the whole table (`edges-hold`); and so each of them does (`each-edge`).
 use Prim.Native.Nat.{ℕ, zero, suc}
 use mathlib.Core.Path.{_≡_, refl, ap₂}
 use mathlib.Core.Bool.{true, false≢true}

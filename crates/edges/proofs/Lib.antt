@@ -1,3 +1,3 @@
--- The edges hold, and what follows for each. Assumes nothing.
+-- The edges hold, and what follows for each.
 pub mod Edges
 pub mod Wrong

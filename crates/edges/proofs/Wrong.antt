@@ -1,4 +1,4 @@
--- The wrong programs are refuted: for each the input at which it fails. Assumes nothing.
+-- The wrong programs are refuted: for each the input at which it fails.
 use Prim.Native.Nat.{ℕ}
 use mathlib.Core.Path.{_≡_, refl, sym, ap, _∙_}
 use mathlib.Core.Bool.{true, false, true≢false}

@@ -1,6 +1,5 @@
--- THE STARRED EDGES of document 01, "Both sides of each edge", as one table: what the definitions give, and what the document says, both
--- as the document's numbers. One statement says all of it: `Hold` of the table.
--- Assumes nothing: these are definitions.
+-- THE STARRED EDGES (R12.1 to R12.7) as one table: what the definitions give, and what the rules say, both as the rules' numbers. One
+-- statement says all of it: `Hold` of the table.
 use Prim.Native.Nat.{ℕ}
 use mathlib.Core.Bool.{Bool, true, false, _&&_}
 use mathlib.Core.Path.{_≡_}
@@ -59,29 +58,29 @@ abbrev pub edges : List Edge
 edges =
     -- the image is accepted
     edge (answerNumber (checkTable image) ∷ []) (0 ∷ [])
-    -- "is PDU 0x101, payload 180"
+    -- R12.2: PDU 0x101, payload 180
     ∷ edge (numbers (segmentRan (routes 2 1) ready bar .list)) (0 ∷ 0 ∷ 0x101 ∷ 180 ∷ 2 ∷ [])
-    -- "The same cut after byte 3, and after byte 8: the same PDU"
+    -- R12.2: cut after byte 3, and after byte 8, the same PDU
     ∷ edge (numbers (segments (routes 2 1) ready (take 3 bar ∷ drop 3 bar ∷ []) .list)) (0 ∷ 0 ∷ 0x101 ∷ 180 ∷ 2 ∷ [])
     ∷ edge (numbers (segments (routes 2 1) ready (take 8 bar ∷ drop 8 bar ∷ []) .list)) (0 ∷ 0 ∷ 0x101 ∷ 180 ∷ 2 ∷ [])
-    -- "`46 50` as payload is 18,000"
+    -- R12.2: `46 50` as payload is 18,000
     ∷ edge (numbers (segmentRan (routes 2 1) ready (framed 2 2 (0x46 ∷ 0x50 ∷ [])) .list)) (0 ∷ 1 ∷ 0x102 ∷ 18000 ∷ 2 ∷ [])
-    -- "Length 0"
+    -- R12.3: length 0
     ∷ edge (numbers (segmentRan (routes 2 1) ready (framed 1 0 []) .list)) (0 ∷ 0 ∷ 0x101 ∷ 0 ∷ 0 ∷ [])
-    -- "Longest 2 against length 2 and 3"
+    -- R12.3: longest 2 against length 2 and 3
     ∷ edge (numbers (segmentRan (routes 2 1) ready (framed 1 2 (7 ∷ 8 ∷ [])) .list)) (0 ∷ 0 ∷ 0x101 ∷ 1800 ∷ 2 ∷ [])
     ∷ edge (numbers (segmentRan (routes 2 1) ready (framed 1 3 (7 ∷ 8 ∷ 9 ∷ [])) .list)) (22 ∷ 0x101 ∷ 3 ∷ [])
-    -- "Groups 0 with all switches off: on"; and a route with groups 1, whose switch 0 is off: 21
+    -- R12.4: groups 0 with all switches off is on; and a route with groups 1, whose switch 0 is off: 21
     ∷ edge (numbers (segmentRan (routes 2 0) ready (framed 2 1 (5 ∷ [])) .list)) (0 ∷ 1 ∷ 0x102 ∷ 5 ∷ 1 ∷ [])
     ∷ edge (numbers (segmentRan (routes 2 0) ready bar .list)) (21 ∷ 0x101 ∷ 2 ∷ [])
-    -- "Remote 0:0 against an exact row: the exact row"
+    -- R12.5: remote 0:0 against an exact row: the exact row
     ∷ edge (arrivedNumbers (arriveOf image waitingFor false 0 exact .answer)) (0 ∷ 1 ∷ [])
-    -- "No member: 10"
+    -- R12.5: no member: 10
     ∷ edge (arrivedNumbers (arriveOf image fresh false 0 exact .answer)) (10 ∷ [])
-    -- "Used 1,462 + 8 + 2 = 1,472 fits; 1,463 gives 8"
+    -- R12.6: used 1,462 + 8 + 2 = 1,472 fits; 1,463 gives 8
     ∷ edge (transmissionNumber (checkOf image (used 1462) 9 2) ∷ []) (0 ∷ [])
     ∷ edge (transmissionNumber (checkOf image (used 1463) 9 2) ∷ []) (8 ∷ [])
-    -- "Datagram of 7 bytes: 23", and the whole one
+    -- R12.7: a datagram of 7 bytes is 23; and the whole one
     ∷ edge (numbers (outsTold (take 7 bar) (walkAt (routes 0 0) (take 7 bar) 0 .found) [])) (23 ∷ 0 ∷ 0 ∷ [])
     ∷ edge (numbers (outsTold bar (walkAt (routes 0 0) bar 0 .found) [])) (0 ∷ 2 ∷ 0x101 ∷ 180 ∷ 2 ∷ [])
     ∷ []

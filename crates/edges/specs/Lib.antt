@@ -1,4 +1,4 @@
--- The edges, as one table. Assumes nothing.
+-- The edges, as one table.
 pub mod Table
 pub mod Edges
 pub mod Wrong

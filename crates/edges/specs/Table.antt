@@ -1,4 +1,4 @@
--- The image of the edges, and states over it. Assumes nothing: these are definitions.
+-- The image of the starred edges (R12.1), and states over it.
 use Prim.Native.Nat.{ℕ}
 use mathlib.Core.Bool.{true}
 use mathlib.Core.List.{List, [], _∷_}

@@ -1,2 +1,2 @@
-// The starred edges of document 01 as one table, and wrong programs refuted over the definitions. No code: the table stands in
-// specs/, its computation in proofs/. Assumes nothing.
+// The starred edges (section 12 of the rules) as one table, and wrong programs refuted over the definitions. No code: the table stands in
+// specs/, its computation in proofs/.

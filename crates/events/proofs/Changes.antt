@@ -1,4 +1,4 @@
--- What an event past the gate answers, by the record's own answer. Assumes nothing.
+-- What an event past the gate answers, by the record's own answer.
 use Prim.Native.Nat.{ℕ}
 use mathlib.Core.Path.{_≡_, sym, ap, _∙_}
 use mathlib.Core.List.{List}

@@ -1,4 +1,4 @@
--- A count read leaves the state, one cleared the records. Assumes nothing.
+-- A count read leaves the state, one cleared the records.
 use Prim.Native.Nat.{ℕ}
 use mathlib.Core.Path.{_≡_, refl}
 use mathlib.Core.Bool.{Bool, true, false, cond}

@@ -1,5 +1,5 @@
--- The connection events that concern the record alone, as a caller sees them: the gate (11, 12, 2), then the event's own
--- 2 and 3, then one record replaced. A refusal carries its number, and the state stays. Assumes nothing.
+-- R8.2, the connection events that concern the record alone, as a caller sees them: the gate (11, 12, 2), then the event's own
+-- 2 and 3, then one record replaced. A refusal carries its number, and the state stays.
 use Prim.Native.Nat.{ℕ}
 use mathlib.Core.List.{List}
 use Rattle.connection.specs.declared.Connection.{Connection}

@@ -1,4 +1,4 @@
--- Reading, and reading and clearing, a drop count. A refusal carries its number, and the state stays. Assumes nothing.
+-- Reading, and reading and clearing, a drop count. A refusal carries its number, and the state stays.
 use Prim.Native.Nat.{ℕ}
 use mathlib.Core.Bool.{Bool, true, false, cond}
 use lib.Dec.{eqb}
@@ -13,7 +13,7 @@ use Rattle.events.specs.declared.CountAnswer.{CountAnswer}
 use Rattle.events.specs.declared.CountAnswer.the-variants.{Count, Refused}
 use Rattle.events.specs.declared.Counted.{Counted}
 
--- document 01's number
+-- R4.1: the number of an answer
 abbrev pub countNumber : CountAnswer → ℕ
 countNumber (Count n) = 0
 countNumber (Refused r) = refusalNumber r
@@ -21,7 +21,7 @@ countNumber (Refused r) = refusalNumber r
 abbrev pub uncounted : State → Refusal → Counted
 uncounted s r = record { answer = Refused r; state = s }
 
--- protocol 1 is UDP, 2 TCP; "a protocol other than 1 or 2 gets 3"
+-- R8.10: protocol 1 is UDP, 2 TCP; another gets 3
 unfoldable pub ofProtocol : {A : Type 0} → (Bool → A) → A → ℕ → A
 ofProtocol known unknown p = cond (eqb p 1) (known false) (cond (eqb p 2) (known true) unknown)
 
@@ -32,14 +32,14 @@ readFrom s tcp = record { answer = Count (countOf tcp s); state = s }
 unfoldable pub readPast : State → ℕ → Counted
 readPast s p = ofProtocol (readFrom s) (uncounted s Denied) p
 
--- "the value read is the one before clearing"
+-- R8.10: the value read is the one before clearing
 abbrev pub clearFrom : State → Bool → Counted
 clearFrom s tcp = record { answer = Count (countOf tcp s); state = withCount tcp 0 s }
 
 unfoldable pub clearPast : State → ℕ → Counted
 clearPast s p = ofProtocol (clearFrom s) (uncounted s Denied) p
 
--- "reading or reading and clearing a count": 11, 12, then 3
+-- R8.10: reading, or reading and clearing, a count: 11, 12, then 3
 unfoldable pub readOf : Lent → ℕ → Counted
 readOf l p = through (gateOf l) (uncounted (l .state)) (readPast (l .state) p)
 

@@ -1,4 +1,4 @@
--- A switch on all connections. A refusal carries its number, and the state stays. Assumes nothing.
+-- A switch on all connections. A refusal carries its number, and the state stays.
 use Prim.Native.Nat.{ℕ}
 use mathlib.Core.Bool.{Bool, cond}
 use lib.Dec.{ltb}
@@ -23,7 +23,7 @@ switchAt number on i c = switchedOf number on c
 unfoldable pub switchedAll : ℕ → ℕ → Bool → State → State
 switchedAll rows number on s = withRecords (eachTo (switchAt number on) 0 rows (s .connections)) s
 
--- "switching a group on all connections": 11, 12, then 2 for a switch number above 31
+-- R8.9: a switch on all connections: 11, 12, then 2 for a switch number above 31
 unfoldable pub switchAllOf : Lent → ℕ → Bool → Told
 switchAllOf l number on =
     through (gateOf l) (refusedTold (l .state))

@@ -218,7 +218,7 @@ fn read_past(state: State, protocol: u8) -> Counted
     }
 }
 
-// The same, and the count is 0 afterwards.
+// The count of a protocol before the call, and 0 afterwards (R8.10).
 fn clear_past(state: State, protocol: u8) -> Counted
     ensures { λ r. ⌜ r ≡ clearPast state protocol ⌝ }
 {

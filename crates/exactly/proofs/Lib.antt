@@ -1,2 +1,2 @@
--- Each number is given exactly when its check is the first that fails. Assumes nothing.
+-- Each number is given exactly when its check is the first that fails.
 pub mod When

@@ -1,5 +1,4 @@
 -- WHEN EACH NUMBER IS GIVEN: from any table, state and memory the number of an event is that of its first check that fails.
--- Assumes nothing.
 use Prim.Native.Nat.{ℕ, zero, suc, _+_, _<_}
 use mathlib.Core.Path.{_≡_, refl, sym, ap, _∙_}
 use mathlib.Core.Bool.{Bool, true, false, cond, not, _&&_, _||_}
@@ -84,7 +83,7 @@ twice-not : (a : Bool) → not (not a) ≡ a
 twice-not true = refl
 twice-not false = refl
 
--- the same test of each
+-- tests that agree at each number agree over all of them
 every-same : (f g : ℕ → Bool) (n : ℕ) → ((i : ℕ) → f i ≡ g i) → every f n ≡ every g n
 unfolding every
 every-same f g zero h = refl

@@ -1,2 +1,2 @@
--- The checks of an event in their order. Assumes nothing.
+-- The checks of an event in their order.
 pub mod When

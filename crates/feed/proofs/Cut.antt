@@ -1,6 +1,5 @@
 -- CUT AND JOIN: segments cut at any byte, or joined, empty ones included, end alike and hand out the same list.
 -- A take reads up to the end of the first complete PDU or dropped header, no further and no less.
--- Assumes nothing.
 use Prim.Native.Nat.{ℕ, zero, suc, _+_, _-_, _≤_, _<_}
 use mathlib.Core.Path.{_≡_, refl, sym, ap, ap₂, _∙_}
 use mathlib.Core.Bool.{Bool, true, false, cond, true≢false}

@@ -1,6 +1,5 @@
 -- A take in closed form: a stretch that ends within the segment, and one that does not, whatever its length (to
 -- 4,294,967,295 and beyond). These are the laws that code which works by stretches is proved with.
--- Assumes nothing.
 use Prim.Native.Nat.{ℕ, zero, suc, _+_, _-_, _*_, _/_, _%_, _^_, _≤_, _<_}
 use mathlib.Core.Path.{_≡_, refl, sym, ap, ap₂, _∙_}
 use mathlib.Core.List.{List, [], _∷_, _++_, append-assoc, append-nil}

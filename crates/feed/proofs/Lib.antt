@@ -1,4 +1,4 @@
--- The laws of reading a stream. Assumes nothing.
+-- The laws of reading a stream.
 pub mod Laws
 pub mod Cut
 pub mod Long

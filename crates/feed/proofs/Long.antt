@@ -1,6 +1,5 @@
 -- A STRETCH OVER MANY SEGMENTS, whatever its length (to 4,294,967,295 and beyond) and however it is cut: bytes skipped, and
 -- payload bytes gathered.
--- Assumes nothing.
 use Prim.Native.Nat.{ℕ, _-_, _≤_, _<_}
 use mathlib.Core.Path.{_≡_, refl, sym, ap, ap₂, _∙_}
 use mathlib.Core.List.{List, [], _∷_, _++_, flatten}

@@ -1,6 +1,5 @@
 -- THE ROUND TRIP over a stream: what is framed, and read by a ready reader whose routes accept it, comes back: the same PDUs in
 -- the same order, however the stream is cut; no drop; and the reader is ready again.
--- Assumes nothing.
 use Prim.Native.Nat.{ℕ, zero, suc, _+_, _*_, _/_, _%_, _^_, _<_}
 use mathlib.Core.Path.{_≡_, refl, sym, ap, ap₂, _∙_}
 use mathlib.Core.List.{List, [], _∷_, _++_, append-assoc, map, flatten}

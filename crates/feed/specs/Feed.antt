@@ -1,7 +1,6 @@
--- READING A STREAM, a byte at a time (document 01, "Headers and streams").
+-- READING A STREAM, a byte at a time (section 5 of the rules).
 -- A cell is what a TCP connection holds of its stream: how many bytes the present piece still wants (one at least), and
 -- what the piece is. A byte ends its piece or shortens it, and has one outcome at most.
--- Assumes nothing: these are definitions.
 use Prim.Native.Nat.{ℕ, zero, suc, _+_, _-_, _*_, _/_, _%_, _^_}
 use mathlib.Core.Path.{_≡_}
 use mathlib.Core.Bool.{Bool, true, false, cond}
@@ -10,13 +9,13 @@ use lib.ListN.{length}
 use Rattle.feed.specs.declared.Decision.{Decision}
 use Rattle.feed.specs.declared.Decision.the-variants.{Accept, Refuse}
 
--- "A receive route counts for the header's id on its connection": what the routes say to an id and a length, as the
--- switches stand at that moment: take the payload on this route, or drop it for this reason
+-- R5.2, R5.5: what the routes say to an id and a length, as the switches stand at that moment: take the payload on this route, or drop it
+-- for this reason
 abbrev pub Routes : Type 0
 Routes = ℕ → ℕ → Decision
 
--- "receive part (0..7 header bytes, or an unfinished payload with its route and length, or at least one byte still to skip)":
--- a header with the number that its bytes so far stand for; a payload with its route and its bytes so far; bytes to skip
+-- R2.4, the receive part: a header with the number that its bytes so far stand for; a payload with its route and its bytes so far; bytes
+-- to skip
 pub data PieceKind : Type 0 where
   header : ℕ → PieceKind
   payload : ℕ → List ℕ → PieceKind
@@ -26,7 +25,7 @@ pub data PieceKind : Type 0 where
 pub data Cell : Type 0 where
   cell : ℕ → PieceKind → Cell
 
--- "more wanted, a PDU (route and payload), or a drop (reason, id, length)"
+-- R5.9: more wanted, a PDU (route and payload), or a drop (reason, id, length)
 pub data Out : Type 0 where
   nothing : Out
   pdu : ℕ → List ℕ → Out
@@ -49,7 +48,7 @@ abbrev pub begin : ℕ → PieceKind → Out → Out → Fed
 begin zero k empty begun = fed ready empty
 begin (suc n) k empty begun = fed (cell (suc n) k) begun
 
--- the eighth header byte is taken: "Length 0 is a PDU with empty payload"; "its payload is skipped"
+-- R5.4 to R5.7, the eighth header byte is taken: length 0 is a PDU with empty payload; of a drop the payload is skipped
 abbrev pub decided : Decision → ℕ → ℕ → Fed
 decided (Accept r) i n = begin n (payload r []) (pdu r []) nothing
 decided (Refuse k) i n = begin n skip (dropped k i n) (dropped k i n)
@@ -60,7 +59,7 @@ withByte (header v) b = header (v * 256 + b)
 withByte (payload r h) b = payload r (h ++ b ∷ [])
 withByte skip b = skip
 
--- the piece is whole. "Id 4 bytes, length 4 bytes, payload."
+-- the piece is whole. R5.1: id 4 bytes, length 4 bytes, payload
 unfoldable pub pieceDone : Routes → PieceKind → Fed
 pieceDone R (header v) = decided (R (v / 2 ^ 32) (v % 2 ^ 32)) (v / 2 ^ 32) (v % 2 ^ 32)
 pieceDone R (payload r h) = fed ready (pdu r h)
@@ -91,7 +90,7 @@ unfoldable pub outs : Routes → Cell → List ℕ → List Out
 outs R c [] = []
 outs R c (b ∷ bs) = emit (feed R c b .out) (outs R (feed R c b .to) bs)
 
--- WHEN A TAKE STOPS: "up to the end of its first complete PDU or dropped header"
+-- R5.8, WHEN A TAKE STOPS: at the end of the first complete PDU or dropped header
 abbrev pub stops : Out → Bool
 stops nothing = false
 stops (pdu r p) = true
@@ -106,7 +105,7 @@ pub record Took : Type 0 where
 abbrev pub took : Cell → Out → List ℕ → Took
 took c o bs = record { to = c; out = o; rest = bs }
 
--- "tells the bytes read": how many of the segment bs
+-- R5.9, the bytes read: how many of the segment bs
 abbrev pub bytesRead : List ℕ → Took → ℕ
 bytesRead bs t = length bs - length (t .rest)
 
@@ -118,8 +117,8 @@ unfoldable pub takeB : Routes → Cell → List ℕ → Took
 takeB R c [] = took c nothing []
 takeB R c (b ∷ bs) = goes (feed R c b) bs (takeB R (feed R c b .to) bs)
 
--- "A take reads a segment up to the end of its first complete PDU or dropped header": either all is read and nothing came out; or
--- nothing came out of the bytes a, the byte b after them has an outcome, and the take ends right behind b
+-- R5.8, where a take ends: either all is read and nothing came out; or nothing came out of the bytes a, the byte b after them has an
+-- outcome, and the take ends right behind b
 pub data Ends (R : Routes) (c : Cell) : List ℕ → Took → Type 0 where
   at-end : (bs : List ℕ) → outs R c bs ≡ [] → Ends R c bs (took (after R c bs) nothing [])
   at-byte : (a : List ℕ) (b : ℕ) (rest : List ℕ) (f : Fed) → outs R c a ≡ [] → feed R (after R c a) b ≡ f → stops (f .out) ≡ true
@@ -129,7 +128,7 @@ pub data Ends (R : Routes) (c : Cell) : List ℕ → Took → Type 0 where
 abbrev pub resume : Routes → Fed → List ℕ → Took
 resume R f bs = goes f bs (takeB R (f .to) bs)
 
--- A SEGMENT EVENT: "the caller's takes over one segment until all is read, one take at least; its list .. in order"
+-- R5.14, A SEGMENT EVENT: the caller's takes over one segment until all is read, one take at least; and their outcomes in order
 pub record Ran : Type 0 where
   pub to : Cell
   pub list : List Out
@@ -175,7 +174,7 @@ pdus (nothing ∷ os) = pdus os
 pdus (pdu r p ∷ os) = handed r p ∷ pdus os
 pdus (dropped k i n ∷ os) = pdus os
 
--- "A drop adds 1 to its protocol's count": how many
+-- R5.6, a drop adds 1 to its protocol's count: how many
 unfoldable pub drops : List Out → ℕ
 drops [] = 0
 drops (nothing ∷ os) = drops os

@@ -1,3 +1,3 @@
--- What others cite of reading. Assumes nothing.
+-- What others cite of reading.
 pub mod Feed
 pub mod Routed

@@ -1,4 +1,4 @@
--- Three writes, one after the other, are the frame; and the answers by the tests that led there. Assumes nothing.
+-- Three writes, one after the other, are the frame; and the answers by the tests that led there.
 use Prim.Native.Nat.{ℕ, _+_, _≤_, _<_}
 use mathlib.Core.Path.{_≡_, ap, _∙_}
 use mathlib.Core.List.{List, _++_, append-assoc}

@@ -1,2 +1,2 @@
--- The laws of framing. Assumes nothing.
+-- The laws of framing.
 pub mod Laws

@@ -1,11 +1,10 @@
--- A FRAME (document 01, "Headers and streams"): the wire form of a PDU, and of PDUs one after the other.
--- Assumes nothing: these are definitions.
+-- A FRAME (R6.1): the wire form of a PDU, and of PDUs one after the other.
 use Prim.Native.Nat.{ℕ, _^_, _<_}
 use mathlib.Core.List.{List, [], _∷_, _++_}
 use lib.ListN.{length}
 use Rattle.wire.specs.Lay.{spell}
 
--- "Id 4 bytes, length 4 bytes, payload."
+-- R6.1: id 4 bytes, length 4 bytes, payload
 unfoldable pub frame : ℕ → List ℕ → List ℕ
 frame i p = spell 4 i ++ (spell 4 (length p) ++ p)
 

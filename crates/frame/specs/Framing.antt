@@ -1,5 +1,4 @@
--- What framing answers, and the out buffer afterwards (document 01, "Headers and streams").
--- Assumes nothing: these are definitions.
+-- What framing answers, and the out buffer afterwards (section 6 of the rules).
 use Prim.Native.Nat.{ℕ, _+_}
 use mathlib.Core.Bool.{cond}
 use mathlib.Core.List.{List}
@@ -10,17 +9,17 @@ use Rattle.wire.specs.Lay.{lay}
 use Rattle.frame.specs.declared.Framed.{Framed}
 use Rattle.frame.specs.declared.Framed.the-variants.{Done, TooLong, NoRoom}
 
--- the answer numbers: 0 done; 7 "in framing, longer than 1,464"; 9 "in framing, [shorter] than 8 + length"
+-- R6.2, the answer numbers: 0 done; 7 longer than 1,464; 9 an out buffer shorter than 8 + length
 abbrev pub framedNumber : Framed → ℕ
 framedNumber Done = 0
 framedNumber TooLong = 7
 framedNumber NoRoom = 9
 
--- "checks 7 and then 9": a payload of n bytes, an out buffer of so many
+-- R6.2, 7 and then 9: a payload of n bytes, an out buffer of so many
 unfoldable pub framingOf : ℕ → ℕ → Framed
 framingOf n room = cond (ltb 1464 n) TooLong (cond (ltb room (8 + n)) NoRoom Done)
 
--- "writes header and payload to the buffer's front; the bytes after them stay"; in a refusal all stay
+-- R6.3: header and payload at the buffer's front, and the bytes after them stay; in a refusal all stay
 abbrev pub outAfter : Framed → ℕ → List ℕ → List ℕ → List ℕ
 outAfter Done id payload out = lay out 0 (frame id payload)
 outAfter TooLong id payload out = out

@@ -1,3 +1,3 @@
--- What the contracts of this crate cite, and what a frame is. Assumes nothing.
+-- What the contracts of this crate cite, and what a frame is.
 pub mod Frame
 pub mod Framing

@@ -1,4 +1,4 @@
-// Framing: header and payload to the front of an out buffer, or a refusal by number. Assumes nothing.
+// Framing: header and payload to the front of an out buffer, or a refusal by number.
 ghost use mathlib.Core.Path.{_≡_};
 ghost use lib.ListN.{length};
 ghost use Rattle.frame.specs.Framing.{framingOf, framedOut, framedNumber};

@@ -1,4 +1,4 @@
--- Making a state from a table image. Assumes nothing.
+-- Making a state from a table image.
 use Prim.Native.Nat.{ℕ}
 use mathlib.Core.List.{List}
 use Rattle.table.specs.declared.TableAnswer.{TableAnswer}
@@ -7,7 +7,7 @@ use Rattle.table.specs.Table.{checkTable}
 use Rattle.state.specs.Fresh.{freshState, emptyState}
 use Rattle.fresh.specs.declared.Made.{Made}
 
--- "table refused, with place; the state returned is that of the empty table"
+-- R2.13: of a refused table its place, and the state of the empty table
 unfoldable pub madeOf : TableAnswer → List ℕ → Made
 madeOf Accepted image = record { answer = Accepted; state = freshState image }
 madeOf (Refused place) image = record { answer = Refused place; state = emptyState }

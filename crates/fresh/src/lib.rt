@@ -1,4 +1,4 @@
-// Making a state: fresh under an accepted table; a refused one gives 1 with its place. Assumes nothing.
+// Making a state: fresh under an accepted table; a refused one gives 1 with its place.
 ghost use mathlib.Core.Path.{_≡_};
 ghost use Rattle.fresh.specs.Make.{makeOf};
 use state::State;

@@ -1,5 +1,4 @@
 -- Of a record that has received nothing and wants nothing, the rules ask little: its send bytes, and an online remote without wildcard.
--- Assumes nothing.
 use Prim.Native.Nat.{ℕ, _<_}
 use mathlib.Core.Path.{_≡_, refl, ap, _∙_}
 use mathlib.Core.Bool.{Bool, true, false, not, _&&_, _||_}

@@ -1,4 +1,4 @@
--- What is known past the gate, and what passes it. Assumes nothing.
+-- What is known past the gate, and what passes it.
 use Prim.Native.Nat.{ℕ, _<_, _≤_}
 use mathlib.Core.Path.{_≡_, refl, _∙_}
 use mathlib.Core.Bool.{Bool, true, false, cond, not, _&&_, _||_}

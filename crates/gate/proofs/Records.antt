@@ -1,4 +1,4 @@
--- The records of a sound state, one by one: from the test and back. Assumes nothing.
+-- The records of a sound state, one by one: from the test and back.
 use Prim.Native.Nat.{ℕ, _+_, _<_, _≤_}
 use mathlib.Core.Path.{_≡_, refl, sym, ap, _∙_}
 use mathlib.Core.Bool.{Bool, true, false, _&&_}

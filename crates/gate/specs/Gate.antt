@@ -1,4 +1,4 @@
--- What is asked before an event, in document 01's order 11, 12, 2; what is known past it. Assumes nothing.
+-- What is asked before an event, in the order 11, 12, 2 (R4.2); what is known past it.
 use Prim.Native.Nat.{ℕ}
 use mathlib.Core.Path.{_≡_}
 use mathlib.Core.Bool.{Bool, true, cond, not, _||_}
@@ -16,13 +16,13 @@ use Rattle.gate.specs.declared.Gate.the-variants.{Pass, Refused}
 use Rattle.gate.specs.Lent.{Lent}
 use Rattle.gate.specs.Sound.{recordsSound, soundState}
 
--- "lent receive or send memory has another length": 11; "state or table not sound": 12
+-- R4.3: lent memory of another length, 11; state or table not sound, 12
 unfoldable pub gateOf : Lent → Gate
 gateOf l =
     cond (not (eqb (l .rx) 23424) || not (eqb (l .tx) 23552)) (Refused Memory)
     (cond (soundState (l .image) (l .state)) Pass (Refused Unsound))
 
--- then "connection, group or switch number not there": 2
+-- R4.4: then a connection that is not there, 2
 abbrev pub thenThere : Bool → Gate → Gate
 thenThere there Pass = cond there Pass (Refused Missing)
 thenThere there (Refused r) = Refused r

@@ -1,5 +1,5 @@
 -- What the contracts of the inner functions cite: the same rules by the bodies, asked for once, and a quick way for records that have
--- received nothing and want nothing. They say nothing that the rules of Gate and Sound do not say. Assumes nothing: these are definitions.
+-- received nothing and want nothing. They say nothing that the rules of Gate and Sound do not say.
 use Prim.Native.Nat.{ℕ}
 use mathlib.Core.Bool.{Bool, cond, not, _&&_}
 use mathlib.Core.List.{List}
@@ -25,7 +25,7 @@ rulesFrom row group =
       switches = 0;
     }
 
--- the same out of the bodies
+-- what they ask of row n, out of the bodies of connections and groups
 abbrev pub rulesIn : List ℕ → List ℕ → ℕ → Config
 rulesIn connections groups n = rulesFrom (briefIn connections n) (groupIn groups (briefIn connections n .group))
 

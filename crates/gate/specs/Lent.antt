@@ -1,5 +1,5 @@
--- WHAT A CALL IS LENT, as one value: the image, the state, and receive and send memory. Of the memories most calls look at the lengths
--- alone (`Lent`); a segment, a transmit and taking the waiting bytes need the bytes themselves (`Loan`). Assumes nothing.
+-- WHAT A CALL IS LENT (R4.3), as one value: the image, the state, and receive and send memory. Of the memories most calls look at the lengths
+-- alone (`Lent`); a segment, a transmit and taking the waiting bytes need the bytes themselves (`Loan`).
 use Prim.Native.Nat.{ℕ}
 use mathlib.Core.List.{List}
 use lib.ListN.{length}

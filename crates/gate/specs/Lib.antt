@@ -1,4 +1,4 @@
--- The definitions of the crate. Assumes nothing.
+-- The definitions of the crate.
 pub mod Lent
 pub mod Sound
 pub mod Inner

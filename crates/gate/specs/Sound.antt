@@ -1,5 +1,4 @@
--- When table and state are sound together: document 01, "Sound". The rules of a record by itself are crate connection's.
--- Assumes nothing.
+-- When table and state are sound together (R3.1). The rules of a record by itself are crate connection's.
 use Prim.Native.Nat.{ℕ, _/_}
 use mathlib.Core.Bool.{Bool, true, false, cond, _&&_}
 use mathlib.Core.List.{List}
@@ -19,14 +18,14 @@ use Rattle.lists.specs.Each.{allFrom}
 use Rattle.state.specs.declared.State.{State}
 use Rattle.state.specs.Fresh.{configOf}
 
--- "an unfinished payload .. its route belongs to the connection and allows the length" (over the body of the routes)
+-- R3.4: the route of an unfinished payload is there, belongs to the connection and allows the length (over the body of the routes)
 abbrev pub routed : List ℕ → ℕ → Part → Bool
 routed routes n (Header held value) = true
 routed routes n (Payload route len held) =
     ltb route (length routes / 16) && eqb (routeIn routes route .connection) n && leb len (routeIn routes route .longest)
 routed routes n (Skip bytes) = true
 
--- a row's record meets the rules; "records past the row count are all zero"
+-- R3.1: a row's record meets the rules, and records past the row count are all zero
 unfoldable pub soundAt : List ℕ → ℕ → Connection → Bool
 soundAt image n c =
     cond (ltb n (rowsOf image Connections))
@@ -37,7 +36,7 @@ soundAt image n c =
 unfoldable pub recordsSound : List ℕ → List Connection → Bool
 recordsSound image cs = allFrom (soundAt image) 0 cs
 
--- "the table meets its rules"
+-- R3.1: the table is accepted
 abbrev pub isAccepted : TableAnswer → Bool
 isAccepted Accepted = true
 isAccepted (Refused place) = false

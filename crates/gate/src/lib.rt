@@ -1,5 +1,5 @@
 // What is asked before any event: 11 for lent memory of another length, 12 for a table or state that is not sound, and 2 for
-// a connection that is not there. Assumes nothing: every function is total.
+// a connection that is not there. Every function is total.
 ghost use mathlib.Core.Path.{_≡_};
 ghost use Rattle.lists.specs.Each.{allFrom};
 ghost use Rattle.connection.specs.Sound.{onlineRemote};
@@ -70,7 +70,7 @@ fn rules_from(row: ConnectionBrief, group: GroupRow) -> Config
     }
 }
 
-// The same out of the bodies.
+// What the rules ask of row n, out of the bodies of connections and groups.
 fn rules_in(connections: &[u8], groups: &[u8], n: usize) -> Config
     ensures { λ r. ⌜ r ≡ rulesIn (now (connections .entry)) (now (groups .entry)) n ⌝ }
 {
@@ -148,7 +148,7 @@ fn each_sound(rows: usize, connections: &[u8], groups: &[u8], routes: &[u8], sta
     true
 }
 
-// The same by the image, whose bodies are asked for once.
+// Whether every record is sound (R3.1); the bodies of the image are asked for once.
 pub fn are_sound(image: &[u8], state: State) -> bool
     ensures { λ r. ⌜ r ≡ recordsSound (now (image .entry)) (state .connections) ⌝ }
 {

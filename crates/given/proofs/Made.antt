@@ -1,4 +1,4 @@
--- A start state is put together. Assumes nothing.
+-- A start state is put together.
 use Prim.Native.Nat.{ℕ}
 use mathlib.Core.Path.{_≡_, ap, _∙_}
 use mathlib.Core.Bool.{Bool, _&&_}

@@ -1,4 +1,4 @@
--- The state that the bytes of a start state spell (docs/EVENTS.md, "A start state"). Assumes nothing: these are definitions.
+-- The state that the bytes of a start state spell (R16.4; docs/EVENTS.md, "A start state").
 use Prim.Native.Nat.{ℕ, _*_}
 use mathlib.Core.Bool.{Bool, cond, _&&_}
 use mathlib.Core.List.{List}

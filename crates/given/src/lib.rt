@@ -1,5 +1,5 @@
 // The state that the bytes of a start state spell, and whether they fit (docs/EVENTS.md). An unsound state fits.
-// Assumes nothing: every function is total.
+// Every function is total.
 ghost use mathlib.Core.Path.{_≡_};
 ghost use Prim.Native.Nat.{_<_, _^_};
 ghost use Rattle.wire.specs.Be.{be};

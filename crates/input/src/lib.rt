@@ -1,4 +1,4 @@
-// Bytes of standard input into lent memory, and a table image from there, never more than is asked for. Assumes nothing.
+// Bytes of standard input into lent memory, and a table image from there, never more than is asked for.
 ghost use Prim.Native.Nat.{_≤_};
 use layout::end_of;
 

@@ -1,4 +1,4 @@
--- What passes the gate passes it again after a datagram or an accept. Assumes nothing.
+-- What passes the gate passes it again after a datagram or an accept.
 use Prim.Native.Nat.{ℕ, _+_, _<_}
 use mathlib.Core.Path.{_≡_, refl}
 use mathlib.Core.Bool.{Bool, true, false, cond, not, _&&_, _||_}

@@ -1,4 +1,4 @@
--- The fresh state of an accepted table passes the gate; without rows it is all zero. Assumes nothing.
+-- The fresh state of an accepted table passes the gate; without rows it is all zero.
 use Prim.Native.Nat.{ℕ, zero, suc, _≤_}
 use mathlib.Core.Path.{_≡_, refl, sym, ap, ap₂, _∙_}
 use mathlib.Core.Bool.{Bool, true, false}
@@ -49,7 +49,7 @@ module _ (image : List ℕ) (accepted : checkTable image ≡ Accepted) where
   unfolding freshState recordsSound
   fresh-all = all-changed (soundAt image) (freshAt image) fresh-at 0 (replicate 16 zeroRecord)
 
-  -- "that of the empty table": with no rows the fresh state is all zero
+  -- R2.13, the state of the empty table: with no rows the fresh state is all zero
   zeros : rowsOf image Connections ≡ 0 → (n k : ℕ) → each (freshAt image) k (replicate n zeroRecord) ≡ replicate n zeroRecord
   zeros e zero k = refl
   zeros e (suc n) k = ap₂ _∷_ (fresh-past k (omega arith)) (zeros e n (suc k))

@@ -1,5 +1,5 @@
--- "Every event leaves a sound state sound": what passes the gate passes it again after a connection event, a switch on all connections, a
--- count read or cleared, and a tick. Assumes nothing.
+-- R3.13, every event leaves a sound state sound: what passes the gate passes it again after a connection event, a switch on all connections, a
+-- count read or cleared, and a tick.
 use Prim.Native.Nat.{ℕ, _<_}
 use mathlib.Core.Path.{_≡_, ap, _∙_}
 use mathlib.Core.Bool.{Bool, true, false, cond}

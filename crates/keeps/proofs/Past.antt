@@ -1,4 +1,4 @@
--- An entry, refused at the gate or past it. Assumes nothing.
+-- An entry, refused at the gate or past it.
 use mathlib.Core.Path.{_≡_, refl}
 use Rattle.connection.specs.declared.Refusal.{Refusal}
 use Rattle.gate.specs.declared.Gate.{Gate}

@@ -1,4 +1,4 @@
--- One record: what an arrival, an append and a take leave sound. Assumes nothing.
+-- One record: what an arrival, an append and a take leave sound.
 use Prim.Native.Nat.{ℕ, _+_}
 use mathlib.Core.Path.{_≡_, refl, sym, _∙_}
 use mathlib.Core.Bool.{Bool, true, false, cond, not, _&&_, _||_, or-true}

@@ -1,4 +1,4 @@
--- One record of a sound state: what each event of it leaves sound, its route rule included. Assumes nothing.
+-- One record of a sound state: what each event of it leaves sound, its route rule included.
 use Prim.Native.Nat.{ℕ, _<_}
 use mathlib.Core.Path.{_≡_, refl, sym, subst}
 use mathlib.Core.Bool.{Bool, true, false, cond}

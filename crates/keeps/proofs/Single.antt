@@ -1,4 +1,4 @@
--- Many ticks under one check are single ticks, one call after the other. Assumes nothing.
+-- Many ticks under one check are single ticks, one call after the other.
 use Prim.Native.Nat.{ℕ, zero, suc}
 use mathlib.Core.Path.{_≡_, refl, sym, ap, _∙_}
 use mathlib.Core.List.{List}

@@ -1,4 +1,4 @@
--- What passes the gate passes it again after the waiting bytes are taken. Assumes nothing.
+-- What passes the gate passes it again after the waiting bytes are taken.
 use Prim.Native.Nat.{ℕ}
 use mathlib.Core.List.{List}
 use lib.ListN.{length}

@@ -1,4 +1,4 @@
--- A transmit leaves a sound state sound. Assumes nothing.
+-- A transmit leaves a sound state sound.
 use Prim.Native.Nat.{ℕ, _<_, _≤_}
 use mathlib.Core.Path.{_≡_, refl, sym, ap, subst}
 use mathlib.Core.Bool.{Bool, true, false, cond}

@@ -1,4 +1,4 @@
--- Calls of `tick`, one after the other. Assumes nothing.
+-- Calls of `tick`, one after the other.
 use Prim.Native.Nat.{ℕ, zero, suc}
 use Rattle.state.specs.declared.State.{State}
 use Rattle.gate.specs.Lent.{Lent, next}

@@ -1,2 +1,2 @@
--- The definitions of the crate. Assumes nothing.
+-- The definitions of the crate.
 pub mod Calls

@@ -1,2 +1,2 @@
--- Laws of parts, bodies and rows. Assumes nothing.
+-- Laws of parts, bodies and rows.
 pub mod Parts

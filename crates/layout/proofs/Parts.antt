@@ -1,4 +1,4 @@
--- Where bodies and rows lie. Assumes nothing.
+-- Where bodies and rows lie.
 use Prim.Native.Nat.{ℕ, _+_, _-_, _*_, _/_, _<_, _≤_}
 use mathlib.Core.Path.{_≡_, sym, ap, _∙_}
 use mathlib.Core.List.{List, []}
@@ -53,7 +53,7 @@ module _ (n : ℕ) (body : List ℕ) (i : ℕ) where
   unfolding rowIn
   row-is h = rw (lt-ltb i (length body / n) h)
 
-  -- the same of `&body[i * n..i * n + n]`
+  -- `&body[i * n..i * n + n]` is row i of the body
   pub row-range : i < length body / n → take (i * n + n - i * n) (drop (i * n) body) ≡ rowIn n body i
   row-range h = rw (add-sub-cancel-left) (sym (row-is h))
 

@@ -1,5 +1,4 @@
--- The table image of document 01 as the list of its bytes: contents, bodies, and rows as parts of a body.
--- Assumes nothing.
+-- The table image (section 1 of the rules) as the list of its bytes: contents, bodies, and rows as parts of a body.
 use Prim.Native.Nat.{ℕ, _+_, _*_, _/_, _≤_}
 use mathlib.Core.Path.{_≡_}
 use mathlib.Core.Bool.{cond}
@@ -10,21 +9,21 @@ use Rattle.wire.specs.Be.{be}
 use Rattle.layout.specs.declared.Kind.{Kind}
 use Rattle.layout.specs.declared.Kind.the-variants.{Group, Connection, Route, Destination}
 
--- "kinds 1, 2, 3, 4 in that order"
+-- R1.3: kinds 1, 2, 3, 4 in that order
 abbrev pub number : Kind → ℕ
 number Group = 1
 number Connection = 2
 number Route = 3
 number Destination = 4
 
--- "rows": group 0..8, connection 0..16, receive route 0..64, destination 0..64
+-- R1.5: how many rows a kind may have
 abbrev pub mostRows : Kind → ℕ
 mostRows Group = 8
 mostRows Connection = 16
 mostRows Route = 64
 mostRows Destination = 64
 
--- "Four contents entries of 8 bytes follow" (bytes 0..3)
+-- R1.3: four contents entries of 8 bytes, behind bytes 0..3
 abbrev pub entryAt : Kind → ℕ
 entryAt Group = 4
 entryAt Connection = 12
@@ -38,14 +37,14 @@ rowBytes s Connection = 16
 rowBytes s Route = 16
 rowBytes s Destination = 16
 
--- a contents entry: "kind (2), row count (2), offset (4)"
+-- R1.3: of a contents entry, kind (2), row count (2), offset (4), the row count
 unfoldable pub rowsOf : List ℕ → Kind → ℕ
 rowsOf s k = be 2 s (entryAt k + 2)
 
 unfoldable pub bodyBytes : List ℕ → Kind → ℕ
 bodyBytes s k = rowsOf s k * rowBytes s k
 
--- "Bodies start at 36, in the same order without gaps"
+-- R1.4: bodies start at 36, in order and without gaps
 unfoldable pub startOf : List ℕ → Kind → ℕ
 startOf s Group = 36
 startOf s Connection = 36 + bodyBytes s Group
@@ -86,7 +85,7 @@ rowInAt n body i = cond (ltb i (length body / n)) (i * n) 0
 abbrev pub rowOf : List ℕ → Kind → ℕ → List ℕ
 rowOf s k i = rowIn (rowBytes s k) (bodyOf s k) i
 
--- an image of which the bodies are all there and nothing else: "the image ends with the last"
+-- R1.4: an image of which the bodies are all there and nothing else
 pub record Laid (s : List ℕ) : Type 0 where
   pub head : 36 ≤ length s
   pub whole : length s ≡ endOf s

@@ -1,5 +1,5 @@
 // The table image's layout: what the contents say, where each body stands, and rows as parts of a body.
-// Everything is total: a number past the end is 0, a part that does not fit is empty. Assumes nothing.
+// Everything is total: a number past the end is 0, a part that does not fit is empty.
 ghost use mathlib.Core.Path.{_≡_};
 ghost use Prim.Native.Nat.{_+_, _*_, _≤_, _<_};
 ghost use denote.Ref.{ptr};

@@ -1,4 +1,4 @@
--- The laws of reading by lengths. Assumes nothing.
+-- The laws of reading by lengths.
 pub mod Bytes
 pub mod Heads
 pub mod Splits

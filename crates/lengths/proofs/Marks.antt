@@ -1,6 +1,5 @@
 -- The stream read a byte at a time, each byte under its own switches: a stretch in closed form, the stream in two pieces, and
 -- segments as the stream that they make.
--- Assumes nothing.
 use Prim.Native.Nat.{ℕ, zero, suc, _-_, _<_}
 use mathlib.Core.Path.{_≡_, refl, sym, ap, ap₂, _∙_}
 use mathlib.Core.List.{List, [], _∷_, _++_, map, map-append}

@@ -1,6 +1,5 @@
 -- THE LIST THAT A STREAM HANDS OUT, read a byte at a time, is exactly its PDUs that are complete, routed, switched on at their
 -- eighth header byte and short enough, in order: `reading`, and over segment events `segments-list`.
--- Assumes nothing.
 use Prim.Native.Nat.{ℕ, zero, suc, _+_, _-_, _*_, _/_, _%_, _^_, _<_}
 use mathlib.Core.Path.{_≡_, refl, sym, ap, ap₂, _∙_}
 use mathlib.Core.Bool.{Bool, true, false, cond}

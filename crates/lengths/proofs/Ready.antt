@@ -1,5 +1,4 @@
 -- From a header's first byte: the PDUs of a stream read a byte at a time are those that the split finds and the routes accept.
--- Assumes nothing.
 use Prim.Native.Nat.{ℕ, zero, suc, _+_, _≤_, _<_}
 use mathlib.Core.Path.{_≡_, refl, sym, ap, ap₂, _∙_}
 use mathlib.Core.List.{List, []}

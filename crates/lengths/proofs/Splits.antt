@@ -1,5 +1,4 @@
 -- The split: nothing is lost, what was framed is found again, and what comes after whole PDUs is split by itself.
--- Assumes nothing.
 use Prim.Native.Nat.{ℕ, zero, suc, _+_, _≤_}
 use mathlib.Core.Path.{_≡_, refl, sym, ap, ap₂, _∙_}
 use mathlib.Core.List.{List, [], _∷_, _++_, append-assoc, append-nil}

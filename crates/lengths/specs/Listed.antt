@@ -1,6 +1,5 @@
 -- THE LIST OF A STREAM, by lengths: the PDUs that are complete, routed, switched on at their eighth header byte and short enough.
 -- A stream is the bytes that a connection is given, each with the connection's switches at that moment.
--- Assumes nothing: these are definitions.
 use Prim.Native.Nat.{ℕ, _+_, _-_, _^_, _≤_, _<_}
 use mathlib.Core.Bool.{cond}
 use mathlib.Core.List.{List, [], _∷_, _++_, map}
@@ -36,7 +35,7 @@ unfoldable pub readOut : (ℕ → Routes) → Cell → List Marked → List Out
 readOut Q c [] = []
 readOut Q c (m ∷ ms) = emit (feed (Q (m .switches)) c (m .byte) .out) (readOut Q (feed (Q (m .switches)) c (m .byte) .to) ms)
 
--- THE SAME BY LENGTHS. "routed, switched on and short enough": a PDU that the routes accept
+-- R5.16, BY LENGTHS: a PDU that the routes accept is routed, switched on and short enough
 abbrev pub keep : Decision → List ℕ → List Pdu → List Pdu
 keep (Accept r) p ps = handed r p ∷ ps
 keep (Refuse k) p ps = ps

@@ -1,5 +1,4 @@
--- THE SPLIT: bytes as the whole PDUs that stand in them, by lengths alone, and the unfinished rest. No table, no switches.
--- Assumes nothing: these are definitions.
+-- THE SPLIT (R5.16): bytes as the whole PDUs that stand in them, by lengths alone, and the unfinished rest. No table, no switches.
 use Prim.Native.Nat.{ℕ, zero, suc, _+_}
 use mathlib.Core.List.{List, [], _∷_}
 use lib.ListN.{length, take, drop}

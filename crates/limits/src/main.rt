@@ -1,11 +1,11 @@
-// limits: the edges of document 01 that are run and not proved one by one, through the entry points.
-//   "Length 4,294,967,295 skipped over many segments": the header, 65,536 segments of 65,535 bytes, then a segment that holds the
+// limits: the edges that are run and not proved one by one (R12.8, R12.9), through the entry points.
+//   Length 4,294,967,295 skipped over many segments: the header, 65,536 segments of 65,535 bytes, then a segment that holds the
 //   65,535 bytes still to skip and a whole PDU behind them.
-//   "Count at its top plus one more drop": a drop on a TCP and on a UDP connection (its datagram read by a datagram reader), with
+//   A count at its top and one more drop: a drop on a TCP and on a UDP connection (its datagram read by a datagram reader), with
 //   both counts at 4,294,967,295.
 // Standard input: a table image with a TCP connection 0 and a UDP connection 1, both automatic with a whole remote, and a route
 // for id 0x101 and 2 bytes on connection 0.
-// Last word: OK when every call did what its line says, DIFFERS when one did not, REFUSED for the table. Assumes nothing.
+// Last word: OK when every call did what its line says, DIFFERS when one did not, REFUSED for the table.
 use events::CountAnswer;
 use input::read_image;
 use libc::STDOUT_FILENO;

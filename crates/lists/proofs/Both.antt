@@ -1,4 +1,4 @@
--- The sides of a test. Assumes nothing.
+-- The sides of a test.
 use mathlib.Core.Path.{_≡_, refl, sym}
 use mathlib.Core.Bool.{Bool, true, false, _&&_, _||_, false≢true}
 

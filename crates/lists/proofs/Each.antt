@@ -1,4 +1,4 @@
--- Laws of lists whose elements are changed or tested one after the other. Assumes nothing.
+-- Laws of lists whose elements are changed or tested one after the other.
 use Prim.Native.Nat.{ℕ, zero, suc, _+_, _<_}
 use mathlib.Core.Path.{_≡_, refl, ap, sym, subst, _∙_}
 use mathlib.Core.List.{List, [], _∷_, map}

@@ -1,4 +1,4 @@
--- Laws of a fold over numbered rows, at the places where a loop stands. Assumes nothing.
+-- Laws of a fold over numbered rows, at the places where a loop stands.
 use Prim.Native.Nat.{ℕ, zero, suc, _+_, _-_, _<_, _≤_}
 use mathlib.Core.Path.{_≡_, refl, ap, subst, _∙_}
 use native.Mathlib.Omega.{arith}

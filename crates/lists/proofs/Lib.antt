@@ -1,4 +1,4 @@
--- Laws of the definitions in specs/. Assumes nothing.
+-- Laws of the definitions in specs/.
 pub mod Both
 pub mod Search
 pub mod Each

@@ -1,4 +1,4 @@
--- Laws of the two searches: at the places where a loop stands, and what their answers say. Assumes nothing.
+-- Laws of the two searches: at the places where a loop stands, and what their answers say.
 use Prim.Native.Nat.{ℕ, zero, suc, _+_, _-_, _<_, _≤_}
 use mathlib.Core.Path.{_≡_, refl, sym, ap, _∙_}
 use mathlib.Core.Logic.{⊎-elim}

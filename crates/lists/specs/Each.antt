@@ -1,5 +1,4 @@
 -- A list whose elements are changed or tested one after the other, each by what its index says, for any element.
--- Assumes nothing.
 use Prim.Native.Nat.{ℕ, zero, suc}
 use mathlib.Core.List.{List, [], _∷_}
 use mathlib.Core.Bool.{Bool, true, _&&_}
@@ -10,7 +9,7 @@ module _ {A : Type 0} (f : ℕ → A → A) where
   each k [] = []
   each k (x ∷ xs) = f k x ∷ each (suc k) xs
 
-  -- the same of the first i alone
+  -- only the first i elements changed
   abbrev pub eachTo : ℕ → ℕ → List A → List A
   eachTo k zero xs = xs
   eachTo k (suc i) [] = []
@@ -22,7 +21,7 @@ module _ {A : Type 0} (f : ℕ → A → Bool) where
   allFrom k [] = true
   allFrom k (x ∷ xs) = f k x && allFrom (suc k) xs
 
-  -- of the first i alone
+  -- a test of the first i elements
   abbrev pub allTo : ℕ → ℕ → List A → Bool
   allTo k zero xs = true
   allTo k (suc i) [] = true

@@ -1,5 +1,4 @@
 -- Numbered rows, taken one after the other, for any state that they change.
--- Assumes nothing.
 use Prim.Native.Nat.{ℕ, zero, suc}
 
 module _ {B : Type 0} (f : B → ℕ → B) where

@@ -1,4 +1,4 @@
--- Definitions over numbered things and lists of any element. Assumes nothing.
+-- Definitions over numbered things and lists of any element.
 pub mod Search
 pub mod Each
 pub mod Fold

@@ -1,5 +1,4 @@
--- Numbered things and a test of each.
--- Assumes nothing.
+-- Numbered things and a test of each: the first bad one (of rows, R1.10).
 use Prim.Native.Nat.{ℕ, zero, suc}
 use mathlib.Core.Bool.{Bool, true, cond, _&&_}
 

@@ -1,1 +1,1 @@
-// Laws over lists of any element: no code. Assumes nothing.
+// Laws over lists of any element: no code.

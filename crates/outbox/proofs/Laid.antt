@@ -1,4 +1,4 @@
--- What framing writes to the front of a part, said of the whole memory. Assumes nothing.
+-- What framing writes to the front of a part, said of the whole memory.
 use Prim.Native.Nat.{ℕ, _+_, _-_, _≤_, _<_}
 use mathlib.Core.Path.{_≡_, refl, sym, ap, ap₂, _∙_}
 use mathlib.Core.Bool.{Bool, true, false, cond}

@@ -1,2 +1,2 @@
--- Laws of the crate. Assumes nothing.
+-- Laws of the crate.
 pub mod Laid

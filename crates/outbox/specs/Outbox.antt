@@ -1,4 +1,4 @@
--- Header and payload laid into send memory. Assumes nothing.
+-- Header and payload laid into send memory (R6.3, R10.3).
 use Prim.Native.Nat.{ℕ}
 use mathlib.Core.Bool.{cond}
 use mathlib.Core.List.{List}

@@ -1,4 +1,4 @@
-// Header and payload laid into send memory at a place. Assumes nothing: the function is total.
+// Header and payload laid into send memory at a place. The function is total.
 ghost use mathlib.Core.Path.{_≡_};
 ghost use Rattle.outbox.specs.Outbox.{appendedOf};
 

@@ -1,4 +1,4 @@
--- The room for header bytes as a test, and that there is none past 7. Assumes nothing.
+-- The room for header bytes as a test, and that there is none past 7.
 use Prim.Native.Nat.{ℕ, _+_, _<_, _≤_, _^_}
 use lib.Dec.{leb, ltb}
 use mathlib.Core.Path.{_≡_, refl}

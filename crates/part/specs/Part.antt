@@ -1,4 +1,4 @@
--- The receive part of a connection: when it is shaped as document 01 says, and when it is empty. Assumes nothing.
+-- The receive part of a connection (R2.4): when it is shaped, and when it is empty.
 use Prim.Native.Nat.{ℕ, _^_}
 use lib.Dec.{eqb, leb, ltb}
 use mathlib.Core.Bool.{Bool, false, cond, _&&_}
@@ -9,8 +9,8 @@ use Rattle.part.specs.declared.Part.the-variants.{Header, Payload, Skip}
 unfoldable pub roomFor : ℕ → ℕ
 roomFor held = cond (leb held 7) (256 ^ held) 0
 
--- "0..7 header bytes" (kept as one number, below 256 to the bytes held), "an unfinished payload" (fewer bytes than its
--- length), "at least one byte still to skip"
+-- R2.4: 0..7 header bytes, kept as one number below 256 to the bytes held; a payload with fewer bytes held than its length; at least one
+-- byte still to skip
 abbrev pub shaped : Part → Bool
 shaped (Header held value) = leb held 7 && ltb value (256 ^ held)
 shaped (Payload route length held) = ltb held length

@@ -1,5 +1,5 @@
 // What a connection has received and not yet handed out: part of a header, part of a payload, or bytes still to skip.
-// Its shape, and whether it is empty. Assumes nothing.
+// Its shape, and whether it is empty.
 ghost use mathlib.Core.Path.{_≡_};
 ghost use Rattle.part.specs.Part.{shaped, emptyPart, roomFor};
 
@@ -27,7 +27,7 @@ pub fn room_for(held: u8) -> u64
     }
 }
 
-// Whether the receive part has a shape that document 01 allows.
+// Whether the receive part has a shape that R2.4 allows.
 pub fn is_shaped(part: Part) -> bool
     ensures { λ r. ⌜ r ≡ shaped part ⌝ }
 {

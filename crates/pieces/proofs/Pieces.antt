@@ -1,4 +1,4 @@
--- Where a piece fits and where not. Assumes nothing.
+-- Where a piece fits and where not.
 use Prim.Native.Nat.{ℕ, _+_, _≤_, _<_}
 use mathlib.Core.Path.{_≡_, sym}
 use mathlib.Core.List.{List, []}

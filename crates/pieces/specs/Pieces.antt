@@ -1,4 +1,4 @@
--- Pieces laid one after the other into a lent buffer. Assumes nothing: these are definitions.
+-- Pieces laid one after the other into a lent buffer (R16.2).
 use Prim.Native.Nat.{ℕ, _+_}
 use mathlib.Core.Bool.{cond}
 use mathlib.Core.List.{List}

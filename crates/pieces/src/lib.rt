@@ -1,5 +1,5 @@
 // Pieces laid one after the other into a lent buffer: each whole, or not at all where it does not fit, and the place after it is
-// handed back. Assumes nothing: every function is total.
+// handed back. Every function is total.
 ghost use denote.Ref.{ptr};
 ghost use mathlib.Core.Path.{_≡_};
 ghost use lib.ListN.{take};

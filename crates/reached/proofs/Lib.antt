@@ -1,2 +1,2 @@
--- Each listed number is reached. Assumes nothing.
+-- Each listed number is reached.
 pub mod Reached

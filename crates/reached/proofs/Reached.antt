@@ -1,5 +1,5 @@
 -- THE EXAMPLES HOLD, by computation over the whole table; 11 and 12 any event can be answered. So each number that is listed for an event is
--- reached by one of its kind. Assumes nothing.
+-- reached by one of its kind.
 use Prim.Native.Nat.{ℕ, zero, suc}
 use mathlib.Core.Path.{_≡_, refl, sym, subst}
 use mathlib.Core.Bool.{Bool, true, false, _||_}

@@ -1,2 +1,2 @@
--- The kinds of events, and an example of each number that each of them can be answered with. Assumes nothing.
+-- The kinds of events, and an example of each number that each of them can be answered with.
 pub mod Reached

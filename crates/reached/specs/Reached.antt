@@ -1,6 +1,5 @@
--- NO NUMBER IS LISTED IN VAIN: for each kind of event and each number listed for it (demands/specs/Numbers, `numbersFor`) a table, a state
+-- EACH LISTED NUMBER DOES OCCUR: for each kind of event and each number listed for it (demands/specs/Numbers, `numbersFor`) a table, a state
 -- and an event of that kind that is answered that number.
--- Assumes nothing: these are definitions.
 use Prim.Native.Nat.{ℕ}
 use mathlib.Core.Path.{_≡_}
 use mathlib.Core.Bool.{Bool, true, false, _&&_}

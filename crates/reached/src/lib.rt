@@ -1,1 +1,1 @@
-// Each number that is listed for an event is the answer to one of its kind: examples, no code. Assumes nothing.
+// Each number that is listed for an event is the answer to one of its kind: examples, no code.

@@ -1,3 +1,3 @@
--- Laws of the reader. Assumes nothing.
+-- Laws of the reader.
 pub mod Payload
 pub mod Stepping

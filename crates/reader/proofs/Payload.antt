@@ -1,4 +1,4 @@
--- The payload that a reader hands out. Assumes nothing.
+-- The payload that a reader hands out.
 use Prim.Native.Nat.{ℕ, _+_, _≤_}
 use mathlib.Core.Path.{_≡_, refl, sym, ap, _∙_}
 use mathlib.Core.List.{List}

@@ -1,4 +1,4 @@
--- A reader that is moved from answer to answer. Assumes nothing.
+-- A reader that is moved from answer to answer.
 use Prim.Native.Nat.{ℕ, zero, suc, _+_, _≤_}
 use mathlib.Core.Path.{_≡_, refl, sym, ap, ap₂, _∙_, subst}
 use mathlib.Core.Bool.{Bool, true, false, not}

@@ -1,5 +1,4 @@
--- The datagram reader (document 01, "The core takes the datagram and a place; afterwards a datagram reader that holds the
--- datagram and its place is wanted over it"). Assumes nothing: these are definitions.
+-- The datagram reader (R7.13): it holds a datagram and its place.
 use Prim.Native.Nat.{ℕ, zero, suc}
 use mathlib.Core.Path.{_≡_}
 use mathlib.Core.List.{List, [], _∷_}
@@ -14,15 +13,15 @@ use Rattle.receive.specs.Walk.{walkOf}
 use Rattle.gate.specs.Lent.{Lent, next}
 use Rattle.reader.specs.declared.DatagramReader.{DatagramReader}
 
--- a reader that "holds the datagram and its place": the first place is 0
+-- R7.13: the first place is 0
 abbrev pub opened : RefT (List ℕ) → DatagramReader
 opened datagram = record { datagram = datagram; place = 0 }
 
--- the same datagram at another place
+-- the reader's datagram at another place
 abbrev pub movedTo : DatagramReader → ℕ → DatagramReader
 movedTo r place = record { datagram = r .datagram; place = place }
 
--- "gives the next PDU, a drop, or the end, with the next place": the walk's answer for the reader's datagram at its place
+-- R7.13: the walk's answer for the reader's datagram at its place
 abbrev pub answerAt : DatagramReader → Lent → ℕ → DatagramWalked
 answerAt r l connection = walkOf l connection (now (r .datagram)) (r .place)
 

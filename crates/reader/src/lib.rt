@@ -73,7 +73,7 @@ pub fn payload_in(datagram: &[u8], outcome: Outcome) -> &[u8]
     }
 }
 
-// The same, in the reader's datagram.
+// The payload that an outcome names, as the part of the reader's datagram where it stands.
 pub fn payload_of<'a>(reader: DatagramReader<'a>, outcome: Outcome) -> &'a [u8]
     ensures { λ r. ⌜ PayloadFound (reader .entry .datagram) outcome r ⌝ }
 {

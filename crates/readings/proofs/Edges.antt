@@ -1,5 +1,4 @@
 -- The edges of reading hold, by computation.
--- Assumes nothing.
 use mathlib.Core.Path.{refl}
 use Rattle.wire.specs.Be.{be}
 use Rattle.feed.specs.Feed.{pieceDone, feed, takeB, takes, segmentRan, segments}

@@ -1,3 +1,3 @@
--- The edges hold, and no wrong reading meets the definition. Assumes nothing.
+-- The edges hold, and no wrong reading meets the definition.
 pub mod Edges
 pub mod Wrong

@@ -1,5 +1,4 @@
 -- NO WRONG READING MEETS THE DEFINITION: for each, the input at which it fails.
--- Assumes nothing.
 use Prim.Native.Nat.{ℕ, _-_, _≤_}
 use mathlib.Core.Path.{_≡_, refl, sym, ap, _∙_}
 use mathlib.Core.List.{List, [], _∷_, _++_, map}

@@ -1,6 +1,4 @@
--- THE EDGES OF READING (document 01, "Both sides of each edge"): each as an equation over the definitions, with a table of a few
--- rows for the routes.
--- Assumes nothing: these are definitions.
+-- THE EDGES OF READING (section 12 of the rules): each as an equation over the definitions, with a table of a few rows for the routes.
 use Prim.Native.Nat.{ℕ, suc}
 use mathlib.Core.Path.{_≡_}
 use mathlib.Core.Bool.{cond}
@@ -22,7 +20,7 @@ pub record ReadingRow : Type 0 where
 abbrev pub readingRow : ℕ → ℕ → ℕ → ReadingRow
 readingRow i l g = record { id = i; longest = l; groups = g }
 
--- "First that applies: drop 20 no route, 21 switched off, 22 longer than allowed": rows numbered from k, switch word w
+-- R5.5: 20 no route, 21 switched off, 22 longer than allowed: rows numbered from k, switch word w
 unfoldable pub rows : ℕ → List ReadingRow → ℕ → Routes
 rows k [] w i n = Refuse 20
 rows k (r ∷ rs) w i n =
@@ -52,20 +50,20 @@ abbrev pub headerLongest : List ℕ
 headerLongest = 0 ∷ 0 ∷ 1 ∷ 3 ∷ 255 ∷ 255 ∷ 255 ∷ 255 ∷ []
 
 pub record ReadingEdges : Type 0 where
-  -- "is PDU 0x101, payload 180"
+  -- R12.2: PDU 0x101, payload 180
   pub the-pdu : segmentRan (readingTable 1) ready bar ≡ ran ready (pdu 0 (0 ∷ 180 ∷ []) ∷ [])
   pub payload-180 : be 2 (0 ∷ 180 ∷ []) 0 ≡ 180
-  -- "The same cut after byte 3, and after byte 8: the same PDU"
+  -- R12.2: cut after byte 3, and after byte 8, the same PDU
   pub cut-after-3 : segments (readingTable 1) ready (take 3 bar ∷ drop 3 bar ∷ []) ≡ ran ready (pdu 0 (0 ∷ 180 ∷ []) ∷ [])
   pub cut-after-8 : segments (readingTable 1) ready (take 8 bar ∷ drop 8 bar ∷ []) ≡ ran ready (pdu 0 (0 ∷ 180 ∷ []) ∷ [])
-  -- "`46 50` as payload is 18,000"
+  -- R12.2: `46 50` as payload is 18,000
   pub payload-18000 : be 2 (0x46 ∷ 0x50 ∷ []) 0 ≡ 18000
   pub kilopascal : segmentRan (readingTable 1) ready (headerTwo ++ 0x46 ∷ 0x50 ∷ []) ≡ ran ready (pdu 1 (0x46 ∷ 0x50 ∷ []) ∷ [])
-  -- "Length 0"
+  -- R12.3: length 0
   pub length-0 : segmentRan (readingTable 1) ready frameEmpty ≡ ran ready (pdu 0 [] ∷ [])
-  -- "Longest 2 against length 2 and 3": the-pdu, and this drop, whose payload is skipped
+  -- R12.3: longest 2 against length 2 and 3: the-pdu, and this drop, whose payload is skipped
   pub longest-2 : segmentRan (readingTable 1) ready (frameThree ++ bar) ≡ ran ready (dropped 22 0x101 3 ∷ pdu 0 (0 ∷ 180 ∷ []) ∷ [])
-  -- "Groups 0 with all switches off: on", and a group that is switched off
+  -- R12.4: groups 0 with all switches off is on; and a group that is switched off
   pub groups-0 : readingTable 0 0x102 2 ≡ Accept 1
   pub switched-off : segmentRan (readingTable 2) ready bar ≡ ran ready (dropped 21 0x101 2 ∷ [])
   -- no route: dropped and skipped, and the next PDU is read
@@ -76,7 +74,7 @@ pub record ReadingEdges : Type 0 where
   pub take-pdu : takeB (readingTable 1) ready (bar ++ frameEmpty) ≡ took ready (pdu 0 (0 ∷ 180 ∷ [])) frameEmpty
   pub take-drop : takeB (readingTable 1) ready frameUnknown ≡ took (cell 2 skip) (dropped 20 0x103 2) (0 ∷ 180 ∷ [])
   pub take-more : takeB (readingTable 1) ready (take 9 bar) ≡ took (cell 1 (payload 0 (0 ∷ []))) nothing []
-  -- "Datagram of 7 bytes: 23", and its neighbours
+  -- R12.7: a datagram of 7 bytes is 23; and its neighbours
   pub seven : walkAt (readingTable 1) (take 7 bar) 0 ≡ walked (a-drop 23 0 0) 7
   pub eight : walkAt (readingTable 1) frameEmpty 0 ≡ walked (a-pdu 0 8 0 0x101) 8
   pub nine : walkAt (readingTable 1) (take 9 bar) 0 ≡ walked (a-drop 23 0x101 2) 9

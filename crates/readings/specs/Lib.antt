@@ -1,3 +1,3 @@
--- The edges of reading, and wrong readings. Assumes nothing.
+-- The edges of reading, and wrong readings.
 pub mod Edges
 pub mod Wrong

@@ -1,2 +1,2 @@
-// The stream edges that document 01 names, computed, and wrong readings refuted: definitions in specs/, laws in proofs/, no
-// function. Assumes nothing.
+// The edges of streams and datagrams (section 12 of the rules), computed, and wrong readings refuted: definitions in specs/, laws in proofs/, no
+// function.

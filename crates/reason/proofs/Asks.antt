@@ -1,4 +1,4 @@
--- The test of room without a sum, and one test after another, by values that are what they test. Assumes nothing.
+-- The test of room without a sum, and one test after another, by values that are what they test.
 use Prim.Native.Nat.{ℕ, _+_, _-_, _<_, _≤_}
 use mathlib.Core.Path.{_≡_, sym, _∙_}
 use mathlib.Core.Bool.{false}

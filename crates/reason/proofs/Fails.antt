@@ -1,5 +1,5 @@
 -- Of a good spot nothing is told, of a bad one a fault whose test its numbers fail. So every refusal has a reason, and
--- the reason is a test that fails. Assumes nothing.
+-- the reason is a test that fails.
 use Prim.Native.Nat.{ℕ}
 use mathlib.Core.Path.{_≡_, refl, sym, ap, _∙_}
 use mathlib.Core.Bool.{Bool, true, false, cond, _&&_}

@@ -1,6 +1,6 @@
 -- Laws: one test after another (Asks), the earlier row that a row shares with (Shares), what is told of a row (Rowed),
 -- from a place to its row (Ways), the place that a spot names is the check's (Named), what is told is a test that fails
--- (Fails), and input longer than any image (Long). Assumes nothing.
+-- (Fails), and input longer than any image (Long).
 pub mod Asks
 pub mod Shares
 pub mod Rowed

@@ -1,5 +1,5 @@
 -- A whole image has at most 36 + 16 + 256 + 1,024 + 1,024 = 2,356 bytes. So of a longer input any front that is longer
--- than that gets the answer of the whole. Assumes nothing.
+-- than that gets the answer of the whole.
 use Prim.Native.Nat.{ℕ, _+_, _<_, _≤_}
 use mathlib.Core.Path.{_≡_, refl, sym, ap, _∙_}
 use mathlib.Core.List.{List}

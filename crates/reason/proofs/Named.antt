@@ -1,5 +1,5 @@
 -- The place that the spot of a refusal names is the check's, and what stands there is bad; the spot of a spot's place is
--- that spot. Assumes nothing.
+-- that spot.
 use Prim.Native.Nat.{ℕ, _-_, _/_, _<_, _≤_}
 use mathlib.Core.Path.{_≡_, refl, sym, ap, _∙_}
 use mathlib.Core.Bool.{Bool, true, false}

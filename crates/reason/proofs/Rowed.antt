@@ -1,4 +1,4 @@
--- What is told of a row, by values that are its bytes and the numbers it is held against. Assumes nothing.
+-- What is told of a row, by values that are its bytes and the numbers it is held against.
 use Prim.Native.Nat.{ℕ}
 use mathlib.Core.Path.{_≡_, _∙_}
 use mathlib.Core.List.{List}

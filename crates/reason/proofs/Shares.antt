@@ -1,5 +1,5 @@
 -- A row shares what it may not with an earlier one exactly where the search for the first such row ends before it; and
--- where it is told to share with a row, it does. Assumes nothing.
+-- where it is told to share with a row, it does.
 use Prim.Native.Nat.{ℕ, _<_, _≤_}
 use mathlib.Core.Path.{_≡_, refl, sym, ap, _∙_}
 use mathlib.Core.Bool.{Bool, true, false, cond, false≢true}

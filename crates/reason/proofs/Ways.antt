@@ -1,4 +1,4 @@
--- From a place to its row: how many steps of a size lead from a start to it, and which kind's body it stands in. Assumes nothing.
+-- From a place to its row: how many steps of a size lead from a start to it, and which kind's body it stands in.
 use Prim.Native.Nat.{ℕ, _-_, _/_, _<_, _≤_}
 use mathlib.Core.Path.{_≡_, sym}
 use mathlib.Core.List.{List}

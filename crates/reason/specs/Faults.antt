@@ -1,4 +1,4 @@
--- The first test that fails at a spot, in the order of document 01's words; nothing where none does. Assumes nothing.
+-- The first test that fails at a spot, in the order of R1.11; nothing where none does.
 use Prim.Native.Nat.{ℕ, _+_}
 use mathlib.Core.Bool.{Bool, true, false, cond, _&&_}
 use mathlib.Core.List.{List}
@@ -71,21 +71,21 @@ passesTest Shared found asked = false
 unfoldable pub unless : Fault → ℕ → ℕ → Told → Told
 unless fault found asked rest = cond (passesTest fault found asked) rest (faultTold fault found asked)
 
--- "0 when shorter than 36 or bytes 0..3 are wrong"
+-- at place 0: length, edition, number of kinds
 unfoldable pub headFault : List ℕ → Told
 headFault s =
     unless Short (length s) 36
     (unless Edition (be 2 s 0) 1
     (unless Number (be 2 s 2) 4 noFault))
 
--- "wrong kind, too many rows, wrong offset"
+-- at a contents entry: kind, row count, offset
 unfoldable pub entryFault : List ℕ → Kind → Told
 entryFault s k =
     unless WrongKind (be 2 s (entryAt k)) (number k)
     (unless TooMany (rowsOf s k) (mostRows k)
     (unless Offset (be 4 s (entryAt k + 4)) (startOf s k) noFault))
 
--- "2 for a wrong total length"
+-- at place 2: the total length
 unfoldable pub totalFault : List ℕ → Told
 totalFault s = unless Length (length s) (endOf s) noFault
 

@@ -1,4 +1,4 @@
--- When what stands at a spot is good, by the check's own tests, and what may be told of it. Assumes nothing.
+-- When what stands at a spot is good, by the check's own tests, and what may be told of it (R1.11).
 use Prim.Native.Nat.{ℕ, _<_}
 use mathlib.Core.Path.{_≡_}
 use mathlib.Core.Bool.{Bool, true, false, _&&_}

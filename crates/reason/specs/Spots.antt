@@ -1,4 +1,4 @@
--- The spot that a place of refusal 1 names, and the place that a spot has. Assumes nothing.
+-- The spot that a place of refusal 1 names, and the place that a spot has (R1.11).
 use Prim.Native.Nat.{ℕ, _-_, _/_}
 use mathlib.Core.Bool.{cond}
 use mathlib.Core.List.{List}

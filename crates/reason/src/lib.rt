@@ -1,7 +1,7 @@
 // Why an image is refused: the spot that a place of the check names (bytes 0..3, a contents entry, the total length, a
 // row), and the first test that fails there, with the number found and the number asked; nothing where none fails. The
 // place that the spot names is the check's (proofs/Named), and nothing is told exactly where the spot is good
-// (proofs/Fails). Everything is total. Assumes nothing.
+// (proofs/Fails). Everything is total.
 ghost use mathlib.Core.Path.{_≡_};
 ghost use Prim.Native.Nat.{_+_, _-_, _/_};
 ghost use lib.Dec.{leb};

@@ -1,4 +1,4 @@
--- The answer before anything is read: what each case says, and what is known when nothing refuses. Assumes nothing.
+-- The answer before anything is read: what each case says, and what is known when nothing refuses.
 use Prim.Native.Nat.{ℕ, _<_}
 use mathlib.Core.Path.{_≡_, refl, sym, ap, _∙_}
 use mathlib.Core.Bool.{Bool, true, false, cond, not, _&&_}

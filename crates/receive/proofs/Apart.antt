@@ -1,5 +1,4 @@
 -- A take touches its own record, its own stretch of receive memory and the TCP count alone; a walk the UDP count alone.
--- Assumes nothing.
 use Prim.Native.Nat.{ℕ, _*_, _<_}
 use mathlib.Core.Path.{_≡_, refl, ap, _∙_}
 use mathlib.Core.Bool.{Bool, true, false, cond}

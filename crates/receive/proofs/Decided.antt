@@ -1,5 +1,5 @@
--- THE DECISION ON A HEADER, of an accepted table: it has the ground that document 01 gives for it, and no other decision has one; one row
--- at most bears an id on a connection. Assumes nothing.
+-- THE DECISION ON A HEADER, of an accepted table: it has the ground that R5.5 gives for it, and no other decision has one; one row
+-- at most bears an id on a connection.
 use Prim.Native.Nat.{ℕ}
 use mathlib.Core.Path.{_≡_}
 use mathlib.Core.List.{List}

@@ -1,4 +1,4 @@
--- A take and a walk leave a sound state sound, and receive memory as long as it was. Assumes nothing.
+-- A take and a walk leave a sound state sound, and receive memory as long as it was.
 use Prim.Native.Nat.{ℕ, _*_, _/_, _≤_, _<_}
 use mathlib.Core.Path.{_≡_, refl, sym, ap, _∙_}
 use mathlib.Core.Bool.{Bool, true, false, cond, not, false≢true}

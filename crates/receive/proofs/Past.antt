@@ -1,4 +1,4 @@
--- What the gate shows to a take and to a walk. Assumes nothing.
+-- What the gate shows to a take and to a walk.
 use Prim.Native.Nat.{ℕ, _*_, _/_, _<_, _≤_}
 use mathlib.Core.Path.{_≡_, refl, sym, subst}
 use mathlib.Core.Bool.{true, _&&_}

@@ -1,5 +1,4 @@
 -- An unfinished payload whose route belongs to the connection and allows the length: as soundness asks it, and as a take keeps it.
--- Assumes nothing.
 use Prim.Native.Nat.{ℕ, _/_, _≤_, _<_}
 use mathlib.Core.Path.{_≡_, refl, sym, subst}
 use mathlib.Core.Bool.{Bool, true, false, cond, _&&_}

@@ -1,4 +1,4 @@
--- The take of a segment at each of its returns, and a stretch of receive memory. Assumes nothing.
+-- The take of a segment at each of its returns, and a stretch of receive memory.
 use Prim.Native.Nat.{ℕ, _+_, _-_, _*_, _<_}
 use mathlib.Core.Path.{_≡_, sym, ap, ap₂, _∙_, subst}
 use mathlib.Core.Bool.{Bool, true, false}

@@ -1,4 +1,4 @@
--- The walk over a datagram at each of its returns. Assumes nothing.
+-- The walk over a datagram at each of its returns.
 use Prim.Native.Nat.{ℕ, _<_}
 use mathlib.Core.Path.{_≡_, sym, ap, _∙_}
 use mathlib.Core.Bool.{Bool, true, false, not, _&&_}

@@ -1,4 +1,4 @@
--- What a segment take and a walk are answered: the gate (11, 12, 2), then 3, then 4. Assumes nothing: these are definitions.
+-- What a segment take and a walk are answered: the gate (11, 12, 2), then 3, then 4.
 use Prim.Native.Nat.{ℕ}
 use mathlib.Core.Bool.{Bool, true, false, cond}
 use Rattle.connection.specs.declared.Connection.{Connection}
@@ -10,7 +10,7 @@ use Rattle.gate.specs.Gate.{gateAt, through}
 use Rattle.receive.specs.declared.Answer.{Answer}
 use Rattle.receive.specs.declared.Answer.the-variants.{Done, Refused, NotReceiving}
 
--- document 01's number
+-- R4.1: the number of an answer
 abbrev pub answerNumber : Answer → ℕ
 answerNumber Done = 0
 answerNumber (Refused r) = refusalNumber r
@@ -21,10 +21,10 @@ isDone Done = true
 isDone (Refused r) = false
 isDone NotReceiving = false
 
--- past the gate: "not allowed for this protocol, mode or argument" (3), then "on a connection not online or with close wanted" (4)
+-- past the gate: 3, not allowed for this protocol or argument; then 4, not online or with close wanted
 unfoldable pub judgedOf : Bool → Connection → Answer
 judgedOf allowed c = cond allowed (cond (receiving c) Done NotReceiving) (Refused Denied)
 
--- "Checks run 11, 12, 2, 3, then the event's own order"
+-- R4.2, the checks in their order
 unfoldable pub judgedAnswer : Lent → ℕ → Bool → Answer
 judgedAnswer l connection allowed = through (gateAt l connection) Refused (judgedOf allowed (recordAt (l .state) connection))

@@ -1,4 +1,4 @@
--- What the contracts and laws of this crate cite. Assumes nothing.
+-- What the contracts and laws of this crate cite.
 pub mod Answer
 pub mod Segment
 pub mod Walk

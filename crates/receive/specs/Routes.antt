@@ -1,4 +1,4 @@
--- The routes of a connection, as its switches stand, and when they give which decision. Assumes nothing: these are definitions.
+-- The routes of a connection, as its switches stand, and when they give which decision.
 use Prim.Native.Nat.{ℕ}
 use mathlib.Core.List.{List}
 use Rattle.feed.specs.declared.Decision.{Decision}
@@ -10,8 +10,7 @@ use Rattle.route.specs.Decided.{Decided}
 use Rattle.state.specs.declared.State.{State}
 use Rattle.state.specs.State.{recordAt}
 
--- "A receive route counts for the header's id on its connection. It is on when its groups are 0 or share a set bit with the
--- connection's switches": what the table's routes say on connection k of a state
+-- R5.2, R5.3: what the table's routes say on connection k of a state
 abbrev pub routesIn : List ℕ → State → ℕ → Routes
 routesIn image s k = lookupOf (bodyOf image Route) k (recordAt s k .switches)
 

@@ -1,5 +1,5 @@
 -- A take of a segment on one of the sixteen connections: the whole answer, and all of receive memory afterwards; and the payload
--- that it hands out. Assumes nothing: these are definitions.
+-- that it hands out.
 use Prim.Native.Nat.{ℕ, _*_, _<_}
 use mathlib.Core.Path.{_≡_}
 use mathlib.Core.Bool.{true, cond}
@@ -24,7 +24,7 @@ use Rattle.receive.specs.declared.Answer.the-variants.{Done}
 use Rattle.receive.specs.declared.SegmentTaken.{SegmentTaken}
 use Rattle.receive.specs.Answer.{isDone, judgedAnswer}
 
--- "A drop adds 1 to its protocol's count": TCP's
+-- R5.6: a drop adds 1 to its protocol's count, TCP's
 abbrev pub dropsAfter : Outcome → ℕ → ℕ
 dropsAfter More drops = drops
 dropsAfter (Pdu route id inside at n) drops = drops
@@ -38,7 +38,7 @@ module _ (image : List ℕ) (s : State) (rx : List ℕ) (connection : ℕ) (segm
   abbrev pub takenAt : Taken
   takenAt = takenOf (bodyOf image Routes) connection (recordAt s connection .switches) (recordAt s connection .part) (stretch 1464 connection rx) segment
 
-  -- "one stretch per connection in number order": the stretch afterwards
+  -- R2.7: the connection's stretch afterwards
   abbrev pub stretchAt : List ℕ
   stretchAt = rxAfter (bodyOf image Routes) connection (recordAt s connection .switches) (recordAt s connection .part) (stretch 1464 connection rx) segment
 
@@ -66,7 +66,7 @@ pub record Takes (image : List ℕ) (s : State) (rx : List ℕ) (connection : �
 abbrev pub noneTaken : State → Answer → SegmentTaken
 noneTaken s a = record { answer = a; read = 0; outcome = More; state = s }
 
--- "Segment: TCP, else 3"
+-- R5.14: TCP, else 3
 abbrev pub segmentAnswer : Lent → ℕ → Answer
 segmentAnswer l connection = judgedAnswer l connection (configOf (l .image) connection .tcp)
 
@@ -77,20 +77,19 @@ segmentOf l connection segment =
     (takeOn (l .image) (l .state) (l .rx) connection segment)
     (noneTaken (l .state) (segmentAnswer (sizes l) connection))
 
--- RECEIVE MEMORY AFTER IT: "All lent memory stays in every refusal"
+-- RECEIVE MEMORY AFTER IT. R4.7: in a refusal it stays
 unfoldable pub memoryOf : Loan → ℕ → List ℕ → List ℕ
 memoryOf l connection segment =
     cond (isDone (segmentAnswer (sizes l) connection)) (memoryOn (l .image) (l .state) (l .rx) connection segment) (l .rx)
 
--- "all other lent bytes stay": when connection k takes, every other stretch of receive memory stays, and so do every other record and
--- UDP's count
+-- R2.8: when connection k takes, every other stretch of receive memory stays, and so do every other record and UDP's count
 pub record Apart (k : ℕ) (s t : State) (rx rx′ : List ℕ) : Type 0 where
   pub records : (j : ℕ) → (j ≡ k → ⊥) → recordAt t j ≡ recordAt s j
   pub stretches : (j : ℕ) → (j ≡ k → ⊥) → stretch 1464 j rx′ ≡ stretch 1464 j rx
   pub udp : t .«udp_drops» ≡ s .«udp_drops»
 
--- "The payload is handed out from the segment itself when all of it stands there, otherwise from receive memory"; where no PDU
--- is handed out there is none
+-- R5.11: the payload, out of the segment when all of it stands there, otherwise out of receive memory; where no PDU is handed out there
+-- is none
 unfoldable pub payloadOf : List ℕ → List ℕ → ℕ → Outcome → List ℕ
 payloadOf segment rx connection More = []
 payloadOf segment rx connection (Pdu route id inside at n) = payloadAt segment (stretch 1464 connection rx) inside at n

@@ -1,4 +1,4 @@
--- A step of a walk over a datagram on one of the sixteen connections: the whole answer. Assumes nothing: these are definitions.
+-- A step of a walk over a datagram on one of the sixteen connections: the whole answer.
 use Prim.Native.Nat.{ℕ}
 use mathlib.Core.Bool.{Bool, false, cond, not, _&&_}
 use mathlib.Core.List.{List}
@@ -19,7 +19,7 @@ use Rattle.receive.specs.declared.Answer.the-variants.{Done}
 use Rattle.receive.specs.declared.DatagramWalked.{DatagramWalked}
 use Rattle.receive.specs.Answer.{isDone, judgedAnswer}
 
--- "A drop adds 1 to its protocol's count": UDP's
+-- R7.11: a drop adds 1 to its protocol's count, UDP's
 abbrev pub countWalk : Outcome → State → State
 countWalk End s = s
 countWalk (Pdu route id at n) s = s
@@ -30,7 +30,7 @@ module _ (image : List ℕ) (s : State) (connection : ℕ) (datagram : List ℕ)
   abbrev pub walkedAt : Walked
   walkedAt = walkedOf datagram place (bodyOf image Routes) connection (recordAt s connection .switches)
 
-  -- where nothing refuses it: "Nothing is carried to the next datagram"
+  -- R7.11, where nothing refuses it: nothing is carried to the next datagram
   unfoldable pub walkOn : DatagramWalked
   walkOn =
       record {
@@ -44,7 +44,7 @@ module _ (image : List ℕ) (s : State) (connection : ℕ) (datagram : List ℕ)
 abbrev pub noneWalked : State → ℕ → Answer → DatagramWalked
 noneWalked s place a = record { answer = a; outcome = End; next = place; state = s }
 
--- "connection, datagram and place (beyond the end: 3; a TCP connection: 3)"
+-- R7.7: a TCP connection, or a place beyond the end, gets 3
 abbrev pub walkAllowed : List ℕ → ℕ → List ℕ → ℕ → Bool
 walkAllowed image connection datagram place = not (configOf image connection .tcp) && leb place (length datagram)
 

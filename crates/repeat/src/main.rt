@@ -3,8 +3,8 @@
 //
 // Standard input: what 1, connection 1, PDU 2, times 4, place 2, used 2, length of the image 2, length of the bytes 2; the image
 // (at most 2,356 bytes); the bytes (at most 2,944). Numbers big-endian. Before the first call the connections of the table are
-// opened, ticked once and connected: those whose configured remote has no wildcard are online. Before each call the image's byte at `place` becomes another (a place that no rule speaks of, such as an
-// upper PDU's), so that no check can be left out.
+// opened, ticked once and connected: those whose configured remote has no wildcard are online. Before each call the image's byte at
+// `place` becomes another (a place that no rule speaks of, such as an upper PDU's), so that no check can be left out.
 //   what 0  nothing: what the loop itself costs
 //   what 1  a read of the UDP count: the gate, and little more
 //   what 2  a take of the bytes as one segment of the connection
@@ -18,7 +18,6 @@
 //   what 69, 70  what 5 and 6 do besides the call
 // 128 more: under a state in which each connection holds ten bytes to send, half of them due, half with a timer that runs.
 // Last word: OK when every call did what it names, REFUSED when one did not, CUT when the input is not what it says.
-// Assumes nothing.
 mod once;
 mod up;
 
@@ -90,7 +89,7 @@ fn run(head: &[u8], image: &mut [u8], bytes: &[u8]) -> bool {
     )
 }
 
-// The same, where the image is the front of a buffer.
+// `run` with the image that is the front of a buffer.
 fn run_front(head: &[u8], buffer: &mut [u8], long: usize, bytes: &[u8]) -> bool {
     if long <= buffer.len() {
         return run(head, &mut buffer[..long], bytes);

@@ -1,4 +1,4 @@
-// One call of an entry point, by what it is (main.rt lists them), with the state as the next call is to find it. Assumes nothing.
+// One call of an entry point, by what it is (main.rt lists them), with the state as the next call is to find it.
 use answering::Verdict;
 use calls::bytes_from;
 use choose::Arrival;

@@ -1,12 +1,11 @@
 // The state before the first call: each connection opened, a tick, each connected; where it is to be busy, each holds bytes to send.
-// Assumes nothing.
 use connection::Event;
 use layout::Kind;
 use layout::rows_of;
 use state::State;
 use state::fresh_state;
 
-// The same event on each connection.
+// An event on each connection.
 fn each(image: &[u8], state: State, rx: &[u8], tx: &[u8], event: Event) -> State {
     let mut next = state;
     let mut i: u8 = 0;

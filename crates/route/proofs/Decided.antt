@@ -1,5 +1,5 @@
 -- WHY EACH DECISION ON A HEADER IS GIVEN (`lookup-decided`), and that it is given exactly then (`decided-lookup`, where no two routes
--- share connection and id). Assumes nothing.
+-- share connection and id).
 use Prim.Native.Nat.{ℕ, _<_, _≤_}
 use mathlib.Core.Path.{_≡_, refl, sym, ap, subst, _∙_}
 use mathlib.Core.Bool.{Bool, true, false, cond, not}

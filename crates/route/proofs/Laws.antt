@@ -1,4 +1,4 @@
--- The laws of the lookup: the search for a row, the reason, and the decision at it. Assumes nothing.
+-- The laws of the lookup: the search for a row, the reason, and the decision at it.
 use Prim.Native.Nat.{ℕ, zero, suc, _+_, _-_, _*_, _/_, _<_, _≤_}
 use mathlib.Core.Path.{_≡_, refl, sym, ap, ap₂, subst, _∙_}
 use mathlib.Core.Bool.{Bool, true, false, cond, not, _&&_}

@@ -1,3 +1,3 @@
--- The laws of the lookup. Assumes nothing.
+-- The laws of the lookup.
 pub mod Laws
 pub mod Decided

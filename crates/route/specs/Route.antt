@@ -1,5 +1,4 @@
 -- The lookup: what the receive routes of a connection say to a header's id and length.
--- Assumes nothing: these are definitions.
 use Prim.Native.Nat.{ℕ, zero, suc, _/_, _≤_}
 use mathlib.Core.Path.{_≡_}
 use mathlib.Core.Bool.{Bool, cond, not, _&&_}
@@ -24,7 +23,7 @@ pub record RowsCounted (routes : List ℕ) (n : ℕ) : Type 0 where
   pub most : n ≤ 64
   pub within : n ≤ length routes / 16
 
--- "A receive route counts for the header's id on its connection"
+-- R5.2: a route counts for a header by connection and id
 unfoldable pub counts : RouteRow → ℕ → ℕ → Bool
 counts row connection id = eqb (row .connection) connection && eqb (row .id) id
 
@@ -36,7 +35,7 @@ passed routes connection id i = not (counts (routeIn routes i) connection id)
 unfoldable pub rowFor : List ℕ → ℕ → ℕ → ℕ
 rowFor routes connection id = firstBad (passed routes connection id) (rowsIn routes)
 
--- "First that applies: drop 20 no route, 21 switched off, 22 longer than allowed"; 0 where none applies
+-- R5.5, the first that applies: 20 no route, 21 switched off, 22 longer than allowed; 0 where none applies
 unfoldable pub reasonIn : RouteRow → ℕ → ℕ → ℕ
 reasonIn row switches n = cond (not (isOn (row .groups) switches)) 21 (cond (ltb (row .longest) n) 22 0)
 

@@ -1,5 +1,4 @@
 // The lookup: what the receive routes of a connection say to a header's id and length.
-// Assumes nothing.
 ghost use mathlib.Core.Path.{_≡_};
 ghost use Prim.Native.Nat.{_≤_};
 ghost use Rattle.rows.specs.Rows.{routeRow};
@@ -63,7 +62,7 @@ fn reason_in(row: RouteRow, switches: u32, length: u32) -> u8
     0
 }
 
-// The same of row i, and 20 where there is no such row.
+// The reason of row i (R5.5), and 20 where there is no such row.
 fn reason_of(routes: &[u8], i: usize, switches: u32, length: u32) -> u8
     ensures { λ r. ⌜ r ≡ reasonOf (now (routes .entry)) i switches length ⌝ }
 {

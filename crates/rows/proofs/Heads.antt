@@ -1,5 +1,4 @@
 -- Four bytes of a row, read as one number, and the numbers in them: what the rules ask of the one is what they ask of the others.
--- Assumes nothing.
 use Prim.Native.Nat.{ℕ, zero, suc, _+_, _*_, _/_, _%_, _^_, _<_, _≤_}
 use mathlib.Core.Path.{_≡_, refl, sym, ap, _∙_}
 use mathlib.Core.Bool.{Bool, true, false, _&&_, _||_}

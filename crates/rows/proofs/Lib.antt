@@ -1,2 +1,2 @@
--- Laws of the rules. Assumes nothing.
+-- Laws of the rules.
 pub mod Heads

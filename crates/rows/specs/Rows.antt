@@ -1,5 +1,4 @@
--- Each kind's row of document 01's table as a value, by its bytes and by its number: the numbers stand in the order of
--- "row bytes, in order". A row that is not there is the zero row. Assumes nothing.
+-- Each kind's row (R1.5) as a value, by its bytes and by its number: the fields in their order. A row that is not there is the zero row.
 use Prim.Native.Nat.{ℕ}
 use mathlib.Core.List.{List}
 use lib.Dec.{eqb}
@@ -12,11 +11,11 @@ use Rattle.rows.specs.declared.ConnectionBrief.{ConnectionBrief}
 use Rattle.rows.specs.declared.RouteRow.{RouteRow}
 use Rattle.rows.specs.declared.DestinationRow.{DestinationRow}
 
--- "protocol 1 (1 UDP, 2 TCP), zero 1"
+-- protocol 1 (1 UDP, 2 TCP), zero 1
 unfoldable pub groupRow : List ℕ → GroupRow
 groupRow row = record { protocol = be 1 row 0 }
 
--- "group 1, automatic 1 (0 or 1), IPv4 4, port 2, send size 2 (8..1,472), zero 2, start switches 4"
+-- group 1, automatic 1 (0 or 1), IPv4 4, port 2, send size 2 (8..1,472), zero 2, start switches 4
 unfoldable pub connectionRow : List ℕ → ConnectionRow
 connectionRow row =
     record {
@@ -28,7 +27,7 @@ connectionRow row =
       switches = be 4 row 12;
     }
 
--- "connection 1, zero 1, longest payload 2, header id 4, upper PDU 2, zero 2, groups 4"
+-- connection 1, zero 1, longest payload 2, header id 4, upper PDU 2, zero 2, groups 4
 unfoldable pub routeRow : List ℕ → RouteRow
 routeRow row =
     record {
@@ -39,7 +38,7 @@ routeRow row =
       groups = be 4 row 12;
     }
 
--- "connection 1, trigger 1 (0 or 1), longest payload 2, header id 4, PDU 2, timeout ticks 2, groups 4"
+-- connection 1, trigger 1 (0 or 1), longest payload 2, header id 4, PDU 2, timeout ticks 2, groups 4
 unfoldable pub destinationRow : List ℕ → DestinationRow
 destinationRow row =
     record {

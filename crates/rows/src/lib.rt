@@ -1,5 +1,5 @@
 // Rows of the table image: each kind's row as a value, read by its number, and each kind's rule as a test on a row's
-// bytes. Everything is total: a row that is not there is the zero row. Assumes nothing.
+// bytes. Everything is total: a row that is not there is the zero row.
 ghost use mathlib.Core.Path.{_≡_};
 ghost use Prim.Native.Nat.{_/_};
 ghost use lib.ListN.{length};

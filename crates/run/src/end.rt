@@ -1,5 +1,4 @@
 // The end of a run: every record that the table has a row for, with its held bytes, and both counts (docs/EVENTS.md).
-// Assumes nothing.
 use calls::bytes_from;
 use connection::Connection;
 use layout::Kind;

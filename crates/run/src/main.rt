@@ -1,5 +1,5 @@
 // run: a table image and a script on standard input; what each entry is and answers, and the records at the end, on standard output
-// (docs/EVENTS.md). Assumes nothing.
+// (docs/EVENTS.md).
 mod end;
 
 use answering::Verdict;

@@ -1,6 +1,5 @@
 -- While a TCP connection is online, nothing but its segments changes what it holds of its stream; and one that is not online
 -- holds nothing of it. Here for connection events.
--- Assumes nothing.
 use Prim.Native.Nat.{ℕ, _-_}
 use mathlib.Core.Path.{_≡_, refl, sym, ap, _∙_}
 use mathlib.Core.Bool.{Bool, true, false, cond, true≢false, false≢true}

@@ -1,4 +1,4 @@
--- The theorems about runs. Assumes nothing.
+-- The theorems about runs.
 pub mod Same
 pub mod Keeps
 pub mod Streams

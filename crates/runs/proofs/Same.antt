@@ -1,6 +1,5 @@
 -- DEMAND 3: runs that count as the same end in the same world, and each connection has given the same outcomes in the same
 -- order, PDUs and drops; whatever the table says, whatever the world at the start, whatever events of a whole group or module do.
--- Assumes nothing.
 use Prim.Native.Nat.{ℕ, _<_, _≤_}
 use mathlib.Core.Path.{_≡_, refl, sym, ap, ap₂, _∙_}
 use mathlib.Core.Bool.{Bool, true, false, cond, not, _&&_}

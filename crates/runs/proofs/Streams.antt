@@ -1,6 +1,5 @@
 -- DEMAND 3'S LIST: in any run, what a TCP connection hands out is what its streams hold by lengths, one stream for each online
 -- period, the first of them begun with what the record holds at the start (`heard-listed`, at the end).
--- Assumes nothing.
 use Prim.Native.Nat.{ℕ}
 use mathlib.Core.Path.{_≡_, refl, sym, ap, ap₂, _∙_, subst}
 use mathlib.Core.Bool.{Bool, true, false, cond, not, _&&_, true≢false}

@@ -1,7 +1,6 @@
 -- DEMAND 2'S ROUND TRIP, through events: what was framed, cut into segments in any way, is handed out by a TCP connection that is
 -- online, ready and at a header's first byte, with routes for those ids, switched on and allowing those lengths: the same PDUs in the
 -- same order.
--- Assumes nothing.
 use Prim.Native.Nat.{ℕ}
 use mathlib.Core.Path.{_≡_, refl, sym, ap, _∙_}
 use mathlib.Core.List.{List, [], _∷_, _++_, append-nil, flatten, map}

@@ -1,4 +1,4 @@
--- Which runs count as the same, the streams of a run, and who reads segments. Assumes nothing.
+-- Which runs count as the same, the streams of a run, and who reads segments.
 pub mod Same
 pub mod Streams
 pub mod Trip

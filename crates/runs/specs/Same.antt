@@ -1,6 +1,5 @@
--- WHICH RUNS COUNT AS THE SAME (demand 3): "swap neighbouring connection events of different connections, or cut or join
--- neighbouring segments of one TCP connection, as often as you like". Events of a whole group or module stay where they are.
--- Assumes nothing: this is a definition.
+-- WHICH RUNS COUNT AS THE SAME (R15.2): neighbouring connection events of different connections are swapped, neighbouring segments of one
+-- connection are cut or joined, as often as you like. Events of a whole group or module stay where they are.
 use Prim.Native.Nat.{ℕ}
 use mathlib.Core.Path.{_≡_}
 use mathlib.Core.List.{List, _∷_, _++_}

@@ -1,6 +1,5 @@
--- THE STREAM OF A TCP CONNECTION in a run: the bytes of its accepted segments, each beside the switch word that stands when it is
+-- R15.5, THE STREAM OF A TCP CONNECTION in a run: the bytes of its accepted segments, each beside the switch word that stands when it is
 -- read; one stream for each online period.
--- Assumes nothing: these are definitions.
 use Prim.Native.Nat.{ℕ}
 use mathlib.Core.Path.{_≡_}
 use mathlib.Core.Bool.{Bool, true, false, cond, not, _&&_}

@@ -1,4 +1,4 @@
--- WHO READS SEGMENTS in a run, and the segments of a stream that was cut. Assumes nothing: these are definitions.
+-- WHO READS SEGMENTS in a run, and the segments of a stream that was cut.
 use Prim.Native.Nat.{ℕ}
 use mathlib.Core.Path.{_≡_}
 use mathlib.Core.Bool.{true}
@@ -10,8 +10,7 @@ use Rattle.world.specs.World.{World, heldAt, cellAt}
 use Rattle.world.specs.Events.{segment, Event, on}
 use Rattle.world.specs.Step.{Table}
 
--- "a reader that is ready and at a header's first byte": a TCP connection that is there, online without close wanted, and holds
--- nothing
+-- R5.17, a reader that is ready: a TCP connection that is there, online without close wanted, and holds nothing
 pub record Reads (T : Table) (w : World) (k : ℕ) : Type 0 where
   pub there : ltb k (T .rows) ≡ true
   pub tcp : T .config k .tcp ≡ true

@@ -1,3 +1,3 @@
--- Laws of the searches. Assumes nothing.
+-- Laws of the searches.
 pub mod Rows
 pub mod Marks

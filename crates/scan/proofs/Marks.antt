@@ -1,4 +1,4 @@
--- Rows that share what they may not have one mark; so a row whose mark no earlier row has is clear of them all. Assumes nothing.
+-- Rows that share what they may not have one mark; so a row whose mark no earlier row has is clear of them all.
 use Prim.Native.Nat.{ℕ, _+_, _/_, _%_, _<_, _≤_}
 use mathlib.Core.Path.{_≡_, refl, sym, ap, _∙_}
 use mathlib.Core.Bool.{Bool, true, false, not}

@@ -1,4 +1,4 @@
--- A search over the rows of a body, at the places where a loop stands. Assumes nothing.
+-- A search over the rows of a body, at the places where a loop stands.
 use Prim.Native.Nat.{ℕ, _+_, _/_, _<_}
 use mathlib.Core.Path.{_≡_, refl, sym, ap, _∙_}
 use mathlib.Core.Bool.{Bool, true, false, not}

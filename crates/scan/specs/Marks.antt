@@ -1,6 +1,6 @@
 -- A small number of what two rows may not share: rows with different numbers do not share it. It makes the search quick,
 -- and says nothing of its answer. It is a multiplicative hash (the factor is 2^32 over the golden ratio) of the key with the
--- connection at its top: rising and stepped keys spread well. Assumes nothing.
+-- connection at its top: rising and stepped keys spread well.
 use Prim.Native.Nat.{ℕ, _+_, _-_, _*_, _/_, _%_, _<_, _≤_}
 use mathlib.Core.Path.{_≡_}
 use mathlib.Core.Bool.{Bool, true}

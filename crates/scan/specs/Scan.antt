@@ -1,4 +1,4 @@
--- A row among the rows of its body. Assumes nothing.
+-- A row among the rows of its body.
 use Prim.Native.Nat.{ℕ, _/_}
 use mathlib.Core.Bool.{Bool, false, not, _&&_}
 use mathlib.Core.List.{List}
@@ -21,7 +21,7 @@ share Destination a b = destinationsShare a b
 unfoldable pub clearIn : (List ℕ → List ℕ → Bool) → ℕ → List ℕ → ℕ → ℕ → Bool
 clearIn shares n body i j = not (shares (rowIn n body j) (rowIn n body i))
 
--- row i is good by itself and shares with no earlier row what it may not: "the later row is the bad one"
+-- R1.6, R1.9: row i is good by itself and shares with no earlier row what it may not, so that the later row is the bad one
 unfoldable pub goodIn : (List ℕ → Bool) → (List ℕ → List ℕ → Bool) → ℕ → List ℕ → ℕ → Bool
 goodIn good shares n body i = good (rowIn n body i) && every (clearIn shares n body i) i
 

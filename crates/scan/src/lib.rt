@@ -1,6 +1,5 @@
 // The first bad row of each kind's body. A row is tested by itself first; then, where its mark was met before, against
 // each earlier row, outside of the loop that most rows stay in. The marks make the search quick; no public contract shows them.
-// Assumes nothing.
 ghost use mathlib.Core.Path.{_≡_};
 ghost use Prim.Native.Nat.{ℕ, _/_, _<_, _≤_};
 ghost use lib.ListN.{length};

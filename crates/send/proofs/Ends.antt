@@ -1,4 +1,4 @@
--- The two ends of a transmit: all stored, or nothing. Assumes nothing.
+-- The two ends of a transmit: all stored, or nothing.
 use Prim.Native.Nat.{ℕ}
 use mathlib.Core.Path.{_≡_, sym, ap, ap₂, _∙_}
 use mathlib.Core.Bool.{true, false}

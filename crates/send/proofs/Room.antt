@@ -1,4 +1,4 @@
--- What a check that refuses nothing shows of each wanted destination. Assumes nothing.
+-- What a check that refuses nothing shows of each wanted destination.
 use Prim.Native.Nat.{ℕ, _+_, _<_, _≤_}
 use mathlib.Core.Path.{_≡_, refl}
 use mathlib.Core.Bool.{Bool, true, false, cond, not, _||_}

@@ -1,4 +1,4 @@
--- The check in one pass, at the places where its loop stands. Assumes nothing.
+-- The check in one pass, at the places where its loop stands.
 use Prim.Native.Nat.{ℕ, zero, suc, _+_, _<_, _≤_}
 use mathlib.Core.Path.{_≡_, refl, sym, ap, subst, _∙_}
 use mathlib.Core.Bool.{Bool, true, false, cond, not, _&&_, _||_}

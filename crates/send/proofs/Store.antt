@@ -1,4 +1,4 @@
--- The store, row after row, at the places where its loop stands. Assumes nothing.
+-- The store, row after row, at the places where its loop stands.
 use Prim.Native.Nat.{ℕ, _+_, _*_, _<_, _≤_}
 use mathlib.Core.Path.{_≡_, refl, sym, ap, ap₂, _∙_}
 use mathlib.Core.Bool.{Bool, true, false, _&&_}

@@ -1,5 +1,5 @@
--- A TRANSMIT: the check of all destinations, then the store at all of them; the answer, the state and send memory afterwards
--- (document 01, "Transmit"). Assumes nothing.
+-- A TRANSMIT (R10.1 to R10.4): the check of all destinations, then the store at all of them; the answer, the state and send memory
+-- afterwards.
 use Prim.Native.Nat.{ℕ, _+_, _*_, _/_, _<_, _≤_}
 use mathlib.Core.Path.{_≡_}
 use mathlib.Core.Bool.{Bool, true, cond, not, _&&_}
@@ -33,7 +33,7 @@ pub record Sending : Type 0 where
 abbrev pub sending : State → List ℕ → Sending
 sending s tx = record { state = s; memory = tx }
 
--- "each appends header and payload": to the stretch of its connection, one of 1,472 bytes for each, in number order
+-- R10.3: header and payload appended to the stretch of its connection, one of 1,472 bytes for each, in number order
 unfoldable pub appendOf : DestinationRow → List ℕ → Sending → Sending
 appendOf d payload x =
     sending

@@ -1,5 +1,4 @@
--- THE CHECK of a transmit (document 01, "Transmit"): what follows from what each destination says.
--- Assumes nothing.
+-- THE CHECK of a transmit (R10.1, R10.2): what follows from what each destination says.
 use Prim.Native.Nat.{ℕ}
 use mathlib.Core.Bool.{Bool, true, false, cond, _||_}
 use lib.Dec.{eqb, ltb}
@@ -21,15 +20,15 @@ abbrev pub decidedAt : (ℕ → ℕ) → ℕ → ℕ → Transmission
 decidedAt look n k = cond (ltb k n) (RefusedAt (look k) k) Stored
 
 -- over the rows 0 .. n - 1, where `look` says 5 of a row of another PDU:
--- 5 "no destination has this PDU", 6 "every destination of the PDU is switched off", then "the first refusal deciding with its
--- destination named"
+-- R10.1, 5 where no destination has this PDU, 6 where every one of the PDU is off; then R10.2, the first refusal decides and names its
+-- destination
 unfoldable pub verdictOf : (ℕ → ℕ) → ℕ → Transmission
 verdictOf look n =
     cond (every (λ i. eqb (look i) 5) n) NoDestination
     (cond (every (λ i. isOut (look i)) n) SwitchedOff
     (decidedAt look n (firstBad (λ i. passes (look i)) n)))
 
--- document 01's number of an answer
+-- R4.1: the number of an answer
 abbrev pub transmissionNumber : Transmission → ℕ
 transmissionNumber Stored = 0
 transmissionNumber (Refused r) = refusalNumber r

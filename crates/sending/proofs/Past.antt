@@ -1,4 +1,4 @@
--- What the gate hands on to a transmit and to a take. Assumes nothing.
+-- What the gate hands on to a transmit and to a take.
 use Prim.Native.Nat.{ℕ, _<_}
 use mathlib.Core.Path.{_≡_, sym, ap, subst, _∙_}
 use mathlib.Core.List.{List}

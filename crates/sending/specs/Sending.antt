@@ -1,5 +1,5 @@
--- A transmit, and taking the waiting bytes, as a caller sees them: the gate (11, 12; for a connection 2), then the event's own
--- order. A refusal carries its number; the state, send memory and the out buffer stay. Assumes nothing.
+-- A transmit (R10.1), and taking the waiting bytes (R10.5), as a caller sees them: the gate (11, 12; for a connection 2), then the event's own
+-- order. A refusal carries its number; the state, send memory and the out buffer stay.
 use Prim.Native.Nat.{ℕ}
 use mathlib.Core.List.{List}
 use lib.ListN.{length}

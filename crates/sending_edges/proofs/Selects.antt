@@ -1,4 +1,4 @@
--- The edges of selection. Assumes nothing.
+-- The edges of selection.
 use Prim.Native.Nat.{ℕ}
 use mathlib.Core.Path.{_≡_, refl}
 use mathlib.Core.Bool.{Bool, true, false}

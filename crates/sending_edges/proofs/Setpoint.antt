@@ -1,4 +1,4 @@
--- A SETPOINT FOR TWO VALVES: both get it or none does (`all-or-none`), and such states there are (`a-case`). Assumes nothing.
+-- A SETPOINT FOR TWO VALVES: both get it or none does (`all-or-none`), and such states there are (`a-case`).
 use Prim.Native.Nat.{ℕ, zero, suc, _+_, _<_, _≤_}
 use mathlib.Core.Path.{_≡_, refl, ap, _∙_}
 use mathlib.Core.Bool.{Bool, true, false, cond}

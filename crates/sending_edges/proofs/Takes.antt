@@ -1,4 +1,4 @@
--- The edges of taking the waiting bytes. Assumes nothing.
+-- The edges of taking the waiting bytes.
 use Prim.Native.Nat.{ℕ}
 use mathlib.Core.Path.{_≡_, refl}
 use mathlib.Core.Bool.{true, false}

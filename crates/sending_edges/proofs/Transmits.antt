@@ -1,4 +1,4 @@
--- The edges of a transmit. Assumes nothing.
+-- The edges of a transmit.
 use Prim.Native.Nat.{ℕ}
 use mathlib.Core.Path.{_≡_, refl, sym, ap, _∙_}
 use mathlib.Core.Bool.{true, false}

@@ -1,3 +1,3 @@
--- The examples of the crate. Assumes nothing.
+-- The examples of the crate.
 pub mod Valves
 pub mod Setpoint

@@ -1,5 +1,4 @@
--- A SETPOINT FOR TWO VALVES: both get it or none does (document 01, "Transmit": "nothing stored anywhere. Otherwise each appends header and
--- payload"), of the entry point itself. Assumes nothing: these are definitions.
+-- A SETPOINT FOR TWO VALVES: both get it or none does (R10.2, R10.3), of the entry point itself.
 use Prim.Native.Nat.{ℕ, _+_, _<_, _≤_}
 use mathlib.Core.Path.{_≡_}
 use mathlib.Core.Bool.{false}
@@ -30,7 +29,7 @@ pub record TwoValves (s : State) (rx tx payload : List ℕ) : Type 0 where
   pub short : length payload ≤ 2
 
 module _ (s : State) (rx tx payload : List ℕ) where
-  -- valve k has room: "used + 8 + length" does not exceed the send size; or it has none
+  -- valve k has room: used + 8 + length does not exceed the send size; or it has none
   abbrev pub Room : ℕ → Type 0
   Room k = recordAt s k .used + 8 + length payload ≤ 1472
 

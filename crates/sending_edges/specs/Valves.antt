@@ -1,4 +1,4 @@
--- Two valves on one UDP group, and a setpoint for both: a table image, records, and a payload. Assumes nothing: these are definitions.
+-- Two valves on one UDP group, and a setpoint for both: a table image, records, and a payload.
 use Prim.Native.Nat.{ℕ}
 use mathlib.Core.Bool.{Bool, true, false}
 use mathlib.Core.List.{List, [], _∷_, _++_}
@@ -29,7 +29,7 @@ destinationRows =
 unfoldable pub valves : List ℕ
 valves = contents ++ (1 ∷ 0 ∷ (connections ++ destinationRows))
 
--- "payload 180"
+-- payload 180
 abbrev pub setpoint : List ℕ
 setpoint = 0 ∷ 180 ∷ []
 

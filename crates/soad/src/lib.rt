@@ -1,5 +1,5 @@
 // What a C program calls, on numbers and byte buffers: `rt staticlib soad` writes libsoad.a. A slice is two C arguments,
-// pointer and length (size_t). Everything is total. Assumes nothing.
+// pointer and length (size_t). Everything is total.
 ghost use mathlib.Core.Path.{_≡_};
 ghost use lib.ListN.{length};
 ghost use Rattle.frame.specs.Framing.{framedNumber, framingOf, framedOut};
@@ -14,7 +14,7 @@ use tablewalk::TableWalk;
 use tablewalk::numbers_of;
 use tablewalk::walk_table;
 
-// The table check: 0 accepted, and the place stays as it was; 1 refused, and the place is document 01's.
+// The table check: 0 accepted, and the place stays as it was; 1 refused, and the place is that of R1.10.
 #[no_mangle]
 pub extern "C" fn soad_table_check(image: &[u8], place: &mut usize) -> u32
     ensures { λ r. ⌜ r ≡ answerNumber (checkTable (now (image .entry))) ⌝ }

@@ -1,4 +1,4 @@
--- What the table says of a connection, by its bodies and by the image. Assumes nothing.
+-- What the table says of a connection, by its bodies and by the image.
 use Prim.Native.Nat.{ℕ}
 use mathlib.Core.Path.{_≡_, refl, _∙_}
 use mathlib.Core.List.{List}

@@ -1,4 +1,4 @@
--- One record of a state. Assumes nothing.
+-- One record of a state.
 use Prim.Native.Nat.{ℕ}
 use mathlib.Core.Path.{_≡_, ap}
 use mathlib.Core.List.{List}

@@ -1,4 +1,4 @@
--- Bytes laid within one stretch of lent memory leave the other stretches as they were. Assumes nothing.
+-- Bytes laid within one stretch of lent memory leave the other stretches as they were.
 use Prim.Native.Nat.{ℕ, _+_, _*_, _≤_, _<_}
 use mathlib.Core.Path.{_≡_, sym, ap, _∙_}
 use mathlib.Core.List.{List}

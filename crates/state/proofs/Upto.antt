@@ -1,4 +1,4 @@
--- A loop that changes the records one after the other, each by what its number says. Assumes nothing.
+-- A loop that changes the records one after the other, each by what its number says.
 use Prim.Native.Nat.{ℕ, _+_, _<_}
 use mathlib.Core.Path.{_≡_, sym, ap, _∙_}
 use native.Mathlib.Omega.{arith}

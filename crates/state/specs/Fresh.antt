@@ -1,4 +1,4 @@
--- What the table says of a connection, and the fresh state. Assumes nothing.
+-- What the table says of a connection, and the fresh state.
 use Prim.Native.Nat.{ℕ}
 use lib.Dec.{eqb}
 use lib.ListN.{replicate}
@@ -38,7 +38,7 @@ emptyState = record { connections = replicate 16 zeroRecord; «udp_drops» = 0; 
 abbrev pub freshAt : List ℕ → ℕ → Connection → Connection
 freshAt image i c = freshOf (configOf image i)
 
--- "Fresh: offline, nothing wanted or held, remote and switches from the table, counts 0"
+-- R2.12: fresh records, counts 0
 unfoldable pub freshState : List ℕ → State
 freshState image =
     record { connections = each (freshAt image) 0 (replicate 16 zeroRecord); «udp_drops» = 0; «tcp_drops» = 0 }

@@ -1,4 +1,4 @@
--- The state: a record by its number, the drop counts, and the state with some of them replaced. Assumes nothing.
+-- The state: a record by its number, the drop counts, and the state with some of them replaced.
 use Prim.Native.Nat.{ℕ, _+_}
 use lib.Dec.{ltb}
 use lib.ListN.{getD, set}
@@ -30,10 +30,10 @@ abbrev pub withCount : Bool → ℕ → State → State
 withCount true n s = record { connections = s .connections; «udp_drops» = s .«udp_drops»; «tcp_drops» = n }
 withCount false n s = record { connections = s .connections; «udp_drops» = n; «tcp_drops» = s .«tcp_drops» }
 
--- "Two drop counts .. stop at 4,294,967,295"
+-- R2.6: a count stops at 4,294,967,295
 unfoldable pub counted : ℕ → ℕ
 counted n = cond (ltb n 4294967295) (n + 1) n
 
--- "A drop adds 1 to its protocol's count"
+-- R2.6: a drop adds 1 to its protocol's count
 abbrev pub droppedOf : Bool → State → State
 droppedOf tcp s = withCount tcp (counted (countOf tcp s)) s

@@ -1,5 +1,5 @@
 // Sixteen connection records and two drop counts in one state, by value; what the table says of a connection; the fresh
-// state. Assumes nothing: every function is total.
+// state. Every function is total.
 ghost use mathlib.Core.Path.{_≡_};
 ghost use Rattle.state.specs.State.{countOf, counted, droppedOf, withCount};
 ghost use Rattle.state.specs.Fresh.{configFrom, configIn, configOf, freshState, emptyState};

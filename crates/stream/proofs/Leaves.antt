@@ -1,5 +1,5 @@
 -- What a take leaves: its part and receive memory are the stream's cell again, shaped and within its route's limit; and the
--- payload that it names is the PDU's. Assumes nothing.
+-- payload that it names is the PDU's.
 use Prim.Native.Nat.{ℕ, zero, suc, _+_, _-_, _*_, _/_, _%_, _^_, _≤_, _<_}
 use mathlib.Core.Path.{_≡_, refl, sym, ap, ap₂, _∙_, subst}
 use mathlib.Core.Bool.{Bool, true, false, cond}
@@ -84,7 +84,7 @@ module _ (P : ℕ → ℕ → Type 0) where
     pub take-sane : (c : Cell) (bs : List ℕ) → ((i : ℕ) → getD bs i 0 < 256) → Sane c → (Sane (takeB R c bs .to)) × (Told (takeB R c bs .out) (takeB R c bs .to))
     take-sane = stepwise R Sane Told feed-sane (λ c s. tt)
 
--- the same of a part
+-- P holds of route and length, where the part is a payload
 abbrev pub PartHolds : (ℕ → ℕ → Type 0) → Part → Type 0
 PartHolds P (Header held value) = Unit {0}
 PartHolds P (Payload route n held) = P route n
@@ -254,7 +254,7 @@ module _ (routes : List ℕ) (connection switches : ℕ) (part : Part) (rx segme
         limits = fit .limits;
       }
 
-  -- "its route belongs to the connection and allows the length": kept by a take
+  -- R3.4, its route belongs to the connection and allows the length: kept by a take
   pub leaves-owned : PartHolds (Owns routes connection) part → PartHolds (Owns routes connection) (takenOf routes connection switches part rx segment .part)
   unfolding takenOf tookOf
   leaves-owned h =

@@ -1,3 +1,3 @@
--- The laws of a take. Assumes nothing.
+-- The laws of a take.
 pub mod Takes
 pub mod Leaves

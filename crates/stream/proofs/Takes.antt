@@ -1,4 +1,4 @@
--- The answers of a take on plain values: one law for each way that a take ends. Assumes nothing.
+-- The answers of a take on plain values: one law for each way that a take ends.
 use Prim.Native.Nat.{ℕ, zero, suc, _+_, _-_, _*_, _/_, _%_, _^_, _≤_, _<_}
 use mathlib.Core.Path.{_≡_, refl, sym, ap, ap₂, _∙_, subst}
 use mathlib.Core.Bool.{Bool, true, false, _&&_}

@@ -1,6 +1,5 @@
 -- A take as the contracts cite it: the cell that a receive part and receive memory are, the answer that a take of the
--- stream is, and receive memory afterwards (document 01, "Headers and streams", "State and memory").
--- Assumes nothing: these are definitions.
+-- stream is, and receive memory afterwards (R5.8 to R5.11, R2.8).
 use Prim.Native.Nat.{ℕ, zero, suc, _+_, _-_, _≤_}
 use mathlib.Core.Path.{_≡_}
 use mathlib.Core.Bool.{Bool, true, false, cond}
@@ -19,7 +18,7 @@ use Rattle.stream.specs.declared.Outcome.{Outcome}
 use Rattle.stream.specs.declared.Outcome.the-variants.{More, Pdu, Drop}
 use Rattle.stream.specs.declared.Taken.{Taken}
 
--- the cell that a part and the receive stretch are: "filled from its front"
+-- the cell that a part and the receive stretch, filled from its front, are
 abbrev pub cellOf : Part → List ℕ → Cell
 cellOf (Header held value) rx = cell (8 - held) (header value)
 cellOf (Payload route n held) rx = cell (n - held) (payload route (take held rx))
@@ -37,7 +36,7 @@ heldIn (cell n (header v)) = []
 heldIn (cell n (payload r h)) = h
 heldIn (cell n skip) = []
 
--- "handed out from the segment itself when all of it stands there": when none of it is held before
+-- R5.11: handed out from the segment itself when none of it is held before
 abbrev pub noneHeld : List ℕ → Bool
 noneHeld [] = true
 noneHeld (b ∷ bs) = false
@@ -59,8 +58,8 @@ takeOutcome ids s read (dropped k i n) = Drop k i n
 abbrev pub answered : (ℕ → ℕ) → Bool → ℕ → Took → Taken
 answered ids s n t = record { read = n - length (t .rest); outcome = takeOutcome ids s (n - length (t .rest)) (t .out); part = partFrom (t .to) }
 
--- receive memory after a take: "only the payload bytes it adds to an unfinished payload, the last ones included but none
--- of a payload handed out from the segment"
+-- R2.8, receive memory after a take: only the payload bytes that it adds to an unfinished payload are written, the last ones included but
+-- none of a payload handed out from the segment
 abbrev pub wrote : Bool → Out → Cell → List ℕ → List ℕ
 wrote s nothing c rx = lay rx 0 (heldIn c)
 wrote true (pdu r p) c rx = rx
@@ -109,7 +108,7 @@ abbrev pub payloadAt : List ℕ → List ℕ → Bool → ℕ → ℕ → List �
 payloadAt segment rx true at n = partOf segment at n
 payloadAt segment rx false at n = partOf rx at n
 
--- and where it stands: "handed out from the segment itself", whose front is at the place p, or from receive memory, whose front is at q
+-- and where it stands: in the segment, whose front is at the place p, or in receive memory, whose front is at q
 abbrev pub payloadPlace : ℕ × ℕ → List ℕ → ℕ × ℕ → List ℕ → Bool → ℕ → ℕ → ℕ × ℕ
 payloadPlace p segment q rx true at n = behind p (partAt segment at n)
 payloadPlace p segment q rx false at n = behind q (partAt rx at n)

@@ -1,6 +1,6 @@
 // A take over one connection's receive part, its receive stretch and a segment; and the payload that it hands out, as a
 // part of whichever of the two holds it. Skipping and whole payloads are arithmetic: no loop but the header's and the copy's.
-// Assumes what `Fit` says: a part of a shape that document 01 allows, a stretch of 1,464 bytes, and routes that allow no more.
+// Assumes what `Fit` says: a part of a shape that R2.4 allows, a stretch of 1,464 bytes, and routes that allow no more.
 ghost use mathlib.Core.Path.{_≡_};
 ghost use mathlib.Core.Bool.{true, false};
 ghost use Prim.Native.Nat.{ℕ, _+_, _-_, _^_, _≤_, _<_};
@@ -57,7 +57,7 @@ fn gather(value: u64, held: usize, bytes: &[u8], n: usize) -> u64
     w
 }
 
-// The same; a header that stands whole in one piece is read at once.
+// The number of n header bytes behind those held; a header that stands whole in one piece is read at once.
 fn header_number(value: u64, held: usize, bytes: &[u8], n: usize) -> u64
     requires { ⌜ (value < 256 ^ held) × (held + n ≤ 8) × (n ≤ length (now bytes)) ⌝ }
     ensures { λ r. ⌜ (r ≡ spelt value (take n (now (bytes .entry)))) × (r < 256 ^ (held + n)) ⌝ }

@@ -1,2 +1,2 @@
--- The laws of routing switches. Assumes nothing.
+-- The laws of routing switches.
 pub mod Switches

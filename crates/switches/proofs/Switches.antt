@@ -1,4 +1,4 @@
--- "On when its groups are 0 or share a set bit with the connection's switches", bit by bit. Assumes nothing.
+-- R5.3, on when its groups are 0 or share a set bit with the connection's switches, bit by bit.
 use Prim.Native.Nat.{ℕ, zero, suc, _+_, _*_, _/_, _%_, _^_, _≤_, min}
 use mathlib.Core.Path.{_≡_, refl, sym, ap, ap₂, _∙_}
 use mathlib.Core.Bool.{Bool, true, false, not, _||_}

@@ -1,2 +1,2 @@
--- What others cite of routing switches. Assumes nothing.
+-- What others cite of routing switches.
 pub mod Switches

@@ -1,5 +1,4 @@
--- ROUTING SWITCHES: whether a route or a destination is on (document 01, "Headers and streams"; of a destination "by the routes' rule, at the
--- call"). Assumes nothing: these are definitions.
+-- ROUTING SWITCHES: whether a route or a destination is on (R5.3).
 use Prim.Native.Nat.{ℕ}
 use mathlib.Core.Path.{_≡_}
 use mathlib.Core.Bool.{Bool, not, _||_}
@@ -7,11 +6,11 @@ use lib.Bits.{bitAnd}
 use lib.Dec.{eqb}
 use Rattle.wire.specs.Bits.{bitAt}
 
--- "It is on when its groups are 0 or share a set bit with the connection's switches"
+-- R5.3: on when its groups are 0 or share a set bit with the connection's switches
 unfoldable pub isOn : ℕ → ℕ → Bool
 isOn groups switches = eqb groups 0 || not (eqb (bitAnd groups switches) 0)
 
--- "share a set bit", bit by bit
+-- a shared set bit, bit by bit
 pub record Shared (groups switches : ℕ) : Type 0 where
   pub bit : ℕ
   pub grouped : bitAt bit groups ≡ 1

@@ -1,4 +1,4 @@
--- Laws of one answer after another. Assumes nothing.
+-- Laws of one answer after another.
 use Prim.Native.Nat.{ℕ}
 use mathlib.Core.Path.{_≡_, refl}
 use mathlib.Core.Bool.{Bool, true, false}

@@ -1,4 +1,4 @@
--- The whole image of document 01 and images with one fault each, computed: one of each kind of place. Assumes nothing.
+-- The whole image of R1.12 and images with one fault each, computed: one of each kind of place.
 use Prim.Native.Nat.{ℕ}
 use mathlib.Core.Path.{_≡_, refl}
 use mathlib.Core.List.{List, [], _∷_, _++_, map}
@@ -11,7 +11,7 @@ use Rattle.scan.specs.Scan.{share, clearIn, goodIn}
 use Rattle.table.specs.Table.{headGood, entryGood, rule, thenCheck, entriesPlace, headPlace, allRowsPlace, checkTable}
 use Rattle.table.specs.declared.TableAnswer.the-variants.{Accepted, Refused}
 
--- "A whole image, 86 bytes (one row of each kind)"
+-- R1.12: a whole image, 86 bytes, one row of each kind
 unfoldable pub exampleImage : List ℕ
 exampleImage =
     0 ∷ 1 ∷ 0 ∷ 4

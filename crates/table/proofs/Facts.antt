@@ -1,4 +1,4 @@
--- An accepted image keeps the rules of the table. Assumes nothing.
+-- An accepted image keeps the rules of the table.
 use Prim.Native.Nat.{ℕ, _+_, _<_, _≤_}
 use mathlib.Core.Path.{_≡_}
 use mathlib.Core.Bool.{Bool, true, false, _&&_}

@@ -1,4 +1,4 @@
--- The first bad row of a body is the first bad row of its kind, in an image that is laid out. Assumes nothing.
+-- The first bad row of a body is the first bad row of its kind, in an image that is laid out.
 use Prim.Native.Nat.{ℕ, _+_, _*_, _/_, _<_, _≤_}
 use mathlib.Core.Path.{_≡_, ap, _∙_}
 use mathlib.Core.List.{List}

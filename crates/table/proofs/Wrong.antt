@@ -1,4 +1,4 @@
--- A wrong check, refuted over the definitions: one that always answers 1. Assumes nothing.
+-- A wrong check, refuted over the definitions: one that always answers 1.
 use Prim.Native.Nat.{ℕ}
 use mathlib.Core.Path.{_≡_, sym, _∙_, ap}
 use mathlib.Core.List.{List}

@@ -1,5 +1,4 @@
--- Rules of the table as facts of its rows, for those who have an accepted image (zero bytes, contents and bytes 0..3 are not among them).
--- Assumes nothing.
+-- Rules of the table (R1.4 to R1.9) as facts of its rows, for those who have an accepted image (zero bytes, contents and bytes 0..3 are not among them).
 use Prim.Native.Nat.{ℕ, _+_, _<_, _≤_}
 use mathlib.Core.Path.{_≡_}
 use mathlib.Core.List.{List}

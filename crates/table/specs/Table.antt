@@ -1,4 +1,4 @@
--- The table check of document 01, "The table image", as a function of the image's bytes. Assumes nothing.
+-- The table check (R1.10) as a function of the image's bytes.
 use Prim.Native.Nat.{ℕ, _+_}
 use mathlib.Core.Bool.{Bool, cond, _&&_}
 use mathlib.Core.List.{List, []}
@@ -14,18 +14,18 @@ use Rattle.scan.specs.Scan.{share, goodIn}
 use Rattle.table.specs.declared.TableAnswer.{TableAnswer}
 use Rattle.table.specs.declared.TableAnswer.the-variants.{Accepted, Refused}
 
--- "Bytes 0..1 are edition 1, bytes 2..3 the number 4."
+-- R1.2: bytes 0..1 are edition 1, bytes 2..3 the number 4
 unfoldable pub headGood : List ℕ → Bool
 headGood s = eqb (be 2 s 0) 1 && eqb (be 2 s 2) 4
 
--- a contents entry: not "wrong kind, too many rows, wrong offset"
+-- R1.3, R1.4: a contents entry has its kind, not too many rows, and the offset of its body
 unfoldable pub entryGood : List ℕ → Kind → Bool
 entryGood s k =
     eqb (be 2 s (entryAt k)) (number k)
     && leb (rowsOf s k) (mostRows k)
     && eqb (be 4 s (entryAt k + 4)) (startOf s k)
 
--- each kind's row rule: "Numbers of groups and connections must exist."
+-- R1.6, R1.7: each kind's row rule, with the row counts of groups and connections
 unfoldable pub rule : List ℕ → Kind → List ℕ → Bool
 rule s Group row = groupGood row
 rule s Connection row = connectionGood (rowsOf s Group) row
@@ -40,7 +40,7 @@ rowGood s k i = goodIn (rule s k) (share k) (rowBytes s k) (bodyOf s k) i
 abbrev pub badRow : List ℕ → Kind → ℕ
 badRow s k = firstBad (rowGood s k) (rowsOf s k)
 
--- ---- "Refusal 1 gives a place"
+-- ---- R1.10: refusal 1 gives a place
 
 -- a refusal at the place unless the test holds
 abbrev pub demand : Bool → ℕ → TableAnswer
@@ -51,7 +51,7 @@ unfoldable pub thenCheck : TableAnswer → TableAnswer → TableAnswer
 thenCheck Accepted b = b
 thenCheck (Refused p) b = Refused p
 
--- "the first bad contents entry's offset"
+-- the place of the first bad contents entry
 unfoldable pub entriesPlace : List ℕ → TableAnswer
 entriesPlace s =
     thenCheck (demand (entryGood s Group) 4)
@@ -59,11 +59,11 @@ entriesPlace s =
     (thenCheck (demand (entryGood s Route) 20)
     (demand (entryGood s Destination) 28)))
 
--- "0 when .. bytes 0..3 are wrong; then" the contents entries
+-- 0 where bytes 0..3 are wrong, then the contents entries
 unfoldable pub headPlace : List ℕ → TableAnswer
 headPlace s = thenCheck (demand (headGood s) 0) (entriesPlace s)
 
--- "the first bad row's offset", of a kind and of all in image order
+-- the place of the first bad row, of a kind and of all in image order
 abbrev pub rowsPlace : List ℕ → Kind → TableAnswer
 rowsPlace s k = demand (leb (rowsOf s k) (badRow s k)) (rowAt s k (badRow s k))
 
@@ -74,8 +74,8 @@ allRowsPlace s =
     (thenCheck (rowsPlace s Route)
     (rowsPlace s Destination)))
 
--- "0 when shorter than 36 or bytes 0..3 are wrong; then the first bad contents entry's offset ..; then 2 for a wrong
--- total length; then the first bad row's offset"
+-- R1.10: 0 when shorter than 36 or bytes 0..3 are wrong; then the first bad contents entry; then 2 for a wrong total length; then the first
+-- bad row
 unfoldable pub checkTable : List ℕ → TableAnswer
 checkTable s =
     thenCheck (demand (leb 36 (length s)) 0)
@@ -83,7 +83,7 @@ checkTable s =
     (thenCheck (demand (eqb (length s) (endOf s)) 2)
     (allRowsPlace s)))
 
--- the answer's number in document 01: 0 done, 1 table refused
+-- R4.1, the answer's number: 0 done, 1 table refused
 abbrev pub answerNumber : TableAnswer → ℕ
 answerNumber Accepted = 0
 answerNumber (Refused p) = 1
@@ -93,7 +93,7 @@ abbrev pub answerPlace : TableAnswer → ℕ → ℕ
 answerPlace Accepted before = before
 answerPlace (Refused p) before = p
 
--- ---- "Each body is handed back as the part of the caller's image it occupies."
+-- ---- R1.13: each body is handed back as the part of the caller's image that it occupies
 
 -- what there is of the kind with a number; nothing at any other number
 abbrev pub ofKind : {A : Type 0} → (Kind → A) → A → ℕ → A

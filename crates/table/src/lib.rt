@@ -1,5 +1,5 @@
 // The table image: its check, with the place of the first fault, and each body handed back as the part of the image that
-// it occupies. Everything public is total. Assumes nothing.
+// it occupies. Everything public is total.
 ghost use mathlib.Core.Path.{_≡_};
 ghost use mathlib.Core.List.{[]};
 ghost use lib.Dec.{leb};
@@ -186,7 +186,7 @@ fn body_numbered(image: &[u8], number: usize) -> &[u8]
     }
 }
 
-// The same, and an empty part of an image that is refused.
+// The body of the kind with a number (R1.13); an empty part at any other number, and of an image that is refused.
 pub fn body(image: &[u8], number: usize) -> &[u8]
     ensures bytes { λ r. ⌜ now r ≡ bodyAnswer (now (image .entry)) number ⌝ }
     ensures place { λ r. ⌜ ptr r ≡ behind (ptr (image .entry)) (bodyAnswerAt (now (image .entry)) number) ⌝ }

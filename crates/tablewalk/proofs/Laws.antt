@@ -1,4 +1,4 @@
--- The walk by a table's own routes, by the tests that led there. Assumes nothing.
+-- The walk by a table's own routes, by the tests that led there.
 use Prim.Native.Nat.{ℕ, _≤_, _<_}
 use mathlib.Core.Path.{_≡_, sym, ap, _∙_}
 use mathlib.Core.Bool.{Bool, true, false}

@@ -1,2 +1,2 @@
--- The laws of the walk by a table's own routes. Assumes nothing.
+-- The laws of the walk by a table's own routes.
 pub mod Laws

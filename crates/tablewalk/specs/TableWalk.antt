@@ -1,5 +1,4 @@
--- The bench computer's walk (document 01, "Connection events and others"): "that walk takes image, connection and switches,
--- gets 1 first for a bad image, has no 4 and changes no state". Assumes nothing: these are definitions.
+-- The bench computer's walk (R11.3): it takes image, connection and switches, gets 1 first for a bad image, has no 4 and changes no state.
 use Prim.Native.Nat.{ℕ}
 use mathlib.Core.Bool.{Bool, cond}
 use mathlib.Core.List.{List}
@@ -19,11 +18,11 @@ use Rattle.tablewalk.specs.declared.TableWalk.{TableWalk}
 use Rattle.tablewalk.specs.declared.TableWalk.the-variants.{Refused, Step}
 use Rattle.table.specs.declared.TableAnswer.the-variants as answer
 
--- "protocol 1 (1 UDP, 2 TCP)" of the connection's group
+-- R2.11: the protocol of the connection's group, 2 for TCP
 unfoldable pub isTcp : List ℕ → ℕ → Bool
 isTcp image connection = eqb (groupOf image (connectionOf image connection .group) .protocol) 2
 
--- 2 "connection .. number not there"; 3 "a TCP connection" or a place "beyond the end"; else the step by the image's routes
+-- R11.3: 2, the connection is not there; 3, a TCP connection or a place beyond the end; else the step by the image's routes
 unfoldable pub acceptedWalk : List ℕ → ℕ → ℕ → List ℕ → ℕ → TableWalk
 acceptedWalk image connection switches datagram place =
     cond (leb (rowsOf image Connection) connection) (Refused 2)
@@ -31,7 +30,7 @@ acceptedWalk image connection switches datagram place =
     (cond (ltb (length datagram) place) (Refused 3)
     (Step (walkedOf datagram place (bodyOf image Route) connection switches))))
 
--- "gets 1 first for a bad image"
+-- R11.3: 1 first, for a bad image
 abbrev pub afterCheck : TableAnswer → TableWalk → TableWalk
 afterCheck Accepted later = later
 afterCheck (answer.Refused place) later = Refused 1

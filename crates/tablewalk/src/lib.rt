@@ -1,5 +1,5 @@
 // The walk over a datagram by a table image's own routes, without a state: refused by number, or a step; and a step as
-// plain numbers. Assumes nothing.
+// plain numbers.
 ghost use mathlib.Core.Path.{_≡_};
 ghost use Rattle.table.specs.Accepts.{Accepts};
 ghost use Rattle.tablewalk.specs.TableWalk.{isTcp, acceptedWalk, tableWalkOf, numbersOf};

@@ -13,7 +13,6 @@
 //       refused NUMBER
 //     AT counts from the take's first byte; HEX is the payload in lower case, or `-` where it is empty.
 //   Another kind, too long an image, or a record that is cut off ends the program.
-// Assumes nothing.
 use connection::Connection;
 use connection::Mode;
 use connection::Refusal;
@@ -77,7 +76,7 @@ fn online(image: &[u8], state: State, connection: u8, switches: u32) -> State {
     state
 }
 
-// The same record with other switches.
+// The state with other switches of a connection.
 fn switched(image: &[u8], state: State, connection: u8, switches: u32) -> State {
     let n = connection as usize;
     if rows_of(image, Kind::Connection) <= n {

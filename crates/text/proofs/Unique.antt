@@ -1,4 +1,4 @@
--- A number's text is unique: two counts of fewest digits are equal, so `Decimal` allows one place and one buffer. Assumes nothing.
+-- A number's text is unique: two counts of fewest digits are equal, so `Decimal` allows one place and one buffer.
 use Prim.Native.Nat.{ℕ, _-_, _^_, _≤_, _<_}
 use mathlib.Core.Path.{_≡_, sym, ap, _∙_}
 use mathlib.Core.List.{List}

@@ -1,4 +1,4 @@
--- Decimal numbers and bytes in hex as text in a lent buffer. Assumes nothing: these are definitions.
+-- Decimal numbers and bytes in hex as text in a lent buffer (R16.5).
 use Prim.Native.Nat.{ℕ, _+_, _*_, _/_, _%_}
 use mathlib.Core.Path.{_≡_}
 use mathlib.Core.List.{List, [], _∷_}

@@ -1,5 +1,5 @@
 // Numbers and bytes as text, laid into a lent buffer in pieces: each whole, or not at all where it does not fit, and the place after
-// it is handed back. Assumes nothing: every function is total.
+// it is handed back. Every function is total.
 ghost use mathlib.Core.Path.{_≡_};
 ghost use Prim.Native.Nat.{_*_, _<_};
 ghost use lib.ListN.{length};

@@ -1,3 +1,3 @@
--- The laws of the crate. Assumes nothing.
+-- The laws of the crate.
 pub mod Many
 pub mod Turns

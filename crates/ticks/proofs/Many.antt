@@ -1,5 +1,5 @@
 -- MANY TICKS BY JUMPS. Where the next change is n ticks away or more, n ticks of a record only lower its timer (`quiet-ticks`); and many
--- ticks of the whole module are as many of each record (`ticks-each`). Assumes nothing.
+-- ticks of the whole module are as many of each record (`ticks-each`).
 use Prim.Native.Nat.{ℕ, zero, suc, _+_, _-_, _<_, _≤_}
 use mathlib.Core.Path.{_≡_, refl, sym, ap, _∙_}
 use mathlib.Core.Bool.{Bool, true, false, cond, not, _&&_, _||_}

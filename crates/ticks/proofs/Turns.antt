@@ -1,4 +1,4 @@
--- Ticks of a connection that rests, and one turn of the loop over the records. Assumes nothing.
+-- Ticks of a connection that rests, and one turn of the loop over the records.
 use Prim.Native.Nat.{ℕ, zero, suc, _+_, _<_}
 use mathlib.Core.Path.{_≡_, refl, sym, ap, _∙_, subst}
 use mathlib.Core.Bool.{true, false, not, _&&_, _||_}

@@ -1,3 +1,3 @@
--- The definitions of the crate. Assumes nothing.
+-- The definitions of the crate.
 pub mod Many
 pub mod Tick

@@ -1,5 +1,4 @@
--- Many ticks of one record, and the time to the next change: how many ticks from now on do no more than lower its timer.
--- Assumes nothing: these are definitions.
+-- R9.6: many ticks of one record, and the time to the next change: how many ticks from now on do no more than lower its timer.
 use Prim.Native.Nat.{ℕ, zero, suc, _-_}
 use mathlib.Core.Bool.{Bool, cond, not, _&&_, _||_}
 use lib.Dec.{eqb, ltb}

@@ -1,4 +1,4 @@
--- A tick, and many. A refusal carries its number, and the state stays. Assumes nothing.
+-- A tick, and many. A refusal carries its number, and the state stays.
 use Prim.Native.Nat.{ℕ}
 use mathlib.Core.Bool.{Bool, not, _&&_}
 use mathlib.Core.List.{List}
@@ -26,7 +26,7 @@ tickAt image i c = tickOf (configOf image i) c
 abbrev pub restsOf : Connection → Bool
 restsOf c = not (c .«close_wanted») && isOnline (c .mode) && eqb (c .timer) 0
 
--- "Tick, per connection in order": of the first `rows` records; the records past them stay
+-- R9.1: each connection in order, of the first `rows` records; the records past them stay
 unfoldable pub tickedTo : List ℕ → ℕ → State → State
 tickedTo image rows s = withRecords (eachTo (tickAt image) 0 rows (s .connections)) s
 

@@ -1,5 +1,4 @@
 -- Past the gate a take or a walk is made exactly when the connection is there, the event is allowed on it, and it receives.
--- Assumes nothing.
 use Prim.Native.Nat.{ℕ}
 use mathlib.Core.Path.{_≡_, refl, ap, _∙_}
 use mathlib.Core.Bool.{Bool, true, false, cond, _&&_}

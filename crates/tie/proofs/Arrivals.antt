@@ -1,4 +1,4 @@
--- A DATAGRAM OR AN ACCEPT: one member becomes online with the source as remote, or nothing changes. Assumes nothing.
+-- A DATAGRAM OR AN ACCEPT: one member becomes online with the source as remote, or nothing changes.
 use Prim.Native.Nat.{ℕ}
 use mathlib.Core.Path.{_≡_, refl, sym, subst}
 use mathlib.Core.Bool.{Bool, true, false, cond}

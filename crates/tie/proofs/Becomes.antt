@@ -1,4 +1,4 @@
--- WHAT AN EVENT MAKES OF A CONNECTION: each way, of its own events and of those of a whole group or module. Assumes nothing.
+-- WHAT AN EVENT MAKES OF A CONNECTION: each way, of its own events and of those of a whole group or module.
 use Prim.Native.Nat.{ℕ, zero, suc, _+_}
 use mathlib.Core.Path.{_≡_, refl, sym, ap, _∙_, subst}
 use mathlib.Core.Bool.{Bool, true, false, cond, not, _&&_}

@@ -1,5 +1,5 @@
 -- A CONNECTION EVENT THAT WRITES NO MEMORY and drops nothing: what its entry point leaves is the world's step. The six events of the
--- record alone, and taking the waiting bytes. Assumes nothing.
+-- record alone, and taking the waiting bytes.
 use Prim.Native.Nat.{ℕ}
 use mathlib.Core.Path.{_≡_, refl, sym, ap, _∙_}
 use mathlib.Core.Bool.{Bool, true, false}

@@ -1,5 +1,4 @@
 -- GROUP AND MODULE EVENTS of an image leave what a TCP connection holds of its stream while it is online, or end it (`gentle`).
--- Assumes nothing.
 use Prim.Native.Nat.{ℕ}
 use mathlib.Core.Path.{_≡_, refl, sym, _∙_}
 use mathlib.Core.Bool.{Bool, true, true≢false, false≢true}

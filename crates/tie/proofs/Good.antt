@@ -1,5 +1,4 @@
 -- EVERY EVENT LEAVES A GOOD MACHINE GOOD: the state sound, of sixteen records, and the memories as long as they were.
--- Assumes nothing.
 use Prim.Native.Nat.{ℕ}
 use mathlib.Core.Path.{_≡_, refl, sym, ap, _∙_}
 use mathlib.Core.Bool.{Bool, true, false, cond}

@@ -1,4 +1,4 @@
--- What an event of connection k leaves: its record, its stretches, and its protocol's count. Assumes nothing.
+-- What an event of connection k leaves: its record, its stretches, and its protocol's count.
 use Prim.Native.Nat.{ℕ}
 use mathlib.Core.Path.{_≡_, refl, sym, ap, _∙_}
 use mathlib.Core.Bool.{Bool, true, false, not}

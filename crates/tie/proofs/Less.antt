@@ -1,4 +1,4 @@
--- No event that writes no lent memory makes a record hold more. Assumes nothing.
+-- No event that writes no lent memory makes a record hold more.
 use Prim.Native.Nat.{ℕ, _≤_}
 use mathlib.Core.Path.{_≡_, refl, ap}
 use mathlib.Core.Bool.{Bool, true, false, cond, not}

@@ -1,4 +1,4 @@
--- The equations between entry points and the world. Assumes nothing.
+-- The equations between entry points and the world.
 pub mod Less
 pub mod Rests
 pub mod Left

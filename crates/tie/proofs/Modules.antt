@@ -1,4 +1,4 @@
--- GROUP AND MODULE EVENTS that write no lent memory: what their entry points leave is the world's step. Assumes nothing.
+-- GROUP AND MODULE EVENTS that write no lent memory: what their entry points leave is the world's step.
 use Prim.Native.Nat.{ℕ}
 use mathlib.Core.Path.{_≡_, refl, sym, ap, _∙_, subst}
 use mathlib.Core.Bool.{Bool, true, false, cond}

@@ -1,4 +1,4 @@
--- A sound record holds of its stream what a reader can go on from, and nothing unless it is online. Assumes nothing.
+-- A sound record holds of its stream what a reader can go on from, and nothing unless it is online.
 use Prim.Native.Nat.{ℕ, _-_, _^_, _≤_, _<_}
 use mathlib.Core.Path.{_≡_, refl, sym, ap₂, subst}
 use mathlib.Core.Bool.{Bool, true, false, _&&_, _||_, false≢true}

@@ -1,5 +1,5 @@
 -- THE SEGMENT EVENT, accepted or refused: what the caller's takes leave is the world's step, and what they hand out is the world's
--- list; a sound machine stays sound. Assumes nothing.
+-- list; a sound machine stays sound.
 use Prim.Native.Nat.{ℕ, zero, suc}
 use mathlib.Core.Path.{_≡_, refl, sym, ap, ap₂, _∙_, subst}
 use mathlib.Core.Bool.{Bool, true, false, cond, _&&_}

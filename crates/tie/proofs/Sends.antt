@@ -1,4 +1,4 @@
--- A TRANSMIT: what it leaves in the state and in send memory is the world's transmit. Assumes nothing.
+-- A TRANSMIT: what it leaves in the state and in send memory is the world's transmit.
 use Prim.Native.Nat.{ℕ, _+_, _*_, _<_}
 use mathlib.Core.Path.{_≡_, refl, sym, ap, _∙_}
 use mathlib.Core.Bool.{Bool, true, false, cond}

@@ -1,5 +1,4 @@
 -- EVERY ENTRY POINT: from a good machine, what an event leaves is the world's step, and what the caller is given is the world's list.
--- Assumes nothing.
 use Prim.Native.Nat.{ℕ}
 use mathlib.Core.Path.{_≡_, refl, sym, ap, ap₂, _∙_}
 use mathlib.Core.Bool.{Bool, true, false, cond}

@@ -1,5 +1,5 @@
 -- ONE TAKE of a segment, on a TCP connection that receives: what the entry point leaves is the stream's take on its record, and no
--- other record changes; and what the caller is given is the stream's PDU. Assumes nothing.
+-- other record changes; and what the caller is given is the stream's PDU.
 use Prim.Native.Nat.{ℕ, _-_, _*_}
 use mathlib.Core.Path.{_≡_, refl, sym, ap, ap₂, _∙_, subst}
 use mathlib.Core.Bool.{Bool, true, cond}

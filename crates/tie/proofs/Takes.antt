@@ -1,5 +1,5 @@
 -- A SEGMENT EVENT: the caller's takes over a segment until all is read. What they leave, and what they hand out, is the world's
--- segment event. Assumes nothing.
+-- segment event.
 use Prim.Native.Nat.{ℕ, zero, suc, _-_, _≤_, _<_}
 use mathlib.Core.Path.{_≡_, refl, sym, ap, ap₂, _∙_, subst}
 use mathlib.Core.Bool.{Bool, true, cond}

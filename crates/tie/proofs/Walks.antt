@@ -1,4 +1,4 @@
--- A STEP OF A WALK over a datagram: what the entry point leaves is the world's step: one drop more at most. Assumes nothing.
+-- A STEP OF A WALK over a datagram: what the entry point leaves is the world's step: one drop more at most.
 use Prim.Native.Nat.{ℕ}
 use mathlib.Core.Path.{_≡_, refl, sym, ap, _∙_}
 use mathlib.Core.Bool.{Bool, true, false, cond, not, _&&_}

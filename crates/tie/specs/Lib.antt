@@ -1,4 +1,4 @@
--- The world of an image, and the machine that the entry points make. Assumes nothing.
+-- The world of an image, and the machine that the entry points make.
 pub mod Table
 pub mod Send
 pub mod Whole

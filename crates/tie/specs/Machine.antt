@@ -1,6 +1,5 @@
 -- THE MACHINE that the entry points make: the state and both lent memories, each call lent what the last one left; and a segment event
 -- on it, which is the caller's takes.
--- Assumes nothing: these are definitions.
 use Prim.Native.Nat.{ℕ, zero, suc}
 use mathlib.Core.Bool.{Bool, false, cond}
 use mathlib.Core.List.{List, [], _∷_, _++_}
@@ -55,7 +54,7 @@ module _ (image : List ℕ) (k : ℕ) where
   abbrev pub toldBy : Machine → List ℕ → List Out
   toldBy m segment = pduTold (payloadOf segment (afterOne m segment .rx) k (taken m segment .outcome)) (taken m segment .outcome)
 
-  -- A SEGMENT EVENT: "the caller's takes over one segment until all is read, one take at least"; a take that is refused ends it. At
+  -- R5.14, A SEGMENT EVENT: the caller's takes over one segment until all is read, one take at least; a take that is refused ends it. At
   -- most f takes
   abbrev pub goesOn : Bool → List ℕ → Bool
   goesOn done [] = false

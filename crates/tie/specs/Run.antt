@@ -1,5 +1,4 @@
--- EVENTS AND RUNS OF THE MACHINE: what an event makes of it is what the contract of its entry point says, refusals included.
--- Assumes nothing: these are definitions.
+-- EVENTS AND RUNS OF THE MACHINE (R15.1): what an event makes of it is what the contract of its entry point says, refusals included.
 use Prim.Native.Nat.{ℕ}
 use mathlib.Core.Path.{_≡_}
 use mathlib.Core.Bool.{cond}

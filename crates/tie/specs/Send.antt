@@ -1,5 +1,4 @@
 -- A TRANSMIT ON THE WORLD: each switched-on destination appends header and payload to the bytes waiting on its connection.
--- Assumes nothing: these are definitions.
 use Prim.Native.Nat.{ℕ, _+_}
 use mathlib.Core.Bool.{cond}
 use mathlib.Core.List.{List, _++_}

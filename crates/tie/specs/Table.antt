@@ -1,4 +1,4 @@
--- What an image says to the world of runs. Assumes nothing: these are definitions.
+-- What an image says to the world of runs.
 use Prim.Native.Nat.{ℕ}
 use mathlib.Core.List.{List}
 use Rattle.layout.specs.Layout.{rowsOf, bodyOf}

@@ -1,6 +1,5 @@
 -- WHAT GROUP AND MODULE EVENTS MAKE OF THE WORLD, by the definitions of their entry points. All but a transmit write no lent memory:
 -- they leave a state, and of the held bytes those that it still holds.
--- Assumes nothing: these are definitions.
 use Prim.Native.Nat.{ℕ}
 use mathlib.Core.Bool.{true, false, cond}
 use mathlib.Core.List.{List}

@@ -1,4 +1,4 @@
--- The table is the events' effect on every sound record. Assumes nothing.
+-- The table is the events' effect on every sound record.
 use Prim.Native.Nat.{_-_}
 use lib.Dec.{eqb}
 use mathlib.Core.Path.{_≡_, refl, ap, _∙_}

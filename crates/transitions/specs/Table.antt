@@ -1,7 +1,7 @@
 -- THE TRANSITIONS OF A CONNECTION: mode, open wanted and close wanted (its wishes), by the events that concern the record alone and by
--- a tick; of a sound record (an unsound one is answered 12). Where no row fits, they stay. A datagram or an accept makes the chosen member online (choose/specs `meet`), and what follows
--- a non-empty take of waiting bytes is waiting/specs `afterTake`: these are not in the table.
--- Assumes nothing: these are definitions.
+-- a tick (R8.2, R9.1); of a sound record (an unsound one is answered 12). Where no row fits, they stay. A datagram or an accept makes the
+-- chosen member online (R7.6: choose/specs/Choose `meet`), and what follows a non-empty take of waiting bytes is R10.9 (waiting/specs/Waiting
+-- `afterTake`): these are not in the table.
 use Prim.Native.Nat.{ℕ}
 use lib.Dec.{eqb}
 use mathlib.Core.Bool.{Bool, true, false, cond, _&&_, Bool·beq}

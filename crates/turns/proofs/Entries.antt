@@ -1,5 +1,5 @@
 -- A transmit adds a frame for each of a connection's switched-on destinations, or nothing; a take hands out exactly what waited. (How many
--- bytes wait after every other event: crate waits, proofs/Turns.) Assumes nothing.
+-- bytes wait after every other event: crate waits, proofs/Turns.)
 use Prim.Native.Nat.{ℕ, _+_, _*_, _<_, _≤_}
 use mathlib.Core.Path.{_≡_, refl, sym, ap, _∙_}
 use mathlib.Core.Bool.{Bool, true, false, cond}

@@ -1,4 +1,4 @@
--- Each answer of a take, as the code gives it, and what a take makes of a record. Assumes nothing.
+-- Each answer of a take, as the code gives it, and what a take makes of a record.
 use Prim.Native.Nat.{ℕ, _+_, _-_, _*_, _<_, _≤_}
 use mathlib.Core.Path.{_≡_, refl, sym, ap, _∙_}
 use mathlib.Core.Bool.{Bool, true, false, cond, not, _&&_, _||_, or-true}

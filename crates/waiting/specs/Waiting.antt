@@ -1,4 +1,4 @@
--- TAKING THE WAITING BYTES of one connection (document 01, "Take waiting bytes"). Assumes nothing.
+-- TAKING THE WAITING BYTES of one connection (R10.5 to R10.9).
 use Prim.Native.Nat.{ℕ, _*_}
 use mathlib.Core.Bool.{true, false, cond, _&&_, _||_}
 use mathlib.Core.List.{List}
@@ -17,27 +17,27 @@ use Rattle.waiting.specs.declared.Taking.the-variants.{Bytes, Refused, S
 unfoldable pub waitingOf : List ℕ → ℕ → ℕ → List ℕ
 waitingOf tx k used = take used (drop (k * 1472) tx)
 
--- "checks 9"; "gives count and remote before the call"; an out buffer of so much room
+-- R10.5: 9, or count and remote before the call; an out buffer of so much room
 unfoldable pub takingOf : ℕ → Connection → Taking
 takingOf room c = cond (ltb room (c .used)) Short (Bytes (c .used) (c .remote))
 
--- "copies them to the front of the out buffer .. out bytes past the count stay"; on a refusal all of them
+-- R10.5: copied to the front of the out buffer, and the bytes past the count stay; on a refusal all of them
 unfoldable pub outOf : Connection → List ℕ → List ℕ → List ℕ
 outOf c waiting out = cond (ltb (length out) (c .used)) out (lay out 0 waiting)
 
--- "an automatic connection whose configured remote has a wildcard: UDP becomes reconnect with configured remote (00582); TCP
--- gets close wanted (00644)"
+-- R10.9, an automatic connection whose configured remote has a wildcard: UDP becomes reconnect with that remote (00582); TCP gets close
+-- wanted (00644)
 abbrev pub afterTake : Config → Connection → Connection
 afterTake g c =
     cond (g .automatic && wildcard (g .remote))
     (cond (g .tcp) (withMode (c .mode) (c .«open_wanted») true c) (become Reconnect (withRemote (g .remote) c)))
     c
 
--- "clears used, timer and due", and what follows a non-empty take; "Nothing waiting .. changes nothing"; nor does a refusal
+-- R10.6: used, timer and due are cleared, and R10.9 follows; R10.7: nothing waiting changes nothing; nor does a refusal
 unfoldable pub takeOf : Config → ℕ → Connection → Connection
 takeOf g room c = cond (eqb (c .used) 0 || ltb room (c .used)) c (afterTake g (withSend 0 0 false c))
 
--- document 01's number of an answer
+-- R4.1: the number of an answer
 abbrev pub takingNumber : Taking → ℕ
 takingNumber (Bytes count remote) = 0
 takingNumber (Refused r) = refusalNumber r

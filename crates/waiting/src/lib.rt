@@ -1,4 +1,4 @@
-// Taking the waiting bytes of one connection. Assumes nothing: every function is total.
+// Taking the waiting bytes of one connection. Every function is total.
 ghost use Prim.Native.Nat.{_*_};
 ghost use denote.Ref.{ptr};
 ghost use Rattle.wire.specs.Place.{behind, fromAt};

@@ -1,4 +1,4 @@
--- One append: its own connection's record and bytes, and those of all others. Assumes nothing.
+-- One append: its own connection's record and bytes, and those of all others.
 use Prim.Native.Nat.{ℕ, _+_, _*_, _<_, _≤_}
 use mathlib.Core.Path.{_≡_, sym, ap, subst, _∙_}
 use mathlib.Core.List.{List, _++_}

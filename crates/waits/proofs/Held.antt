@@ -1,5 +1,5 @@
 -- After a check that refuses nothing, each connection's waiting bytes gain a frame for each of its switched-on destinations of
--- the PDU; a connection that has none keeps its record and its whole stretch. Assumes nothing.
+-- the PDU; a connection that has none keeps its record and its whole stretch.
 use Prim.Native.Nat.{ℕ, zero, suc, _+_, _<_, _≤_}
 use mathlib.Core.Path.{_≡_, refl, sym, ap, subst, _∙_}
 use mathlib.Core.Bool.{Bool, true, false, cond, _&&_}

@@ -1,5 +1,5 @@
 -- THE LAW FOR A READER: what waits after any events is what waited at the start with all that was added since, or, once
--- something emptied it, only what was added since the last that did. Assumes nothing.
+-- something emptied it, only what was added since the last that did.
 use mathlib.Core.Path.{_≡_, refl, sym, _∙_}
 use mathlib.Core.Bool.{Bool, true, false, cond}
 use mathlib.Core.List.{List, [], _∷_, _++_, append-assoc, append-nil}

@@ -1,5 +1,5 @@
 -- How many bytes wait after an event on a record: a closing tick and a loss leave none, every other one as many as before. (A take: crate
--- waiting, proofs/Taken `take-used`.) Assumes nothing.
+-- waiting, proofs/Taken `take-used`.)
 use mathlib.Core.Path.{_≡_, refl}
 use mathlib.Core.Bool.{Bool, true, false, cond, _&&_}
 use Rattle.connection.specs.declared.Config.{Config}

@@ -1,4 +1,4 @@
--- WHAT WAITS ON A CONNECTION, and what a transmit adds to it. Assumes nothing.
+-- WHAT WAITS ON A CONNECTION, and what a transmit adds to it.
 use Prim.Native.Nat.{ℕ, zero, suc}
 use mathlib.Core.Bool.{Bool, true, false, cond, _&&_}
 use mathlib.Core.List.{List, [], _∷_, _++_}

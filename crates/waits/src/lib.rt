@@ -1,1 +1,1 @@
-// What waits on a connection, event after event: laws, no code. Assumes nothing.
+// What waits on a connection, event after event: laws, no code.

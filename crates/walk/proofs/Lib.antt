@@ -1,3 +1,3 @@
--- The laws of the walk. Assumes nothing.
+-- The laws of the walk.
 pub mod Steps
 pub mod Trip

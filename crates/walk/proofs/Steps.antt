@@ -1,6 +1,5 @@
 -- A step of the walk, and the walk to its end: every step moves forward and not past the end; at most as many steps as bytes
 -- reach it; the list of a whole walk is the list by lengths.
--- Assumes nothing.
 use Prim.Native.Nat.{ℕ, zero, suc, _+_, _-_, _≤_, _<_}
 use mathlib.Core.Path.{_≡_, refl, sym, ap, ap₂, _∙_}
 use mathlib.Core.List.{List, [], _∷_, _++_, map}

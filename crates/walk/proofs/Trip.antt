@@ -1,6 +1,5 @@
 -- THE ROUND TRIP over one datagram: what is framed, and walked from place 0 with routes that accept it, comes back, one PDU a step:
 -- the same PDUs in the same order, no drop, and then the end.
--- Assumes nothing.
 use Prim.Native.Nat.{ℕ, _+_}
 use mathlib.Core.Path.{_≡_, refl, sym, ap, ap₂, _∙_}
 use mathlib.Core.List.{List, [], _∷_, _++_, append-assoc, append-nil, map}

@@ -1,2 +1,2 @@
--- The walk over a datagram. Assumes nothing.
+-- The walk over a datagram.
 pub mod Walk

@@ -1,5 +1,4 @@
--- THE WALK OVER A DATAGRAM (document 01, "Datagrams"): what stands at a place, the next place, and the list of a whole datagram.
--- Assumes nothing: these are definitions.
+-- THE WALK OVER A DATAGRAM (R7.8 to R7.12): what stands at a place, the next place, and the list of a whole datagram.
 use Prim.Native.Nat.{ℕ, zero, suc, _+_, _≤_, _<_}
 use mathlib.Core.List.{List, [], _∷_, _++_, map}
 use lib.ListN.{length, take, drop}
@@ -10,14 +9,14 @@ use Rattle.frame.specs.Frame.{Sent}
 use Rattle.lengths.specs.Head.{Head, ended, short, beyond, whole, headOf}
 use Rattle.lengths.specs.Split.{split}
 
--- "gives the next PDU, a drop, or the end": a PDU by its route, the place and length of its payload, and its id; a drop by its
+-- R7.8, R7.10, the next PDU, a drop, or the end: a PDU by its route, the place and length of its payload, and its id; a drop by its
 -- reason, id and length
 pub data Found : Type 0 where
   the-end : Found
   a-pdu : (route place length id : ℕ) → Found
   a-drop : (reason id length : ℕ) → Found
 
--- "with the next place"
+-- with the next place
 pub record Walked : Type 0 where
   pub found : Found
   pub next : ℕ
@@ -30,8 +29,8 @@ abbrev pub wholeAt : Decision → ℕ → ℕ → ℕ → Walked
 wholeAt (Accept r) p i n = walked (a-pdu r (p + 8) n i) (p + 8 + n)
 wholeAt (Refuse k) p i n = walked (a-drop k i n) (p + 8 + n)
 
--- "1..7 bytes left, or a length beyond the end, is drop 23 (reported id and length are 0 for the former) and the place becomes
--- the end; 23 is tested before 20, 21, 22": at place p of a datagram of m bytes, by what stands there
+-- R7.9: 1..7 bytes left, or a length beyond the end, is drop 23 (with id and length 0 for the former) and the place becomes the end, before
+-- 20, 21, 22: at place p of a datagram of m bytes, by what stands there
 abbrev pub walkStep : Routes → ℕ → ℕ → Head → Walked
 walkStep R m p ended = walked the-end m
 walkStep R m p short = walked (a-drop 23 0 0) m
@@ -42,7 +41,7 @@ walkStep R m p (whole i n) = wholeAt (R i n) p i n
 unfoldable pub walkAt : Routes → List ℕ → ℕ → Walked
 walkAt R d p = walkStep R (length d) p (headOf (drop p d))
 
--- "with the next place": from place p forward to q, and not past the end m
+-- R7.12: from place p forward to q, and not past the end m
 pub record Forward (m p q : ℕ) : Type 0 where
   pub more : p < q
   pub within : q ≤ m

@@ -1,1 +1,1 @@
-// The walk over a datagram: definitions in specs/, laws in proofs/, no function. Assumes nothing.
+// The walk over a datagram: definitions in specs/, laws in proofs/, no function.

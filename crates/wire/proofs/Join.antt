@@ -1,4 +1,4 @@
--- Two numbers side by side are one number: the one law of the readers, over both widths. Assumes nothing.
+-- Two numbers side by side are one number: the one law of the readers, over both widths.
 use Prim.Native.Nat.{ℕ, zero, suc, _+_, _*_, _/_, _%_, _^_, _<_, _≤_}
 use mathlib.Core.Path.{_≡_, refl, sym, ap, _∙_}
 use mathlib.Core.List.{List}

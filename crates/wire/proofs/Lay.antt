@@ -1,4 +1,4 @@
--- Laws of bytes laid over others. Assumes nothing.
+-- Laws of bytes laid over others.
 use Prim.Native.Nat.{ℕ, suc, _+_, _-_, _≤_, _<_}
 use mathlib.Core.Path.{_≡_, refl, sym, ap, ap₂, _∙_}
 use mathlib.Core.Bool.{Bool, true, false, cond}

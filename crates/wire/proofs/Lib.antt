@@ -1,5 +1,4 @@
 -- Laws of readers (Join, Part), of bytes laid over others (Lay), of writers and the round trip (Spell), and of the test for room (Room).
--- Assumes nothing.
 pub mod Join
 pub mod Lay
 pub mod Spell

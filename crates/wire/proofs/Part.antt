@@ -1,4 +1,4 @@
--- A number read out of a part is the one at its place in the whole; the part from a place on. Assumes nothing.
+-- A number read out of a part is the one at its place in the whole; the part from a place on.
 use Prim.Native.Nat.{ℕ, zero, suc, _+_, _-_, _≤_}
 use mathlib.Core.Path.{_≡_, refl}
 use mathlib.Core.List.{List, _++_}

@@ -1,4 +1,4 @@
--- Places of parts. Assumes nothing.
+-- Places of parts.
 use Prim.Native.Nat.{ℕ, _+_, _≤_, _<_}
 use mathlib.Core.Path.{_≡_, ap}
 use mathlib.Core.List.{List}

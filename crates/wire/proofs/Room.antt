@@ -1,4 +1,4 @@
--- The test whether n bytes from a position on stand within a length, and what it says of bytes laid there. Assumes nothing.
+-- The test whether n bytes from a position on stand within a length, and what it says of bytes laid there.
 use Prim.Native.Nat.{ℕ, _+_, _-_, _≤_, _<_}
 use mathlib.Core.Path.{_≡_, refl, sym, ap, _∙_}
 use mathlib.Core.Bool.{Bool, true, false}

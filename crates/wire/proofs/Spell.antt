@@ -1,4 +1,4 @@
--- Numbers as bytes and back: one law over both widths for the writers, and the round trip both ways. Assumes nothing.
+-- Numbers as bytes and back: one law over both widths for the writers, and the round trip both ways.
 use Prim.Native.Nat.{ℕ, zero, suc, _+_, _*_, _/_, _%_, _^_, _≤_, _<_}
 use mathlib.Core.Path.{_≡_, refl, sym, ap, ap₂, _∙_}
 use mathlib.Core.List.{List, [], _∷_, _++_, append-assoc, append-nil}

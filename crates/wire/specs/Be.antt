@@ -1,5 +1,4 @@
--- Big-endian numbers: the number that w bytes from a position stand for.
--- Assumes nothing.
+-- Big-endian numbers (R1.1): the number that w bytes from a position stand for.
 use Prim.Native.Nat.{ℕ, zero, suc, _+_, _*_, _/_, _%_, _<_, _^_}
 use mathlib.Core.Path.{_≡_}
 use mathlib.Core.List.{List}

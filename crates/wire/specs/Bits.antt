@@ -1,6 +1,6 @@
--- The bits of a word. Assumes nothing: this is a definition.
+-- The bits of a word.
 use Prim.Native.Nat.{ℕ, _/_, _%_, _^_}
 
--- bit k of a word: "switch n is the bit worth 2 to the n"
+-- R2.3: bit k of a word is the one worth 2 to the k
 abbrev pub bitAt : ℕ → ℕ → ℕ
 bitAt k w = w / 2 ^ k % 2

@@ -1,5 +1,4 @@
--- Numbers as big-endian bytes, and bytes laid over others at a position.
--- Assumes nothing.
+-- Numbers as big-endian bytes (R1.1), and bytes laid over others at a position.
 use Prim.Native.Nat.{ℕ, zero, suc, _+_, _/_, _%_}
 use mathlib.Core.Bool.{cond}
 use mathlib.Core.List.{List, [], _∷_, _++_}

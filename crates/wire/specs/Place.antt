@@ -1,6 +1,5 @@
--- WHERE A PART OF A LENT SLICE STANDS. A reference points at a place: a block of memory, and how many bytes into it. Parts with the same
+-- WHERE A PART OF A LENT SLICE STANDS (R1.14). A reference points at a place: a block of memory, and how many bytes into it. Parts with the same
 -- bytes may stand at two places; a contract that names the place says which of them is handed back.
--- Assumes nothing: these are definitions.
 use Prim.Native.Nat.{ℕ, _+_}
 use mathlib.Core.Bool.{cond}
 use mathlib.Core.List.{List}

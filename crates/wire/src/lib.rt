@@ -1,5 +1,5 @@
 // Big-endian numbers out of lent bytes and into them, and bytes copied into a part: a reader gives 0 past the end, a
-// writer writes all or nothing. Assumes nothing.
+// writer writes all or nothing.
 ghost use mathlib.Core.Path.{_≡_};
 ghost use Prim.Native.Nat.{_+_, _≤_, _<_};
 ghost use lib.Dec.{leb};

@@ -6,7 +6,7 @@
 //   %o12 %y12 ..    the word that the byte there picks of the list in `word`; first_word has the letters
 //   @ # *           the number given, how many bytes are shown, and those bytes in hex (`-` where there are none)
 //   ^               an `s`, unless the last number was 1
-// Proved to be safe and to return; the words are tried by stored output. Assumes nothing.
+// Proved to be safe and to return; the words are tried by stored output.
 ghost use Prim.Native.Nat.{_-_, _≤_};
 ghost use lib.ListN.{length};
 use layout::part_of;

@@ -1,5 +1,5 @@
 // A record and both drop counts as lines of text (docs/EVENTS.md, "What `./soad run` prints"; the patterns are those of crate words). A record is spelt
-// first as a start state spells it. Proved to be safe and to return; the words are tried by stored output. Assumes nothing.
+// first as a start state spells it. Proved to be safe and to return; the words are tried by stored output.
 use connection::Connection;
 use connection::Mode;
 use layout::part_of;

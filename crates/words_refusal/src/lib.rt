@@ -1,5 +1,5 @@
 // Why a table image is refused, as a line of text: the byte, the spot, and the first test that fails there with the numbers found and asked (the
-// patterns are those of crate words). Spot and test are proved (crate reason); the words are tried by stored output. Assumes nothing.
+// patterns are those of crate words). Spot and test are proved (crate reason); the words are tried by stored output.
 use layout::Kind;
 use layout::kind_number;
 use reason::Fault;

@@ -1,6 +1,5 @@
 -- The two drop counts that stop at their top: the order in which two connections drop does not matter, and drops may be counted
 -- at once or one lot after the other.
--- Assumes nothing.
 use Prim.Native.Nat.{ℕ, zero, suc, _+_}
 use mathlib.Core.Path.{_≡_, refl, sym, ap, _∙_}
 use mathlib.Core.Bool.{Bool, true, false}

@@ -1,4 +1,4 @@
--- Laws of the world. Assumes nothing.
+-- Laws of the world.
 pub mod Cells
 pub mod Counts
 pub mod View

@@ -1,5 +1,4 @@
 -- The view of a state and the lent memories: its records, one of them replaced, and what an event leaves that writes no memory.
--- Assumes nothing.
 use Prim.Native.Nat.{ℕ, zero, suc, _+_, _≤_, _<_}
 use mathlib.Core.Path.{_≡_, refl, sym, ap, ap₂, _∙_}
 use mathlib.Core.List.{List, [], _∷_, map}

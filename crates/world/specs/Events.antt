@@ -1,22 +1,19 @@
--- THE EVENTS, as data (document 01, "Connection events and others"): nine of one connection, and those of a whole group or
--- of the whole module.
--- Assumes nothing: these are definitions.
+-- THE EVENTS, as data (R8.1): nine of one connection, and those of a whole group or of the whole module.
 use Prim.Native.Nat.{ℕ}
 use mathlib.Core.Bool.{Bool}
 use mathlib.Core.List.{List}
 use Rattle.connection.specs.declared.Remote.{Remote}
 use Rattle.connection.specs.declared.Event.{Event as Change}
 
--- "These nine are connection events": six that concern the record alone (open, close, connected, lost, set remote, switch);
--- a segment's bytes; a walk over a datagram from a place; taking the waiting bytes into an out buffer of so much room
+-- R8.1, the nine connection events: six that concern the record alone (open, close, connected, lost, set remote, switch); a segment's
+-- bytes; a walk over a datagram from a place; taking the waiting bytes into an out buffer of so much room
 pub data Own : Type 0 where
   change : Change → Own
   segment : List ℕ → Own
   walk : List ℕ → ℕ → Own
   takeWaiting : ℕ → Own
 
--- "Group and module events: datagram, accept, tick, transmit, switching a group on all connections, reading or reading and
--- clearing a count"
+-- R8.1, group and module events: datagram, accept, tick, transmit, a switch on all connections, reading or reading and clearing a count
 pub data Whole : Type 0 where
   datagram : ℕ → Remote → Whole
   accept : ℕ → Remote → Whole

@@ -1,5 +1,4 @@
 -- ONE STEP OF THE WORLD, A RUN, AND WHAT A CONNECTION HAS HANDED OUT.
--- Assumes nothing: these are definitions.
 use Prim.Native.Nat.{ℕ, zero, suc}
 use mathlib.Core.Bool.{Bool, true, false, cond, not, _&&_}
 use mathlib.Core.List.{List, [], _∷_, _++_}
@@ -20,7 +19,7 @@ pub record Table : Type 0 where
   pub config : ℕ → Config
   pub routes : ℕ → ℕ → Routes
 
--- "Two drop counts, UDP and TCP, stop at 4,294,967,295": a count after so many drops
+-- R2.6: a count after so many drops
 unfoldable pub countAfter : ℕ → ℕ → ℕ
 countAfter zero n = n
 countAfter (suc drops) n = countAfter drops (counted n)
@@ -61,7 +60,7 @@ module _ (T : Table) where
       (acted h [])
   does k (takeWaiting room) h = acted (follow (takeOf (T .config k) room (h .connection)) h) []
 
-  -- "connection .. number not there": 2
+  -- R4.4: a connection that is not there
   unfoldable pub acts : ℕ → Own → Held → Acted
   acts k e h = cond (ltb k (T .rows)) (does k e h) (acted h [])
 

@@ -1,6 +1,5 @@
 -- THE WORLD: the connections with the bytes they hold, and the two drop counts. Unused room of the lent memory is no part of
--- it, so "same state" ("same numbers and same held bytes; unused room may differ") is plain equality of worlds.
--- Assumes nothing: these are definitions.
+-- it, so "same state" (R2.10: same numbers and same held bytes; unused room may differ) is plain equality of worlds.
 use Prim.Native.Nat.{ℕ, suc}
 use mathlib.Core.List.{List, [], _∷_, map}
 use lib.ListN.{getD, take}
@@ -38,7 +37,7 @@ heldBy (Header held value) = 0
 heldBy (Payload route length held) = held
 heldBy (Skip bytes) = 0
 
--- connection k with the bytes it holds in the two lent memories: "receive .. (16 of 1,464), send .. (16 of 1,472)"
+-- R2.7: connection k with the bytes it holds in the two lent memories
 abbrev pub heldOf : List ℕ → List ℕ → ℕ → Connection → Held
 heldOf rx tx k c =
     record { connection = c; received = take (heldBy (c .part)) (stretch 1464 k rx); waiting = take (c .used) (stretch 1472 k tx) }

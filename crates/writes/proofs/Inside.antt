@@ -1,5 +1,4 @@
--- WHAT IS WRITTEN STANDS IN THE STRETCH OF ITS OWN CONNECTION: "one stretch per connection in number order, each filled from its front".
--- Assumes nothing.
+-- WHAT IS WRITTEN STANDS IN THE STRETCH OF ITS OWN CONNECTION (R2.7).
 use Prim.Native.Nat.{ℕ, _+_, _-_, _*_, _≤_, _<_}
 use mathlib.Core.Path.{_≡_, refl, sym, ap₂, subst}
 use mathlib.Core.Bool.{Bool, true, false}

@@ -1,4 +1,4 @@
--- Bytes laid over others leave each byte elsewhere. Assumes nothing.
+-- Bytes laid over others leave each byte elsewhere.
 use Prim.Native.Nat.{ℕ, _+_, _-_, _≤_, _<_}
 use mathlib.Core.Path.{_≡_, sym, ap, _∙_}
 use mathlib.Core.List.{List, _++_}

@@ -1,4 +1,4 @@
--- What a call writes: bytes laid over others, one take, all takes of a segment, a transmit, any event; and in whose stretch. Assumes nothing.
+-- What a call writes: bytes laid over others, one take, all takes of a segment, a transmit, any event; and in whose stretch.
 pub mod Laid
 pub mod Take
 pub mod Segment

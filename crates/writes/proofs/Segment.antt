@@ -1,4 +1,4 @@
--- A SEGMENT EVENT on the machine: its takes write the bytes that they add, each byte elsewhere stays. Assumes nothing.
+-- A SEGMENT EVENT on the machine: its takes write the bytes that they add, each byte elsewhere stays.
 use Prim.Native.Nat.{ℕ, zero, suc, _+_, _*_}
 use mathlib.Core.Path.{_≡_, refl, sym, ap, ap₂, _∙_, subst}
 use mathlib.Core.Bool.{Bool, true, false, cond}

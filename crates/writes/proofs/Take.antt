@@ -1,4 +1,4 @@
--- ONE TAKE, over a stretch of receive memory: it lays the bytes that it adds behind those held, and no other. Assumes nothing.
+-- ONE TAKE, over a stretch of receive memory: it lays the bytes that it adds behind those held, and no other.
 use Prim.Native.Nat.{ℕ, _+_, _-_, _≤_, _<_}
 use mathlib.Core.Path.{_≡_, refl, sym, subst}
 use mathlib.Core.Bool.{Bool, true, false}

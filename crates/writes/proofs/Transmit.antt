@@ -1,4 +1,4 @@
--- A TRANSMIT on the machine: it writes the frames that it appends, each byte of send memory elsewhere stays. Assumes nothing.
+-- A TRANSMIT on the machine: it writes the frames that it appends, each byte of send memory elsewhere stays.
 use Prim.Native.Nat.{ℕ, suc, _+_, _*_, _≤_, _<_}
 use mathlib.Core.Path.{_≡_, refl, sym, _∙_, subst}
 use mathlib.Core.Bool.{Bool, true, false, cond}

@@ -1,4 +1,4 @@
--- DEMAND 1: what a call writes, of every event, from any table, state and memory. Assumes nothing.
+-- DEMAND 1: what a call writes, of every event, from any table, state and memory.
 use Prim.Native.Nat.{ℕ, suc}
 use mathlib.Core.Path.{_≡_, refl, ap}
 use mathlib.Core.List.{List}

@@ -1,2 +1,2 @@
--- The places of lent memory that an event writes. Assumes nothing.
+-- The places of lent memory that an event writes.
 pub mod Writes

@@ -1,6 +1,5 @@
--- WHAT A CALL WRITES (document 01, "State and memory"): "A call writes only the payload bytes it adds to an unfinished payload, the last ones
--- included but none of a payload handed out from the segment, and the bytes a transmit appends; all other lent bytes stay."
--- Assumes nothing: these are definitions.
+-- WHAT A CALL WRITES (R2.8): only the payload bytes that it adds to an unfinished payload, the last ones included but none of a payload
+-- handed out from the segment, and the bytes that a transmit appends; all other lent bytes stay.
 use Prim.Native.Nat.{ℕ, _+_, _-_, _*_, _≤_, _<_}
 use mathlib.Core.Path.{_≡_}
 use mathlib.Core.Bool.{true, false}
@@ -24,9 +23,9 @@ use Rattle.tie.specs.Run.{afterEvent}
 abbrev pub Within : ℕ → ℕ → ℕ → Type 0
 Within at n i = (at ≤ i) × (i < at + n)
 
--- RECEIVE MEMORY: "the payload bytes it adds to an unfinished payload", by a take's outcome and by how many the record's part holds before
--- and after it: those that it holds now and did not before; of a payload handed out from receive memory (false) "the last ones included";
--- "but none of a payload handed out from the segment" (true)
+-- RECEIVE MEMORY: the payload bytes added to an unfinished payload, by a take's outcome and by how many the record's part holds before
+-- and after it: those that it holds now and did not before; of a payload handed out from receive memory (false) the last ones included;
+-- none of a payload handed out from the segment (true)
 abbrev pub addedBy : Outcome → ℕ → ℕ → ℕ
 addedBy More before after = after - before
 addedBy (Pdu route id false at n) before after = n - before
@@ -57,13 +56,13 @@ module _ (image : List ℕ) (m : Machine) where
   abbrev pub FrameWrites : ℕ → List ℕ → ℕ → Type 0
   FrameWrites d payload i = Within (destinationOf image d .connection * 1472 + recordAt (m .state) (destinationOf image d .connection) .used) (8 + length payload) i
 
-  -- AN EVENT WRITES PLACE i OF SEND MEMORY: "the bytes a transmit appends", where it is stored, one frame at each destination of the PDU that
-  -- is switched on at the call (no two destinations share PDU and connection: at most one frame on each connection)
+  -- AN EVENT WRITES PLACE i OF SEND MEMORY: the bytes that a transmit appends, where it is stored, one frame at each destination of the PDU
+  -- that is switched on at the call (no two destinations share PDU and connection: at most one frame on each connection)
   pub data WritesTx : Event → ℕ → Type 0 where
     by-transmit : (pdu : ℕ) (payload : List ℕ) (d i : ℕ) → isStored (sendOf (loanTo image m) pdu payload .answer) ≡ true
         → d < destinations image → wantedAt image (m .state) pdu payload d ≡ true → FrameWrites d payload i → WritesTx (onWhole (transmit pdu payload)) i
 
--- THE STATEMENT: "all other lent bytes stay", and both memories are as long as they were
+-- THE STATEMENT: all other lent bytes stay, and both memories are as long as they were
 pub record Writes (image : List ℕ) (m : Machine) (e : Event) : Type 0 where
   pub rx-long : length (afterEvent image e m .rx) ≡ length (m .rx)
   pub tx-long : length (afterEvent image e m .tx) ≡ length (m .tx)

@@ -1,4 +1,4 @@
--- `answer_events::clear_count` meets its contract. Assumes nothing.
+-- `answer_events::clear_count` meets its contract.
 use mathlib.Core.Path.{ap}
 use Rattle.answering.proofs.Reply.{reply}
 use Rattle.events.specs.declared.Counted.{Counted}

@@ -1,4 +1,4 @@
--- `answer_events::many_ticks` meets its contract. Assumes nothing.
+-- `answer_events::many_ticks` meets its contract.
 use mathlib.Core.Path.{ap}
 use Rattle.answering.proofs.Reply.{reply}
 use Rattle.ticks.specs.declared.Ticked.{Ticked}

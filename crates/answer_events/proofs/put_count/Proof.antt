@@ -1,4 +1,4 @@
--- `answer_events::put_count` meets its contract. Assumes nothing.
+-- `answer_events::put_count` meets its contract.
 use borrow.Author.Needs.{needs}
 use Rattle.answer_events.proofs.put_count.Statement.{statement}
 use Rattle.answer_events.proofs.put_count.Tie as tie

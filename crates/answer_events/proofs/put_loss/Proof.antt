@@ -1,4 +1,4 @@
--- `answer_events::put_loss` meets its contract. Assumes nothing.
+-- `answer_events::put_loss` meets its contract.
 use borrow.Author.Needs.{needs}
 use Rattle.answer_events.proofs.put_loss.Statement.{statement}
 use Rattle.answer_events.proofs.put_loss.Tie as tie

@@ -1,4 +1,4 @@
--- `answer_events::put_told` meets its contract. Assumes nothing.
+-- `answer_events::put_told` meets its contract.
 use borrow.Author.Needs.{needs}
 use Rattle.answer_events.proofs.put_told.Statement.{statement}
 use Rattle.answer_events.proofs.put_told.Tie as tie

@@ -1,4 +1,4 @@
--- `answer_events::switch_all` meets its contract. Assumes nothing.
+-- `answer_events::switch_all` meets its contract.
 use mathlib.Core.Path.{ap}
 use Rattle.answering.proofs.Reply.{reply}
 use Rattle.events.specs.declared.Told.{Told}

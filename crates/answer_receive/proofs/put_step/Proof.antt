@@ -1,4 +1,4 @@
--- `answer_receive::put_step` meets its contract. Assumes nothing.
+-- `answer_receive::put_step` meets its contract.
 use native.Mathlib.Omega.{arith}
 use borrow.Author.Needs.{needs}
 use mathlib.Core.Path.{sym}

@@ -1,4 +1,4 @@
--- `answer_receive::put_sum` meets its contract. Assumes nothing.
+-- `answer_receive::put_sum` meets its contract.
 use native.Mathlib.Omega.{arith}
 use borrow.Author.Needs.{needs}
 use mathlib.Core.Path.{ap, _∙_}

@@ -1,4 +1,4 @@
--- `answer_receive::put_take` meets its contract. Assumes nothing.
+-- `answer_receive::put_take` meets its contract.
 use borrow.Author.Needs.{needs}
 use Rattle.answer_receive.proofs.put_take.Statement.{statement}
 use Rattle.answer_receive.proofs.put_take.Tie as tie

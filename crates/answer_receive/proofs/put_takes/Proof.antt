@@ -1,4 +1,4 @@
--- `answer_receive::put_takes` meets its contract. Assumes nothing.
+-- `answer_receive::put_takes` meets its contract.
 use Prim.Native.Nat.{ℕ}
 use mathlib.Core.Path.{refl, ap, _∙_}
 use mathlib.Core.List.{List, _++_}

@@ -1,4 +1,4 @@
--- `answer_receive::put_walk` meets its contract. Assumes nothing.
+-- `answer_receive::put_walk` meets its contract.
 use borrow.Author.Needs.{needs}
 use Rattle.answer_receive.proofs.put_walk.Statement.{statement}
 use Rattle.answer_receive.proofs.put_walk.Tie as tie

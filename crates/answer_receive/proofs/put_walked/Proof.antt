@@ -1,4 +1,4 @@
--- `answer_receive::put_walked` meets its contract. Assumes nothing.
+-- `answer_receive::put_walked` meets its contract.
 use borrow.Author.Needs.{needs}
 use Rattle.answer_receive.proofs.put_walked.Statement.{statement}
 use Rattle.answer_receive.proofs.put_walked.Tie as tie

@@ -1,4 +1,4 @@
--- `answer_receive::segment` meets its contract. Assumes nothing.
+-- `answer_receive::segment` meets its contract.
 use mathlib.Core.Path.{refl}
 use native.Mathlib.Omega.{arith}
 use lib.ListN.{length}

@@ -1,4 +1,4 @@
--- `answer_receive::take_all` meets its contract. The invariant: from this turn on the event ends as from its start on. Assumes nothing.
+-- `answer_receive::take_all` meets its contract. The invariant: from this turn on the event ends as from its start on.
 use Prim.Native.Nat.{_-_}
 use mathlib.Core.Path.{_≡_, refl, sym, _∙_}
 use lib.ListN.{length}

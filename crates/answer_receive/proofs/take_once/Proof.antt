@@ -1,4 +1,4 @@
--- `answer_receive::take_once` meets its contract. Assumes nothing.
+-- `answer_receive::take_once` meets its contract.
 use native.Mathlib.Omega.{arith}
 use Rattle.answer_receive.proofs.Once.{turn-within, turn-is}
 use borrow.Author.Needs.{needs}

@@ -1,4 +1,4 @@
--- `answer_receive::walk` meets its contract. Assumes nothing.
+-- `answer_receive::walk` meets its contract.
 use mathlib.Core.Path.{refl, ap}
 use Rattle.gate.specs.Lent.{loan}
 use Rattle.answering.proofs.Reply.{reply}

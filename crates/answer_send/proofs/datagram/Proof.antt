@@ -1,4 +1,4 @@
--- `answer_send::datagram` meets its contract. Assumes nothing.
+-- `answer_send::datagram` meets its contract.
 use mathlib.Core.Path.{ap}
 use Rattle.answering.proofs.Reply.{reply}
 use Rattle.choose.specs.declared.Arrived.{Arrived}

@@ -1,4 +1,4 @@
--- `answer_send::put_arrival` meets its contract. Assumes nothing.
+-- `answer_send::put_arrival` meets its contract.
 use borrow.Author.Needs.{needs}
 use Rattle.answer_send.proofs.put_arrival.Statement.{statement}
 use Rattle.answer_send.proofs.put_arrival.Tie as tie

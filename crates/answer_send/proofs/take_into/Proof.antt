@@ -1,4 +1,4 @@
--- `answer_send::take_into` meets its contract. Assumes nothing.
+-- `answer_send::take_into` meets its contract.
 use Prim.Native.Nat.{ℕ}
 use mathlib.Core.Path.{ap, ap₂}
 use mathlib.Core.List.{List}

@@ -1,4 +1,4 @@
--- `answer_send::take_waiting` meets its contract. Assumes nothing.
+-- `answer_send::take_waiting` meets its contract.
 use Prim.Native.Nat.{ℕ, _≤_}
 use mathlib.Core.Path.{_≡_, sym, ap, _∙_}
 use mathlib.Core.List.{List}

@@ -1,4 +1,4 @@
--- `answer_send::transmit` meets its contract. Assumes nothing.
+-- `answer_send::transmit` meets its contract.
 use mathlib.Core.Path.{ap}
 use Rattle.answering.proofs.Reply.{reply}
 use Rattle.send.specs.declared.Transmitted.{Transmitted}

@@ -1,4 +1,4 @@
--- `answering::put_address` meets its contract. Assumes nothing.
+-- `answering::put_address` meets its contract.
 use Rattle.answering.proofs.Chain.{address-laid, length-address, unlaid}
 use native.Mathlib.Omega.{arith}
 use Rattle.answering.specs.Answers.{address}

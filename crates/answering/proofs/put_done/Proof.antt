@@ -1,4 +1,4 @@
--- `answering::put_done` meets its contract. Assumes nothing.
+-- `answering::put_done` meets its contract.
 use mathlib.Core.Path.{sym}
 use Rattle.wire.proofs.Spell.{length-spell}
 use borrow.Author.Needs.{needs}

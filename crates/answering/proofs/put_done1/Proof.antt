@@ -1,4 +1,4 @@
--- `answering::put_done1` meets its contract. Assumes nothing.
+-- `answering::put_done1` meets its contract.
 use Rattle.answering.proofs.Chain.{pair, pair-out, pair-length}
 use native.Mathlib.Omega.{arith}
 use mathlib.Core.Path.{sym}

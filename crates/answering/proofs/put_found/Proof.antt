@@ -1,4 +1,4 @@
--- `answering::put_found` meets its contract. Assumes nothing.
+-- `answering::put_found` meets its contract.
 use Rattle.answering.proofs.Chain.{found-laid, length-found, unlaid}
 use native.Mathlib.Omega.{arith}
 use Rattle.answering.specs.Answers.{foundBytes}

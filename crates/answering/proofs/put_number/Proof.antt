@@ -1,4 +1,4 @@
--- `answering::put_number` meets its contract. Assumes nothing.
+-- `answering::put_number` meets its contract.
 use Rattle.answering.proofs.Chain.{spell-low}
 use native.Mathlib.Omega.{arith}
 use mathlib.Core.Path.{sym, ap, _∙_}

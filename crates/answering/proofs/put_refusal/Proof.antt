@@ -1,4 +1,4 @@
--- `answering::put_refusal` meets its contract. Assumes nothing.
+-- `answering::put_refusal` meets its contract.
 use Prim.Native.Nat.{ℕ}
 use mathlib.Core.Path.{ap, _∙_}
 use lib.ListN.{length}

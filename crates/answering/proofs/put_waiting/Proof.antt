@@ -1,4 +1,4 @@
--- `answering::put_waiting` meets its contract. Assumes nothing.
+-- `answering::put_waiting` meets its contract.
 use Rattle.answering.proofs.Chain.{waiting-laid, length-waiting, unlaid}
 use native.Mathlib.Omega.{arith}
 use mathlib.Core.Path.{sym}

@@ -1,4 +1,4 @@
--- `answering::put_zeros` meets its contract. Assumes nothing.
+-- `answering::put_zeros` meets its contract.
 use Rattle.answering.proofs.Chain.{zeros, unlaid}
 use native.Mathlib.Omega.{arith}
 use Rattle.wire.specs.Lay.{spell}

@@ -1,4 +1,4 @@
--- `arrivals::arrive` meets its contract. Assumes nothing.
+-- `arrivals::arrive` meets its contract.
 use Rattle.arrivals.specs.Arrivals.{arrivalOf}
 use borrow.Author.Needs.{needs}
 use Rattle.arrivals.proofs.arrive.Statement.{statement}

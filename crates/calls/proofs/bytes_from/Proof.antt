@@ -1,4 +1,4 @@
--- `calls::bytes_from` meets its contract. Assumes nothing.
+-- `calls::bytes_from` meets its contract.
 use Prim.Native.Nat.{ℕ}
 use native.Mathlib.Omega.{arith}
 use mathlib.Core.Path.{sym, ap, _∙_}

@@ -1,4 +1,4 @@
--- `calls::call_of` meets its contract. Assumes nothing.
+-- `calls::call_of` meets its contract.
 use Rattle.calls.specs.Calls.{callOf}
 use borrow.Author.Tests.{ne-eqb}
 use borrow.Author.Needs.{needs}

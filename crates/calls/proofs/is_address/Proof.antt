@@ -1,4 +1,4 @@
--- `calls::is_address` meets its contract. Assumes nothing.
+-- `calls::is_address` meets its contract.
 use borrow.Author.Needs.{needs}
 use Rattle.calls.proofs.is_address.Statement.{statement}
 use Rattle.calls.proofs.is_address.Tie as tie

@@ -1,4 +1,4 @@
--- `calls::is_addressed` meets its contract. Assumes nothing.
+-- `calls::is_addressed` meets its contract.
 use borrow.Author.Needs.{needs}
 use Rattle.calls.proofs.is_addressed.Statement.{statement}
 use Rattle.calls.proofs.is_addressed.Tie as tie

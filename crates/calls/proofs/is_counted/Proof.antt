@@ -1,4 +1,4 @@
--- `calls::is_counted` meets its contract. Assumes nothing.
+-- `calls::is_counted` meets its contract.
 use borrow.Author.Needs.{needs}
 use Rattle.calls.proofs.is_counted.Statement.{statement}
 use Rattle.calls.proofs.is_counted.Tie as tie

@@ -1,4 +1,4 @@
--- `calls::is_plain` meets its contract. Assumes nothing.
+-- `calls::is_plain` meets its contract.
 use borrow.Author.Needs.{needs}
 use Rattle.calls.proofs.is_plain.Statement.{statement}
 use Rattle.calls.proofs.is_plain.Tie as tie

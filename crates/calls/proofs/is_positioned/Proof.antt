@@ -1,4 +1,4 @@
--- `calls::is_positioned` meets its contract. Assumes nothing.
+-- `calls::is_positioned` meets its contract.
 use borrow.Author.Needs.{needs}
 use Rattle.calls.proofs.is_positioned.Statement.{statement}
 use Rattle.calls.proofs.is_positioned.Tie as tie

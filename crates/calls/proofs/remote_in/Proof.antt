@@ -1,4 +1,4 @@
--- `calls::remote_in` meets its contract. Assumes nothing.
+-- `calls::remote_in` meets its contract.
 use borrow.Author.Needs.{needs}
 use Rattle.calls.proofs.remote_in.Statement.{statement}
 use Rattle.calls.proofs.remote_in.Tie as tie

@@ -1,4 +1,4 @@
--- `check_image::rows_of_kind` ends: the rows that are left fall by one each turn. Assumes nothing.
+-- `check_image::rows_of_kind` ends: the rows that are left fall by one each turn.
 use Prim.Native.Nat.{_-_, _≤_}
 use native.Mathlib.Omega.{arith}
 use borrow.Author.Needs.{needs}

@@ -1,4 +1,4 @@
--- `choose::arrive` meets its contract. Assumes nothing.
+-- `choose::arrive` meets its contract.
 use mathlib.Core.Path.{_≡_, sym, _∙_}
 use Prim.Native.Nat.{_<_}
 use native.Mathlib.Omega.{arith}

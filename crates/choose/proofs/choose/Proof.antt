@@ -1,4 +1,4 @@
--- `choose::choose` meets its contract: the best so far is the one pass of the definition, at record i. Assumes nothing.
+-- `choose::choose` meets its contract: the best so far is the one pass of the definition, at record i.
 use Prim.Native.Nat.{ℕ, _-_}
 use mathlib.Core.Path.{_≡_, ap, _∙_}
 use mathlib.Core.List.{List}

@@ -1,4 +1,4 @@
--- `choose::rank` meets its contract. Assumes nothing.
+-- `choose::rank` meets its contract.
 use native.Mathlib.Omega.{arith}
 use Rattle.choose.specs.Choose.{rankOf}
 use borrow.Author.Needs.{needs}

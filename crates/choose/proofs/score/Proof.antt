@@ -1,4 +1,4 @@
--- `choose::score` meets its contract. Assumes nothing.
+-- `choose::score` meets its contract.
 use Rattle.choose.proofs.Scores.{score-yes, score-no}
 use borrow.Author.Needs.{needs}
 use Rattle.choose.proofs.score.Statement.{statement}

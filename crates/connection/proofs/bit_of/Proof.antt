@@ -1,4 +1,4 @@
--- `connection::bit_of` meets its contract. Assumes nothing.
+-- `connection::bit_of` meets its contract.
 use Rattle.connection.proofs.Bits.{worth-is, worth-none}
 use borrow.Author.Needs.{needs}
 use Rattle.connection.proofs.bit_of.Statement.{statement}

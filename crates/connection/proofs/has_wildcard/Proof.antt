@@ -1,4 +1,4 @@
--- `connection::has_wildcard` meets its contract. Assumes nothing.
+-- `connection::has_wildcard` meets its contract.
 use borrow.Author.Needs.{needs}
 use Rattle.connection.proofs.has_wildcard.Statement.{statement}
 use Rattle.connection.proofs.has_wildcard.Tie as tie

@@ -1,4 +1,4 @@
--- `connection::is_known` meets its contract. Assumes nothing.
+-- `connection::is_known` meets its contract.
 use borrow.Author.Needs.{needs}
 use Rattle.connection.proofs.is_known.Statement.{statement}
 use Rattle.connection.proofs.is_known.Tie as tie

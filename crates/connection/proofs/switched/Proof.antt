@@ -1,4 +1,4 @@
--- `connection::switched` meets its contract. Assumes nothing.
+-- `connection::switched` meets its contract.
 use Rattle.connection.specs.Connection.{switchOf}
 use borrow.Author.Needs.{needs}
 use Rattle.connection.proofs.switched.Statement.{statement}

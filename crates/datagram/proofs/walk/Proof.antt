@@ -1,4 +1,4 @@
--- `datagram::walk` meets its contract. Assumes nothing.
+-- `datagram::walk` meets its contract.
 use native.Mathlib.Omega.{arith}
 use borrow.Author.Needs.{needs}
 use Rattle.datagram.proofs.Laws.{walk-at-end, in-the-middle}

@@ -1,4 +1,4 @@
--- `datagram::walk_rest` meets its contract. Assumes nothing.
+-- `datagram::walk_rest` meets its contract.
 use lib.ListN.{length}
 use Prim.Native.Nat.{_+_}
 use borrow.Author.Needs.{needs}

@@ -1,4 +1,4 @@
--- `datagram::whole_at` meets its contract. Assumes nothing.
+-- `datagram::whole_at` meets its contract.
 use borrow.Author.Needs.{needs}
 use Rattle.datagram.proofs.whole_at.Statement.{statement}
 use Rattle.datagram.proofs.whole_at.Tie as tie

@@ -1,4 +1,4 @@
--- `destination::look` meets its contract. Assumes nothing.
+-- `destination::look` meets its contract.
 use Rattle.destination.specs.Destination.{lookOf}
 use borrow.Author.Needs.{needs}
 use Rattle.destination.proofs.look.Statement.{statement}

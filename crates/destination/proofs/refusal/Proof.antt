@@ -1,4 +1,4 @@
--- `destination::refusal` meets its contract. Assumes nothing.
+-- `destination::refusal` meets its contract.
 use borrow.Author.Tests.{lt-ltb, le-ltb}
 use Rattle.destination.specs.Destination.{refusalOf}
 use borrow.Author.Needs.{needs}

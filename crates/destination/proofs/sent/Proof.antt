@@ -1,4 +1,4 @@
--- `destination::sent` meets its contract. Assumes nothing.
+-- `destination::sent` meets its contract.
 use borrow.Author.Needs.{needs}
 use Rattle.destination.proofs.sent.Statement.{statement}
 use Rattle.destination.proofs.sent.Tie as tie

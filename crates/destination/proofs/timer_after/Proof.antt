@@ -1,4 +1,4 @@
--- `destination::timer_after` meets its contract. Assumes nothing.
+-- `destination::timer_after` meets its contract.
 use Rattle.destination.specs.Destination.{timerOf}
 use Rattle.destination.proofs.timer_after.Statement.{statement}
 use Rattle.destination.proofs.timer_after.Tie as tie

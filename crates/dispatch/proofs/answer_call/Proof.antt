@@ -1,4 +1,4 @@
--- `dispatch::answer_call` meets its contract. Assumes nothing.
+-- `dispatch::answer_call` meets its contract.
 use mathlib.Core.Path.{refl}
 use Rattle.gate.specs.Lent.{loan}
 use Rattle.dispatch.specs.Dispatch.{effectOf}

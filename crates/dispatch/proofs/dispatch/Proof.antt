@@ -1,4 +1,4 @@
--- `dispatch::dispatch` meets its contract. Assumes nothing.
+-- `dispatch::dispatch` meets its contract.
 use mathlib.Core.Path.{refl}
 use borrow.Author.Tests.{lt-ltb, le-ltb}
 use Rattle.dispatch.specs.Dispatch.{dispatchOf}

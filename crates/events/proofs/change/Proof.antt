@@ -1,4 +1,4 @@
--- `events::change` meets its contract. Assumes nothing.
+-- `events::change` meets its contract.
 use Rattle.events.proofs.Changes.{change-refused, change-done}
 use borrow.Author.Needs.{needs}
 use Rattle.events.proofs.change.Statement.{statement}

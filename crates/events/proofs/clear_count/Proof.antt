@@ -1,4 +1,4 @@
--- `events::clear_count` meets its contract. Assumes nothing.
+-- `events::clear_count` meets its contract.
 use Rattle.events.specs.Count.{clearOf}
 use borrow.Author.Needs.{needs}
 use Rattle.events.proofs.clear_count.Statement.{statement}

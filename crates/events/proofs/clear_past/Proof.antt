@@ -1,4 +1,4 @@
--- `events::clear_past` meets its contract. Assumes nothing.
+-- `events::clear_past` meets its contract.
 use Rattle.events.specs.Count.{ofProtocol, clearPast}
 use borrow.Author.Tests.{eq-eqb, ne-eqb}
 use borrow.Author.Needs.{needs}

@@ -1,4 +1,4 @@
--- `events::happen` meets its contract. Assumes nothing.
+-- `events::happen` meets its contract.
 use mathlib.Core.Path.{_≡_, refl, sym, ap, _∙_}
 use Rattle.events.specs.Change.{eventOf}
 use Rattle.gate.proofs.Pass.{in-sixteen}

@@ -1,4 +1,4 @@
--- `events::lost` meets its contract. Assumes nothing.
+-- `events::lost` meets its contract.
 use Rattle.events.specs.Change.{lossOf}
 use borrow.Author.Needs.{needs}
 use Rattle.events.proofs.lost.Statement.{statement}

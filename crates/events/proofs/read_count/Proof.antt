@@ -1,4 +1,4 @@
--- `events::read_count` meets its contract. Assumes nothing.
+-- `events::read_count` meets its contract.
 use Rattle.events.specs.Count.{readOf}
 use borrow.Author.Needs.{needs}
 use Rattle.events.proofs.read_count.Statement.{statement}

@@ -1,4 +1,4 @@
--- `events::read_past` meets its contract. Assumes nothing.
+-- `events::read_past` meets its contract.
 use Rattle.events.specs.Count.{ofProtocol, readPast}
 use borrow.Author.Tests.{eq-eqb, ne-eqb}
 use borrow.Author.Needs.{needs}

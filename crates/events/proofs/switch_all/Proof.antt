@@ -1,4 +1,4 @@
--- `events::switch_all` meets its contract. Assumes nothing.
+-- `events::switch_all` meets its contract.
 use mathlib.Core.Path.{_≡_, refl, sym, ap, _∙_}
 use borrow.Author.Tests.{lt-ltb, le-ltb}
 use Rattle.events.specs.Module.{switchAllOf}

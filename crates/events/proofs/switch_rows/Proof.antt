@@ -1,4 +1,4 @@
--- `events::switch_rows` meets its contract. The invariant: the records below i are switched. Assumes nothing.
+-- `events::switch_rows` meets its contract. The invariant: the records below i are switched.
 use Prim.Native.Nat.{_<_, _≤_, _-_}
 use mathlib.Core.Path.{_≡_, refl, sym, ap, _∙_}
 use lib.ListN.{length}

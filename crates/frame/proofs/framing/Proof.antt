@@ -1,4 +1,4 @@
--- `frame::framing` meets its contract. Assumes nothing.
+-- `frame::framing` meets its contract.
 use mathlib.Core.Path.{_∙_}
 use lib.ListN.{length}
 use borrow.Author.Needs.{needs}

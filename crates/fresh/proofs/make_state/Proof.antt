@@ -1,4 +1,4 @@
--- `fresh::make_state` meets its contract. Assumes nothing.
+-- `fresh::make_state` meets its contract.
 use Rattle.fresh.specs.Make.{madeOf, makeOf}
 use borrow.Author.Needs.{needs}
 use Rattle.fresh.proofs.make_state.Statement.{statement}

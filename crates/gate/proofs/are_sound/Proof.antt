@@ -1,4 +1,4 @@
--- `gate::are_sound` meets its contract. Assumes nothing.
+-- `gate::are_sound` meets its contract.
 use mathlib.Core.Path.{_∙_}
 use Rattle.gate.proofs.Records.{records-in}
 use borrow.Author.Needs.{needs}

@@ -1,4 +1,4 @@
--- `gate::ask` meets its contract. Assumes nothing.
+-- `gate::ask` meets its contract.
 use Rattle.gate.specs.Gate.{gateOf}
 use Rattle.gate.specs.Sound.{soundState}
 use borrow.Author.Needs.{needs}

@@ -1,4 +1,4 @@
--- `gate::ask_at` meets its contract. Assumes nothing.
+-- `gate::ask_at` meets its contract.
 use borrow.Author.Tests.{lt-ltb, le-ltb}
 use Rattle.gate.specs.Gate.{gateAt}
 use borrow.Author.Needs.{needs}

@@ -1,4 +1,4 @@
--- `gate::each_sound` meets its contract. The invariant: the records below i meet their tests. Assumes nothing.
+-- `gate::each_sound` meets its contract. The invariant: the records below i meet their tests.
 use Prim.Native.Nat.{ℕ, _<_, _≤_, _-_}
 use mathlib.Core.Path.{_≡_, refl, sym, ap, _∙_}
 use mathlib.Core.Bool.{true}

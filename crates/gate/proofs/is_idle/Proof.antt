@@ -1,4 +1,4 @@
--- `gate::is_idle` meets its contract. Assumes nothing.
+-- `gate::is_idle` meets its contract.
 use borrow.Author.Needs.{needs}
 use Rattle.gate.proofs.is_idle.Statement.{statement}
 use Rattle.gate.proofs.is_idle.Tie as tie

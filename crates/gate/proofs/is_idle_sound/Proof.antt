@@ -1,4 +1,4 @@
--- `gate::is_idle_sound` meets its contract. Assumes nothing.
+-- `gate::is_idle_sound` meets its contract.
 use denote.Ref.{now}
 use borrow.Author.Needs.{needs}
 use Rattle.rows.specs.Rules.{sizeIn}

@@ -1,4 +1,4 @@
--- `gate::is_reached` meets its contract. Assumes nothing.
+-- `gate::is_reached` meets its contract.
 use borrow.Author.Needs.{needs}
 use Rattle.gate.proofs.is_reached.Statement.{statement}
 use Rattle.gate.proofs.is_reached.Tie as tie

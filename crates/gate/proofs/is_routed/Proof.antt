@@ -1,4 +1,4 @@
--- `gate::is_routed` meets its contract, one answer for each kind of part. Assumes nothing.
+-- `gate::is_routed` meets its contract, one answer for each kind of part.
 use borrow.Author.Needs.{needs}
 use Rattle.gate.proofs.is_routed.Statement.{statement}
 use Rattle.gate.proofs.is_routed.Tie as tie

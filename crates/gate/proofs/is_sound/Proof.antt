@@ -1,4 +1,4 @@
--- `gate::is_sound` meets its contract. Assumes nothing.
+-- `gate::is_sound` meets its contract.
 use Prim.Native.Nat.{ℕ}
 use mathlib.Core.Path.{sym, ap, _∙_}
 use denote.Ref.{now}

@@ -1,4 +1,4 @@
--- `gate::rules_in` meets its contract. Assumes nothing.
+-- `gate::rules_in` meets its contract.
 use borrow.Author.Needs.{needs}
 use Rattle.gate.proofs.rules_in.Statement.{statement}
 use Rattle.gate.proofs.rules_in.Tie as tie

@@ -1,4 +1,4 @@
--- `given::all_fit` meets its contract. Assumes nothing.
+-- `given::all_fit` meets its contract.
 use Prim.Native.Nat.{ℕ, _-_, _≤_, _*_}
 use mathlib.Core.Path.{_≡_, refl, sym, ap, ap₂, _∙_}
 use mathlib.Core.Bool.{Bool, _&&_}

@@ -1,4 +1,4 @@
--- `given::eight_bytes` meets its contract. Assumes nothing.
+-- `given::eight_bytes` meets its contract.
 use Prim.Native.Nat.{ℕ, _+_, _*_}
 use mathlib.Core.Path.{sym, ap₂, _∙_}
 use Rattle.wire.proofs.Join.{be-add}

@@ -1,4 +1,4 @@
--- `given::given_state` meets its contract. Assumes nothing.
+-- `given::given_state` meets its contract.
 use borrow.Author.Needs.{needs}
 use Rattle.given.proofs.Made.{given-is}
 use Rattle.given.proofs.given_state.Statement.{statement}

@@ -1,4 +1,4 @@
--- `given::mode_of` meets its contract. Assumes nothing.
+-- `given::mode_of` meets its contract.
 use borrow.Author.Tests.{ne-eqb}
 use Rattle.given.proofs.mode_of.Statement.{statement}
 use Rattle.given.proofs.mode_of.Tie as tie

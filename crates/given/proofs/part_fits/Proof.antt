@@ -1,4 +1,4 @@
--- `given::part_fits` meets its contract. Assumes nothing.
+-- `given::part_fits` meets its contract.
 use mathlib.Core.Path.{sym, _∙_}
 use Rattle.wire.specs.Be.{be}
 use borrow.Author.Tests.{eq-eqb, ne-eqb}

@@ -1,4 +1,4 @@
--- `given::record_fits` meets its contract. Assumes nothing.
+-- `given::record_fits` meets its contract.
 use Rattle.given.specs.Given.{recordFits}
 use borrow.Author.Needs.{needs}
 use Rattle.given.proofs.record_fits.Statement.{statement}

@@ -1,4 +1,4 @@
--- `given::record_in` meets its contract. Assumes nothing.
+-- `given::record_in` meets its contract.
 use Rattle.given.specs.Given.{recordIn}
 use borrow.Author.Needs.{needs}
 use Rattle.given.proofs.record_in.Statement.{statement}

@@ -1,4 +1,4 @@
--- `given::records_in` meets its contract. Assumes nothing.
+-- `given::records_in` meets its contract.
 use Prim.Native.Nat.{_<_, _≤_, _-_}
 use mathlib.Core.Path.{_≡_, ap, _∙_}
 use native.Mathlib.Omega.{arith}

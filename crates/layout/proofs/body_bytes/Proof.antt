@@ -1,4 +1,4 @@
--- `layout::body_bytes` meets its contract. Assumes nothing.
+-- `layout::body_bytes` meets its contract.
 use Rattle.layout.proofs.Parts.{product-small}
 use Rattle.layout.specs.Layout.{bodyBytes}
 use native.Mathlib.Omega.{arith}

@@ -1,4 +1,4 @@
--- `layout::body_of` meets its contract. Assumes nothing.
+-- `layout::body_of` meets its contract.
 use Rattle.layout.specs.Layout.{bodyOf, bodyAt}
 use borrow.Author.Needs.{needs}
 use Rattle.layout.proofs.body_of.Statement.{statement}

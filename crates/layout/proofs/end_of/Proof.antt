@@ -1,4 +1,4 @@
--- `layout::end_of` meets its contract. Assumes nothing.
+-- `layout::end_of` meets its contract.
 use Rattle.layout.specs.Layout.{endOf}
 use native.Mathlib.Omega.{arith}
 use borrow.Author.Needs.{needs}

@@ -1,4 +1,4 @@
--- `layout::part_of` meets its contract. Assumes nothing.
+-- `layout::part_of` meets its contract.
 use Rattle.layout.proofs.Parts.{part-out, part-range, part-there, part-front}
 use native.Mathlib.Omega.{arith}
 use borrow.Author.Needs.{needs}

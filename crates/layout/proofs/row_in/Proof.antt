@@ -1,4 +1,4 @@
--- `layout::row_in` meets its contract. Assumes nothing.
+-- `layout::row_in` meets its contract.
 use Rattle.layout.proofs.Parts.{row-zero, row-none, row-in, row-range, row-there, row-front, row-front-zero}
 use native.Mathlib.Omega.{arith}
 use borrow.Author.Needs.{needs}

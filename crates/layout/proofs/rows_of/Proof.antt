@@ -1,4 +1,4 @@
--- `layout::rows_of` meets its contract. Assumes nothing.
+-- `layout::rows_of` meets its contract.
 use Rattle.layout.specs.Layout.{rowsOf}
 use borrow.Author.Needs.{needs}
 use Rattle.layout.proofs.rows_of.Statement.{statement}

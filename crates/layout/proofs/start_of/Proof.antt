@@ -1,4 +1,4 @@
--- `layout::start_of` meets its contract. Assumes nothing.
+-- `layout::start_of` meets its contract.
 use Rattle.layout.specs.Layout.{startOf}
 use native.Mathlib.Omega.{arith}
 use borrow.Author.Needs.{needs}

@@ -1,4 +1,4 @@
--- `outbox::append` meets its contract. Assumes nothing.
+-- `outbox::append` meets its contract.
 use Rattle.outbox.proofs.Laid.{part-framed, past-end}
 use borrow.Author.Needs.{needs}
 use Rattle.outbox.proofs.append.Statement.{statement}

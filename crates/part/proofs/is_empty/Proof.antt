@@ -1,4 +1,4 @@
--- `part::is_empty` meets its contract, one answer for each kind of part. Assumes nothing.
+-- `part::is_empty` meets its contract, one answer for each kind of part.
 use borrow.Author.Needs.{needs}
 use Rattle.part.proofs.is_empty.Statement.{statement}
 use Rattle.part.proofs.is_empty.Tie as tie

@@ -1,4 +1,4 @@
--- `part::is_shaped` meets its contract, one answer for each kind of part. Assumes nothing.
+-- `part::is_shaped` meets its contract, one answer for each kind of part.
 use borrow.Author.Needs.{needs}
 use Rattle.part.proofs.Powers.{below-room}
 use Rattle.part.proofs.is_shaped.Statement.{statement}

@@ -1,4 +1,4 @@
--- `part::room_for` meets its contract: one power for each number of bytes. Assumes nothing.
+-- `part::room_for` meets its contract: one power for each number of bytes.
 use native.Mathlib.Omega.{arith}
 use Rattle.part.specs.Part.{roomFor}
 use Rattle.part.proofs.Powers.{none-for, next-up}

@@ -1,4 +1,4 @@
--- `pieces::after` meets its contract. Assumes nothing.
+-- `pieces::after` meets its contract.
 use native.Mathlib.Omega.{arith}
 use Rattle.pieces.proofs.Pieces.{place-stays, moves}
 use borrow.Author.Needs.{needs}

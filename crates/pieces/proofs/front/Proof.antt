@@ -1,4 +1,4 @@
--- `pieces::front` meets its contract. Assumes nothing.
+-- `pieces::front` meets its contract.
 use native.Mathlib.Omega.{arith}
 use mathlib.Core.Path.{refl, sym}
 use lib.Seq.{length-take-le}

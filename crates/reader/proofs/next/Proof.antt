@@ -1,6 +1,7 @@
--- `reader::next` meets its contract: a walk of its MIR, by hand. The struct is taken apart, and `walk_datagram` is called on what else is lent, the slice and the number. All that the proof knows of `walk_datagram` is that it meets its contract.
--- The struct and the slices are Copy: what each owns is had twice, one copy is kept whole for the exit, and the other goes to the callee, beside the lifetimes' tokens, which come back. What the state owns is plain, and made anew.
--- Assumes nothing.
+-- `reader::next` meets its contract: a walk of its MIR, by hand. The struct is taken apart, and `walk_datagram` is called on what else is lent, the
+-- slice and the number. All that the proof knows of `walk_datagram` is that it meets its contract.
+-- The struct and the slices are Copy: what each owns is had twice, one copy is kept whole for the exit, and the other goes to the callee, beside the
+-- lifetimes' tokens, which come back. What the state owns is plain, and made anew.
 use mathlib.Core.Path.{_≡_, refl}
 use Prim.Native.Nat.{ℕ, _<_, _^_}
 use mathlib.Core.List.{List, [], _∷_}

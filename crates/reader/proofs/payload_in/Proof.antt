@@ -1,4 +1,4 @@
--- `reader::payload_in` meets its contract. Assumes nothing.
+-- `reader::payload_in` meets its contract.
 use mathlib.Core.Path.{refl}
 use Rattle.reader.specs.Reader.{payloadIn, payloadInAt}
 use Rattle.wire.proofs.Place.{at-front}

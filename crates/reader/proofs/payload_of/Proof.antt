@@ -1,6 +1,7 @@
--- `reader::payload_of` meets its contract: a walk of its MIR, by hand. The struct is taken apart, and `payload_in` is called on the slice and the outcome. All that the proof knows of `payload_in` is that it meets its contract.
--- The struct is Copy: what it owns is had twice, one copy is kept whole for the exit, and of the other what the datagram owns goes to the callee, beside the lifetime's token, which comes back. What the outcome owns is plain, and made anew.
--- Assumes nothing.
+-- `reader::payload_of` meets its contract: a walk of its MIR, by hand. The struct is taken apart, and `payload_in` is called on the slice and the
+-- outcome. All that the proof knows of `payload_in` is that it meets its contract.
+-- The struct is Copy: what it owns is had twice, one copy is kept whole for the exit, and of the other what the datagram owns goes to the callee,
+-- beside the lifetime's token, which comes back. What the outcome owns is plain, and made anew.
 use mathlib.Core.Path.{_≡_, refl}
 use Prim.Native.Nat.{ℕ}
 use mathlib.Core.List.{List, [], _∷_}

@@ -1,4 +1,4 @@
--- `reason::ask` meets its contract. Assumes nothing.
+-- `reason::ask` meets its contract.
 use Rattle.reason.specs.Faults.{unless}
 use mathlib.Core.Path.{sym, _∙_}
 use borrow.Author.Needs.{needs}

@@ -1,4 +1,4 @@
--- `reason::connection_fault` meets its contract, by one law applied at each test. Assumes nothing.
+-- `reason::connection_fault` meets its contract, by one law applied at each test.
 use Rattle.reason.specs.declared.Fault.the-variants.{NoGroup, Automatic, SendSize, Zero}
 use Rattle.reason.proofs.Asks.{next-fault}
 use mathlib.Core.Path.{refl}

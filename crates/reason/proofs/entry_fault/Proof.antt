@@ -1,4 +1,4 @@
--- `reason::entry_fault` meets its contract, by one law applied at each test. Assumes nothing.
+-- `reason::entry_fault` meets its contract, by one law applied at each test.
 use Rattle.reason.specs.declared.Fault.the-variants.{WrongKind, TooMany, Offset}
 use Rattle.reason.proofs.Asks.{next-fault}
 use Prim.Native.Nat.{ℕ, _+_}

@@ -1,4 +1,4 @@
--- `reason::fault_at` meets its contract. Assumes nothing.
+-- `reason::fault_at` meets its contract.
 use Rattle.reason.specs.Faults.{faultAt}
 use borrow.Author.Needs.{needs}
 use Rattle.reason.proofs.fault_at.Statement.{statement}

@@ -1,4 +1,4 @@
--- `reason::group_fault` meets its contract. Assumes nothing.
+-- `reason::group_fault` meets its contract.
 use Rattle.reason.specs.Faults.{groupFault}
 use borrow.Author.Needs.{needs}
 use Rattle.reason.proofs.group_fault.Statement.{statement}

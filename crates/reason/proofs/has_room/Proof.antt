@@ -1,4 +1,4 @@
--- `reason::has_room` meets its contract. Assumes nothing.
+-- `reason::has_room` meets its contract.
 use Rattle.reason.proofs.Asks.{no-room, size-left}
 use Rattle.reason.proofs.has_room.Statement.{statement}
 use Rattle.reason.proofs.has_room.Tie as tie

@@ -1,4 +1,4 @@
--- `reason::head_fault` meets its contract. Assumes nothing.
+-- `reason::head_fault` meets its contract.
 use Rattle.reason.specs.Faults.{headFault}
 use borrow.Author.Needs.{needs}
 use Rattle.reason.proofs.head_fault.Statement.{statement}

@@ -1,4 +1,4 @@
--- `reason::passes` meets its contract, fault by fault. Assumes nothing.
+-- `reason::passes` meets its contract, fault by fault.
 use Rattle.reason.specs.Faults.{passesTest}
 use borrow.Author.Needs.{needs}
 use Rattle.reason.proofs.passes.Statement.{statement}

@@ -1,4 +1,4 @@
--- `reason::reason_of` meets its contract. Assumes nothing.
+-- `reason::reason_of` meets its contract.
 use Rattle.reason.specs.Faults.{reasonAt}
 use borrow.Author.Needs.{needs}
 use Rattle.reason.proofs.reason_of.Statement.{statement}

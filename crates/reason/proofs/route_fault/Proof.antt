@@ -1,4 +1,4 @@
--- `reason::route_fault` meets its contract, by one law applied at each test. Assumes nothing.
+-- `reason::route_fault` meets its contract, by one law applied at each test.
 use Rattle.reason.specs.declared.Fault.the-variants.{NoConnection, Zero, Longest}
 use Rattle.reason.proofs.Asks.{next-fault}
 use mathlib.Core.Path.{refl}

@@ -1,4 +1,4 @@
--- `reason::row_fault` meets its contract. Assumes nothing.
+-- `reason::row_fault` meets its contract.
 use Rattle.reason.proofs.Rowed.{group-told, connection-told, route-told, destination-told}
 use borrow.Author.Needs.{needs}
 use Rattle.reason.proofs.row_fault.Statement.{statement}

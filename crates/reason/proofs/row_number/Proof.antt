@@ -1,4 +1,4 @@
--- `reason::row_number` meets its contract. Assumes nothing.
+-- `reason::row_number` meets its contract.
 use borrow.Author.Needs.{needs}
 use Rattle.reason.proofs.row_number.Statement.{statement}
 use Rattle.reason.proofs.row_number.Tie as tie

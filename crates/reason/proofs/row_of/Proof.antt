@@ -1,4 +1,4 @@
--- `reason::row_of` meets its contract. Assumes nothing.
+-- `reason::row_of` meets its contract.
 use borrow.Author.Needs.{needs}
 use Rattle.reason.proofs.row_of.Statement.{statement}
 use Rattle.reason.proofs.row_of.Tie as tie

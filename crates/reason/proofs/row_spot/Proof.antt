@@ -1,4 +1,4 @@
--- `reason::row_spot` meets its contract. Assumes nothing.
+-- `reason::row_spot` meets its contract.
 use Rattle.reason.proofs.Ways.{in-groups, in-connections, in-routes, in-destinations}
 use borrow.Author.Needs.{needs}
 use Rattle.reason.proofs.row_spot.Statement.{statement}

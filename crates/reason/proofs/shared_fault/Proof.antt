@@ -1,4 +1,4 @@
--- `reason::shared_fault` meets its contract. Assumes nothing.
+-- `reason::shared_fault` meets its contract.
 use Rattle.reason.proofs.Shares.{shares, shares-none}
 use borrow.Author.Needs.{needs}
 use Rattle.reason.proofs.shared_fault.Statement.{statement}

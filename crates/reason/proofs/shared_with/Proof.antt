@@ -1,4 +1,4 @@
--- `reason::shared_with` meets its contract. The loop's invariant: what is left of the search has the whole one's answer. Assumes nothing.
+-- `reason::shared_with` meets its contract. The loop's invariant: what is left of the search has the whole one's answer.
 use Rattle.reason.specs.Faults.{sharesNothing}
 use Rattle.scan.proofs.Rows.{clear-pair, shared-pair}
 use Rattle.scan.specs.Scan.{share}

@@ -1,4 +1,4 @@
--- `reason::spot_of` meets its contract. Assumes nothing.
+-- `reason::spot_of` meets its contract.
 use Rattle.reason.specs.Spots.{spotOf}
 use borrow.Author.Tests.{ne-eqb}
 use borrow.Author.Needs.{needs}

@@ -1,4 +1,4 @@
--- `reason::steps` meets its contract. Assumes nothing.
+-- `reason::steps` meets its contract.
 use Rattle.reason.proofs.Ways.{no-size, no-way}
 use borrow.Author.Needs.{needs}
 use Rattle.reason.proofs.steps.Statement.{statement}

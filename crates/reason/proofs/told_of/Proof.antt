@@ -1,4 +1,4 @@
--- `reason::told_of` meets its contract. Assumes nothing.
+-- `reason::told_of` meets its contract.
 use Rattle.reason.specs.Faults.{faultTold}
 use mathlib.Core.Path.{refl}
 use Rattle.reason.proofs.told_of.Statement.{statement}

@@ -1,4 +1,4 @@
--- `reason::total_fault` meets its contract. Assumes nothing.
+-- `reason::total_fault` meets its contract.
 use Rattle.reason.specs.Faults.{totalFault}
 use borrow.Author.Needs.{needs}
 use Rattle.reason.proofs.total_fault.Statement.{statement}

@@ -1,4 +1,4 @@
--- `receive::answer_at` meets its contract. Assumes nothing.
+-- `receive::answer_at` meets its contract.
 use Prim.Native.Nat.{_<_}
 use native.Mathlib.Omega.{arith}
 use Rattle.layout.specs.Layout.{rowsOf}

@@ -1,4 +1,4 @@
--- `receive::count_walk` meets its contract. Assumes nothing.
+-- `receive::count_walk` meets its contract.
 use borrow.Author.Needs.{needs}
 use Rattle.receive.proofs.count_walk.Statement.{statement}
 use Rattle.receive.proofs.count_walk.Tie as tie

@@ -1,4 +1,4 @@
--- `receive::drops_after` meets its contract. Assumes nothing.
+-- `receive::drops_after` meets its contract.
 use borrow.Author.Needs.{needs}
 use Rattle.receive.proofs.drops_after.Statement.{statement}
 use Rattle.receive.proofs.drops_after.Tie as tie

@@ -1,4 +1,4 @@
--- `receive::judge` meets its contract. Assumes nothing.
+-- `receive::judge` meets its contract.
 use borrow.Author.Needs.{needs}
 use Rattle.receive.proofs.Answers.{judged-denied, judged-done, judged-not}
 use Rattle.receive.proofs.judge.Statement.{statement}

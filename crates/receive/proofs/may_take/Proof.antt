@@ -1,4 +1,4 @@
--- `receive::may_take` meets its contract. Assumes nothing.
+-- `receive::may_take` meets its contract.
 use mathlib.Core.Path.{ap, _∙_}
 use Rattle.connection.specs.declared.Config.{Config}
 use Rattle.gate.specs.Lent.{lent}

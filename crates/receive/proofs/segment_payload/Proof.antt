@@ -1,4 +1,4 @@
--- `receive::segment_payload` meets its contract. Assumes nothing.
+-- `receive::segment_payload` meets its contract.
 use mathlib.Core.Path.{refl}
 use Rattle.receive.specs.Segment.{payloadOf, payloadStands}
 use Rattle.receive.proofs.Taking.{payload-pdu, payload-there}

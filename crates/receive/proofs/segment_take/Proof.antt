@@ -1,4 +1,4 @@
--- `receive::segment_take` meets its contract. Assumes nothing.
+-- `receive::segment_take` meets its contract.
 use Rattle.gate.specs.Lent.{loan}
 use Rattle.receive.proofs.Taking.{may-take, segment-done, memory-done, segment-none, memory-none}
 use borrow.Author.Needs.{needs}

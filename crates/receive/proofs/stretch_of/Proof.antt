@@ -1,4 +1,4 @@
--- `receive::stretch_of` meets its contract. Assumes nothing.
+-- `receive::stretch_of` meets its contract.
 use Prim.Native.Nat.{_*_}
 use native.Mathlib.Omega.{arith}
 use Rattle.wire.proofs.Place.{from-there, from-past}

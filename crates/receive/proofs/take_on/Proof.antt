@@ -1,4 +1,4 @@
--- `receive::take_on` meets its contract. Assumes nothing.
+-- `receive::take_on` meets its contract.
 use native.Mathlib.Omega.{arith}
 use Rattle.receive.proofs.Taking.{part-fit, take-is, memory-is}
 use borrow.Author.Needs.{needs}

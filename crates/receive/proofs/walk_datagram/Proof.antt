@@ -1,4 +1,4 @@
--- `receive::walk_datagram` meets its contract. Assumes nothing.
+-- `receive::walk_datagram` meets its contract.
 use Rattle.gate.specs.Lent.{lentBy}
 use Rattle.receive.proofs.Walking.{may-walk, walk-done, walk-none}
 use borrow.Author.Needs.{needs}

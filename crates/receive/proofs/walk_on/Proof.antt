@@ -1,4 +1,4 @@
--- `receive::walk_on` meets its contract. Assumes nothing.
+-- `receive::walk_on` meets its contract.
 use Rattle.receive.proofs.Walking.{walk-is}
 use borrow.Author.Needs.{needs}
 use Rattle.receive.proofs.walk_on.Statement.{statement}

@@ -1,4 +1,4 @@
--- `repeat::run_front` meets its contract. Assumes nothing.
+-- `repeat::run_front` meets its contract.
 use mathlib.Core.Path.{sym}
 use lib.Seq.{length-take-le}
 use borrow.Author.Needs.{needs}

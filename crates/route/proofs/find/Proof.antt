@@ -1,4 +1,4 @@
--- `route::find` meets its contract. Assumes nothing.
+-- `route::find` meets its contract.
 use Prim.Native.Nat.{_-_}
 use native.Mathlib.Omega.{arith}
 use borrow.Author.Needs.{needs}

@@ -1,4 +1,4 @@
--- `route::is_on` meets its contract. Assumes nothing.
+-- `route::is_on` meets its contract.
 use mathlib.Core.Path.{refl}
 use Rattle.switches.specs.Switches.{isOn}
 use Rattle.route.proofs.is_on.Statement.{statement}

@@ -1,4 +1,4 @@
--- `route::lookup` meets its contract. Assumes nothing.
+-- `route::lookup` meets its contract.
 use native.Mathlib.Omega.{arith}
 use borrow.Author.Needs.{needs}
 use Rattle.route.proofs.Laws.{reason-accepts, refuses, reason-known}

@@ -1,4 +1,4 @@
--- `route::reason_in` meets its contract. Assumes nothing.
+-- `route::reason_in` meets its contract.
 use mathlib.Core.Path.{sym, ap, _∙_}
 use mathlib.Core.Bool.{not}
 use borrow.Author.Tests.{lt-ltb, le-ltb}

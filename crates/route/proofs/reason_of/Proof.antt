@@ -1,4 +1,4 @@
--- `route::reason_of` meets its contract. Assumes nothing.
+-- `route::reason_of` meets its contract.
 use borrow.Author.Needs.{needs}
 use Rattle.route.proofs.Laws.{reason-row, reason-none}
 use Rattle.route.proofs.reason_of.Statement.{statement}

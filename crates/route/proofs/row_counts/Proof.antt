@@ -1,4 +1,4 @@
--- `route::row_counts` meets its contract. Assumes nothing.
+-- `route::row_counts` meets its contract.
 use borrow.Author.Needs.{needs}
 use Rattle.route.proofs.Laws.{read-row}
 use Rattle.route.proofs.row_counts.Statement.{statement}

@@ -1,4 +1,4 @@
--- `route::rows_in` meets its contract. Assumes nothing.
+-- `route::rows_in` meets its contract.
 use borrow.Author.Needs.{needs}
 use borrow.Author.Tests.{le-leb, lt-leb}
 use Rattle.route.specs.Route.{rowsIn}

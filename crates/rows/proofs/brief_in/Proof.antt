@@ -1,4 +1,4 @@
--- `rows::brief_in` meets its contract. Assumes nothing.
+-- `rows::brief_in` meets its contract.
 use Rattle.rows.specs.Rows.{connectionRow}
 use borrow.Author.Needs.{needs}
 use Rattle.rows.proofs.brief_in.Statement.{statement}

@@ -1,4 +1,4 @@
--- `rows::connection_good` meets its contract. Assumes nothing.
+-- `rows::connection_good` meets its contract.
 use Rattle.rows.specs.Rules.{connectionGood}
 use borrow.Author.Needs.{needs}
 use Rattle.rows.proofs.connection_good.Statement.{statement}

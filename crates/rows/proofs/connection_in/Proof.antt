@@ -1,4 +1,4 @@
--- `rows::connection_in` meets its contract. Assumes nothing.
+-- `rows::connection_in` meets its contract.
 use borrow.Author.Needs.{needs}
 use Rattle.rows.proofs.connection_in.Statement.{statement}
 use Rattle.rows.proofs.connection_in.Tie as tie

@@ -1,4 +1,4 @@
--- `rows::connection_row` meets its contract. Assumes nothing.
+-- `rows::connection_row` meets its contract.
 use borrow.Author.Needs.{needs}
 use Rattle.rows.proofs.connection_row.Statement.{statement}
 use Rattle.rows.proofs.connection_row.Tie as tie

@@ -1,4 +1,4 @@
--- `rows::connection_value` meets its contract. Assumes nothing.
+-- `rows::connection_value` meets its contract.
 use Rattle.rows.specs.Rows.{connectionRow}
 use borrow.Author.Needs.{needs}
 use Rattle.rows.proofs.connection_value.Statement.{statement}

@@ -1,4 +1,4 @@
--- `rows::destination_good` meets its contract. Assumes nothing.
+-- `rows::destination_good` meets its contract.
 use Rattle.layout.proofs.Parts.{row-in, row-range}
 use Rattle.rows.proofs.Heads.{destination-without, destination-by-head}
 use native.Mathlib.Omega.{arith}

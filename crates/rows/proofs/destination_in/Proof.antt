@@ -1,4 +1,4 @@
--- `rows::destination_in` meets its contract. Assumes nothing.
+-- `rows::destination_in` meets its contract.
 use borrow.Author.Needs.{needs}
 use Rattle.rows.proofs.destination_in.Statement.{statement}
 use Rattle.rows.proofs.destination_in.Tie as tie

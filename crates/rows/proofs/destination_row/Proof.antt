@@ -1,4 +1,4 @@
--- `rows::destination_row` meets its contract. Assumes nothing.
+-- `rows::destination_row` meets its contract.
 use borrow.Author.Needs.{needs}
 use Rattle.rows.proofs.destination_row.Statement.{statement}
 use Rattle.rows.proofs.destination_row.Tie as tie

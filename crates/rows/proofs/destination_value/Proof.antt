@@ -1,4 +1,4 @@
--- `rows::destination_value` meets its contract. Assumes nothing.
+-- `rows::destination_value` meets its contract.
 use Rattle.rows.specs.Rows.{destinationRow}
 use borrow.Author.Needs.{needs}
 use Rattle.rows.proofs.destination_value.Statement.{statement}

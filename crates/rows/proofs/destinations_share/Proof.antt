@@ -1,4 +1,4 @@
--- `rows::destinations_share` meets its contract. Assumes nothing.
+-- `rows::destinations_share` meets its contract.
 use Rattle.rows.specs.Rules.{destinationsShare}
 use borrow.Author.Needs.{needs}
 use Rattle.rows.proofs.destinations_share.Statement.{statement}

@@ -1,4 +1,4 @@
--- `rows::group_good` meets its contract. Assumes nothing.
+-- `rows::group_good` meets its contract.
 use Rattle.rows.specs.Rules.{groupGood}
 use borrow.Author.Needs.{needs}
 use Rattle.rows.proofs.group_good.Statement.{statement}

@@ -1,4 +1,4 @@
--- `rows::group_in` meets its contract. Assumes nothing.
+-- `rows::group_in` meets its contract.
 use borrow.Author.Needs.{needs}
 use Rattle.rows.proofs.group_in.Statement.{statement}
 use Rattle.rows.proofs.group_in.Tie as tie

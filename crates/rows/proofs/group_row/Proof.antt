@@ -1,4 +1,4 @@
--- `rows::group_row` meets its contract. Assumes nothing.
+-- `rows::group_row` meets its contract.
 use borrow.Author.Needs.{needs}
 use Rattle.rows.proofs.group_row.Statement.{statement}
 use Rattle.rows.proofs.group_row.Tie as tie

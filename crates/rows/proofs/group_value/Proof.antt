@@ -1,4 +1,4 @@
--- `rows::group_value` meets its contract. Assumes nothing.
+-- `rows::group_value` meets its contract.
 use Rattle.rows.specs.Rows.{groupRow}
 use borrow.Author.Needs.{needs}
 use Rattle.rows.proofs.group_value.Statement.{statement}

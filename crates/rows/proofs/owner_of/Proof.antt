@@ -1,4 +1,4 @@
--- `rows::owner_of` meets its contract. Assumes nothing.
+-- `rows::owner_of` meets its contract.
 use Rattle.rows.proofs.Heads.{owner-number}
 use borrow.Author.Needs.{needs}
 use Rattle.rows.proofs.owner_of.Statement.{statement}

@@ -1,4 +1,4 @@
--- `rows::route_good` meets its contract. Assumes nothing.
+-- `rows::route_good` meets its contract.
 use Rattle.rows.proofs.Heads.{route-by-head}
 use borrow.Author.Needs.{needs}
 use Rattle.rows.proofs.route_good.Statement.{statement}

@@ -1,4 +1,4 @@
--- `rows::route_in` meets its contract. Assumes nothing.
+-- `rows::route_in` meets its contract.
 use borrow.Author.Needs.{needs}
 use Rattle.rows.proofs.route_in.Statement.{statement}
 use Rattle.rows.proofs.route_in.Tie as tie

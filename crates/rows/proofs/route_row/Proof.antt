@@ -1,4 +1,4 @@
--- `rows::route_row` meets its contract. Assumes nothing.
+-- `rows::route_row` meets its contract.
 use borrow.Author.Needs.{needs}
 use Rattle.rows.proofs.route_row.Statement.{statement}
 use Rattle.rows.proofs.route_row.Tie as tie

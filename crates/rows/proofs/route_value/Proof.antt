@@ -1,4 +1,4 @@
--- `rows::route_value` meets its contract. Assumes nothing.
+-- `rows::route_value` meets its contract.
 use Rattle.rows.specs.Rows.{routeRow}
 use borrow.Author.Needs.{needs}
 use Rattle.rows.proofs.route_value.Statement.{statement}

@@ -1,4 +1,4 @@
--- `rows::routes_share` meets its contract. Assumes nothing.
+-- `rows::routes_share` meets its contract.
 use Rattle.rows.specs.Rules.{routesShare}
 use borrow.Author.Needs.{needs}
 use Rattle.rows.proofs.routes_share.Statement.{statement}

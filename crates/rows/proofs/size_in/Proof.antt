@@ -1,4 +1,4 @@
--- `rows::size_in` meets its contract. Assumes nothing.
+-- `rows::size_in` meets its contract.
 use Rattle.rows.specs.Rules.{sizeIn}
 use borrow.Author.Needs.{needs}
 use Rattle.rows.proofs.size_in.Statement.{statement}

@@ -1,4 +1,4 @@
--- `run::entries` meets its contract. Assumes nothing.
+-- `run::entries` meets its contract.
 use Prim.Native.Nat.{_-_}
 use mathlib.Core.Path.{_≡_, refl}
 use lib.ListN.{length}

@@ -1,4 +1,4 @@
--- `scan::destination_mark` meets its contract. Assumes nothing.
+-- `scan::destination_mark` meets its contract.
 use Rattle.scan.specs.Marks.{destinationMark}
 use borrow.Author.Needs.{needs}
 use Rattle.scan.proofs.destination_mark.Statement.{statement}

@@ -1,4 +1,4 @@
--- `scan::first_bad_connection` meets its contract. The loop's invariant: what is left of the search has the whole one's answer. Assumes nothing.
+-- `scan::first_bad_connection` meets its contract. The loop's invariant: what is left of the search has the whole one's answer.
 use Rattle.scan.proofs.Rows.{At, bad-row, good-row, free, connections-free}
 use Rattle.scan.specs.Scan.{share}
 use Rattle.rows.specs.Rules.{connectionGood}

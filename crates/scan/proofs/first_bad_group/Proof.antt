@@ -1,4 +1,4 @@
--- `scan::first_bad_group` meets its contract. The loop's invariant: what is left of the search has the whole one's answer. Assumes nothing.
+-- `scan::first_bad_group` meets its contract. The loop's invariant: what is left of the search has the whole one's answer.
 use Rattle.scan.proofs.Rows.{At, bad-row, good-row, free, groups-free}
 use Rattle.scan.specs.Scan.{share}
 use Rattle.rows.specs.Rules.{groupGood}

@@ -1,5 +1,5 @@
 -- `scan::first_bad_route` meets its contract. The loop's invariant: what is left of the search has the whole one's answer, and the marks
--- of the rows passed are noted. Assumes nothing.
+-- of the rows passed are noted.
 use Rattle.scan.proofs.Marks.{come-start, found-bad, found-shared, found-none, come-past}
 use Rattle.scan.specs.Marks.{routeMark, Come}
 use Rattle.rows.specs.Rules.{routeGood}

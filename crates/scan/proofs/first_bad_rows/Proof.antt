@@ -1,4 +1,4 @@
--- `scan::first_bad_rows` meets its contract. Assumes nothing.
+-- `scan::first_bad_rows` meets its contract.
 use borrow.Author.Needs.{needs}
 use Rattle.scan.proofs.first_bad_rows.Statement.{statement}
 use Rattle.scan.proofs.first_bad_rows.Tie as tie

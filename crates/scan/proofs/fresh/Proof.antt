@@ -1,4 +1,4 @@
--- `scan::fresh` meets its contract. The loop's invariant: the rows passed are clear of row i. Assumes nothing.
+-- `scan::fresh` meets its contract. The loop's invariant: the rows passed are clear of row i.
 use Rattle.scan.proofs.Rows.{clear-pair, shared-pair}
 use Rattle.scan.specs.Scan.{share, clearIn}
 use Rattle.layout.proofs.Parts.{row-in, row-range}

@@ -1,4 +1,4 @@
--- `scan::mark_of` meets its contract. Assumes nothing.
+-- `scan::mark_of` meets its contract.
 use Rattle.scan.proofs.Marks.{mark-small}
 use Rattle.scan.specs.Marks.{markOf}
 use mathlib.Core.Path.{refl}

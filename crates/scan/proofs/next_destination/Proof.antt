@@ -1,5 +1,5 @@
 -- `scan::next_destination` meets its contract. The loop's invariant: what is left of the search has the whole one's answer, and the marks
--- of the rows passed are noted. Assumes nothing.
+-- of the rows passed are noted.
 use Rattle.scan.proofs.Marks.{struck-bad, struck-met, struck-end, come-on, destinations-marked}
 use Rattle.scan.specs.Marks.{destinationMark, Come}
 use Rattle.scan.specs.Scan.{share, destinationRule}

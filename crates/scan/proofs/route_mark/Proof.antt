@@ -1,4 +1,4 @@
--- `scan::route_mark` meets its contract. Assumes nothing.
+-- `scan::route_mark` meets its contract.
 use Rattle.scan.specs.Marks.{routeMark}
 use borrow.Author.Needs.{needs}
 use Rattle.scan.proofs.route_mark.Statement.{statement}

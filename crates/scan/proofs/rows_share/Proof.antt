@@ -1,4 +1,4 @@
--- `scan::rows_share` meets its contract. Assumes nothing.
+-- `scan::rows_share` meets its contract.
 use Rattle.scan.specs.Scan.{share}
 use borrow.Author.Needs.{needs}
 use Rattle.scan.proofs.rows_share.Statement.{statement}

@@ -1,5 +1,4 @@
 -- `send::check_all` meets its contract: the rows below i do not refuse, and what is seen of them is the definition's.
--- Assumes nothing.
 use Prim.Native.Nat.{ℕ, _-_, _/_, _<_}
 use mathlib.Core.Path.{_≡_, sym, ap, _∙_}
 use mathlib.Core.List.{List}

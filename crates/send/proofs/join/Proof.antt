@@ -1,4 +1,4 @@
--- `send::join` meets its contract. Assumes nothing.
+-- `send::join` meets its contract.
 use Rattle.send.specs.Verdict.{joinOf}
 use Rattle.send.proofs.join.Statement.{statement}
 use Rattle.send.proofs.join.Tie as tie

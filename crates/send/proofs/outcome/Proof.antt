@@ -1,4 +1,4 @@
--- `send::outcome` meets its contract. Assumes nothing.
+-- `send::outcome` meets its contract.
 use borrow.Author.Tests.{ne-eqb}
 use Rattle.send.proofs.outcome.Statement.{statement}
 use Rattle.send.proofs.outcome.Tie as tie

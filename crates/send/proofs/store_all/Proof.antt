@@ -1,5 +1,5 @@
 -- `send::store_all` meets its contract: the rows below i are stored as the definition has it, and each wanted row from i on
--- still has its record of the call. Assumes nothing.
+-- still has its record of the call.
 use Prim.Native.Nat.{ℕ, _+_, _-_, _/_, _<_, _≤_}
 use mathlib.Core.Path.{_≡_, sym, ap, _∙_}
 use mathlib.Core.Bool.{Bool, true}

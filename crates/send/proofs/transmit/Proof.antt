@@ -1,4 +1,4 @@
--- `send::transmit` meets its contract. Assumes nothing.
+-- `send::transmit` meets its contract.
 use mathlib.Core.Path.{sym, _∙_}
 use Rattle.send.proofs.Room.{clear-roomy}
 use Rattle.send.proofs.Ends.{was-clear, all-stored, none-stored}

@@ -1,4 +1,4 @@
--- `sending::take_waiting` meets its contract. Assumes nothing.
+-- `sending::take_waiting` meets its contract.
 use Prim.Native.Nat.{ℕ, _<_}
 use mathlib.Core.Path.{sym, ap, _∙_}
 use mathlib.Core.List.{List}

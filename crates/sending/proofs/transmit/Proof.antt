@@ -1,4 +1,4 @@
--- `sending::transmit` meets its contract. Assumes nothing.
+-- `sending::transmit` meets its contract.
 use Rattle.sending.specs.Sending.{sendOf, sentMemory}
 use Rattle.sending.proofs.Past.{past-gate}
 use borrow.Author.Needs.{needs}

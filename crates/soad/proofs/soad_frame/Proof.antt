@@ -1,4 +1,4 @@
--- `soad::soad_frame` meets its contract. Assumes nothing.
+-- `soad::soad_frame` meets its contract.
 use mathlib.Core.Path.{ap, _∙_}
 use borrow.Author.Needs.{needs}
 use Rattle.frame.specs.Framing.{framedNumber}

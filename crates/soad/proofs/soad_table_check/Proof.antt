@@ -1,4 +1,4 @@
--- `soad::soad_table_check` meets its contract. Assumes nothing.
+-- `soad::soad_table_check` meets its contract.
 use mathlib.Core.Path.{refl, sym, _∙_}
 use borrow.Author.Needs.{needs}
 use Rattle.soad.proofs.soad_table_check.Statement.{statement}

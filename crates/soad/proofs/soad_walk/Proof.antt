@@ -1,4 +1,4 @@
--- `soad::soad_walk` meets its contract. Assumes nothing.
+-- `soad::soad_walk` meets its contract.
 use mathlib.Core.Path.{refl, sym, ap, _∙_}
 use borrow.Author.Needs.{needs}
 use Rattle.tablewalk.specs.declared.Numbers.{Numbers}

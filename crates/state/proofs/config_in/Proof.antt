@@ -1,4 +1,4 @@
--- `state::config_in` meets its contract. Assumes nothing.
+-- `state::config_in` meets its contract.
 use borrow.Author.Needs.{needs}
 use Rattle.state.proofs.config_in.Statement.{statement}
 use Rattle.state.proofs.config_in.Tie as tie

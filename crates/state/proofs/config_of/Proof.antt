@@ -1,4 +1,4 @@
--- `state::config_of` meets its contract. Assumes nothing.
+-- `state::config_of` meets its contract.
 use Rattle.state.specs.Fresh.{configOf}
 use borrow.Author.Needs.{needs}
 use Rattle.state.proofs.config_of.Statement.{statement}

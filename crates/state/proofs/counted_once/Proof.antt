@@ -1,4 +1,4 @@
--- `state::counted_once` meets its contract. Assumes nothing.
+-- `state::counted_once` meets its contract.
 use borrow.Author.Tests.{lt-ltb, le-ltb}
 use Rattle.state.specs.State.{counted}
 use borrow.Author.Needs.{needs}

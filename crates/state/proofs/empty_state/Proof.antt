@@ -1,4 +1,4 @@
--- `state::empty_state` meets its contract. Assumes nothing.
+-- `state::empty_state` meets its contract.
 use borrow.Author.Needs.{needs}
 use Rattle.state.proofs.empty_state.Statement.{statement}
 use Rattle.state.proofs.empty_state.Tie as tie

@@ -1,4 +1,4 @@
--- `state::fresh_state` meets its contract. The invariant: the records below i are fresh. Assumes nothing.
+-- `state::fresh_state` meets its contract. The invariant: the records below i are fresh.
 use Prim.Native.Nat.{_<_, _≤_, _-_}
 use mathlib.Core.Path.{_≡_, refl, sym, ap, _∙_}
 use lib.ListN.{length}

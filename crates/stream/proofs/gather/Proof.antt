@@ -1,4 +1,4 @@
--- `stream::gather` meets its contract. Assumes nothing.
+-- `stream::gather` meets its contract.
 use lib.ListN.{take, getD}
 use native.Mathlib.Nat.{add-zero, add-assoc}
 use native.Mathlib.Numerals.{add-one}

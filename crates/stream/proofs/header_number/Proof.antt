@@ -1,4 +1,4 @@
--- `stream::header_number` meets its contract. Assumes nothing.
+-- `stream::header_number` meets its contract.
 use borrow.Author.Needs.{needs}
 use Rattle.stream.proofs.Takes.{at-once}
 use Rattle.stream.proofs.header_number.Statement.{statement}

@@ -1,4 +1,4 @@
--- `stream::payload_of` meets its contract. Assumes nothing.
+-- `stream::payload_of` meets its contract.
 use mathlib.Core.Bool.{Bool}
 use mathlib.Core.Path.{sym, ap, _∙_}
 use borrow.Author.Needs.{needs}

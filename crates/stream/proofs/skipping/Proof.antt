@@ -1,4 +1,4 @@
--- `stream::skipping` meets its contract. Assumes nothing.
+-- `stream::skipping` meets its contract.
 use borrow.Author.Needs.{needs}
 use Rattle.stream.proofs.Takes.{skip-left}
 use Rattle.stream.proofs.skipping.Statement.{statement}

@@ -1,4 +1,4 @@
--- `stream::take` meets its contract. Assumes nothing.
+-- `stream::take` meets its contract.
 use native.Mathlib.Omega.{arith}
 use borrow.Author.Needs.{needs}
 use Rattle.stream.proofs.Takes.{header-fit, payload-fit, skip-fit, skip-part, skip-over, at-part}

@@ -1,4 +1,4 @@
--- `stream::take_body` meets its contract. Assumes nothing.
+-- `stream::take_body` meets its contract.
 use native.Mathlib.Omega.{arith}
 use borrow.Author.Needs.{needs}
 use Rattle.stream.proofs.Takes.{body-here, body-part}

@@ -1,4 +1,4 @@
--- `stream::take_header` meets its contract. Assumes nothing.
+-- `stream::take_header` meets its contract.
 use lib.ListN.{length-drop}
 use mathlib.Core.Path.{refl, sym, _∙_}
 use Prim.Native.Nat.{_-_, _/_}

@@ -1,4 +1,4 @@
--- `stream::take_payload` meets its contract. Assumes nothing.
+-- `stream::take_payload` meets its contract.
 use mathlib.Core.Path.{sym, ap}
 use native.Mathlib.Omega.{arith}
 use borrow.Author.Needs.{needs}

@@ -1,4 +1,4 @@
--- `stream::take_rest` meets its contract. Assumes nothing.
+-- `stream::take_rest` meets its contract.
 use mathlib.Core.Path.{sym}
 use lib.Seq.{length-take-le}
 use Prim.Native.Nat.{_-_}

@@ -1,4 +1,4 @@
--- `table::after_connections` meets its contract. Assumes nothing.
+-- `table::after_connections` meets its contract.
 use Rattle.table.proofs.Places.{last-places}
 use borrow.Author.Needs.{needs}
 use Rattle.table.proofs.after_connections.Statement.{statement}

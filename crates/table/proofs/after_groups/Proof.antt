@@ -1,4 +1,4 @@
--- `table::after_groups` meets its contract. Assumes nothing.
+-- `table::after_groups` meets its contract.
 use Rattle.table.proofs.Answers.{then-refused, then-accepted}
 use Rattle.table.proofs.Places.{connections-place}
 use Rattle.table.specs.Table.{rowsPlace}

@@ -1,4 +1,4 @@
--- `table::all_rows_place` meets its contract. Assumes nothing.
+-- `table::all_rows_place` meets its contract.
 use Rattle.table.proofs.Answers.{then-refused, then-accepted}
 use Rattle.table.proofs.Places.{groups-place}
 use Rattle.table.specs.Table.{rowsPlace, allRowsPlace}

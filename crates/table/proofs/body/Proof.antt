@@ -1,4 +1,4 @@
--- `table::body` meets its contract. Assumes nothing.
+-- `table::body` meets its contract.
 use Rattle.table.specs.Table.{bodyAnswer, bodyAnswerAt}
 use mathlib.Core.Path.{refl, sym, _∙_}
 use Rattle.wire.proofs.Place.{at-front}

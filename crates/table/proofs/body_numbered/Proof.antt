@@ -1,4 +1,4 @@
--- `table::body_numbered` meets its contract. Assumes nothing.
+-- `table::body_numbered` meets its contract.
 use mathlib.Core.Path.{refl}
 use borrow.Author.Tests.{ne-eqb}
 use Rattle.wire.proofs.Place.{at-front}

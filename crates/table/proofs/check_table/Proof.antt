@@ -1,4 +1,4 @@
--- `table::check_table` meets its contract. Assumes nothing.
+-- `table::check_table` meets its contract.
 use Rattle.table.specs.Table.{checkTable, thenCheck}
 use Rattle.layout.specs.Layout.{endOf}
 use native.Mathlib.Omega.{arith}

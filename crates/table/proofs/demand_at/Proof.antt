@@ -1,4 +1,4 @@
--- `table::demand_at` meets its contract. Assumes nothing.
+-- `table::demand_at` meets its contract.
 use borrow.Author.Needs.{needs}
 use Rattle.table.proofs.demand_at.Statement.{statement}
 use Rattle.table.proofs.demand_at.Tie as tie

@@ -1,4 +1,4 @@
--- `table::entries_place` meets its contract. Assumes nothing.
+-- `table::entries_place` meets its contract.
 use Rattle.table.specs.Table.{entriesPlace}
 use borrow.Author.Needs.{needs}
 use Rattle.table.proofs.entries_place.Statement.{statement}

@@ -1,4 +1,4 @@
--- `table::entry_good` meets its contract. Assumes nothing.
+-- `table::entry_good` meets its contract.
 use Rattle.table.specs.Table.{entryGood}
 use borrow.Author.Needs.{needs}
 use Rattle.table.proofs.entry_good.Statement.{statement}

@@ -1,4 +1,4 @@
--- `table::first_refusal` meets its contract. Assumes nothing.
+-- `table::first_refusal` meets its contract.
 use Rattle.table.specs.Table.{thenCheck}
 use borrow.Author.Needs.{needs}
 use Rattle.table.proofs.first_refusal.Statement.{statement}

@@ -1,4 +1,4 @@
--- `table::head_good` meets its contract. Assumes nothing.
+-- `table::head_good` meets its contract.
 use Rattle.table.specs.Table.{headGood}
 use borrow.Author.Needs.{needs}
 use Rattle.table.proofs.head_good.Statement.{statement}

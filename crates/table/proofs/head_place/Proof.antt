@@ -1,4 +1,4 @@
--- `table::head_place` meets its contract. Assumes nothing.
+-- `table::head_place` meets its contract.
 use Rattle.table.specs.Table.{headPlace}
 use borrow.Author.Needs.{needs}
 use Rattle.table.proofs.head_place.Statement.{statement}

@@ -1,4 +1,4 @@
--- `table::place_of` meets its contract. Assumes nothing.
+-- `table::place_of` meets its contract.
 use Rattle.table.proofs.Places.{no-place, some-place}
 use Rattle.layout.proofs.Parts.{product-small}
 use native.Mathlib.Omega.{arith}

@@ -1,4 +1,4 @@
--- `tablewalk::is_tcp` meets its contract. Assumes nothing.
+-- `tablewalk::is_tcp` meets its contract.
 use borrow.Author.Needs.{needs}
 use Rattle.tablewalk.proofs.Laws.{tcp-is}
 use Rattle.tablewalk.proofs.is_tcp.Statement.{statement}

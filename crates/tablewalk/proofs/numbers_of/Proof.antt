@@ -1,4 +1,4 @@
--- `tablewalk::numbers_of` meets its contract. Assumes nothing.
+-- `tablewalk::numbers_of` meets its contract.
 use mathlib.Core.Path.{refl}
 use borrow.Author.Needs.{needs}
 use Rattle.tablewalk.proofs.numbers_of.Statement.{statement}

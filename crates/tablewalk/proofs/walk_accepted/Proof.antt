@@ -1,4 +1,4 @@
--- `tablewalk::walk_accepted` meets its contract. Assumes nothing.
+-- `tablewalk::walk_accepted` meets its contract.
 use native.Mathlib.Omega.{arith}
 use borrow.Author.Needs.{needs}
 use Rattle.tablewalk.proofs.Laws.{not-there, a-tcp, past-the-end, a-step}

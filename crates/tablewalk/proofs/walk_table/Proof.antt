@@ -1,4 +1,4 @@
--- `tablewalk::walk_table` meets its contract. Assumes nothing.
+-- `tablewalk::walk_table` meets its contract.
 use mathlib.Core.Path.{sym, _∙_}
 use borrow.Author.Needs.{needs}
 use Rattle.tablewalk.proofs.Laws.{checked}

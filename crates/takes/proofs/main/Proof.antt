@@ -1,4 +1,4 @@
--- `takes::main` meets its contract. Assumes nothing.
+-- `takes::main` meets its contract.
 use Prim.Native.Nat.{ℕ, _-_, _≤_}
 use mathlib.Core.Path.{_≡_, sym, _∙_}
 use lib.ListN.{length, length-replicate}

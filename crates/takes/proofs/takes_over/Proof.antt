@@ -1,4 +1,4 @@
--- `takes::takes_over` meets its contract. Assumes nothing.
+-- `takes::takes_over` meets its contract.
 use Prim.Native.Nat.{_≤_, _-_}
 use mathlib.Core.Path.{_≡_, refl, _∙_}
 use lib.ListN.{length}

@@ -1,4 +1,4 @@
--- `text::decimal` meets its contract. Assumes nothing.
+-- `text::decimal` meets its contract.
 use mathlib.Core.Path.{ap, _∙_}
 use Rattle.wire.specs.Lay.{lay}
 use Rattle.pieces.specs.Pieces.{placeAfter}

@@ -1,4 +1,4 @@
--- `text::digit` meets its contract. Assumes nothing.
+-- `text::digit` meets its contract.
 use native.Mathlib.Omega.{arith}
 use borrow.Author.Tests.{lt-ltb, le-ltb}
 use borrow.Author.Needs.{needs}

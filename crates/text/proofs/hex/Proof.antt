@@ -1,4 +1,4 @@
--- `text::hex` meets its contract. Assumes nothing.
+-- `text::hex` meets its contract.
 use borrow.Author.Needs.{needs}
 use Rattle.pieces.proofs.Pieces.{place-stays, moves, unwritten, empty-piece}
 use Rattle.text.proofs.Digits.{hex-length, hex-next, hex-all}

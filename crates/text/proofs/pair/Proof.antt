@@ -1,4 +1,4 @@
--- `text::pair` meets its contract. Assumes nothing.
+-- `text::pair` meets its contract.
 use mathlib.Core.Path.{ap₂}
 use Prim.Native.Nat.{ℕ, _+_, _*_}
 use native.Mathlib.Omega.{arith}

@@ -1,4 +1,4 @@
--- `ticks::aged` meets its contract. Assumes nothing.
+-- `ticks::aged` meets its contract.
 use borrow.Author.Needs.{needs}
 use Rattle.ticks.proofs.aged.Statement.{statement}
 use Rattle.ticks.proofs.aged.Tie as tie

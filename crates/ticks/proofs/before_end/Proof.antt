@@ -1,4 +1,4 @@
--- `ticks::before_end` meets its contract. Assumes nothing.
+-- `ticks::before_end` meets its contract.
 use borrow.Author.Tests.{eq-eqb, ne-eqb}
 use borrow.Author.Needs.{needs}
 use Rattle.ticks.specs.Many.{beforeEnd}

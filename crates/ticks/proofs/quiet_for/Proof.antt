@@ -1,4 +1,4 @@
--- `ticks::quiet_for` meets its contract. Assumes nothing.
+-- `ticks::quiet_for` meets its contract.
 use borrow.Author.Needs.{needs}
 use Rattle.ticks.proofs.Many.{quiet-none, quiet-until}
 use Rattle.ticks.proofs.quiet_for.Statement.{statement}

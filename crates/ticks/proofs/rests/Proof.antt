@@ -1,4 +1,4 @@
--- `ticks::rests` meets its contract. Assumes nothing.
+-- `ticks::rests` meets its contract.
 use borrow.Author.Needs.{needs}
 use Rattle.ticks.proofs.rests.Statement.{statement}
 use Rattle.ticks.proofs.rests.Tie as tie

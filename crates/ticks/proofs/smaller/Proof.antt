@@ -1,4 +1,4 @@
--- `ticks::smaller` meets its contract. Assumes nothing.
+-- `ticks::smaller` meets its contract.
 use borrow.Author.Tests.{lt-ltb, le-ltb}
 use Rattle.ticks.specs.Many.{smallerOf}
 use Rattle.ticks.proofs.smaller.Statement.{statement}

@@ -1,4 +1,4 @@
--- `ticks::tick` meets its contract. Assumes nothing.
+-- `ticks::tick` meets its contract.
 use mathlib.Core.Path.{_≡_, sym, _∙_}
 use Rattle.gate.proofs.Pass.{rows-in-sixteen}
 use Rattle.ticks.specs.Tick.{tickEvent}

@@ -1,4 +1,4 @@
--- `ticks::tick_many` meets its contract. The invariant: the ticks left lead to the whole run's end. Assumes nothing.
+-- `ticks::tick_many` meets its contract. The invariant: the ticks left lead to the whole run's end.
 use mathlib.Core.Path.{_≡_, refl, sym, ap, _∙_}
 use native.Mathlib.Omega.{arith}
 use borrow.Author.Needs.{needs}

@@ -1,4 +1,4 @@
--- `ticks::tick_rows` meets its contract. The invariant: the records below i have ticked. Assumes nothing.
+-- `ticks::tick_rows` meets its contract. The invariant: the records below i have ticked.
 use Prim.Native.Nat.{_<_, _≤_, _-_}
 use mathlib.Core.Path.{_≡_, refl, sym, _∙_}
 use lib.ListN.{length}

@@ -1,4 +1,4 @@
--- `ticks::ticks` meets its contract. Assumes nothing.
+-- `ticks::ticks` meets its contract.
 use mathlib.Core.Path.{_≡_, sym, _∙_}
 use Rattle.gate.proofs.Pass.{rows-in-sixteen}
 use Rattle.ticks.specs.Tick.{ticksEvent}

@@ -1,4 +1,4 @@
--- `waiting::after_take` meets its contract. Assumes nothing.
+-- `waiting::after_take` meets its contract.
 use Rattle.waiting.proofs.Taken.{after-none, after-tcp, after-udp}
 use borrow.Author.Needs.{needs}
 use Rattle.waiting.proofs.after_take.Statement.{statement}

@@ -1,4 +1,4 @@
--- `waiting::take` meets its contract. Assumes nothing.
+-- `waiting::take` meets its contract.
 use mathlib.Core.Path.{ap, _∙_}
 use Rattle.connection.specs.declared.Connection.{Connection}
 use Rattle.waiting.specs.Waiting.{afterTake}

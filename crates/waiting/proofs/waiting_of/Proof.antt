@@ -1,4 +1,4 @@
--- `waiting::waiting_of` meets its contract. Assumes nothing.
+-- `waiting::waiting_of` meets its contract.
 use Rattle.waiting.proofs.Taken.{wait-past, wait-short, wait-whole}
 use native.Mathlib.Omega.{arith}
 use Rattle.wire.proofs.Place.{from-there, from-past}

@@ -1,4 +1,4 @@
--- `wire::be32` meets its contract. Assumes nothing.
+-- `wire::be32` meets its contract.
 use Rattle.wire.proofs.Join.{number-join, number-none, turned-number}
 use native.Mathlib.Omega.{arith}
 use borrow.Author.Needs.{needs}

@@ -1,4 +1,4 @@
--- `wire::be8` meets its contract. Assumes nothing.
+-- `wire::be8` meets its contract.
 use Rattle.wire.proofs.Join.{number-one, number-none}
 use native.Mathlib.Omega.{arith}
 use borrow.Author.Needs.{needs}

@@ -1,4 +1,4 @@
--- `wire::copy_in` meets its contract. The loop's invariant: the first j bytes are copied. Assumes nothing.
+-- `wire::copy_in` meets its contract. The loop's invariant: the first j bytes are copied.
 use Rattle.wire.proofs.Lay.{lay-copied}
 use Rattle.wire.proofs.Room.{room-there, unlaid}
 use lib.Seq.{paste, paste-zero, paste-suc}

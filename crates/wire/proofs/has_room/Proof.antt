@@ -1,4 +1,4 @@
--- `wire::has_room` meets its contract. Assumes nothing.
+-- `wire::has_room` meets its contract.
 use Rattle.wire.proofs.Room.{room-past, room-left}
 use Rattle.wire.proofs.has_room.Statement.{statement}
 use Rattle.wire.proofs.has_room.Tie as tie

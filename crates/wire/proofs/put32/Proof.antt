@@ -1,4 +1,4 @@
--- `wire::put32` meets its contract. Assumes nothing.
+-- `wire::put32` meets its contract.
 use Prim.Native.Nat.{_+_, _≤_}
 use lib.ListN.{length}
 use Rattle.wire.proofs.Spell.{put-join}

@@ -1,4 +1,4 @@
--- `wire::put8` meets its contract. Assumes nothing.
+-- `wire::put8` meets its contract.
 use Prim.Native.Nat.{_+_, _≤_}
 use lib.ListN.{length}
 use Rattle.wire.proofs.Spell.{put-one}

@@ -1,4 +1,4 @@
--- `wire::turned` meets its contract. Assumes nothing.
+-- `wire::turned` meets its contract.
 use mathlib.Core.Path.{refl}
 use Rattle.wire.specs.Be.{turn}
 use borrow.Author.Needs.{needs}

@@ -1,4 +1,4 @@
--- `words::lay` meets its contract. Assumes nothing.
+-- `words::lay` meets its contract.
 use Prim.Native.Nat.{_≤_, _-_}
 use mathlib.Core.Path.{_≡_, refl}
 use lib.ListN.{length}

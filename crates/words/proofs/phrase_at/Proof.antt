@@ -1,4 +1,4 @@
--- `words::phrase_at` meets its contract. Assumes nothing.
+-- `words::phrase_at` meets its contract.
 use Prim.Native.Nat.{_≤_, _-_}
 use lib.ListN.{length}
 use native.Mathlib.Omega.{arith}

@@ -1,4 +1,4 @@
--- `Connection::after` meets its contract: each event its own method. Assumes nothing.
+-- `Connection::after` meets its contract: each event its own method.
 use borrow.Author.Needs.{needs}
 use Rattle.connection.proofs.Connection.after.Statement.{statement}
 use Rattle.connection.proofs.Connection.after.Tie as tie

@@ -1,4 +1,4 @@
--- `Connection::allows` meets its contract: each event its own test. Assumes nothing.
+-- `Connection::allows` meets its contract: each event its own test.
 use borrow.Author.Needs.{needs}
 use Rattle.connection.proofs.Connection.allows.Statement.{statement}
 use Rattle.connection.proofs.Connection.allows.Tie as tie

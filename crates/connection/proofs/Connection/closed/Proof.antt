@@ -1,4 +1,4 @@
--- `Connection::closed` meets its contract. Assumes nothing.
+-- `Connection::closed` meets its contract.
 use borrow.Author.Needs.{needs}
 use Rattle.connection.proofs.Connection.closed.Statement.{statement}
 use Rattle.connection.proofs.Connection.closed.Tie as tie

@@ -1,4 +1,4 @@
--- `Connection::is_zero` meets its contract. Assumes nothing.
+-- `Connection::is_zero` meets its contract.
 use Rattle.connection.specs.Sound.{zeroOf}
 use borrow.Author.Needs.{needs}
 use Rattle.connection.proofs.Connection.is_zero.Statement.{statement}

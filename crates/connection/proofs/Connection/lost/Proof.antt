@@ -1,4 +1,4 @@
--- `Connection::lost` meets its contract. Assumes nothing.
+-- `Connection::lost` meets its contract.
 use borrow.Author.Needs.{needs}
 use Rattle.connection.proofs.Connection.lost.Statement.{statement}
 use Rattle.connection.proofs.Connection.lost.Tie as tie

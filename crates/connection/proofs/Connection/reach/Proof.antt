@@ -1,4 +1,4 @@
--- `Connection::reach` meets its contract. Assumes nothing.
+-- `Connection::reach` meets its contract.
 use Rattle.connection.specs.Connection.{reachOf}
 use borrow.Author.Needs.{needs}
 use Rattle.connection.proofs.Connection.reach.Statement.{statement}

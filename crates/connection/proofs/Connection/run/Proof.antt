@@ -1,4 +1,4 @@
--- `Connection::run` meets its contract. Assumes nothing.
+-- `Connection::run` meets its contract.
 use Rattle.connection.specs.Connection.{runOf}
 use borrow.Author.Tests.{eq-eqb, ne-eqb}
 use borrow.Author.Needs.{needs}

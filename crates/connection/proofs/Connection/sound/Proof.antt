@@ -1,4 +1,4 @@
--- `Connection::sound` meets its contract: every rule is tested. Assumes nothing.
+-- `Connection::sound` meets its contract: every rule is tested.
 use Rattle.connection.specs.Sound.{soundOf}
 use borrow.Author.Needs.{needs}
 use Rattle.connection.proofs.Connection.sound.Statement.{statement}

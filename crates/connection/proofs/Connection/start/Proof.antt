@@ -1,4 +1,4 @@
--- `Connection::start` meets its contract. Assumes nothing.
+-- `Connection::start` meets its contract.
 use Rattle.connection.specs.Connection.{startedOf}
 use borrow.Author.Needs.{needs}
 use Rattle.connection.proofs.Connection.start.Statement.{statement}

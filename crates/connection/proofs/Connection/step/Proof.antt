@@ -1,4 +1,4 @@
--- `Connection::step` meets its contract. Assumes nothing.
+-- `Connection::step` meets its contract.
 use Rattle.connection.specs.Event.{stepOf}
 use borrow.Author.Needs.{needs}
 use Rattle.connection.proofs.Connection.step.Statement.{statement}

@@ -1,4 +1,4 @@
--- `Connection::switch` meets its contract. Assumes nothing.
+-- `Connection::switch` meets its contract.
 use borrow.Author.Needs.{needs}
 use Rattle.connection.proofs.Connection.switch.Statement.{statement}
 use Rattle.connection.proofs.Connection.switch.Tie as tie

@@ -1,4 +1,4 @@
--- `Connection::tick` meets its contract. Assumes nothing.
+-- `Connection::tick` meets its contract.
 use mathlib.Core.Path.{_∙_}
 use Rattle.connection.proofs.Ticks.{tick-closes, tick-goes-on}
 use borrow.Author.Needs.{needs}

@@ -1,4 +1,4 @@
--- `repeat::up::busy` meets its contract. Assumes nothing.
+-- `repeat::up::busy` meets its contract.
 use Prim.Native.Nat.{_-_, _≤_}
 use native.Mathlib.Omega.{arith}
 use borrow.Author.Needs.{needs}

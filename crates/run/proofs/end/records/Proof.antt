@@ -1,4 +1,4 @@
--- `run::end::records` meets its contract. Assumes nothing.
+-- `run::end::records` meets its contract.
 use Prim.Native.Nat.{_≤_, _-_}
 use mathlib.Core.Path.{_≡_, refl}
 use lib.ListN.{length}

@@ -1,4 +1,4 @@
--- `State::dropped` meets its contract. Assumes nothing.
+-- `State::dropped` meets its contract.
 use borrow.Author.Needs.{needs}
 use Rattle.state.proofs.State.dropped.Statement.{statement}
 use Rattle.state.proofs.State.dropped.Tie as tie

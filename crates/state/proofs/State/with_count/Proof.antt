@@ -1,4 +1,4 @@
--- `State::with_count` meets its contract. Assumes nothing.
+-- `State::with_count` meets its contract.
 use Rattle.state.proofs.State.with_count.Statement.{statement}
 use Rattle.state.proofs.State.with_count.Tie as tie
 
