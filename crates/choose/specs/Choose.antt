@@ -1,6 +1,6 @@
 -- Which member of a group a source belongs to, and what becomes of it (document 01, "Datagrams"; 004, 00525).
 -- Assumes nothing.
-use Prim.Native.Nat.{ℕ, _+_}
+use Prim.Native.Nat.{ℕ, _+_, _*_}
 use mathlib.Core.Bool.{Bool, true, false, cond, not, _&&_, _||_}
 use mathlib.Core.List.{List}
 use lib.Dec.{eqb, leb, ltb}
@@ -27,9 +27,9 @@ abbrev pub oneOf : Bool → ℕ
 oneOf true = 1
 oneOf false = 0
 
--- how a match ranks: "the one with more fields equal wins"
+-- how a match ranks (chapter 7.5): both fields equal, then the address with any port, then any address with the port, then neither
 unfoldable pub rankOf : Fields → ℕ
-rankOf equal = oneOf (equal .address) + oneOf (equal .port)
+rankOf equal = 2 * oneOf (equal .address) + oneOf (equal .port)
 
 -- "A field matches when equal, or 0 in the record"
 abbrev pub matches : Fields → Fields → Bool
