@@ -1,9 +1,10 @@
 //! Runs the C driver over requests and holds its answers to those expected.
 
-use crate::bytes::hex;
-use crate::exchange::{expected, kind, words};
+use crate::exchange::{expected, kind};
 use crate::fault::{self, Fault};
-use crate::stored;
+use crate::shrink::request::Request;
+use crate::shrink::{shrink, Bound};
+use crate::tell;
 use std::collections::BTreeMap;
 use std::io::{BufReader, BufWriter, Read, Write};
 use std::path::Path;
@@ -58,28 +59,56 @@ pub struct Report {
     pub kinds: BTreeMap<String, usize>,
 }
 
-/// Compares every answer; a request that is answered in another way is printed, and the first few are stored as tests.
+/// Compares every answer. The first request that is answered in another way is made smaller, printed and stored as a test.
 pub fn compare(driver: &[String], source: Source, name: &str, store: Option<&Path>) -> Result<Report, String> {
     let mut report = Report::default();
-    ask(driver, source, |request, answer| {
+    let mut first = None;
+    let asked = ask(driver, source, |request, answer| {
         let want = expected(&request);
-        report.requests += 1;
         *report.kinds.entry(kind(&request, &want)).or_default() += 1;
         if answer != want {
             report.different += 1;
-            if report.different <= 3 {
-                let number = report.requests - 1;
-                tell(&request, &answer, &want, &format!("{}-{}", name, number), store);
-            }
+            first.get_or_insert((report.requests, request));
         }
-    })?;
-    Ok(report)
+        report.requests += 1;
+    });
+    if let Some((number, request)) = first {
+        tell(driver, &request, &format!("{}-{}", name, number), store);
+    }
+    asked.map(|()| report)
 }
 
-fn tell(request: &[u8], answer: &[u8], want: &[u8], name: &str, store: Option<&Path>) {
-    let (got, expected) = (words(request, answer), words(request, want));
-    println!("different: {}\n  C function: {}\n  second program: {}\n  {}", name, got, expected, hex(&request[1..]));
-    stored::write(store, name, &format!("{}: expected {}", name, expected), &request[1..]);
+/// The most calls of the driver for making a request smaller, and the most requests in one.
+const BOUND: Bound = Bound { calls: 300, cases: 200 };
+
+fn tell(driver: &[String], request: &[u8], name: &str, store: Option<&Path>) {
+    let mut ask = |all: &[Request]| first_different(driver, all.iter().map(Request::bytes).collect()).map(|(number, _)| number);
+    let (least, calls) = shrink(Request::read(request), BOUND, &mut ask);
+    let answer = first_different(driver, vec![least.bytes()]).map_or_else(Vec::new, |(_, answer)| answer);
+    tell::request(name, &least.bytes(), &expected(&least.bytes()), &answer).print(calls, BOUND, store);
+}
+
+/// The first of some requests that is answered in another way, by its number, and that answer; an empty one where there was none.
+fn first_different(driver: &[String], requests: Vec<Vec<u8>>) -> Option<(usize, Vec<u8>)> {
+    let (mut first, mut number) = (None, 0);
+    let source: Source = Box::new(move || Box::new(requests.clone().into_iter()));
+    // a driver that gives no answer has given another one
+    let _ = ask(driver, source, |request, answer| {
+        if first.is_none() && answer != expected(&request) {
+            first = Some((number, answer));
+        }
+        number += 1;
+    });
+    first
+}
+
+/// Answers requests as the driver is to.
+pub fn serve(mut from: impl Read, to: impl Write) -> std::io::Result<()> {
+    let mut requests = Vec::new();
+    while let Ok(request) = receive(&mut from) {
+        requests.push(request);
+    }
+    send(to, requests.iter().map(|request| expected(request)))
 }
 
 /// How many answers each fault makes different from the C functions'.

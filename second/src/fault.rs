@@ -15,6 +15,14 @@ macro_rules! faults {
             })*
             None
         }
+
+        /// The fault of this name.
+        pub fn named(name: &str) -> Option<Fault> {
+            $($(if name == stringify!($name) {
+                return Some(Fault::$name);
+            })*)*
+            None
+        }
     };
 }
 
@@ -125,6 +133,10 @@ faults! {
         TakeLooksAtTheRecord: "00582 and 00644 look at the record's remote",
         No00582: "00582 is not applied",
         No00644: "00644 is not applied",
+    }
+    selections {
+        OldTie: "more equal fields win, and the two kinds of half match tie",
+        PortFirst: "any address with the port beats the address with any port",
     }
     frame {
         FrameOneMore: "a payload of 1,465 bytes may be framed",

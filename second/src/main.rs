@@ -15,23 +15,27 @@ mod random;
 mod runs;
 mod script;
 mod select;
+mod shrink;
 mod sound;
 mod state;
 mod stored;
 mod stream;
 mod table;
 mod takes;
+mod tell;
+mod text;
 mod transmit;
 mod vectors;
 mod verbs;
 mod walk;
 
+use fault::Fault;
 use std::path::{Path, PathBuf};
 use std::process::ExitCode;
 
 const USAGE: &str = "second compare PART [--seed N] [--count N] [--store FOLDER] -- PROGRAM ..
-    random cases: the program answers as this one expects. PART is table, walk or frame (PROGRAM is the C driver), runs or
-    streams (PROGRAM is run), takes (PROGRAM is takes); or, for a fixed list, changes (of the 86-byte image) or cuts (of a datagram)
+    random cases: the program answers as this one expects. PART is table, walk or frame (PROGRAM is the C driver), runs,
+    streams or selections (PROGRAM is run), takes (PROGRAM is takes); or, for a fixed list, changes (of the 86-byte image) or cuts (of a datagram)
 second replay PART FOLDER -- PROGRAM ..
     the same for the cases stored in a folder
 second faults PART [--seed N] [--count N] -- PROGRAM ..
@@ -45,8 +49,9 @@ second edges
     prints what tests/edges.c is to print
 second files FOLDER OUT
     writes the images stored in a folder as files of bytes, and prints what tests/edges.c is to print of them
-second simulate run|takes
-    prints what this program is to print for its input";
+second simulate run|takes|driver
+    gives what this program is to give for its input
+With --fault NAME a seeded fault is on in any of these.";
 
 /// The words of a command: verb and names, options, and the other program's command after `--`.
 pub struct Words {
@@ -54,16 +59,18 @@ pub struct Words {
     seed: u64,
     count: usize,
     store: Option<PathBuf>,
+    fault: Option<Fault>,
     program: Vec<String>,
 }
 
 fn parse(mut words: impl Iterator<Item = String>) -> Option<Words> {
-    let mut parsed = Words { plain: Vec::new(), seed: 1, count: 1000, store: None, program: Vec::new() };
+    let mut parsed = Words { plain: Vec::new(), seed: 1, count: 1000, store: None, fault: None, program: Vec::new() };
     while let Some(word) = words.next() {
         match word.as_str() {
             "--seed" => parsed.seed = words.next()?.parse().ok()?,
             "--count" => parsed.count = words.next()?.parse().ok()?,
             "--store" => parsed.store = Some(words.next()?.into()),
+            "--fault" => parsed.fault = Some(fault::named(&words.next()?)?),
             "--" => parsed.program = words.by_ref().collect(),
             _ => parsed.plain.push(word),
         }
@@ -88,14 +95,23 @@ fn obey(words: &Words) -> Result<(), String> {
         ["vector-streams", file] => verbs::vector_streams(file, words),
         ["edges"] => verbs::edges(),
         ["files", folder, out] => verbs::files(Path::new(folder), Path::new(out)),
-        ["simulate", "run"] => verbs::simulate(|input| lines::lines(input, |_, _, _| ())),
+        ["simulate", "run"] => verbs::simulate(|input| lines::lines(input, |_| ())),
+        ["simulate", "driver"] => verbs::simulate_driver(),
         ["simulate", "takes"] => verbs::simulate(|input| takes::lines(&takes::read(input))),
         _ => Err(USAGE.into()),
     }
 }
 
+/// Does what the words say, with the fault on that they name.
+fn begin(words: &Words) -> Result<(), String> {
+    match words.fault {
+        Some(fault) => fault::with(fault, || obey(words)),
+        None => obey(words),
+    }
+}
+
 fn main() -> ExitCode {
-    match parse(std::env::args().skip(1)).ok_or_else(|| USAGE.to_string()).and_then(|words| obey(&words)) {
+    match parse(std::env::args().skip(1)).ok_or_else(|| USAGE.to_string()).and_then(|words| begin(&words)) {
         Ok(()) => ExitCode::SUCCESS,
         Err(why) => {
             eprintln!("{}", why);

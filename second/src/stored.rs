@@ -22,8 +22,9 @@ fn read_one(path: &Path) -> Result<(String, Vec<u8>), String> {
 /// Stores a case, if a folder is named, and says where.
 pub fn write(folder: Option<&Path>, name: &str, note: &str, bytes: &[u8]) {
     if let Some(folder) = folder {
+        let note: String = note.lines().map(|line| format!("# {}\n", line)).collect();
         let path = folder.join(format!("{}.hex", name));
-        match std::fs::write(&path, format!("# {}\n{}\n", note, hex(bytes))) {
+        match std::fs::write(&path, format!("{}{}\n", note, hex(bytes))) {
             Ok(()) => println!("  stored as {}", path.display()),
             Err(e) => println!("  not stored as {}: {}", path.display(), e),
         }

@@ -15,10 +15,10 @@ const PEER: Remote = Remote { address: 1, port: 1 };
 /// A record: kind 1, a table image, or 2, a segment; the connection, its switches, and the bytes.
 #[derive(Clone)]
 pub struct Item {
-    segment: bool,
-    connection: u8,
-    switches: u32,
-    bytes: Vec<u8>,
+    pub segment: bool,
+    pub connection: u8,
+    pub switches: u32,
+    pub bytes: Vec<u8>,
 }
 
 /// The case of one stream on connection 0 of a table, with all switches off.

@@ -6,9 +6,11 @@ use crate::generate::datagram::{walk_cuts, walk_request};
 use crate::generate::framing::framing;
 use crate::generate::image::{changes, image, single_changes};
 use crate::generate::script::{image_script, misfit_script, script, stream_script, unsound_script};
+use crate::generate::selection::selection_script;
 use crate::random::Random;
+use crate::shrink::{shrink, Bound};
 use crate::vectors::Vector;
-use crate::{exchange, runs, stored, table, takes, vectors as lists, Words, USAGE};
+use crate::{exchange, runs, stored, table, takes, tell, vectors as lists, Words, USAGE};
 use std::io::Read;
 use std::path::Path;
 
@@ -117,7 +119,7 @@ pub fn vector_streams(path: &str, words: &Words) -> Outcome {
 
 /// True for the parts that are compared by scripts.
 pub fn is_script(part: &str) -> bool {
-    part == "runs" || part == "streams"
+    ["runs", "streams", "selections"].contains(&part)
 }
 
 /// Scripts of a part: `count` of different lengths, and of runs as many under any image, from a state that does not fit, and from
@@ -128,7 +130,9 @@ fn scripts(part: &str, words: &Words) -> Vec<(String, Vec<u8>)> {
     for number in 0..words.count {
         let name = format!("{}-{}-{}", part, words.seed, number);
         let events = *random.pick(&[10, 40, 200, 800]);
-        if part == "streams" {
+        if part == "selections" {
+            scripts.push((name, selection_script(random, 200)));
+        } else if part == "streams" {
             scripts.push((name, stream_script(random, events)));
         } else {
             scripts.push((format!("{}-image", name), image_script(random)));
@@ -149,8 +153,12 @@ fn compare_all(scripts: &[(String, Vec<u8>)], words: &Words) -> Result<runs::Met
 
 pub fn compare_scripts(part: &str, words: &Words) -> Outcome {
     let met = compare_all(&scripts(part, words), words)?;
-    let to_meet = if part == "runs" { runs::TO_MEET } else { &[] };
-    often_enough(to_meet, 100, |kind| met.get(kind).copied().unwrap_or(0))
+    let times = |kind: &str| met.get(kind).copied().unwrap_or(0);
+    match part {
+        "runs" => often_enough(runs::TO_MEET, 100, times),
+        "selections" => runs::HALVES_TO_MEET.iter().try_for_each(|&(kind, least)| often_enough(&[kind], least, times)),
+        _ => Ok(()),
+    }
 }
 
 pub fn replay_scripts(folder: &Path, words: &Words) -> Outcome {
@@ -158,7 +166,11 @@ pub fn replay_scripts(folder: &Path, words: &Words) -> Outcome {
 }
 
 pub fn fault_scripts(part: &str, words: &Words) -> Outcome {
-    let of = if part == "runs" { "events" } else { "segment" };
+    let of = match part {
+        "runs" => "events",
+        "streams" => "segment",
+        _ => "selections",
+    };
     let faults = fault::of(of).ok_or(USAGE)?;
     let scripts = scripts(part, words);
     let noticed = runs::try_faults(&words.program, &scripts, faults)?;
@@ -202,14 +214,23 @@ pub fn replay_takes(folder: &Path, words: &Words) -> Outcome {
 fn compare_cases(cases: Vec<takes::Case>, words: &Words) -> Outcome {
     let all = printed_takes(cases, words)?;
     let different: Vec<usize> = (0..all.len()).filter(|&number| all[number].1 != all[number].2).collect();
-    if let Some((case, want, got)) = different.first().map(|&number| &all[number]) {
-        let name = format!("takes-{}-{}", words.seed, different[0]);
-        println!("different: {}\n  program: {}\n  second program: {}", name, got.join("; "), want.join("; "));
-        stored::write(words.store.as_deref(), &name, &name, &takes::input(case));
+    if let Some(&number) = different.first() {
+        tell_takes(&format!("takes-{}-{}", words.seed, number), all[number].0.clone(), words);
     }
     let lines: usize = all.iter().map(|(_, want, _)| want.len()).sum();
     println!("takes-{}: {} cases, {} lines, {} cases different", words.seed, all.len(), lines, different.len());
     none_different(different.len())
+}
+
+/// The most calls of the program takes for making a case smaller, and the most cases in one.
+const TAKES_BOUND: Bound = Bound { calls: 300, cases: 200 };
+
+fn tell_takes(name: &str, case: takes::Case, words: &Words) {
+    let told = |all: &[takes::Case]| printed_takes(all.to_vec(), words).unwrap_or_default();
+    let (least, calls) = shrink(case, TAKES_BOUND, &mut |all| told(all).iter().position(|(_, want, got)| want != got));
+    if let Some((case, want, got)) = told(&[least]).pop() {
+        tell::takes(name, &case, want, got).print(calls, TAKES_BOUND, words.store.as_deref());
+    }
 }
 
 pub fn fault_takes(words: &Words) -> Outcome {
@@ -254,4 +275,8 @@ pub fn simulate(lines: impl Fn(&[u8]) -> Vec<String>) -> Outcome {
         println!("{}", line);
     }
     Ok(())
+}
+
+pub fn simulate_driver() -> Outcome {
+    compare::serve(std::io::stdin().lock(), std::io::stdout().lock()).map_err(|e| e.to_string())
 }
