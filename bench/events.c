@@ -475,7 +475,7 @@ uint32_t twin_datagram(const struct lent *lent, uint8_t group, struct remote sou
         bool address = c->remote.address == source.address, port = c->remote.port == source.port;
         if ((!address && c->remote.address != 0) || (!port && c->remote.port != 0))
             continue;
-        unsigned score = 1u + address + port;
+        unsigned score = 1u + 2u * address + port;
         if (score > best) {
             best = score;
             *met = (uint8_t)i;

@@ -200,9 +200,9 @@ mod tests {
         for _ in 0..100 {
             let input = script(random, 100);
             let table = check(&input[..image_end(&input)]).unwrap();
-            lines(&input, |before, after, answer| {
-                assert_eq!(broken(&table, after), []);
-                assert!(answer.is_ok() || before == after);
+            lines(&input, |seen| {
+                assert_eq!(broken(&table, &seen.after.state), []);
+                assert!(seen.answer.is_ok() || *seen.before == seen.after.state);
             });
         }
     }

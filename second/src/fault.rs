@@ -134,6 +134,10 @@ faults! {
         No00582: "00582 is not applied",
         No00644: "00644 is not applied",
     }
+    selections {
+        OldTie: "more equal fields win, and the two kinds of half match tie",
+        PortFirst: "any address with the port beats the address with any port",
+    }
     frame {
         FrameOneMore: "a payload of 1,465 bytes may be framed",
         RoomForPayloadOnly: "an out buffer as long as the payload is long enough",

@@ -195,8 +195,16 @@ fn record_line(world: &World, connection: usize) -> String {
     )
 }
 
-/// The lines for an input: an image, then a script. `met` is told the state before and after each event, with its answer.
-pub fn lines(input: &[u8], mut met: impl FnMut(&State, &State, &Answer)) -> Vec<String> {
+/// An event, the state before it, all that it left, and its answer.
+pub struct Seen<'a> {
+    pub event: &'a Event,
+    pub before: &'a State,
+    pub after: &'a World,
+    pub answer: &'a Answer,
+}
+
+/// The lines for an input: an image, then a script. `met` is told of each event.
+pub fn lines(input: &[u8], mut met: impl FnMut(&Seen)) -> Vec<String> {
     let image = image_end(input);
     let mut world = World::new(&input[..image]);
     if let Err(place) = world.table {
@@ -229,7 +237,7 @@ pub fn lines(input: &[u8], mut met: impl FnMut(&State, &State, &Answer)) -> Vec<
             Ok(Entry::Event(event)) => {
                 let before = world.state.clone();
                 let answer = run(&mut world, &event);
-                met(&before, &world.state, &answer);
+                met(&Seen { event: &event, before: &before, after: &world, answer: &answer });
                 lines.push(format!("entry {}: {}: {}", number, event_words(&event), answer_words(&event, &answer)));
             }
             Ok(Entry::Start(start)) => {
@@ -265,7 +273,7 @@ mod tests {
     fn a_start_state_that_does_not_fit_is_refused() {
         let random = &mut Random::new(1);
         for _ in 0..60 {
-            let lines = lines(&misfit_script(random), |_, _, _| ());
+            let lines = lines(&misfit_script(random), |_| ());
             assert_eq!(lines[0], "entry 1: refused: body does not fit");
             assert_eq!(lines.last().map(String::as_str), Some("REFUSED"));
         }

@@ -34,8 +34,8 @@ use std::path::{Path, PathBuf};
 use std::process::ExitCode;
 
 const USAGE: &str = "second compare PART [--seed N] [--count N] [--store FOLDER] -- PROGRAM ..
-    random cases: the program answers as this one expects. PART is table, walk or frame (PROGRAM is the C driver), runs or
-    streams (PROGRAM is run), takes (PROGRAM is takes); or, for a fixed list, changes (of the 86-byte image) or cuts (of a datagram)
+    random cases: the program answers as this one expects. PART is table, walk or frame (PROGRAM is the C driver), runs,
+    streams or selections (PROGRAM is run), takes (PROGRAM is takes); or, for a fixed list, changes (of the 86-byte image) or cuts (of a datagram)
 second replay PART FOLDER -- PROGRAM ..
     the same for the cases stored in a folder
 second faults PART [--seed N] [--count N] -- PROGRAM ..
@@ -95,7 +95,7 @@ fn obey(words: &Words) -> Result<(), String> {
         ["vector-streams", file] => verbs::vector_streams(file, words),
         ["edges"] => verbs::edges(),
         ["files", folder, out] => verbs::files(Path::new(folder), Path::new(out)),
-        ["simulate", "run"] => verbs::simulate(|input| lines::lines(input, |_, _, _| ())),
+        ["simulate", "run"] => verbs::simulate(|input| lines::lines(input, |_| ())),
         ["simulate", "driver"] => verbs::simulate_driver(),
         ["simulate", "takes"] => verbs::simulate(|input| takes::lines(&takes::read(input))),
         _ => Err(USAGE.into()),

@@ -1,11 +1,12 @@
 //! Runs the program `run` on scripts and holds what it prints to what this program expects.
 
-use crate::event::{Answer, Done};
+use crate::event::{Done, Event};
 use crate::fault::{self, Fault};
-use crate::lines::lines;
+use crate::lines::{lines, Seen};
+use crate::select::between_halves;
 use crate::shrink::script::Script;
 use crate::shrink::{shrink, Bound};
-use crate::state::{Mode, State};
+use crate::state::Mode;
 use crate::stream::{Outcome, Part};
 use crate::tell;
 use crate::walk::Found;
@@ -63,7 +64,24 @@ fn part(part: Part) -> &'static str {
     }
 }
 
-fn note(met: &mut Met, before: &State, after: &State, answer: &Answer) {
+/// What a comparison of selections must meet this often: choices between two different half matches, and those among them where the
+/// port's stands before the address's, so that the old tie shows.
+pub const HALVES_TO_MEET: &[(&str, usize)] = &[("two half matches", 1000), ("two half matches, the port's first", 300)];
+
+fn note_selection(met: &mut Met, seen: &Seen) {
+    if let (Event::Datagram(group, source) | Event::Accept(group, source), Ok(Done::Chosen(_)), Ok(table)) =
+        (seen.event, seen.answer, &seen.after.table)
+    {
+        let (both, port_first) = between_halves(table, seen.before, *group, *source);
+        for ((what, _), times) in HALVES_TO_MEET.iter().zip([both, port_first]) {
+            *met.entry(what.to_string()).or_insert(0) += usize::from(times);
+        }
+    }
+}
+
+fn note(met: &mut Met, seen: &Seen) {
+    note_selection(met, seen);
+    let (before, after, answer) = (seen.before, &seen.after.state, seen.answer);
     let mut add = |what: String, times: usize| *met.entry(what).or_insert(0) += times;
     add("events".into(), 1);
     add(format!("answer {}", answer.as_ref().map_or_else(|(number, _)| *number, |_| 0)), 1);
@@ -117,7 +135,7 @@ pub fn compare(program: &[String], scripts: &[(String, Vec<u8>)], store: Option<
     let mut met = Met::new();
     let mut different = 0;
     for (name, input) in scripts {
-        let want = lines(input, |before, after, answer| note(&mut met, before, after, answer));
+        let want = lines(input, |seen| note(&mut met, seen));
         if want != printed(program, input)? {
             different += 1;
             match different {
@@ -134,7 +152,7 @@ pub fn compare(program: &[String], scripts: &[(String, Vec<u8>)], store: Option<
 const BOUND: Bound = Bound { calls: 2000, cases: 1 };
 
 fn tell(program: &[String], name: &str, input: &[u8], store: Option<&Path>) {
-    let told = |input: &[u8]| (lines(input, |_, _, _| ()), printed(program, input).unwrap_or_default());
+    let told = |input: &[u8]| (lines(input, |_| ()), printed(program, input).unwrap_or_default());
     let differs = |script: &Script| {
         let (want, got) = told(&script.bytes());
         want != got
@@ -156,5 +174,5 @@ pub fn try_faults(program: &[String], scripts: &[(String, Vec<u8>)], faults: &[(
 
 /// The lines with a fault on; nothing where the fault leads to a place that no sound state reaches.
 fn faulty_lines(fault: Fault, input: &[u8]) -> Option<Vec<String>> {
-    fault::with(fault, || std::panic::catch_unwind(|| lines(input, |_, _, _| ())).ok())
+    fault::with(fault, || std::panic::catch_unwind(|| lines(input, |_| ())).ok())
 }

@@ -4,12 +4,18 @@ use crate::fault::{or, seeded, Fault};
 use crate::state::{Mode, Record, State, RECORDS};
 use crate::table::{Remote, Table, TCP, UDP};
 
-/// "A field matches when equal, or 0 in the record": how many fields are equal, or nothing when one does not match.
-fn rank(record: &Record, source: Remote) -> Option<usize> {
-    let fields =
-        [(u64::from(record.remote.address), u64::from(source.address)), (record.remote.port.into(), source.port.into())];
-    let matching = fields.iter().all(|(own, its)| own == its || *own == 0);
-    matching.then(|| fields.iter().filter(|(own, its)| own == its).count())
+/// "A field matches when equal, or 0 in the record": which of address and port are equal, or nothing when one does not match.
+fn equal(record: &Record, source: Remote) -> Option<(bool, bool)> {
+    let (address, port) = (record.remote.address == source.address, record.remote.port == source.port);
+    let matching = (address || record.remote.address == 0) && (port || record.remote.port == 0);
+    matching.then_some((address, port))
+}
+
+/// "both fields first, then address with any port, then any address with the port, then neither": the higher, the better.
+fn rank((address, port): (bool, bool)) -> usize {
+    let worth = or(Fault::OldTie, 2, 1);
+    let (of_address, of_port) = or(Fault::PortFirst, (worth, 1), (1, 2));
+    usize::from(address) * of_address + usize::from(port) * of_port
 }
 
 /// "Members count if reconnect or online without close wanted"; for accept "over members in reconnect without close wanted".
@@ -22,16 +28,32 @@ fn counts(record: &Record, protocol: u8) -> bool {
     mode && (!record.close_wanted || seeded(Fault::ClosingMember))
 }
 
-/// "Among matching members the one with more fields equal wins; at equality, the lowest number."
-fn best(table: &Table, state: &State, group: u8, protocol: u8, source: Remote) -> Option<usize> {
+/// The members of a group that count and match, by their numbers, each with what is equal.
+fn matching(table: &Table, state: &State, group: u8, protocol: u8, source: Remote) -> Vec<(usize, (bool, bool))> {
     let members = (0..table.connections.len()).filter(|&i| table.connections[i].group == group);
-    let ranked =
-        members.filter(|&i| counts(&state.records[i], protocol)).filter_map(|i| Some((rank(&state.records[i], source)?, i)));
-    let worth = |&(rank, number): &(usize, usize)| {
-        let equal = or(Fault::FewerFieldsWin, rank, 2 - rank);
-        (or(Fault::FirstRowWins, equal, 0), or(Fault::HighestWinsTies, RECORDS - number, number))
+    let counting = members.filter(|&i| counts(&state.records[i], protocol));
+    counting.filter_map(|i| Some((i, equal(&state.records[i], source)?))).collect()
+}
+
+/// "ties still go to the lowest number".
+fn best(table: &Table, state: &State, group: u8, protocol: u8, source: Remote) -> Option<usize> {
+    let worth = |&(number, equal): &(usize, (bool, bool))| {
+        let rank = or(Fault::FewerFieldsWin, rank(equal), 3 - rank(equal));
+        (or(Fault::FirstRowWins, rank, 0), or(Fault::HighestWinsTies, RECORDS - number, number))
     };
-    ranked.max_by_key(worth).map(|(_, number)| number)
+    matching(table, state, group, protocol, source).into_iter().max_by_key(worth).map(|(number, _)| number)
+}
+
+/// What a choice was between, where no member matched by both fields: true when members matched by either half, and then whether one
+/// that matched by its port stood before all that matched by their address.
+pub fn between_halves(table: &Table, state: &State, group: u8, source: Remote) -> (bool, bool) {
+    let protocol = table.groups.get(usize::from(group)).map_or(0, |row| row.protocol);
+    let all = matching(table, state, group, protocol, source);
+    let first = |kind| all.iter().position(|&(_, equal)| equal == kind);
+    match (first((true, true)), first((true, false)), first((false, true))) {
+        (None, Some(address), Some(port)) => (true, port < address),
+        _ => (false, false),
+    }
 }
 
 /// "A datagram event names a UDP group and a source; a source with address 0 or port 0 gets 3." "It becomes online with the
@@ -56,6 +78,7 @@ pub const ACCEPT: u8 = TCP;
 #[cfg(test)]
 mod tests {
     use super::*;
+    use crate::fault;
     use crate::table::{Connection, Group};
 
     const SOURCE: Remote = Remote { address: 0x0A00_0001, port: 30490 };
@@ -78,10 +101,14 @@ mod tests {
     }
 
     #[test]
-    fn more_equal_fields_win_then_the_lowest_number() {
+    fn address_before_port_then_the_lowest_number() {
         let Remote { address, port } = SOURCE;
         assert_eq!(chosen(&[(0, 0), (address, port)]), Ok(1));
-        assert_eq!(chosen(&[(0, 0), (0, port), (address, 0)]), Ok(1));
+        assert_eq!(chosen(&[(0, 0), (0, port), (address, 0)]), Ok(2));
+        assert_eq!(chosen(&[(0, 0), (address, 0), (0, port), (address, 0)]), Ok(1));
+        assert_eq!(chosen(&[(address, 0), (0, port), (address, port)]), Ok(2));
+        assert_eq!(chosen(&[(0, 0), (address, 1), (0, port)]), Ok(2));
+        assert_eq!(fault::with(Fault::OldTie, || chosen(&[(0, 0), (0, port), (address, 0)])), Ok(1));
         assert_eq!(chosen(&[(0, 0), (0, 0)]), Ok(0));
         assert_eq!(chosen(&[(1, port), (address, 1), (0, 1)]), Err(10));
         assert_eq!(chosen(&[]), Err(10));

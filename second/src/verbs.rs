@@ -6,6 +6,7 @@ use crate::generate::datagram::{walk_cuts, walk_request};
 use crate::generate::framing::framing;
 use crate::generate::image::{changes, image, single_changes};
 use crate::generate::script::{image_script, misfit_script, script, stream_script, unsound_script};
+use crate::generate::selection::selection_script;
 use crate::random::Random;
 use crate::shrink::{shrink, Bound};
 use crate::vectors::Vector;
@@ -118,7 +119,7 @@ pub fn vector_streams(path: &str, words: &Words) -> Outcome {
 
 /// True for the parts that are compared by scripts.
 pub fn is_script(part: &str) -> bool {
-    part == "runs" || part == "streams"
+    ["runs", "streams", "selections"].contains(&part)
 }
 
 /// Scripts of a part: `count` of different lengths, and of runs as many under any image, from a state that does not fit, and from
@@ -129,7 +130,9 @@ fn scripts(part: &str, words: &Words) -> Vec<(String, Vec<u8>)> {
     for number in 0..words.count {
         let name = format!("{}-{}-{}", part, words.seed, number);
         let events = *random.pick(&[10, 40, 200, 800]);
-        if part == "streams" {
+        if part == "selections" {
+            scripts.push((name, selection_script(random, 200)));
+        } else if part == "streams" {
             scripts.push((name, stream_script(random, events)));
         } else {
             scripts.push((format!("{}-image", name), image_script(random)));
@@ -150,8 +153,12 @@ fn compare_all(scripts: &[(String, Vec<u8>)], words: &Words) -> Result<runs::Met
 
 pub fn compare_scripts(part: &str, words: &Words) -> Outcome {
     let met = compare_all(&scripts(part, words), words)?;
-    let to_meet = if part == "runs" { runs::TO_MEET } else { &[] };
-    often_enough(to_meet, 100, |kind| met.get(kind).copied().unwrap_or(0))
+    let times = |kind: &str| met.get(kind).copied().unwrap_or(0);
+    match part {
+        "runs" => often_enough(runs::TO_MEET, 100, times),
+        "selections" => runs::HALVES_TO_MEET.iter().try_for_each(|&(kind, least)| often_enough(&[kind], least, times)),
+        _ => Ok(()),
+    }
 }
 
 pub fn replay_scripts(folder: &Path, words: &Words) -> Outcome {
@@ -159,7 +166,11 @@ pub fn replay_scripts(folder: &Path, words: &Words) -> Outcome {
 }
 
 pub fn fault_scripts(part: &str, words: &Words) -> Outcome {
-    let of = if part == "runs" { "events" } else { "segment" };
+    let of = match part {
+        "runs" => "events",
+        "streams" => "segment",
+        _ => "selections",
+    };
     let faults = fault::of(of).ok_or(USAGE)?;
     let scripts = scripts(part, words);
     let noticed = runs::try_faults(&words.program, &scripts, faults)?;

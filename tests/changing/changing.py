@@ -1,4 +1,4 @@
-"""changing.py: pastes the blocks of docs/CHANGING.md into a copy of crates/ and second/, in order, and checks the crate that the page changes
+"""changing.py: pastes the blocks of docs/CHANGING.md into a copy of crates/, second/ and bench/, in order, and checks the crate that the page changes
 before its code is changed and after. The crates below it are taken as they are proved in target/."""
 import os
 import re
@@ -8,7 +8,7 @@ import sys
 import tempfile
 
 ROOT = os.path.dirname(os.path.dirname(os.path.dirname(os.path.abspath(__file__))))
-CRATE = "choose"
+CRATE = "destination"
 passed, failed = 0, 0
 
 
@@ -55,7 +55,7 @@ def below(crate):
 
 
 def copy(folder):
-    for name in ("crates", "second/src"):
+    for name in ("crates", "second/src", "bench"):
         shutil.copytree(os.path.join(ROOT, name), os.path.join(folder, name))
     shutil.copy(os.path.join(ROOT, "crates.txt"), folder)
     for kind in ("rlib", "stamp"):
@@ -81,7 +81,7 @@ with tempfile.TemporaryDirectory() as FOLDER:
         paste(FOLDER, *edit)
     said, log = says(FOLDER)
     refused = sorted(name for name, verdict in said.items() if verdict != "proved")
-    true(refused == ["arrive", "choose", "rank", "score"], f"with the definition alone refused are {refused}: {log[-1500:]}")
+    true(refused == ["sent", "timer_after"], f"with the definition alone refused are {refused}: {log[-1500:]}")
     for edit in edits:
         if edit not in definition:
             paste(FOLDER, *edit)

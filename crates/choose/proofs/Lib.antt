@@ -2,4 +2,5 @@
 pub mod Best
 pub mod Scores
 pub mod Pass
+pub mod Ranks
 pub mod Arrivals

@@ -1,5 +1,5 @@
 -- Which member of a group a source belongs to, and what becomes of it: R7.1 to R7.6 (requirement 00525 of the standard).
-use Prim.Native.Nat.{ℕ, _+_}
+use Prim.Native.Nat.{ℕ, _+_, _*_}
 use mathlib.Core.Bool.{Bool, true, false, cond, not, _&&_, _||_}
 use mathlib.Core.List.{List}
 use lib.Dec.{eqb, leb, ltb}
@@ -26,9 +26,9 @@ abbrev pub oneOf : Bool → ℕ
 oneOf true = 1
 oneOf false = 0
 
--- R7.5: how a match ranks, by the number of fields that are equal
+-- R7.5: how a match ranks: both fields equal, then the address with any port, then any address with the port, then neither
 unfoldable pub rankOf : Fields → ℕ
-rankOf equal = oneOf (equal .address) + oneOf (equal .port)
+rankOf equal = 2 * oneOf (equal .address) + oneOf (equal .port)
 
 -- R7.4: a field matches when it is equal, or 0 in the record
 abbrev pub matches : Fields → Fields → Bool

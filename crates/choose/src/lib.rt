@@ -1,5 +1,5 @@
-// Which member of a group a source belongs to: one pass over the records, more equal fields first, then the lowest number.
-// Every function is total.
+// Which member of a group a source belongs to: one pass over the records, the best match first (both fields, the address, the port,
+// neither), then the lowest number. Every function is total.
 ghost use mathlib.Core.Path.{_≡_};
 ghost use Prim.Native.Nat.{_≤_, _<_};
 ghost use Rattle.choose.specs.Choose as Is;
@@ -37,11 +37,11 @@ fn one(b: bool) -> u8
     0
 }
 
-// How a match ranks.
+// How a match ranks: the address above the port.
 fn rank(equal: Fields) -> u8
     ensures { λ r. ⌜ (r ≡ Is.rankOf equal) × (r < 255) ⌝ }
 {
-    one(equal.address) + one(equal.port)
+    2 * one(equal.address) + one(equal.port)
 }
 
 // A member's rank and 1 more; 0 for one that does not count or does not match, and for a connection that is no member.

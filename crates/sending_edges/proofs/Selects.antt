@@ -23,10 +23,27 @@ pub exact-wins : among false (recordOf Reconnect false (remote 0 0) 0 ∷ record
 unfolding chosenOf foldFrom better scoreOf rankOf
 exact-wins = refl
 
--- at equality, the lowest number
-pub ties-to-lowest : among false (recordOf Reconnect false (remote 0 9) 0 ∷ recordOf Reconnect false (remote 7 0) 0 ∷ recordOf Online false (remote 7 0) 0 ∷ []) ≡ At 0
+-- at equality, the lowest number: mode does not rank
+pub ties-to-lowest : among false (recordOf Reconnect false (remote 7 0) 0 ∷ recordOf Online false (remote 7 0) 0 ∷ []) ≡ At 0
 unfolding chosenOf foldFrom better scoreOf rankOf
 ties-to-lowest = refl
+
+-- the named valve (its address, any port) beats the named port (any address), whichever stands first, for a datagram and for an accept
+pub valve-before-port : (accept : Bool) → among accept (recordOf Reconnect false (remote 7 0) 0 ∷ recordOf Reconnect false (remote 0 9) 0 ∷ []) ≡ At 0
+unfolding chosenOf foldFrom better scoreOf rankOf
+valve-before-port true = refl
+valve-before-port false = refl
+
+pub valve-after-port : (accept : Bool) → among accept (recordOf Reconnect false (remote 0 9) 0 ∷ recordOf Reconnect false (remote 7 0) 0 ∷ []) ≡ At 1
+unfolding chosenOf foldFrom better scoreOf rankOf
+valve-after-port true = refl
+valve-after-port false = refl
+
+-- the port beats nothing named
+pub port-before-any : (accept : Bool) → among accept (recordOf Reconnect false (remote 0 0) 0 ∷ recordOf Reconnect false (remote 0 9) 0 ∷ []) ≡ At 1
+unfolding chosenOf foldFrom better scoreOf rankOf
+port-before-any true = refl
+port-before-any false = refl
 
 -- close wanted does not count, nor does offline
 pub closing-left-out : among false (recordOf Online true (remote 7 9) 0 ∷ recordOf Offline false (remote 7 9) 0 ∷ recordOf Reconnect false (remote 0 0) 0 ∷ []) ≡ At 2

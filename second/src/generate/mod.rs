@@ -4,5 +4,6 @@ pub mod datagram;
 pub mod framing;
 pub mod image;
 pub mod script;
+pub mod selection;
 pub mod state;
 pub mod table;

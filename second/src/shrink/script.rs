@@ -299,7 +299,7 @@ mod tests {
     }
 
     fn told(input: &[u8]) -> Vec<String> {
-        lines(input, |_, _, _| ())
+        lines(input, |_| ())
     }
 
     fn differs(fault: Fault, input: &[u8]) -> bool {

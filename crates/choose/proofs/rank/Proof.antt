@@ -8,6 +8,9 @@ use Rattle.choose.proofs.rank.Tie as tie
 one-requires : tie.Need-one-requires
 one-requires c κs = search needs
 
+mul-result : tie.Need-mul-result
+mul-result c = search needs
+
 one-requires-2 : tie.Need-one-requires-2
 one-requires-2 c κs = search needs
 
@@ -19,4 +22,4 @@ unfolding rankOf
 returns c = (cc, omega arith)
 
 pub rank-spec : {M : Type 1} → statement M
-rank-spec = tie.close (tie.spec one-requires one-requires-2 add-result returns)
+rank-spec = tie.close (tie.spec one-requires mul-result one-requires-2 add-result returns)
