@@ -50,8 +50,9 @@ def paste(folder, name, old, new):
 
 
 def below(crate):
-    """The crates that it stands on."""
-    return re.search(f"^{crate}:(.*)$", contents(ROOT, "crates.txt"), re.M)[1].split()
+    """The crates that it stands on, and those that these stand on."""
+    told = re.search(f"^{crate}:(.*)$", contents(ROOT, "crates.txt"), re.M)
+    return {one for name in (told[1].split() if told else []) for one in (name, *below(name))}
 
 
 def copy(folder):
