@@ -2,23 +2,23 @@
 # count.sh, to be sourced after tests/machine.sh: executed instructions of one call (x86-64, counted under qemu-user, so that the
 # figure is the same on every machine and whatever else it does).
 #
-#   ready_ours, ready_twins    build what is counted: ours out of libsoad.a and the program repeat; the twins
+#   ready_ours, ready_twins    build what is counted: ours out of libsoad.a and the program bench_repeat; the twins
 #   per_call SIDE WORD ..      of a function of libsoad.a (ours) or its twin, by bench.c's words
 #   per_event SIDE WHAT QUARTERS LENGTH    of an entry point, by input.c's words
 #
 # A cost is the difference between a short and a long run, per call. What the loop does besides the call is taken off on both sides:
 # `nothing`, or for a call that the loop makes ready or clears up after, the same without the call.
-# SOAD_LIB names another archive than the one of the crate soad, REPEAT another program than target/bin/repeat.
+# SOAD_LIB names another archive than the one of the crate soad, REPEAT another program than target/bin/bench_repeat.
 work=$root/target/bench
 library=${SOAD_LIB:-$root/target/staticlib/libsoad.a}
-repeat=${REPEAT:-$root/target/bin/repeat}
+repeat=${REPEAT:-$root/target/bin/bench_repeat}
 includes=("-I$root/include" "-I$root/tests" "-I$root/bench")
 
 ready_ours() {
     mkdir -p "$work"
     need qemu-x86_64 qemu-user && need cc gcc && cc -O2 -fPIC -shared -o "$work/insn.so" "$root/bench/insn.c" || return
     [ -n "${SOAD_LIB:-}" ] || proved_library || return
-    [ -n "${REPEAT:-}" ] || proved_program repeat || return
+    [ -n "${REPEAT:-}" ] || proved_program bench_repeat || return
     compile_cross "$work/bench" "${includes[@]}" "$root/bench/bench.c" "$root/bench/twin.c" "$root/bench/table.c" "$library" &&
         compile "$work/input" "${includes[@]}" "$root/bench/input.c"
 }

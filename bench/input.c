@@ -1,4 +1,4 @@
-/* input.c: writes the standard input of `repeat` (crates/repeat, and repeat.c here).
+/* input.c: writes the standard input of `repeat` (crates/bench_repeat, and repeat.c here).
  *
  *   input WHAT QUARTERS LENGTH TIMES     a table with QUARTERS/4 of the most rows, a payload of LENGTH bytes, TIMES calls of WHAT
  *

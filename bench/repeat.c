@@ -1,4 +1,4 @@
-/* repeat.c: what crates/repeat does, over the C twins: the same standard input, the same last words. */
+/* repeat.c: what crates/bench_repeat does, over the C twins: the same standard input, the same last words. */
 #include "events.h"
 #include "system.h"
 

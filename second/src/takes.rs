@@ -1,4 +1,4 @@
-//! The program `takes`: a table and segments on one of its connections, take by take, and what it is to print.
+//! The program `test_takes`: a table and segments on one of its connections, take by take, and what it is to print.
 
 use crate::bytes::{hex, Reader, Writer};
 use crate::event::{run, Done, Event};

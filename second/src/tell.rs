@@ -86,7 +86,7 @@ pub fn request(name: &str, request: &[u8], want: &[u8], got: &[u8]) -> Told {
     Told { name: name.into(), size: format!("{} bytes", stored.len()), case: [image, arguments].concat(), stored, got, want }
 }
 
-/// A case of the program `takes` and what both programs print.
+/// A case of the program `test_takes` and what both programs print.
 pub fn takes(name: &str, case: &Case, want: Vec<String>, got: Vec<String>) -> Told {
     let item = |item: &crate::takes::Item| {
         let line = format!("connection {}, switches 0x{:08x}", item.connection, item.switches);

@@ -108,7 +108,7 @@ impl Vector {
         walked.iter().map(|&(place, _)| exchange::walk(&image, 0, 0, &self.segments[0], place as u64)).collect()
     }
 
-    /// The case for the program takes; nothing for a datagram.
+    /// The case for the program test_takes; nothing for a datagram.
     pub fn case(&self) -> Option<takes::Case> {
         (self.protocol == TCP).then(|| takes::stream(self.table().image(), &self.segments))
     }

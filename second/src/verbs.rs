@@ -177,7 +177,7 @@ pub fn fault_scripts(part: &str, words: &Words) -> Outcome {
     tell_faults(faults, &noticed, &format!("{} scripts", scripts.len()))
 }
 
-/// Cases for the program takes: a fixed list of cuts, then `count` random ones.
+/// Cases for the program test_takes: a fixed list of cuts, then `count` random ones.
 fn take_cases(words: &Words) -> Vec<takes::Case> {
     let random = &mut Random::new(words.seed);
     let cuts = if words.count > 0 { takes::cut_cases() } else { vec![] };
@@ -222,7 +222,7 @@ fn compare_cases(cases: Vec<takes::Case>, words: &Words) -> Outcome {
     none_different(different.len())
 }
 
-/// The most calls of the program takes for making a case smaller, and the most cases in one.
+/// The most calls of the program test_takes for making a case smaller, and the most cases in one.
 const TAKES_BOUND: Bound = Bound { calls: 300, cases: 200 };
 
 fn tell_takes(name: &str, case: takes::Case, words: &Words) {

@@ -8,7 +8,7 @@ import sys
 import tempfile
 
 ROOT = os.path.dirname(os.path.dirname(os.path.dirname(os.path.abspath(__file__))))
-CRATE = "destination"
+CRATE = "send_destination"
 passed, failed = 0, 0
 
 

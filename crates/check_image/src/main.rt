@@ -1,15 +1,15 @@
 // Reads a table image from standard input and lists its rows with names and units, or says at which byte it is refused
 // and why. The last line is OK or REFUSED. The check, its place and its reason are proved; the wording is tried by
 // stored output (the patterns are those of crate words).
-use layout::Kind;
-use layout::body_of;
-use layout::kind_number;
-use layout::row_bytes;
-use layout::row_in;
-use layout::rows_of;
 use pieces::front;
 use table::TableAnswer;
 use table::check_table;
+use table_layout::Kind;
+use table_layout::body_of;
+use table_layout::kind_number;
+use table_layout::row_bytes;
+use table_layout::row_in;
+use table_layout::rows_of;
 use words::lay;
 use words::phrase;
 use words_refusal::refusal;
@@ -84,7 +84,7 @@ fn report(image: &[u8]) {
 }
 
 // The buffer is longer than any whole image (2,356 bytes), so the check of its front is the check of the whole input
-// (crate reason, proofs/Long).
+// (crate table_fault, proofs/Long).
 fn main() {
     let mut buffer = io::buffer();
     let n = io::read_full(0, &mut buffer);

@@ -5,8 +5,8 @@ use mathlib.Core.Path.{_≡_, refl, sym, ap, _∙_}
 use mathlib.Core.Bool.{Bool, true, false, cond, not, _&&_, _||_, or-true}
 use borrow.Author.Tests.{eqb-true, eq-eqb, not-true}
 use native.Mathlib.Omega.{arith}
-use Rattle.part.specs.declared.Part.{Part}
-use Rattle.part.specs.Part.{shaped, emptyPart}
+use Rattle.receive_part.specs.declared.Part.{Part}
+use Rattle.receive_part.specs.Part.{shaped, emptyPart}
 use Rattle.lists.proofs.Both.{impossible, and-left, and-right, and3}
 use Rattle.connection.specs.declared.Mode.{Mode}
 use Rattle.connection.specs.declared.Mode.the-variants.{Offline, Reconnect, Online}

@@ -1,7 +1,7 @@
 -- What an event of the record alone leaves of the bytes held and of the mode: said once for every law above.
 use mathlib.Core.Path.{_≡_, refl, sym}
 use mathlib.Core.Bool.{Bool, true, false, cond}
-use Rattle.part.specs.Part.{ready}
+use Rattle.receive_part.specs.Part.{ready}
 use Rattle.lists.proofs.Both.{impossible}
 use Rattle.connection.specs.declared.Connection.{Connection}
 use Rattle.connection.specs.declared.Config.{Config}

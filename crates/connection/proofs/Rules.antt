@@ -3,9 +3,9 @@ use lib.Dec.{eqb}
 use mathlib.Core.Path.{_≡_, refl}
 use mathlib.Core.Bool.{Bool, true, false, not, _&&_}
 use borrow.Author.Tests.{eqb-true, not-true}
-use Rattle.part.specs.declared.Part.{Part}
-use Rattle.part.specs.declared.Part.the-variants.{Header, Payload, Skip}
-use Rattle.part.specs.Part.{emptyPart, ready}
+use Rattle.receive_part.specs.declared.Part.{Part}
+use Rattle.receive_part.specs.declared.Part.the-variants.{Header, Payload, Skip}
+use Rattle.receive_part.specs.Part.{emptyPart, ready}
 use Rattle.lists.proofs.Both.{impossible, and-left, and-right}
 use Rattle.connection.specs.declared.Mode.{Mode}
 use Rattle.connection.specs.declared.Mode.the-variants.{Offline, Reconnect, Online}

@@ -3,8 +3,8 @@ use Prim.Native.Nat.{ℕ, _-_, _^_}
 use lib.Dec.{eqb, ltb}
 use lib.Bits.{bitOr, bitXor}
 use mathlib.Core.Bool.{Bool, true, false, cond, not, _&&_, _||_}
-use Rattle.part.specs.declared.Part.{Part}
-use Rattle.part.specs.Part.{ready}
+use Rattle.receive_part.specs.declared.Part.{Part}
+use Rattle.receive_part.specs.Part.{ready}
 use Rattle.connection.specs.declared.Mode.{Mode}
 use Rattle.connection.specs.declared.Mode.the-variants.{Offline, Reconnect, Online}
 use Rattle.connection.specs.declared.Remote.{Remote}

@@ -2,7 +2,7 @@
 use lib.Dec.{eqb, leb, ltb}
 use mathlib.Core.Path.{_≡_}
 use mathlib.Core.Bool.{Bool, true, not, _&&_, _||_}
-use Rattle.part.specs.Part.{shaped, emptyPart}
+use Rattle.receive_part.specs.Part.{shaped, emptyPart}
 use Rattle.connection.specs.declared.Connection.{Connection}
 use Rattle.connection.specs.declared.Config.{Config}
 use Rattle.connection.specs.Connection.{isOffline, isOnline, wildFields, wildcard}

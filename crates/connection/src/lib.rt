@@ -4,7 +4,7 @@ ghost use mathlib.Core.Path.{_≡_};
 ghost use Rattle.connection.specs.Connection as Is;
 ghost use Rattle.connection.specs.Event as Ev;
 ghost use Rattle.connection.specs.Sound as Sd;
-use part::Part;
+use receive_part::Part;
 
 pub enum Mode {
     Offline,
@@ -401,8 +401,8 @@ impl Connection {
         let remote = self.remote;
         let online = is_online(mode);
         let offline = is_offline(mode);
-        let shaped = part::is_shaped(part);
-        let empty = part::is_empty(part);
+        let shaped = receive_part::is_shaped(part);
+        let empty = receive_part::is_empty(part);
         let wild = has_wildcard(remote);
         (self.used <= config.size)
             & shaped
@@ -423,7 +423,7 @@ impl Connection {
         let part = self.part;
         let remote = self.remote;
         let offline = is_offline(mode);
-        let empty = part::is_empty(part);
+        let empty = receive_part::is_empty(part);
         let wild = wild_fields(remote);
         offline
             & !self.open_wanted

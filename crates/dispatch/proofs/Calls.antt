@@ -11,11 +11,11 @@ use lib.ListN.{length, drop, length-drop}
 use Rattle.wire.specs.Be.{be}
 use Rattle.lists.proofs.Both.{and-right}
 use Rattle.connection.specs.declared.Event.the-variants.{Open, Close, Connected, SetRemote, Switch}
-use Rattle.calls.specs.declared.Call.{Call}
-use Rattle.calls.specs.declared.Call.the-variants.{Unknown, Unfit, Ticks, Own, Lost, Segment, Walk, TakeWaiting, Datagram, Accept, Transmit, SwitchAll, ReadCount, ClearCount}
-use Rattle.calls.specs.Calls.{fitted, plain, lengthFits, addressed, remoteIn, positioned, callOf, bytesFrom}
-use Rattle.answer_receive.specs.Long.{longestBody}
-use Rattle.answer_receive.specs.Segment.{answerRoom}
+use Rattle.event_decode.specs.declared.Call.{Call}
+use Rattle.event_decode.specs.declared.Call.the-variants.{Unknown, Unfit, Ticks, Own, Lost, Segment, Walk, TakeWaiting, Datagram, Accept, Transmit, SwitchAll, ReadCount, ClearCount}
+use Rattle.event_decode.specs.Calls.{fitted, plain, lengthFits, addressed, remoteIn, positioned, callOf, bytesFrom}
+use Rattle.dispatch_receive.specs.Long.{longestBody}
+use Rattle.dispatch_receive.specs.Segment.{answerRoom}
 use Rattle.dispatch.specs.Dispatch.{room}
 
 -- the bytes that a segment or walk call carries

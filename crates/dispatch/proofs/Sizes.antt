@@ -19,26 +19,26 @@ use Rattle.gate.specs.Lent.{Loan, sizes}
 use Rattle.gate.specs.declared.Gate.{Gate}
 use Rattle.gate.specs.declared.Gate.the-variants as Gated
 use Rattle.gate.specs.Gate.{gateAt, through}
-use Rattle.events.specs.declared.CountAnswer.{CountAnswer}
-use Rattle.events.specs.declared.CountAnswer.the-variants.{Count, Refused as Uncounted}
-use Rattle.datagram.specs.declared.Outcome.{Outcome}
-use Rattle.datagram.specs.declared.Outcome.the-variants.{End, Pdu, Drop}
-use Rattle.receive.specs.declared.Answer.{Answer as Received}
-use Rattle.receive.specs.declared.Answer.the-variants as Received
-use Rattle.choose.specs.declared.Arrival.{Arrival}
-use Rattle.choose.specs.declared.Arrival.the-variants as Arrived
+use Rattle.entry_events.specs.declared.CountAnswer.{CountAnswer}
+use Rattle.entry_events.specs.declared.CountAnswer.the-variants.{Count, Refused as Uncounted}
+use Rattle.receive_datagram.specs.declared.Outcome.{Outcome}
+use Rattle.receive_datagram.specs.declared.Outcome.the-variants.{End, Pdu, Drop}
+use Rattle.entry_receive.specs.declared.Answer.{Answer as Received}
+use Rattle.entry_receive.specs.declared.Answer.the-variants as Received
+use Rattle.select.specs.declared.Arrival.{Arrival}
+use Rattle.select.specs.declared.Arrival.the-variants as Arrived
 use Rattle.send.specs.declared.Transmission.{Transmission}
 use Rattle.send.specs.declared.Transmission.the-variants as Sent
-use Rattle.waiting.specs.declared.Taking.{Taking}
-use Rattle.waiting.specs.declared.Taking.the-variants as Took
-use Rattle.waiting.specs.Waiting.{waitingOf, outOf}
-use Rattle.sending.specs.Sending.{takenOut}
-use Rattle.answering.specs.Answers.{refused, doneWith}
-use Rattle.answering.proofs.Chain.{length-waiting}
-use Rattle.answer_events.specs.Events.{toldBytes, lossBytes, ticksBytes, countBytes}
-use Rattle.answer_receive.specs.Walk.{orRefused, walkBytes}
-use Rattle.answer_receive.proofs.Written.{length-step, length-pdu}
-use Rattle.answer_send.specs.Send.{arrivalBytes, transmissionBytes, takingBytes, roomOf}
+use Rattle.send_waiting.specs.declared.Taking.{Taking}
+use Rattle.send_waiting.specs.declared.Taking.the-variants as Took
+use Rattle.send_waiting.specs.Waiting.{waitingOf, outOf}
+use Rattle.entry_send.specs.Sending.{takenOut}
+use Rattle.event_answer.specs.Answers.{refused, doneWith}
+use Rattle.event_answer.proofs.Chain.{length-waiting}
+use Rattle.dispatch_events.specs.Events.{toldBytes, lossBytes, ticksBytes, countBytes}
+use Rattle.dispatch_receive.specs.Walk.{orRefused, walkBytes}
+use Rattle.dispatch_receive.proofs.Written.{length-step, length-pdu}
+use Rattle.dispatch_send.specs.Send.{arrivalBytes, transmissionBytes, takingBytes, roomOf}
 
 refused-size : (number place : ℕ) → length (refused number place) ≡ 6
 refused-size number place = simp (length-append, length-spell)

@@ -11,24 +11,24 @@ use Rattle.wire.specs.Lay.{lay}
 use Rattle.wire.proofs.Lay.{lay-fits}
 use Rattle.connection.specs.declared.Event.{Event}
 use Rattle.connection.specs.declared.Remote.{Remote}
-use Rattle.calls.specs.declared.Call.{Call}
-use Rattle.calls.specs.declared.Call.the-variants.{Unknown, Unfit, Ticks, Own, Lost, Segment, Walk, TakeWaiting, Datagram, Accept, Transmit, SwitchAll, ReadCount, ClearCount}
-use Rattle.calls.specs.Calls.{callOf, bytesFrom}
-use Rattle.events.specs.Change.{eventOf, lossOf}
-use Rattle.events.specs.Module.{switchAllOf}
-use Rattle.events.specs.Count.{readOf, clearOf}
-use Rattle.ticks.specs.Tick.{ticksEvent}
-use Rattle.receive.specs.Walk.{walkOf}
-use Rattle.arrivals.specs.Arrivals.{datagramOf, acceptOf}
-use Rattle.sending.specs.Sending.{sendOf, takenWaiting, takenOut}
-use Rattle.answering.specs.declared.Verdict.the-variants.{Done, Small}
-use Rattle.answering.specs.Answers.{Effect, untouched}
-use Rattle.answer_events.specs.Events.{ownEffect, lostEffect, ticksEffect, switchAllEffect, readEffect, clearEffect}
-use Rattle.answer_receive.specs.Long.{longestBody}
-use Rattle.answer_receive.specs.Walk.{walkEffect}
-use Rattle.answer_receive.specs.Segment.{answerRoom, segmentEffect}
-use Rattle.answer_receive.proofs.Room.{event-fits, segment-roomy, walk-short}
-use Rattle.answer_send.specs.Send.{roomOf, datagramEffect, acceptEffect, transmitEffect, takeEffect}
+use Rattle.event_decode.specs.declared.Call.{Call}
+use Rattle.event_decode.specs.declared.Call.the-variants.{Unknown, Unfit, Ticks, Own, Lost, Segment, Walk, TakeWaiting, Datagram, Accept, Transmit, SwitchAll, ReadCount, ClearCount}
+use Rattle.event_decode.specs.Calls.{callOf, bytesFrom}
+use Rattle.entry_events.specs.Change.{eventOf, lossOf}
+use Rattle.entry_events.specs.Module.{switchAllOf}
+use Rattle.entry_events.specs.Count.{readOf, clearOf}
+use Rattle.entry_ticks.specs.Tick.{ticksEvent}
+use Rattle.entry_receive.specs.Walk.{walkOf}
+use Rattle.entry_arrivals.specs.Arrivals.{datagramOf, acceptOf}
+use Rattle.entry_send.specs.Sending.{sendOf, takenWaiting, takenOut}
+use Rattle.event_answer.specs.declared.Verdict.the-variants.{Done, Small}
+use Rattle.event_answer.specs.Answers.{Effect, untouched}
+use Rattle.dispatch_events.specs.Events.{ownEffect, lostEffect, ticksEffect, switchAllEffect, readEffect, clearEffect}
+use Rattle.dispatch_receive.specs.Long.{longestBody}
+use Rattle.dispatch_receive.specs.Walk.{walkEffect}
+use Rattle.dispatch_receive.specs.Segment.{answerRoom, segmentEffect}
+use Rattle.dispatch_receive.proofs.Room.{event-fits, segment-roomy, walk-short}
+use Rattle.dispatch_send.specs.Send.{roomOf, datagramEffect, acceptEffect, transmitEffect, takeEffect}
 use Rattle.dispatch.specs.Dispatch.{room, effectOf, dispatchOf}
 use Rattle.dispatch.specs.Whole.{StandsWhole, answer, unknown, unfit, small}
 use Rattle.dispatch.proofs.Calls.{Short, call-short, segment-fits, walk-fits, call-room}

@@ -5,16 +5,16 @@ use mathlib.Core.Bool.{cond}
 use mathlib.Core.List.{List}
 use lib.Dec.{ltb}
 use lib.ListN.{length}
-use Rattle.calls.specs.declared.Call.{Call}
-use Rattle.calls.specs.declared.Call.the-variants.{Unknown, Unfit, Ticks, Own, Lost, Segment, Walk, TakeWaiting, Datagram, Accept, Transmit, SwitchAll, ReadCount, ClearCount}
-use Rattle.calls.specs.Calls.{callOf, bytesFrom}
-use Rattle.answering.specs.declared.Verdict.the-variants.{Unknown as NoEvent, Unfit as DoesNotFit, Small}
-use Rattle.answering.specs.Answers.{Effect, untouched}
-use Rattle.answer_events.specs.Events.{ownEffect, lostEffect, ticksEffect, switchAllEffect, readEffect, clearEffect}
-use Rattle.answer_receive.specs.Walk.{walkEffect}
-use Rattle.answer_receive.specs.Segment.{segmentEffect}
+use Rattle.event_decode.specs.declared.Call.{Call}
+use Rattle.event_decode.specs.declared.Call.the-variants.{Unknown, Unfit, Ticks, Own, Lost, Segment, Walk, TakeWaiting, Datagram, Accept, Transmit, SwitchAll, ReadCount, ClearCount}
+use Rattle.event_decode.specs.Calls.{callOf, bytesFrom}
+use Rattle.event_answer.specs.declared.Verdict.the-variants.{Unknown as NoEvent, Unfit as DoesNotFit, Small}
+use Rattle.event_answer.specs.Answers.{Effect, untouched}
+use Rattle.dispatch_events.specs.Events.{ownEffect, lostEffect, ticksEffect, switchAllEffect, readEffect, clearEffect}
+use Rattle.dispatch_receive.specs.Walk.{walkEffect}
+use Rattle.dispatch_receive.specs.Segment.{segmentEffect}
 use Rattle.gate.specs.Lent.{Loan}
-use Rattle.answer_send.specs.Send.{datagramEffect, acceptEffect, transmitEffect, takeEffect}
+use Rattle.dispatch_send.specs.Send.{datagramEffect, acceptEffect, transmitEffect, takeEffect}
 
 -- enough for the answer to any body of 4,096 bytes (proofs/Whole `answer-whole`: every answer stands whole)
 abbrev pub room : ℕ

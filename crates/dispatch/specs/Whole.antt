@@ -2,8 +2,8 @@
 use Prim.Native.Nat.{ℕ, _≤_}
 use mathlib.Core.List.{List, _++_}
 use lib.ListN.{length, drop}
-use Rattle.answering.specs.declared.Verdict.{Verdict}
-use Rattle.answering.specs.declared.Verdict.the-variants.{Done, Unknown, Unfit, Small}
+use Rattle.event_answer.specs.declared.Verdict.{Verdict}
+use Rattle.event_answer.specs.declared.Verdict.the-variants.{Done, Unknown, Unfit, Small}
 use Rattle.dispatch.specs.Dispatch.{room}
 
 -- of a verdict and the out buffer afterwards: all bytes of the answer at the front, and behind them the buffer as it was; where

@@ -1,13 +1,13 @@
 // One dispatcher for all events: an event number and a body in, the answer into a lent out buffer. It is total.
 ghost use mathlib.Core.Path.{_≡_};
-ghost use Rattle.answering.specs.Answers.{dispatched};
+ghost use Rattle.event_answer.specs.Answers.{dispatched};
 ghost use Rattle.dispatch.specs.Dispatch.{effectOf, dispatchOf};
 ghost use Rattle.gate.specs.Lent.{loan};
-use answering::Dispatched;
-use answering::Verdict;
-use calls::Call;
-use calls::bytes_from;
-use calls::call_of;
+use event_answer::Dispatched;
+use event_answer::Verdict;
+use event_decode::Call;
+use event_decode::bytes_from;
+use event_decode::call_of;
 use state::State;
 
 // The step of a call, whose bytes stand in the body.
@@ -34,12 +34,12 @@ fn answer_call(
             verdict: Verdict::Unfit,
             state: state,
         },
-        Call::Ticks(n) => answer_events::many_ticks(image, state, rx, tx, n, out),
+        Call::Ticks(n) => dispatch_events::many_ticks(image, state, rx, tx, n, out),
         Call::Own { connection, event } => {
-            answer_events::own(image, state, rx, tx, connection, event, out)
+            dispatch_events::own(image, state, rx, tx, connection, event, out)
         }
-        Call::Lost(c) => answer_events::lost(image, state, rx, tx, c, out),
-        Call::Segment { connection, at } => answer_receive::segment(
+        Call::Lost(c) => dispatch_events::lost(image, state, rx, tx, c, out),
+        Call::Segment { connection, at } => dispatch_receive::segment(
             image,
             state,
             rx,
@@ -52,7 +52,7 @@ fn answer_call(
             connection,
             place,
             at,
-        } => answer_receive::walk(
+        } => dispatch_receive::walk(
             image,
             state,
             rx,
@@ -63,25 +63,25 @@ fn answer_call(
             out,
         ),
         Call::TakeWaiting { connection, room } => {
-            answer_send::take_waiting(image, state, rx, tx, connection, room, out)
+            dispatch_send::take_waiting(image, state, rx, tx, connection, room, out)
         }
         Call::Datagram { group, source } => {
-            answer_send::datagram(image, state, rx, tx, group, source, out)
+            dispatch_send::datagram(image, state, rx, tx, group, source, out)
         }
         Call::Accept { group, source } => {
-            answer_send::accept(image, state, rx, tx, group, source, out)
+            dispatch_send::accept(image, state, rx, tx, group, source, out)
         }
         Call::Transmit { pdu, at } => {
-            answer_send::transmit(image, state, rx, tx, pdu, bytes_from(body, at), out)
+            dispatch_send::transmit(image, state, rx, tx, pdu, bytes_from(body, at), out)
         }
         Call::SwitchAll { number, on } => {
-            answer_events::switch_all(image, state, rx, tx, number, on, out)
+            dispatch_events::switch_all(image, state, rx, tx, number, on, out)
         }
         Call::ReadCount(protocol) => {
-            answer_events::read_count(image, state, rx, tx, protocol, out)
+            dispatch_events::read_count(image, state, rx, tx, protocol, out)
         }
         Call::ClearCount(protocol) => {
-            answer_events::clear_count(image, state, rx, tx, protocol, out)
+            dispatch_events::clear_count(image, state, rx, tx, protocol, out)
         }
     }
 }

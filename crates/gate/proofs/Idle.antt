@@ -6,8 +6,8 @@ use mathlib.Core.List.{List}
 use lib.Dec.{eqb, leb, ltb}
 use native.Mathlib.Omega.{arith}
 use borrow.Author.Tests.{not-true, le-leb, ne-eqb, lt-ltb}
-use Rattle.part.specs.declared.Part.{Part}
-use Rattle.part.specs.Part.{emptyPart, ready}
+use Rattle.receive_part.specs.declared.Part.{Part}
+use Rattle.receive_part.specs.Part.{emptyPart, ready}
 use Rattle.connection.specs.declared.Config.{Config}
 use Rattle.connection.specs.declared.Connection.{Connection}
 use Rattle.connection.specs.declared.Mode.{Mode}

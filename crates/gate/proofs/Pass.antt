@@ -7,8 +7,8 @@ use mathlib.Core.List.{List}
 use lib.Dec.{eqb, ltb}
 use lib.ListN.{length}
 use borrow.Author.Tests.{eqb-true, eq-eqb, ltb-true, lt-ltb}
-use Rattle.layout.specs.Layout.{rowsOf}
-use Rattle.layout.specs.declared.Kind.the-variants.{Connection as Connections}
+use Rattle.table_layout.specs.Layout.{rowsOf}
+use Rattle.table_layout.specs.declared.Kind.the-variants.{Connection as Connections}
 use Rattle.table.specs.declared.TableAnswer.{TableAnswer}
 use Rattle.table.specs.declared.TableAnswer.the-variants.{Accepted}
 use Rattle.table.specs.declared.TableAnswer.the-variants as Table

@@ -6,16 +6,16 @@ use mathlib.Core.List.{List}
 use native.Mathlib.Omega.{arith}
 use lib.ListN.{length, set, getD}
 use borrow.Author.Tests.{lt-ltb, le-ltb}
-use Rattle.layout.specs.Layout.{rowsOf, bodyOf}
-use Rattle.layout.specs.declared.Kind.the-variants.{Connection as Connections, Group as Groups, Route as Routes}
+use Rattle.table_layout.specs.Layout.{rowsOf, bodyOf}
+use Rattle.table_layout.specs.declared.Kind.the-variants.{Connection as Connections, Group as Groups, Route as Routes}
 use Rattle.connection.specs.declared.Connection.{Connection}
 use Rattle.connection.specs.Connection.{zeroRecord}
 use Rattle.connection.specs.Sound.{soundOf, zeroOf, Sound}
 use Rattle.connection.proofs.Rules.{sound-from, sound-to, zero-is, zero-zero}
 use Rattle.lists.proofs.Both.{and-left, and-right, and-both, impossible}
 use Rattle.lists.proofs.Each.{all-at, all-set}
-use Rattle.rows.specs.Rows.{connectionRow}
-use Rattle.rows.specs.Rules.{sizeIn}
+use Rattle.table_rows.specs.Rows.{connectionRow}
+use Rattle.table_rows.specs.Rules.{sizeIn}
 use Rattle.state.specs.Fresh.{configIn, configOf}
 use Rattle.lists.specs.Each.{allFrom}
 use Rattle.gate.specs.Sound.{routed, soundAt, recordsSound}

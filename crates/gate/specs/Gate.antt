@@ -4,8 +4,8 @@ use mathlib.Core.Path.{_≡_}
 use mathlib.Core.Bool.{Bool, true, cond, not, _||_}
 use mathlib.Core.List.{List}
 use lib.Dec.{eqb, ltb}
-use Rattle.layout.specs.Layout.{rowsOf}
-use Rattle.layout.specs.declared.Kind.the-variants.{Connection as Connections}
+use Rattle.table_layout.specs.Layout.{rowsOf}
+use Rattle.table_layout.specs.declared.Kind.the-variants.{Connection as Connections}
 use Rattle.table.specs.declared.TableAnswer.the-variants.{Accepted}
 use Rattle.table.specs.Table.{checkTable}
 use Rattle.connection.specs.declared.Refusal.{Refusal}

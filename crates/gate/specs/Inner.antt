@@ -4,10 +4,10 @@ use Prim.Native.Nat.{ℕ}
 use mathlib.Core.Bool.{Bool, cond, not, _&&_}
 use mathlib.Core.List.{List}
 use lib.Dec.{eqb, leb, ltb}
-use Rattle.rows.specs.declared.ConnectionBrief.{ConnectionBrief}
-use Rattle.rows.specs.declared.GroupRow.{GroupRow}
-use Rattle.rows.specs.Rows.{groupIn, briefIn}
-use Rattle.part.specs.Part.{emptyPart}
+use Rattle.table_rows.specs.declared.ConnectionBrief.{ConnectionBrief}
+use Rattle.table_rows.specs.declared.GroupRow.{GroupRow}
+use Rattle.table_rows.specs.Rows.{groupIn, briefIn}
+use Rattle.receive_part.specs.Part.{emptyPart}
 use Rattle.connection.specs.declared.Config.{Config}
 use Rattle.connection.specs.declared.Connection.{Connection}
 use Rattle.connection.specs.Sound.{soundOf, zeroOf, sends, timed, neverBoth, onlineRemote}

@@ -4,14 +4,14 @@ use mathlib.Core.Bool.{Bool, true, false, cond, _&&_}
 use mathlib.Core.List.{List}
 use lib.Dec.{eqb, leb, ltb}
 use lib.ListN.{length}
-use Rattle.layout.specs.Layout.{rowsOf, bodyOf}
-use Rattle.layout.specs.declared.Kind.the-variants.{Connection as Connections, Route as Routes}
-use Rattle.rows.specs.Rows.{routeIn}
+use Rattle.table_layout.specs.Layout.{rowsOf, bodyOf}
+use Rattle.table_layout.specs.declared.Kind.the-variants.{Connection as Connections, Route as Routes}
+use Rattle.table_rows.specs.Rows.{routeIn}
 use Rattle.table.specs.declared.TableAnswer.{TableAnswer}
 use Rattle.table.specs.declared.TableAnswer.the-variants.{Accepted, Refused}
 use Rattle.table.specs.Table.{checkTable}
-use Rattle.part.specs.declared.Part.{Part}
-use Rattle.part.specs.declared.Part.the-variants.{Header, Payload, Skip}
+use Rattle.receive_part.specs.declared.Part.{Part}
+use Rattle.receive_part.specs.declared.Part.the-variants.{Header, Payload, Skip}
 use Rattle.connection.specs.declared.Connection.{Connection}
 use Rattle.connection.specs.Sound.{soundOf, zeroOf}
 use Rattle.lists.specs.Each.{allFrom}

@@ -6,7 +6,7 @@ ghost use Rattle.connection.specs.Sound.{onlineRemote};
 ghost use Rattle.gate.specs.Sound.{routed, recordsSound};
 ghost use Rattle.gate.specs.Inner.{rulesFrom, rulesIn, soundIn, idle, idleSound};
 ghost use Rattle.gate.specs.Lent.{lent};
-ghost use Rattle.rows.specs.Rules.{sizeIn};
+ghost use Rattle.table_rows.specs.Rules.{sizeIn};
 ghost use Rattle.gate.specs.Gate.{gateOf, gateAt};
 use connection::Config;
 use connection::Connection;
@@ -14,19 +14,19 @@ use connection::Refusal;
 use connection::Remote;
 use connection::has_wildcard;
 use connection::is_online;
-use layout::Kind;
-use layout::body_of;
-use layout::rows_of;
-use part::Part;
-use rows::ConnectionBrief;
-use rows::GroupRow;
-use rows::brief_in;
-use rows::group_in;
-use rows::route_in;
-use rows::size_in;
+use receive_part::Part;
 use state::State;
 use table::TableAnswer;
 use table::check_table;
+use table_layout::Kind;
+use table_layout::body_of;
+use table_layout::rows_of;
+use table_rows::ConnectionBrief;
+use table_rows::GroupRow;
+use table_rows::brief_in;
+use table_rows::group_in;
+use table_rows::route_in;
+use table_rows::size_in;
 
 pub enum Gate {
     Pass,
@@ -93,7 +93,7 @@ fn is_idle(c: Connection) -> bool
     ensures { λ r. ⌜ r ≡ idle c ⌝ }
 {
     let part = c.part;
-    part::is_empty(part) & !c.open_wanted & !c.close_wanted
+    receive_part::is_empty(part) & !c.open_wanted & !c.close_wanted
 }
 
 // The rules that are left of such a record: without send bytes no timer and no due mark; with them online, not both, and within the size.

@@ -1,10 +1,10 @@
 // The end of a run: every record that the table has a row for, with its held bytes, and both counts (docs/EVENTS.md).
-use calls::bytes_from;
 use connection::Connection;
-use layout::Kind;
-use layout::rows_of;
+use event_decode::bytes_from;
 use pieces::front;
 use state::State;
+use table_layout::Kind;
+use table_layout::rows_of;
 use words_record::counts;
 use words_record::record;
 

@@ -2,10 +2,10 @@
 // (docs/EVENTS.md).
 mod end;
 
-use answering::Verdict;
-use calls::Call;
-use calls::call_of;
-use given::given_state;
+use event_answer::Verdict;
+use event_decode::Call;
+use event_decode::call_of;
+use event_start_state::given_state;
 use input::read_image;
 use input::read_part;
 use pieces::front;
@@ -109,8 +109,8 @@ fn taken(rx: &mut [u8], tx: &mut [u8], body: &[u8], fits: bool, text: &mut [u8],
         tell_fault(text, n, 65535, Fault::Unfit);
         return Last::Refused;
     }
-    copy_in(rx, 0, layout::part_of(body, 696, 23424));
-    copy_in(tx, 0, layout::part_of(body, 24120, 23552));
+    copy_in(rx, 0, table_layout::part_of(body, 696, 23424));
+    copy_in(tx, 0, table_layout::part_of(body, 24120, 23552));
     let end = lay(text, 0, b"entry @: start state: taken\n", n, body, body);
     io::write_all(1, front(text, end));
     Last::GoesOn

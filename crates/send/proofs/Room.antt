@@ -10,13 +10,13 @@ use lib.ListN.{length}
 use borrow.Author.Tests.{ltb-false, lt-ltb}
 use Rattle.connection.specs.declared.Connection.{Connection}
 use Rattle.connection.specs.Connection.{isOnline}
-use Rattle.destination.specs.Destination.{refusalOf, lookOf}
+use Rattle.send_destination.specs.Destination.{refusalOf, lookOf}
 use Rattle.lists.specs.Search.{firstBad, every}
 use Rattle.lists.proofs.Both.{and-left, and-right}
 use Rattle.lists.proofs.Search.{none-bad}
 use Rattle.switches.specs.Switches.{isOn}
-use Rattle.rows.specs.declared.DestinationRow.{DestinationRow}
-use Rattle.rows.specs.Rows.{connectionOf, destinationOf}
+use Rattle.table_rows.specs.declared.DestinationRow.{DestinationRow}
+use Rattle.table_rows.specs.Rows.{connectionOf, destinationOf}
 use Rattle.state.specs.declared.State.{State}
 use Rattle.state.specs.State.{recordAt}
 use Rattle.send.specs.declared.Transmission.the-variants.{NoDestination, SwitchedOff, RefusedAt}

@@ -7,13 +7,13 @@ use native.Mathlib.Omega.{arith}
 use native.Mathlib.Numerals.{add-one}
 use lib.Dec.{eqb}
 use borrow.Author.Tests.{eqb-true, lt-ltb, le-ltb, eq-eqb, ne-eqb}
-use Rattle.destination.specs.Destination.{lookOf}
+use Rattle.send_destination.specs.Destination.{lookOf}
 use Rattle.lists.specs.Search.{firstBad, every}
 use Rattle.lists.proofs.Both.{and-left, and-right, neither}
 use Rattle.lists.proofs.Search.{Searched, search-start, search-on, search-found, search-ended, GoodTo, pass-start, pass-on, pass-failed, every-at, every-all}
-use Rattle.rows.specs.declared.ConnectionRow.{ConnectionRow}
-use Rattle.rows.specs.declared.DestinationRow.{DestinationRow}
-use Rattle.rows.specs.Rows.{connectionOf, destinationOf}
+use Rattle.table_rows.specs.declared.ConnectionRow.{ConnectionRow}
+use Rattle.table_rows.specs.declared.DestinationRow.{DestinationRow}
+use Rattle.table_rows.specs.Rows.{connectionOf, destinationOf}
 use Rattle.state.specs.declared.State.{State}
 use Rattle.state.specs.State.{recordAt}
 use Rattle.send.specs.declared.Transmission.the-variants.{Stored, NoDestination, SwitchedOff, RefusedAt}

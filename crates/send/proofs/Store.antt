@@ -10,15 +10,15 @@ use lib.Seq.{getD-set-other}
 use borrow.Author.Tests.{eqb-true, eq-eqb, ne-eqb}
 use Rattle.connection.specs.declared.Connection.{Connection}
 use Rattle.connection.specs.Connection.{zeroRecord}
-use Rattle.destination.specs.Destination.{sentOf}
+use Rattle.send_destination.specs.Destination.{sentOf}
 use Rattle.lists.proofs.Both.{and-left}
 use Rattle.lists.proofs.Each.{part-kept}
 use Rattle.lists.proofs.Fold.{Folded, fold-start, fold-on, fold-ended}
-use Rattle.outbox.specs.Outbox.{appendedOf}
-use Rattle.outbox.proofs.Laid.{appended-is}
+use Rattle.send_outbox.specs.Outbox.{appendedOf}
+use Rattle.send_outbox.proofs.Laid.{appended-is}
 use Rattle.switches.specs.Switches.{isOn}
-use Rattle.rows.specs.declared.DestinationRow.{DestinationRow}
-use Rattle.rows.specs.Rows.{destinationOf}
+use Rattle.table_rows.specs.declared.DestinationRow.{DestinationRow}
+use Rattle.table_rows.specs.Rows.{destinationOf}
 use Rattle.state.specs.declared.State.{State}
 use Rattle.state.specs.State.{recordAt, withRecord}
 use Rattle.send.specs.Send.{destinations, Sending, sending, appendOf, wantedAt, storeOf, storeAll, Ready}

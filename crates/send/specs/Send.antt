@@ -7,18 +7,18 @@ use mathlib.Core.List.{List}
 use lib.Dec.{eqb}
 use lib.ListN.{length}
 use Rattle.frame.specs.Frame.{frame}
-use Rattle.layout.specs.Layout.{bodyOf}
-use Rattle.layout.specs.declared.Kind.the-variants.{Destination}
+use Rattle.table_layout.specs.Layout.{bodyOf}
+use Rattle.table_layout.specs.declared.Kind.the-variants.{Destination}
 use Rattle.lists.specs.Fold.{foldFrom}
 use Rattle.switches.specs.Switches.{isOn}
-use Rattle.rows.specs.declared.DestinationRow.{DestinationRow}
-use Rattle.rows.specs.Rows.{connectionOf, destinationOf}
+use Rattle.table_rows.specs.declared.DestinationRow.{DestinationRow}
+use Rattle.table_rows.specs.Rows.{connectionOf, destinationOf}
 use Rattle.state.specs.declared.State.{State}
 use Rattle.state.specs.State.{recordAt, withRecord}
 use Rattle.wire.specs.Lay.{lay}
 use Rattle.send.specs.declared.Transmission.{Transmission}
 use Rattle.send.specs.declared.Transmitted.{Transmitted}
-use Rattle.destination.specs.Destination.{lookOf, sentOf}
+use Rattle.send_destination.specs.Destination.{lookOf, sentOf}
 use Rattle.send.specs.Verdict.{verdictOf, isStored}
 
 -- the destination rows of an image

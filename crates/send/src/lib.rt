@@ -13,8 +13,8 @@ ghost use Rattle.send.specs.Send.{
   Roomy,
 };
 use connection::Refusal;
-use layout::Kind;
 use state::State;
+use table_layout::Kind;
 
 // What a transmit is answered: header and payload stored at each destination, or why they are stored at none.
 pub enum Transmission {
@@ -57,20 +57,20 @@ fn check_all(image: &[u8], s: State, pdu: u16, len: usize) -> Transmission
     requires { ⌜ Ready (now image) ⌝ }
     ensures { λ r. ⌜ r ≡ checkOf (now (image .entry)) s pdu len ⌝ }
 {
-    let body = layout::body_of(image, Kind::Destination);
+    let body = table_layout::body_of(image, Kind::Destination);
     let n = body.len() / 16;
     let mut seen: u8 = 5;
     let mut i: usize = 0;
     while i < n {
-        let d = rows::destination_in(body, i);
+        let d = table_rows::destination_in(body, i);
         if d.pdu != pdu {
             i += 1;
             continue;
         }
         let k = d.connection as usize;
         let c = s.connections[k];
-        let row = rows::connection_row(image, k);
-        let found = destination::look(d, c, row.size, len);
+        let row = table_rows::connection_row(image, k);
+        let found = send_destination::look(d, c, row.size, len);
         let refuses = !((found == 0) | ((found == 5) | (found == 6)));
         if refuses {
             return Transmission::RefusedAt {
@@ -90,26 +90,26 @@ fn store_all(image: &[u8], s: State, tx: &mut [u8], pdu: u16, payload: &[u8]) ->
     ensures { λ r. ⌜ r ≡ storeAll (now (image .entry)) s pdu (now (payload .entry)) (now (tx .entry)) .state ⌝ }
     ensures { λ _. ⌜ now (tx .exit) ≡ storeAll (now (image .entry)) s pdu (now (payload .entry)) (now (tx .entry)) .memory ⌝ }
 {
-    let body = layout::body_of(image, Kind::Destination);
+    let body = table_layout::body_of(image, Kind::Destination);
     let n = body.len() / 16;
     let mut next = s;
     let mut i: usize = 0;
     while i < n {
-        let d = rows::destination_in(body, i);
+        let d = table_rows::destination_in(body, i);
         if d.pdu != pdu {
             i += 1;
             continue;
         }
         let k = d.connection as usize;
         let c = next.connections[k];
-        let on = route::is_on(d.groups, c.switches);
+        let on = receive_route::is_on(d.groups, c.switches);
         if !on {
             i += 1;
             continue;
         }
         let used = c.used as usize;
-        outbox::append(tx, k * 1472 + used, d.id, payload);
-        let after = destination::sent(c, d, (used + 8 + payload.len()) as u16);
+        send_outbox::append(tx, k * 1472 + used, d.id, payload);
+        let after = send_destination::sent(c, d, (used + 8 + payload.len()) as u16);
         next.connections[k] = after;
         i += 1;
     }

@@ -4,15 +4,15 @@ ghost use mathlib.Core.Path.{_≡_};
 ghost use lib.ListN.{length};
 ghost use Rattle.frame.specs.Framing.{framedNumber, framingOf, framedOut};
 ghost use Rattle.table.specs.Table.{checkTable, answerNumber, answerPlace};
-ghost use Rattle.tablewalk.specs.declared.Numbers.{Numbers};
-ghost use Rattle.tablewalk.specs.TableWalk.{tableWalkOf, walkNumber, nextAfter, valueAfter};
+ghost use Rattle.soad_walk.specs.declared.Numbers.{Numbers};
+ghost use Rattle.soad_walk.specs.TableWalk.{tableWalkOf, walkNumber, nextAfter, valueAfter};
 use frame::framing;
 use frame::number_of;
+use soad_walk::TableWalk;
+use soad_walk::numbers_of;
+use soad_walk::walk_table;
 use table::TableAnswer;
 use table::check_table;
-use tablewalk::TableWalk;
-use tablewalk::numbers_of;
-use tablewalk::walk_table;
 
 // The table check: 0 accepted, and the place stays as it was; 1 refused, and the place is that of R1.10.
 #[no_mangle]

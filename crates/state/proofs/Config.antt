@@ -2,8 +2,8 @@
 use Prim.Native.Nat.{ℕ}
 use mathlib.Core.Path.{_≡_, refl, _∙_}
 use mathlib.Core.List.{List}
-use Rattle.layout.specs.Layout.{bodyOf}
-use Rattle.layout.specs.declared.Kind.the-variants.{Group, Connection}
+use Rattle.table_layout.specs.Layout.{bodyOf}
+use Rattle.table_layout.specs.declared.Kind.the-variants.{Group, Connection}
 use Rattle.connection.specs.declared.Config.{Config}
 use Rattle.state.specs.Fresh.{configIn, configOf}
 

@@ -7,7 +7,7 @@ use native.Mathlib.Omega.{arith}
 use lib.ListN.{length, take, drop}
 use Rattle.wire.specs.Lay.{lay}
 use Rattle.wire.proofs.Lay.{lay-before, lay-after, lay-own}
-use Rattle.layout.proofs.Parts.{row-below}
+use Rattle.table_layout.proofs.Parts.{row-below}
 use Rattle.state.specs.Memory.{stretch}
 
 pub stretch-apart : (size k : ℕ) (memory : List ℕ) (at : ℕ) (x : List ℕ) → k * size ≤ at → at + length x ≤ k * size + size

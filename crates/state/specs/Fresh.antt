@@ -4,9 +4,9 @@ use lib.Dec.{eqb}
 use lib.ListN.{replicate}
 use mathlib.Core.List.{List}
 use Rattle.lists.specs.Each.{each}
-use Rattle.rows.specs.declared.ConnectionRow.{ConnectionRow}
-use Rattle.rows.specs.declared.GroupRow.{GroupRow}
-use Rattle.rows.specs.Rows.{groupIn, connectionIn, connectionOf, groupOf}
+use Rattle.table_rows.specs.declared.ConnectionRow.{ConnectionRow}
+use Rattle.table_rows.specs.declared.GroupRow.{GroupRow}
+use Rattle.table_rows.specs.Rows.{groupIn, connectionIn, connectionOf, groupOf}
 use Rattle.connection.specs.declared.Connection.{Connection}
 use Rattle.connection.specs.declared.Config.{Config}
 use Rattle.connection.specs.Connection.{freshOf, zeroRecord}

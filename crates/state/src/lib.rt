@@ -6,12 +6,12 @@ ghost use Rattle.state.specs.Fresh.{configFrom, configIn, configOf, fres
 use connection::Config;
 use connection::Connection;
 use connection::Remote;
-use rows::ConnectionRow;
-use rows::GroupRow;
-use rows::connection_in;
-use rows::connection_row;
-use rows::group_in;
-use rows::group_row;
+use table_rows::ConnectionRow;
+use table_rows::GroupRow;
+use table_rows::connection_in;
+use table_rows::connection_row;
+use table_rows::group_in;
+use table_rows::group_row;
 
 pub struct State {
     pub connections: [Connection; 16],

@@ -10,12 +10,12 @@ use borrow.Author.Tests.{leb-true, ltb-true, eqb-true, eq-eqb, not-true}
 use Rattle.wire.specs.Be.{be}
 use Rattle.lists.proofs.Both.{and-left, and-right, and3, and4, and-both}
 use Rattle.lists.proofs.Search.{none-bad, every-at}
-use Rattle.layout.specs.Layout.{number, mostRows, entryAt, rowsOf, startOf, endOf, rowAt, bodyOf, rowOf, Laid}
-use Rattle.layout.specs.declared.Kind.{Kind}
-use Rattle.layout.specs.declared.Kind.the-variants.{Group, Connection, Route, Destination}
-use Rattle.rows.specs.Rows.{groupRow, connectionRow, routeRow, destinationRow}
-use Rattle.rows.specs.Rules.{groupGood, connectionGood, routeGood, destinationGood, sizeIn, routesShare, destinationsShare}
-use Rattle.scan.specs.Scan.{share, clearIn, goodIn}
+use Rattle.table_layout.specs.Layout.{number, mostRows, entryAt, rowsOf, startOf, endOf, rowAt, bodyOf, rowOf, Laid}
+use Rattle.table_layout.specs.declared.Kind.{Kind}
+use Rattle.table_layout.specs.declared.Kind.the-variants.{Group, Connection, Route, Destination}
+use Rattle.table_rows.specs.Rows.{groupRow, connectionRow, routeRow, destinationRow}
+use Rattle.table_rows.specs.Rules.{groupGood, connectionGood, routeGood, destinationGood, sizeIn, routesShare, destinationsShare}
+use Rattle.table_scan.specs.Scan.{share, clearIn, goodIn}
 use Rattle.table.specs.Table.{entryGood, rule, rowGood, badRow, demand, rowsPlace, entriesPlace, headPlace, allRowsPlace, checkTable}
 use Rattle.table.specs.Accepts.{Accepts}
 use Rattle.table.specs.declared.TableAnswer.the-variants.{Accepted}

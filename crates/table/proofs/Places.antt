@@ -7,13 +7,13 @@ use lib.Dec.{leb}
 use lib.ListN.{length}
 use borrow.Author.Tests.{le-leb, lt-leb}
 use Rattle.lists.specs.Search.{firstBad}
-use Rattle.layout.specs.Layout.{rowBytes, rowsOf, startOf, rowAt, bodyOf, Laid}
-use Rattle.layout.proofs.Parts.{body-rows}
-use Rattle.layout.specs.declared.Kind.{Kind}
-use Rattle.layout.specs.declared.Kind.the-variants.{Group, Connection, Route, Destination}
-use Rattle.rows.specs.Rules.{groupGood, connectionGood, routeGood, destinationGood, sizeIn}
-use Rattle.scan.specs.declared.BadRows.{BadRows}
-use Rattle.scan.specs.Scan.{share, goodIn, badRows}
+use Rattle.table_layout.specs.Layout.{rowBytes, rowsOf, startOf, rowAt, bodyOf, Laid}
+use Rattle.table_layout.proofs.Parts.{body-rows}
+use Rattle.table_layout.specs.declared.Kind.{Kind}
+use Rattle.table_layout.specs.declared.Kind.the-variants.{Group, Connection, Route, Destination}
+use Rattle.table_rows.specs.Rules.{groupGood, connectionGood, routeGood, destinationGood, sizeIn}
+use Rattle.table_scan.specs.declared.BadRows.{BadRows}
+use Rattle.table_scan.specs.Scan.{share, goodIn, badRows}
 use Rattle.table.specs.Table.{rule, demand, thenCheck, rowsPlace}
 use Rattle.table.specs.declared.TableAnswer.{TableAnswer}
 use Rattle.table.specs.declared.TableAnswer.the-variants.{Accepted, Refused}

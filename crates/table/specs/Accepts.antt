@@ -3,10 +3,10 @@ use Prim.Native.Nat.{ℕ, _+_, _<_, _≤_}
 use mathlib.Core.Path.{_≡_}
 use mathlib.Core.List.{List}
 use Rattle.wire.specs.Be.{be}
-use Rattle.layout.specs.Layout.{mostRows, rowsOf, rowOf, Laid}
-use Rattle.layout.specs.declared.Kind.{Kind}
-use Rattle.layout.specs.declared.Kind.the-variants.{Group, Connection, Route, Destination}
-use Rattle.rows.specs.Rows.{groupOf, connectionOf, routeOf, destinationOf}
+use Rattle.table_layout.specs.Layout.{mostRows, rowsOf, rowOf, Laid}
+use Rattle.table_layout.specs.declared.Kind.{Kind}
+use Rattle.table_layout.specs.declared.Kind.the-variants.{Group, Connection, Route, Destination}
+use Rattle.table_rows.specs.Rows.{groupOf, connectionOf, routeOf, destinationOf}
 
 pub record Accepts (s : List ℕ) : Type 0 where
   -- the bodies are all there and nothing else; no kind has too many rows

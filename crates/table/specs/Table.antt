@@ -6,11 +6,11 @@ use lib.ListN.{length}
 use lib.Dec.{leb, eqb}
 use Rattle.wire.specs.Be.{be}
 use Rattle.lists.specs.Search.{firstBad}
-use Rattle.layout.specs.Layout.{number, mostRows, entryAt, rowBytes, rowsOf, startOf, endOf, rowAt, bodyOf, bodyAt}
-use Rattle.layout.specs.declared.Kind.{Kind}
-use Rattle.layout.specs.declared.Kind.the-variants.{Group, Connection, Route, Destination}
-use Rattle.rows.specs.Rules.{groupGood, connectionGood, routeGood, destinationGood, sizeIn}
-use Rattle.scan.specs.Scan.{share, goodIn}
+use Rattle.table_layout.specs.Layout.{number, mostRows, entryAt, rowBytes, rowsOf, startOf, endOf, rowAt, bodyOf, bodyAt}
+use Rattle.table_layout.specs.declared.Kind.{Kind}
+use Rattle.table_layout.specs.declared.Kind.the-variants.{Group, Connection, Route, Destination}
+use Rattle.table_rows.specs.Rules.{groupGood, connectionGood, routeGood, destinationGood, sizeIn}
+use Rattle.table_scan.specs.Scan.{share, goodIn}
 use Rattle.table.specs.declared.TableAnswer.{TableAnswer}
 use Rattle.table.specs.declared.TableAnswer.the-variants.{Accepted, Refused}
 

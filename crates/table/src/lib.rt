@@ -5,7 +5,7 @@ ghost use mathlib.Core.List.{[]};
 ghost use lib.Dec.{leb};
 ghost use denote.Ref.{ptr};
 ghost use Rattle.wire.specs.Place.{behind};
-ghost use Rattle.layout.specs.Layout.{rowsOf, rowAt, bodyOf, bodyAt, Laid};
+ghost use Rattle.table_layout.specs.Layout.{rowsOf, rowAt, bodyOf, bodyAt, Laid};
 ghost use Rattle.table.specs.Table.{
   headGood,
   entryGood,
@@ -20,18 +20,18 @@ ghost use Rattle.table.specs.Table.{
   bodyAnswer,
   bodyAnswerAt,
 };
-use layout::Kind;
-use layout::body_of;
-use layout::end_of;
-use layout::entry_at;
-use layout::kind_number;
-use layout::most_rows;
-use layout::row_bytes;
-use layout::rows_of;
-use layout::start_of;
-use scan::first_bad_connection;
-use scan::first_bad_group;
-use scan::first_bad_rows;
+use table_layout::Kind;
+use table_layout::body_of;
+use table_layout::end_of;
+use table_layout::entry_at;
+use table_layout::kind_number;
+use table_layout::most_rows;
+use table_layout::row_bytes;
+use table_layout::rows_of;
+use table_layout::start_of;
+use table_scan::first_bad_connection;
+use table_scan::first_bad_group;
+use table_scan::first_bad_rows;
 use wire::be16;
 use wire::be32;
 

@@ -9,8 +9,8 @@
 // Proved to be safe and to return; the words are tried by stored output.
 ghost use Prim.Native.Nat.{_-_, _≤_};
 ghost use lib.ListN.{length};
-use layout::part_of;
 use pieces::put_piece;
+use table_layout::part_of;
 use text::decimal;
 use text::hex;
 use wire::be8;

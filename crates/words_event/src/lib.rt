@@ -1,8 +1,8 @@
 // An event and its answer as words, from the event's number, the bytes of its body and those of its answer (docs/EVENTS.md; the patterns are
 // those of crate words). Proved to be safe and to return; the words are tried by stored output.
-use calls::bytes_from;
-use layout::part_of;
+use event_decode::bytes_from;
 use pieces::after;
+use table_layout::part_of;
 use wire::be8;
 use wire::be16;
 use wire::be32;

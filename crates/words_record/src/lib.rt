@@ -2,9 +2,9 @@
 // first as a start state spells it. Proved to be safe and to return; the words are tried by stored output.
 use connection::Connection;
 use connection::Mode;
-use layout::part_of;
-use part::Part;
 use pieces::front;
+use receive_part::Part;
+use table_layout::part_of;
 use wire::be8;
 use wire::be16;
 use wire::put8;

@@ -1,10 +1,10 @@
 // Why a table image is refused, as a line of text: the byte, the spot, and the first test that fails there with the numbers found and asked (the
-// patterns are those of crate words). Spot and test are proved (crate reason); the words are tried by stored output.
-use layout::Kind;
-use layout::kind_number;
-use reason::Fault;
-use reason::Spot;
-use reason::reason_of;
+// patterns are those of crate words). Spot and test are proved (crate table_fault); the words are tried by stored output.
+use table_fault::Fault;
+use table_fault::Spot;
+use table_fault::reason_of;
+use table_layout::Kind;
+use table_layout::kind_number;
 use wire::be8;
 use wire::put8;
 use wire::put32;

@@ -1,4 +1,4 @@
-//! Cases of the program `takes` made smaller: segments and table rows left out, segments shortened, numbers towards 0.
+//! Cases of the program `test_takes` made smaller: segments and table rows left out, segments shortened, numbers towards 0.
 
 use super::image::{Image, CONNECTIONS};
 use super::Kind;

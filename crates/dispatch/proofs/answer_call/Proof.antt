@@ -2,9 +2,9 @@
 use mathlib.Core.Path.{refl}
 use Rattle.gate.specs.Lent.{loan}
 use Rattle.dispatch.specs.Dispatch.{effectOf}
-use Rattle.answer_events.specs.Events.{ownEffect, lostEffect, ticksEffect, switchAllEffect, readEffect, clearEffect}
-use Rattle.answer_receive.proofs.Room.{segment-sent, walk-kept}
-use Rattle.answer_send.specs.Send.{datagramEffect, acceptEffect, transmitEffect, takeEffect}
+use Rattle.dispatch_events.specs.Events.{ownEffect, lostEffect, ticksEffect, switchAllEffect, readEffect, clearEffect}
+use Rattle.dispatch_receive.proofs.Room.{segment-sent, walk-kept}
+use Rattle.dispatch_send.specs.Send.{datagramEffect, acceptEffect, transmitEffect, takeEffect}
 use borrow.Author.Needs.{needs}
 use Rattle.dispatch.proofs.answer_call.Statement.{statement}
 use Rattle.dispatch.proofs.answer_call.Tie as tie

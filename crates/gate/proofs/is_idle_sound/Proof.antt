@@ -1,7 +1,7 @@
 -- `gate::is_idle_sound` meets its contract.
 use denote.Ref.{now}
 use borrow.Author.Needs.{needs}
-use Rattle.rows.specs.Rules.{sizeIn}
+use Rattle.table_rows.specs.Rules.{sizeIn}
 use Rattle.gate.proofs.Idle.{idle-without, idle-with}
 use Rattle.gate.proofs.is_idle_sound.Statement.{statement}
 use Rattle.gate.proofs.is_idle_sound.Tie as tie

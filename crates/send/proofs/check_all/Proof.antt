@@ -7,7 +7,7 @@ use denote.Ref.{now}
 use lib.ListN.{length}
 use borrow.Author.Needs.{needs}
 use borrow.Author.Tests.{not-true, not-false}
-use Rattle.rows.specs.Rows.{destinationIn, destinationOf}
+use Rattle.table_rows.specs.Rows.{destinationIn, destinationOf}
 use Rattle.send.specs.declared.Transmission.the-variants.{RefusedAt}
 use Rattle.send.specs.Verdict.{passes, joinOf}
 use Rattle.send.specs.Send.{destinations, lookAt, checkOf}

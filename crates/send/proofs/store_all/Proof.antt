@@ -11,8 +11,8 @@ use mir.Val.{Fits}
 use lib.ListN.{length}
 use borrow.Author.Needs.{needs}
 use borrow.Author.Tests.{not-true, not-false}
-use Rattle.rows.specs.declared.DestinationRow.{DestinationRow}
-use Rattle.rows.specs.Rows.{destinationIn, destinationOf}
+use Rattle.table_rows.specs.declared.DestinationRow.{DestinationRow}
+use Rattle.table_rows.specs.Rows.{destinationIn, destinationOf}
 use Rattle.state.specs.State.{recordAt}
 use Rattle.send.specs.Send.{destinations, Sending, wantedAt, storeAll}
 use Rattle.send.proofs.Store.{Storing, store-start, store-skip, store-on, store-end, wanted-other, wanted-own}

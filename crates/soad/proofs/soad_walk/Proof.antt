@@ -1,7 +1,7 @@
 -- `soad::soad_walk` meets its contract.
 use mathlib.Core.Path.{refl, sym, ap, _∙_}
 use borrow.Author.Needs.{needs}
-use Rattle.tablewalk.specs.declared.Numbers.{Numbers}
+use Rattle.soad_walk.specs.declared.Numbers.{Numbers}
 use Rattle.soad.proofs.soad_walk.Statement.{statement}
 use Rattle.soad.proofs.soad_walk.Tie as tie
 

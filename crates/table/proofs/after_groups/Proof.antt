@@ -2,7 +2,7 @@
 use Rattle.table.proofs.Answers.{then-refused, then-accepted}
 use Rattle.table.proofs.Places.{connections-place}
 use Rattle.table.specs.Table.{rowsPlace}
-use Rattle.layout.specs.declared.Kind.the-variants.{Connection}
+use Rattle.table_layout.specs.declared.Kind.the-variants.{Connection}
 use mathlib.Core.Path.{sym, _∙_}
 use borrow.Author.Needs.{needs}
 use Rattle.table.proofs.after_groups.Statement.{statement}

@@ -2,7 +2,7 @@
 use Rattle.table.proofs.Answers.{then-refused, then-accepted}
 use Rattle.table.proofs.Places.{groups-place}
 use Rattle.table.specs.Table.{rowsPlace, allRowsPlace}
-use Rattle.layout.specs.declared.Kind.the-variants.{Group}
+use Rattle.table_layout.specs.declared.Kind.the-variants.{Group}
 use mathlib.Core.Path.{sym, _∙_}
 use borrow.Author.Needs.{needs}
 use Rattle.table.proofs.all_rows_place.Statement.{statement}

@@ -1,6 +1,6 @@
 -- `table::check_table` meets its contract.
 use Rattle.table.specs.Table.{checkTable, thenCheck}
-use Rattle.layout.specs.Layout.{endOf}
+use Rattle.table_layout.specs.Layout.{endOf}
 use native.Mathlib.Omega.{arith}
 use denote.Ref.{now}
 use borrow.Author.Tests.{le-leb, lt-leb, eq-eqb, ne-eqb}

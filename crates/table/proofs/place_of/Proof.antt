@@ -1,6 +1,6 @@
 -- `table::place_of` meets its contract.
 use Rattle.table.proofs.Places.{no-place, some-place}
-use Rattle.layout.proofs.Parts.{product-small}
+use Rattle.table_layout.proofs.Parts.{product-small}
 use native.Mathlib.Omega.{arith}
 use borrow.Author.Needs.{needs}
 use Rattle.table.proofs.place_of.Statement.{statement}

@@ -1,0 +1,297 @@
+// One call of an entry point, by what it is (main.rt lists them), with the state as the next call is to find it.
+use connection::Answer;
+use connection::Remote;
+use entry_events::CountAnswer;
+use entry_receive::segment_take;
+use entry_receive::walk_datagram;
+use event_answer::Verdict;
+use event_decode::bytes_from;
+use pieces::front;
+use receive_stream::Outcome;
+use select::Arrival;
+use send::Transmission;
+use send_waiting::Taking;
+use send_waiting::waiting_of;
+use state::State;
+use wire::be8;
+use wire::be16;
+
+// Whether the call did what it names, and the state for the next.
+pub struct Turn {
+    pub done: bool,
+    pub state: State,
+}
+
+fn gate_alone(image: &[u8], state: State, rx: &[u8], tx: &[u8]) -> Turn {
+    let counted = entry_events::read_count(image, state, rx, tx, 1);
+    let answer = counted.answer;
+    let after = counted.state;
+    let done = if let CountAnswer::Count(_) = answer {
+        true
+    } else {
+        false
+    };
+    Turn {
+        done: done,
+        state: after,
+    }
+}
+
+fn is_pdu(outcome: Outcome) -> bool {
+    if let Outcome::Pdu {
+        route: _,
+        id: _,
+        in_segment: _,
+        at: _,
+        length: _,
+    } = outcome {
+        true
+    } else {
+        false
+    }
+}
+
+fn take(
+    image: &[u8],
+    state: State,
+    rx: &mut [u8],
+    tx: &[u8],
+    connection: u8,
+    segment: &[u8],
+) -> Turn {
+    let taken = segment_take(image, state, rx, tx, connection, segment);
+    let outcome = taken.outcome;
+    let after = taken.state;
+    Turn {
+        done: is_pdu(outcome),
+        state: after,
+    }
+}
+
+fn take_cut(
+    image: &[u8],
+    state: State,
+    rx: &mut [u8],
+    tx: &[u8],
+    connection: u8,
+    bytes: &[u8],
+) -> Turn {
+    let middle = bytes.len() / 2;
+    let first = take(image, state, rx, tx, connection, front(bytes, middle));
+    let between = first.state;
+    let second = take(
+        image,
+        between,
+        rx,
+        tx,
+        connection,
+        bytes_from(bytes, middle),
+    );
+    let after = second.state;
+    Turn {
+        done: !first.done & second.done,
+        state: after,
+    }
+}
+
+fn walk(image: &[u8], state: State, rx: &[u8], tx: &[u8], connection: u8, datagram: &[u8]) -> Turn {
+    let walked = walk_datagram(image, state, rx, tx, connection, datagram, 0);
+    let outcome = walked.outcome;
+    let after = walked.state;
+    let done = if let receive_datagram::Outcome::Pdu {
+        route: _,
+        id: _,
+        at: _,
+        length: _,
+    } = outcome {
+        true
+    } else {
+        false
+    };
+    Turn {
+        done: done,
+        state: after,
+    }
+}
+
+// A state in which connection n holds so many bytes to send, and no timer runs.
+fn holding(state: State, n: usize, used: u16) -> State {
+    if n < 16 {
+        let c = state.connections[n];
+        let mut next = state;
+        next.connections[n] = c.with_send(used, 0, false);
+        return next;
+    }
+    state
+}
+
+// A state in which connection n and the next one hold nothing to send.
+fn emptied(state: State, n: usize) -> State {
+    if n < 15 {
+        let first = state.connections[n];
+        let second = state.connections[n + 1];
+        let mut next = state;
+        next.connections[n] = first.with_send(0, 0, false);
+        next.connections[n + 1] = second.with_send(0, 0, false);
+        return next;
+    }
+    state
+}
+
+fn transmit(
+    image: &[u8],
+    state: State,
+    rx: &[u8],
+    tx: &mut [u8],
+    connection: u8,
+    pdu: u16,
+    payload: &[u8],
+) -> Turn {
+    let sent = entry_send::transmit(image, state, rx, tx, pdu, payload);
+    let answer = sent.answer;
+    let after = sent.state;
+    let done = if let Transmission::Stored = answer {
+        true
+    } else {
+        false
+    };
+    Turn {
+        done: done,
+        state: emptied(after, connection as usize),
+    }
+}
+
+fn take_waiting(
+    image: &[u8],
+    state: State,
+    rx: &[u8],
+    tx: &[u8],
+    out: &mut [u8],
+    connection: u8,
+    used: u16,
+) -> Turn {
+    let before = holding(state, connection as usize, used);
+    let taken = entry_send::take_waiting(image, before, rx, tx, connection, out);
+    let answer = taken.answer;
+    let after = taken.state;
+    let done = if let Taking::Bytes { count, remote: _ } = answer {
+        count == used
+    } else {
+        false
+    };
+    let last = last_of(waiting_of(tx, connection, used));
+    Turn {
+        done: done & (last == last_of(front(out, used as usize))),
+        state: after,
+    }
+}
+
+// The last of some bytes: it tells whether they were copied.
+fn last_of(bytes: &[u8]) -> usize {
+    let n = bytes.len();
+    if n == 0 {
+        return 0;
+    }
+    be8(bytes, n - 1)
+}
+
+fn tick(image: &[u8], state: State, rx: &[u8], tx: &[u8]) -> Turn {
+    let ticked = entry_ticks::tick(image, state, rx, tx);
+    let answer = ticked.answer;
+    let after = ticked.state;
+    let done = if let Answer::Done = answer {
+        true
+    } else {
+        false
+    };
+    Turn {
+        done: done,
+        state: after,
+    }
+}
+
+fn arrive(image: &[u8], state: State, rx: &[u8], tx: &[u8], connection: u8) -> Turn {
+    let row = table_rows::connection_row(image, connection as usize);
+    let source = Remote {
+        address: row.address,
+        port: row.port,
+    };
+    let arrived = entry_arrivals::datagram(image, state, rx, tx, row.group, source);
+    let answer = arrived.answer;
+    let after = arrived.state;
+    let done = if let Arrival::Met(met) = answer {
+        met == connection
+    } else {
+        false
+    };
+    Turn {
+        done: done,
+        state: after,
+    }
+}
+
+// An event through the dispatcher, which writes its answer to the out buffer.
+fn dispatched(
+    image: &[u8],
+    state: State,
+    rx: &mut [u8],
+    tx: &mut [u8],
+    out: &mut [u8],
+    number: u16,
+    body: &[u8],
+) -> Turn {
+    let got = dispatch::dispatch(image, state, rx, tx, number, body, out);
+    let verdict = got.verdict;
+    let after = got.state;
+    let whole = if let Verdict::Done(_) = verdict {
+        true
+    } else {
+        false
+    };
+    Turn {
+        done: whole & (be16(out, 0) == 0),
+        state: after,
+    }
+}
+
+// The call that a number names; an unknown one does nothing, and says so.
+pub fn once(
+    what: u8,
+    image: &[u8],
+    state: State,
+    rx: &mut [u8],
+    tx: &mut [u8],
+    out: &mut [u8],
+    connection: u8,
+    pdu: u16,
+    used: u16,
+    bytes: &[u8],
+) -> Turn {
+    match what {
+        0 => Turn {
+            done: true,
+            state: state,
+        },
+        1 => gate_alone(image, state, rx, tx),
+        2 => take(image, state, rx, tx, connection, bytes),
+        3 => take_cut(image, state, rx, tx, connection, bytes),
+        4 => walk(image, state, rx, tx, connection, bytes),
+        5 => transmit(image, state, rx, tx, connection, pdu, bytes),
+        6 => take_waiting(image, state, rx, tx, out, connection, used),
+        7 => tick(image, state, rx, tx),
+        8 => arrive(image, state, rx, tx, connection),
+        9 => dispatched(image, state, rx, tx, out, pdu, bytes),
+        69 => Turn {
+            done: true,
+            state: emptied(state, connection as usize),
+        },
+        70 => Turn {
+            done: true,
+            state: holding(state, connection as usize, used),
+        },
+        _ => Turn {
+            done: false,
+            state: state,
+        },
+    }
+}

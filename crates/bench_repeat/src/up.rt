@@ -1,0 +1,62 @@
+// The state before the first call: each connection opened, a tick, each connected; where it is to be busy, each holds bytes to send.
+use connection::Event;
+use state::State;
+use state::fresh_state;
+use table_layout::Kind;
+use table_layout::rows_of;
+
+// An event on each connection.
+fn each(image: &[u8], state: State, rx: &[u8], tx: &[u8], event: Event) -> State {
+    let mut next = state;
+    let mut i: u8 = 0;
+    while i < 16 {
+        let told = entry_events::happen(image, next, rx, tx, i, event);
+        next = told.state;
+        i += 1;
+    }
+    next
+}
+
+fn online(image: &[u8], rx: &[u8], tx: &[u8]) -> State {
+    let wanted = each(image, fresh_state(image), rx, tx, Event::Open);
+    let ticked = entry_ticks::tick(image, wanted, rx, tx);
+    let reached = ticked.state;
+    each(image, reached, rx, tx, Event::Connected)
+}
+
+// A state in which connection i, where the table has it, holds ten bytes to send: an even one is due, of an odd one a timer runs.
+fn busied(state: State, i: usize, rows: usize) -> State {
+    if rows <= i {
+        return state;
+    }
+    if 16 <= i {
+        return state;
+    }
+    let c = state.connections[i];
+    let mut next = state;
+    if i % 2 == 0 {
+        next.connections[i] = c.with_send(10, 0, true);
+        return next;
+    }
+    next.connections[i] = c.with_send(10, 65535, false);
+    next
+}
+
+fn busy(rows: usize, state: State) -> State {
+    let mut next = state;
+    let mut i: usize = 0;
+    while i < 16 {
+        next = busied(next, i, rows);
+        i += 1;
+    }
+    next
+}
+
+// All online, and busy where `what` asks for it.
+pub fn start(image: &[u8], rx: &[u8], tx: &[u8], what: u8) -> State {
+    let state = online(image, rx, tx);
+    if what < 128 {
+        return state;
+    }
+    busy(rows_of(image, Kind::Connection), state)
+}

@@ -1,0 +1,73 @@
+-- The answers of the events that write no memory, as bytes (R16.2; docs/EVENTS.md, "The answer").
+use Prim.Native.Nat.{ℕ}
+use mathlib.Core.Bool.{Bool}
+use lib.ListN.{length}
+use mathlib.Core.List.{List}
+use Rattle.connection.specs.declared.Answer.{Answer}
+use Rattle.connection.specs.declared.Answer.the-variants.{Done, Refused}
+use Rattle.entry_events.specs.declared.CountAnswer.{CountAnswer}
+use Rattle.entry_events.specs.declared.CountAnswer.the-variants.{Count, Refused as Uncounted}
+use Rattle.connection.specs.declared.Event.{Event}
+use Rattle.entry_events.specs.declared.Told.{Told}
+use Rattle.entry_events.specs.declared.Loss.{Loss}
+use Rattle.entry_events.specs.declared.Counted.{Counted}
+use Rattle.entry_events.specs.Change.{eventOf, lossOf}
+use Rattle.entry_events.specs.Module.{switchAllOf}
+use Rattle.entry_events.specs.Count.{readOf, clearOf}
+use Rattle.entry_ticks.specs.declared.Ticked.{Ticked}
+use Rattle.entry_ticks.specs.Tick.{ticksEvent}
+use Rattle.gate.specs.Lent.{Loan, sizes}
+use Rattle.event_answer.specs.Answers.{Effect, answers, refusal, doneAlone, doneWith}
+
+-- "any other: nothing"
+abbrev pub toldBytes : Answer → List ℕ
+toldBytes Done = doneAlone
+toldBytes (Refused r) = refusal r
+
+-- "lost: failed (1): 0, kept"
+abbrev pub lossBytes : Answer → List ℕ
+lossBytes Done = doneWith 1 0
+lossBytes (Refused r) = refusal r
+
+-- "n ticks: failed connections (2): 0, kept"
+abbrev pub ticksBytes : Answer → List ℕ
+ticksBytes Done = doneWith 2 0
+ticksBytes (Refused r) = refusal r
+
+-- "counts: value (4)"
+abbrev pub countBytes : CountAnswer → List ℕ
+countBytes (Count v) = doneWith 4 v
+countBytes (Uncounted r) = refusal r
+
+-- what each leaves: the state that its entry point gives, both memories as they were
+abbrev pub toldEffect : Told → List ℕ → List ℕ → List ℕ → Effect
+toldEffect t rx tx out = answers (toldBytes (t .answer)) (t .state) rx tx out
+
+abbrev pub lossEffect : Loss → List ℕ → List ℕ → List ℕ → Effect
+lossEffect t rx tx out = answers (lossBytes (t .answer)) (t .state) rx tx out
+
+abbrev pub ticked : Ticked → List ℕ → List ℕ → List ℕ → Effect
+ticked t rx tx out = answers (ticksBytes (t .answer)) (t .state) rx tx out
+
+abbrev pub countedEffect : Counted → List ℕ → List ℕ → List ℕ → Effect
+countedEffect t rx tx out = answers (countBytes (t .answer)) (t .state) rx tx out
+
+module _ (l : Loan) (out : List ℕ) where
+  -- open, close, connected, set remote, switch
+  unfoldable pub ownEffect : ℕ → Event → Effect
+  ownEffect connection event = toldEffect (eventOf (sizes l) connection event) (l .rx) (l .tx) out
+
+  unfoldable pub lostEffect : ℕ → Effect
+  lostEffect connection = lossEffect (lossOf (sizes l) connection) (l .rx) (l .tx) out
+
+  unfoldable pub ticksEffect : ℕ → Effect
+  ticksEffect count = ticked (ticksEvent (sizes l) count) (l .rx) (l .tx) out
+
+  unfoldable pub switchAllEffect : ℕ → Bool → Effect
+  switchAllEffect number on = toldEffect (switchAllOf (sizes l) number on) (l .rx) (l .tx) out
+
+  unfoldable pub readEffect : ℕ → Effect
+  readEffect protocol = countedEffect (readOf (sizes l) protocol) (l .rx) (l .tx) out
+
+  unfoldable pub clearEffect : ℕ → Effect
+  clearEffect protocol = countedEffect (clearOf (sizes l) protocol) (l .rx) (l .tx) out

@@ -1,0 +1,258 @@
+-- THE WHOLE ANSWER OF A SEGMENT EVENT FITS: whatever the takes find, it has no more bytes than `answerRoom` says, and an out buffer of so
+-- many is not refused. A take after another is never refused. And what is refused for its length.
+use Prim.Native.Nat.{ℕ, zero, suc, _+_, _-_, _*_, _≤_, _<_}
+use mathlib.Core.Path.{_≡_, refl, sym, ap, ap₂, _∙_, subst}
+use mathlib.Core.Bool.{Bool, true, false, cond}
+use mathlib.Core.List.{List}
+use native.Mathlib.Omega.{arith}
+use lib.Dec.{ltb}
+use lib.ListN.{length, getD, drop, length-drop, length-append}
+use lib.Seq.{getD-set-same}
+use borrow.Author.Tests.{ltb-true, lt-ltb, le-ltb}
+use Rattle.lists.proofs.Both.{and-left, and-right}
+use Rattle.wire.specs.Lay.{spell}
+use Rattle.wire.proofs.Spell.{length-spell}
+use Rattle.table_layout.specs.Layout.{bodyOf}
+use Rattle.table_layout.specs.declared.Kind.the-variants.{Route as RouteRows}
+use Rattle.reading.specs.Feed.{Routes, Cell, takeB}
+use Rattle.reading_lengths.specs.Listed.{Bytes}
+use Rattle.reading_lengths.proofs.Bytes.{bytes-drop}
+use Rattle.connection.specs.declared.Connection.{Connection}
+use Rattle.connection.specs.Connection.{zeroRecord, withPart}
+use Rattle.connection.specs.Event.{refusalNumber}
+use Rattle.state.specs.declared.State.{State}
+use Rattle.state.specs.State.{recordAt, withRecord}
+use Rattle.state.specs.Fresh.{configOf}
+use Rattle.receive_route.specs.Route.{lookupOf}
+use Rattle.gate.specs.Lent.{Lent, Loan, sizes, received}
+use Rattle.gate.proofs.Pass.{passed-gate-at}
+use Rattle.receive_stream.specs.Stream.{cellOf, idOf, tookOf, takenOf}
+use Rattle.state.specs.Memory.{stretch}
+use Rattle.entry_receive.specs.declared.Answer.{Answer}
+use Rattle.entry_receive.specs.declared.Answer.the-variants.{Done, Refused, NotReceiving}
+use Rattle.entry_receive.specs.declared.SegmentTaken.{SegmentTaken}
+use Rattle.entry_receive.specs.Answer.{isDone, judgedOf, judgedAnswer}
+use Rattle.entry_receive.specs.Segment.{takenAt, takeOn, memoryOn, noneTaken, segmentAnswer, segmentOf, memoryOf, payloadOf}
+use Rattle.entry_receive.proofs.Answers.{Clear, done-clear}
+use Rattle.entry_receive.proofs.Keeps.{in-range, count-records, take-clear}
+use Rattle.event_answer.specs.declared.Verdict.the-variants.{Unfit, Small}
+use Rattle.event_answer.specs.Answers.{Effect, untouched, doneWith}
+use Rattle.event_answer.proofs.Chain.{length-found}
+use Rattle.dispatch_receive.specs.Long.{longestBody, tooLong}
+use Rattle.dispatch_receive.specs.Walk.{walkedEffect, walkEffect}
+use Rattle.dispatch_receive.specs.Segment.{lends, takeBytes, bytesIfDone, Progress, begun, takeAt, memoryAt, bytesAt, oneTake, takeFollows, takesUpTo, allTakes, eventBytes, takesEffect, answerRoom, segmentEffect}
+use Rattle.dispatch_receive.proofs.Size.{most, most-all, most-least, take-most, take-stops, spent-within, spent-stops}
+
+-- what nothing refuses is done
+clear-done : (l : Lent) (k : ℕ) (allowed : Bool) → Clear l k allowed → isDone (judgedAnswer l k allowed) ≡ true
+unfolding judgedAnswer judgedOf
+clear-done l k allowed c = rw (passed-gate-at l k (c .passed) (c .there), c .allows, c .receives) refl
+
+bytes-of-within : (a : Answer) (x : List ℕ) → length (bytesIfDone a x) ≤ length x
+bytes-of-within Done x = omega arith
+bytes-of-within (Refused r) x = omega arith
+bytes-of-within NotReceiving x = omega arith
+
+-- ONE TAKE over what is left of the segment
+module _ (l : Loan) (k : ℕ) (seg : List ℕ) where
+  abbrev image : List ℕ
+  image = l .image
+
+  abbrev s : State
+  s = l .state
+
+  abbrev rx : List ℕ
+  rx = l .rx
+
+  abbrev answer : Answer
+  answer = segmentAnswer (sizes l) k
+
+  abbrev bytesFrom : ℕ → List ℕ → SegmentTaken → List ℕ
+  bytesFrom from m t = bytesIfDone (t .answer) (takeBytes from (t .read) (t .outcome) (payloadOf seg m k (t .outcome)))
+
+  pub taken-is : isDone answer ≡ true → segmentOf l k seg ≡ takeOn image s rx k seg
+  unfolding segmentOf
+  taken-is e = rw e
+
+  pub memory-is : isDone answer ≡ true → memoryOf l k seg ≡ memoryOn image s rx k seg
+  unfolding memoryOf
+  memory-is e = rw e
+
+  pub none-is : isDone answer ≡ false → segmentOf l k seg ≡ noneTaken s answer
+  unfolding segmentOf
+  none-is e = rw e
+
+  pub memory-stays : isDone answer ≡ false → rx ≡ memoryOf l k seg
+  unfolding memoryOf
+  memory-stays e = rw e
+
+  -- its answer is the gate's
+  pub answer-is : isDone (segmentOf l k seg .answer) ≡ isDone answer
+  unfolding takeOn
+  answer-is = go (isDone answer) refl
+    where
+      go : (b : Bool) → isDone answer ≡ b → isDone (segmentOf l k seg .answer) ≡ isDone answer
+      go true e = ap (λ (t : SegmentTaken). isDone (t .answer)) (taken-is e) ∙ sym e
+      go false e = ap (λ (t : SegmentTaken). isDone (t .answer)) (none-is e)
+
+  on-within : (from : ℕ) (m : List ℕ) → length (bytesFrom from m (takeOn image s rx k seg)) ≤ most (recordAt s k .part)
+  unfolding takeOn takenOf tookOf
+  on-within from m =
+      spent-within from (length seg - length (takeB (lookupOf (bodyOf image RouteRows) k (recordAt s k .switches)) (cellOf (recordAt s k .part) (stretch 1464 k rx)) seg .rest)) seg m k
+      (lookupOf (bodyOf image RouteRows) k (recordAt s k .switches)) (idOf (bodyOf image RouteRows)) (stretch 1464 k rx) (recordAt s k .part)
+
+  none-within : (from : ℕ) (m : List ℕ) → length (bytesFrom from m (noneTaken s answer)) ≤ most (recordAt s k .part)
+  none-within from m = omega (arith, bytes-of-within answer (takeBytes from 0 (noneTaken s answer .outcome) (payloadOf seg m k (noneTaken s answer .outcome))), length-found 0 0 0 0 0, most-least (recordAt s k .part))
+
+  pub take-within : (from : ℕ) (m : List ℕ) → length (bytesFrom from m (segmentOf l k seg)) ≤ most (recordAt s k .part)
+  take-within from m = go (isDone answer) refl
+    where
+      go : (b : Bool) → isDone answer ≡ b → length (bytesFrom from m (segmentOf l k seg)) ≤ most (recordAt s k .part)
+      go true e = subst (λ (t : SegmentTaken). length (bytesFrom from m t) ≤ most (recordAt s k .part)) (sym (taken-is e)) (on-within from m)
+      go false e = subst (λ (t : SegmentTaken). length (bytesFrom from m t) ≤ most (recordAt s k .part)) (sym (none-is e)) (none-within from m)
+
+  -- the record's part after it
+  part-after : isDone answer ≡ true → recordAt (takeOn image s rx k seg .state) k .part ≡ takenAt image s rx k seg .part
+  unfolding takeOn
+  part-after e =
+      ap (λ (cs : List Connection). getD cs k zeroRecord .part) (count-records (takenAt image s rx k seg .outcome) (withRecord k (withPart (takenAt image s rx k seg .part) (recordAt s k)) s))
+      ∙ ap (λ (c : Connection). c .part) (getD-set-same (s .connections) k (withPart (takenAt image s rx k seg .part) (recordAt s k)) zeroRecord
+      (in-range s k (done-clear (sizes l) k (configOf image k .tcp) e .receives)))
+
+  -- where it left bytes there is enough for the next
+  on-goes : (from : ℕ) (m : List ℕ) → isDone answer ≡ true → takeOn image s rx k seg .read < length seg
+      → length (bytesFrom from m (takeOn image s rx k seg)) + most (recordAt (takeOn image s rx k seg .state) k .part) + 3 * (length seg - takeOn image s rx k seg .read)
+      ≤ most (recordAt s k .part) + 3 * length seg
+  unfolding takeOn takenOf tookOf
+  on-goes from m e h =
+      let R : Routes = lookupOf (bodyOf image RouteRows) k (recordAt s k .switches) in
+      let c : Cell = cellOf (recordAt s k .part) (stretch 1464 k rx) in
+      let stopped = take-stops R c seg (omega arith) in
+      omega (
+        arith,
+        ap most (part-after e),
+        take-most R c seg stopped,
+        spent-stops from (length seg - length (takeB R c seg .rest)) seg m k R (idOf (bodyOf image RouteRows)) (stretch 1464 k rx) (recordAt s k .part) stopped,
+      )
+
+  pub take-goes : (from : ℕ) (m : List ℕ) → isDone (segmentOf l k seg .answer) ≡ true → segmentOf l k seg .read < length seg
+      → length (bytesFrom from m (segmentOf l k seg)) + most (recordAt (segmentOf l k seg .state) k .part) + 3 * (length seg - segmentOf l k seg .read)
+      ≤ most (recordAt s k .part) + 3 * length seg
+  take-goes from m d =
+      let e : isDone answer ≡ true = sym answer-is ∙ d in
+      subst (λ (t : SegmentTaken). t .read < length seg → length (bytesFrom from m t) + most (recordAt (t .state) k .part) + 3 * (length seg - t .read) ≤ most (recordAt s k .part) + 3 * length seg)
+      (sym (taken-is e)) (on-goes from m e)
+
+  -- the next take is not refused
+  pub take-next : Bytes seg → isDone (segmentOf l k seg .answer) ≡ true → isDone (segmentAnswer (sizes (received l (segmentOf l k seg .state) (memoryOf l k seg))) k) ≡ true
+  take-next bytes d =
+      let e : isDone answer ≡ true = sym answer-is ∙ d in
+      ap (λ (t : SegmentTaken). isDone (segmentAnswer (sizes (received l (t .state) (memoryOf l k seg))) k)) (taken-is e)
+      ∙ ap (λ (m : List ℕ). isDone (segmentAnswer (sizes (received l (takeOn image s rx k seg .state) m)) k)) (memory-is e)
+      ∙ clear-done (sizes (received l (takeOn image s rx k seg .state) (memoryOn image s rx k seg))) k (configOf image k .tcp)
+      (take-clear l k seg bytes (done-clear (sizes l) k (configOf image k .tcp) e))
+
+-- THE TAKES OF AN EVENT
+module _ (l : Loan) (k : ℕ) (segment : List ℕ) (at : ℕ) where
+  pub bytes-within : length (bytesAt l k segment at) ≤ most (recordAt (l .state) k .part)
+  unfolding bytesAt
+  bytes-within = take-within l k (drop at segment) at (memoryAt l k segment at)
+
+  pub bytes-go : isDone (takeAt l k segment at .answer) ≡ true → at + takeAt l k segment at .read < length segment
+      → length (bytesAt l k segment at) + most (recordAt (takeAt l k segment at .state) k .part) + 3 * (length segment - (at + takeAt l k segment at .read))
+      ≤ most (recordAt (l .state) k .part) + 3 * (length segment - at)
+  unfolding bytesAt
+  bytes-go d h =
+      let e = length-drop at segment in
+      omega (arith, take-goes l k (drop at segment) at (memoryAt l k segment at) d (omega arith))
+
+  pub bytes-next : Bytes segment → isDone (takeAt l k segment at .answer) ≡ true
+      → isDone (segmentAnswer (sizes (received l (takeAt l k segment at .state) (memoryAt l k segment at))) k) ≡ true
+  bytes-next bytes = take-next l k (drop at segment) (bytes-drop at segment bytes)
+
+module _ (l : Loan) (k : ℕ) (segment : List ℕ) where
+  -- from anywhere on
+  run-fits : (n : ℕ) (r : Progress) → length (takesUpTo l k segment n r .bytes) ≤ length (r .bytes) + most (recordAt (r .state) k .part) + 3 * (length segment - r .at)
+  unfolding takesUpTo oneTake
+  run-fits zero r = omega (arith, length-append (r .bytes) (bytesAt (lends l k segment r) k segment (r .at)), bytes-within (lends l k segment r) k segment (r .at))
+  run-fits (suc n) r = go (takeFollows l k segment (oneTake l k segment r)) refl (run-fits n (oneTake l k segment r))
+    where
+      go : (b : Bool) → takeFollows l k segment (oneTake l k segment r) ≡ b
+          → length (takesUpTo l k segment n (oneTake l k segment r) .bytes)
+          ≤ length (oneTake l k segment r .bytes) + most (recordAt (oneTake l k segment r .state) k .part) + 3 * (length segment - oneTake l k segment r .at)
+          → length (cond b (takesUpTo l k segment n (oneTake l k segment r)) (oneTake l k segment r) .bytes)
+          ≤ length (r .bytes) + most (recordAt (r .state) k .part) + 3 * (length segment - r .at)
+      go true e h =
+          omega (
+            arith,
+            h,
+            length-append (r .bytes) (bytesAt (lends l k segment r) k segment (r .at)),
+            bytes-go (lends l k segment r) k segment (r .at) (and-left (isDone (takeAt (lends l k segment r) k segment (r .at) .answer)) (ltb (r .at + takeAt (lends l k segment r) k segment (r .at) .read) (length segment)) e)
+                (ltb-true (r .at + takeAt (lends l k segment r) k segment (r .at) .read) (length segment) (and-right (isDone (takeAt (lends l k segment r) k segment (r .at) .answer)) (ltb (r .at + takeAt (lends l k segment r) k segment (r .at) .read) (length segment)) e)),
+          )
+      go false e h = omega (arith, length-append (r .bytes) (bytesAt (lends l k segment r) k segment (r .at)), bytes-within (lends l k segment r) k segment (r .at))
+
+  -- THE WHOLE ANSWER
+  pub takes-fit : 4 + length (allTakes l k segment .bytes) ≤ answerRoom segment
+  takes-fit = omega (arith, run-fits (length segment) (begun (l .state) (l .rx)), most-all (recordAt (l .state) k .part))
+
+  event-size : (a : Answer) (count : ℕ) (bytes : List ℕ) → 4 + length bytes ≤ answerRoom segment → length (eventBytes a count bytes) ≤ answerRoom segment
+  event-size Done count bytes h = omega (arith, h, length-append (doneWith 2 count) bytes, length-append (spell 2 0) (spell 2 count), length-spell 2 0, length-spell 2 count)
+  event-size (Refused r) count bytes h = omega (arith, length-append (spell 2 (refusalNumber r)) (spell 4 0), length-spell 2 (refusalNumber r), length-spell 4 0)
+  event-size NotReceiving count bytes h = omega (arith, length-append (spell 2 4) (spell 4 0), length-spell 2 4, length-spell 4 0)
+
+  pub event-fits : length (eventBytes (allTakes l k segment .answer) (allTakes l k segment .count) (allTakes l k segment .bytes)) ≤ answerRoom segment
+  event-fits = event-size (allTakes l k segment .answer) (allTakes l k segment .count) (allTakes l k segment .bytes) takes-fit
+
+-- A SEGMENT THAT IS NOT TOO LONG, AND AN OUT BUFFER WITH THAT ROOM, ARE NOT REFUSED
+module _ (l : Loan) (out : List ℕ) (k : ℕ) (segment : List ℕ) where
+  abbrev taken : Effect
+  taken = takesEffect (allTakes l k segment) (l .tx) out
+
+  abbrev judged : Bool → Bool → Effect
+  judged long short = cond long (untouched Unfit (l .state) (l .rx) (l .tx) out) (cond short (untouched Small (l .state) (l .rx) (l .tx) out) taken)
+
+  segment-judged : (long short : Bool) → tooLong segment ≡ long → ltb (length out) (answerRoom segment) ≡ short → segmentEffect l out k segment ≡ judged long short
+  unfolding segmentEffect
+  segment-judged long short e f = ap₂ judged e f
+
+  pub segment-roomy : length segment ≤ longestBody → answerRoom segment ≤ length out → segmentEffect l out k segment ≡ taken
+  segment-roomy short roomy = segment-judged false false (le-ltb longestBody (length segment) short) (le-ltb (length out) (answerRoom segment) roomy)
+
+  pub segment-long : longestBody < length segment → segmentEffect l out k segment ≡ untouched Unfit (l .state) (l .rx) (l .tx) out
+  segment-long long = segment-judged true (ltb (length out) (answerRoom segment)) (lt-ltb longestBody (length segment) long) refl
+
+  pub segment-small : length segment ≤ longestBody → length out < answerRoom segment → segmentEffect l out k segment ≡ untouched Small (l .state) (l .rx) (l .tx) out
+  segment-small short small = segment-judged false true (le-ltb longestBody (length segment) short) (lt-ltb (length out) (answerRoom segment) small)
+
+  -- refused or not, send memory stays
+  pub segment-sent : l .tx ≡ segmentEffect l out k segment .tx
+  unfolding segmentEffect
+  segment-sent = go (tooLong segment) (ltb (length out) (answerRoom segment))
+    where
+      go : (long short : Bool) → l .tx ≡ judged long short .tx
+      go true short = refl
+      go false true = refl
+      go false false = refl
+
+-- .. and so a datagram
+module _ (l : Loan) (out : List ℕ) (k place : ℕ) (datagram : List ℕ) where
+  abbrev either : Bool → Effect
+  either long = cond long (untouched Unfit (l .state) (l .rx) (l .tx) out) (walkedEffect l out k place datagram)
+
+  pub walk-short : length datagram ≤ longestBody → walkEffect l out k place datagram ≡ walkedEffect l out k place datagram
+  unfolding walkEffect
+  walk-short short = rw (le-ltb longestBody (length datagram) short)
+
+  pub walk-long : longestBody < length datagram → walkEffect l out k place datagram ≡ untouched Unfit (l .state) (l .rx) (l .tx) out
+  unfolding walkEffect
+  walk-long long = rw (lt-ltb longestBody (length datagram) long)
+
+  -- refused or not, both memories stay
+  pub walk-kept : (l .rx ≡ walkEffect l out k place datagram .rx) × (l .tx ≡ walkEffect l out k place datagram .tx)
+  unfolding walkEffect
+  walk-kept = go (tooLong datagram)
+    where
+      go : (long : Bool) → (l .rx ≡ either long .rx) × (l .tx ≡ either long .tx)
+      go true = (refl, refl)
+      go false = (refl, refl)

@@ -1,0 +1,22 @@
+-- `entry_receive::may_take` meets its contract.
+use mathlib.Core.Path.{ap, _∙_}
+use Rattle.connection.specs.declared.Config.{Config}
+use Rattle.gate.specs.Lent.{lent}
+use Rattle.entry_receive.specs.Answer.{judgedAnswer}
+use borrow.Author.Needs.{needs}
+use Rattle.entry_receive.proofs.may_take.Statement.{statement}
+use Rattle.entry_receive.proofs.may_take.Tie as tie
+
+config-of-requires : tie.Need-config-of-requires
+config-of-requires c κs = search needs
+
+answer-at-requires : tie.Need-answer-at-requires
+answer-at-requires c κs = search needs
+
+returns : tie.Need-returns
+returns c =
+    let a = c .before .before .before .args in
+    c .answer-at .ensures ∙ ap (λ (g : Config). judgedAnswer (lent (a .image .now) (a .state) (a .rx) (a .tx)) (a .connection) (g .tcp)) (c .before .config-of .ensures)
+
+pub may-take-spec : {M : Type 1} → statement M
+may-take-spec = tie.close (tie.spec config-of-requires answer-at-requires returns)

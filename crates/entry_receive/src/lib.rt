@@ -1,0 +1,294 @@
+// The entry points for what is received: a take of a segment on a TCP connection, the payload that it hands out, and a step of a
+// walk over a datagram on a UDP connection. Each is lent image, state and both memories, and answers any of them.
+// Assumes nothing: no entry relies on its caller.
+ghost use denote.Ref.{ptr};
+ghost use Rattle.wire.specs.Place.{behind, fromAt};
+ghost use mathlib.Core.Path.{_≡_};
+ghost use Prim.Native.Nat.{_*_, _<_};
+ghost use lib.ListN.{length};
+ghost use Rattle.state.specs.Memory.{stretch};
+ghost use Rattle.entry_receive.specs.Answer as Is;
+ghost use Rattle.entry_receive.specs.Segment as Seg;
+ghost use Rattle.entry_receive.specs.Walk as Wk;
+ghost use Rattle.gate.specs.Lent.{lent, loan, lentBy};
+use connection::Connection;
+use connection::Refusal;
+use connection::is_online;
+use gate::Gate;
+use gate::ask_at;
+use receive_stream::Outcome;
+use state::State;
+use state::config_of;
+use state::counted_once;
+use table_layout::Kind;
+use table_layout::body_of;
+
+// 0; 11, 12, 2, 3; 4.
+pub enum Answer {
+    Done,
+    Refused(Refusal),
+    NotReceiving,
+}
+
+// The answer of a take, the bytes read of the segment, what was found there, and the state afterwards.
+pub struct SegmentTaken {
+    pub answer: Answer,
+    pub read: usize,
+    pub outcome: Outcome,
+    pub state: State,
+}
+
+// The answer of a walk, what stands at the place, the next place, and the state afterwards.
+pub struct DatagramWalked {
+    pub answer: Answer,
+    pub outcome: receive_datagram::Outcome,
+    pub next: usize,
+    pub state: State,
+}
+
+fn is_done(answer: Answer) -> bool
+    ensures { λ r. ⌜ r ≡ Is.isDone answer ⌝ }
+{
+    match answer {
+        Answer::Done => true,
+        Answer::Refused(_) => false,
+        Answer::NotReceiving => false,
+    }
+}
+
+// Past the gate: 3, then 4.
+fn judge(allowed: bool, c: Connection) -> Answer
+    ensures { λ r. ⌜ r ≡ Is.judgedOf allowed c ⌝ }
+{
+    let mode = c.mode;
+    let receives = is_online(mode) & !c.close_wanted;
+    if !allowed {
+        return Answer::Refused(Refusal::Denied);
+    }
+    if receives {
+        return Answer::Done;
+    }
+    Answer::NotReceiving
+}
+
+// The gate (11, 12, 2), then 3, then 4.
+fn answer_at(image: &[u8], state: State, rx: usize, tx: usize, n: usize, allowed: bool) -> Answer
+    ensures { λ r. ⌜ r ≡ Is.judgedAnswer (lent (now (image .entry)) state rx tx) n allowed ⌝ }
+{
+    let asked = ask_at(image, state, rx, tx, n);
+    match asked {
+        Gate::Refused(reason) => Answer::Refused(reason),
+        Gate::Pass => {
+            let c = state.connections[n];
+            judge(allowed, c)
+        }
+    }
+}
+
+// What a take on a connection is answered.
+pub fn may_take(image: &[u8], state: State, rx: usize, tx: usize, connection: u8) -> Answer
+    ensures { λ r. ⌜ r ≡ Seg.segmentAnswer (lent (now (image .entry)) state rx tx) connection ⌝ }
+{
+    let n = connection as usize;
+    let config = config_of(image, n);
+    answer_at(image, state, rx, tx, n, config.tcp)
+}
+
+// The TCP count after a take: a drop adds to it.
+pub fn drops_after(outcome: Outcome, drops: u32) -> u32
+    ensures { λ r. ⌜ r ≡ Seg.dropsAfter outcome drops ⌝ }
+{
+    match outcome {
+        Outcome::More => drops,
+        Outcome::Pdu {
+            route: _,
+            id: _,
+            in_segment: _,
+            at: _,
+            length: _,
+        } => drops,
+        Outcome::Drop {
+            reason: _,
+            id: _,
+            length: _,
+        } => counted_once(drops),
+    }
+}
+
+// Past all refusals: the take over the record's part and its stretch of receive memory.
+fn take_on(
+    image: &[u8],
+    mut state: State,
+    rx: &mut [u8],
+    connection: u8,
+    segment: &[u8],
+) -> SegmentTaken
+    requires { ⌜ Seg.Takes (now image) state (now rx) connection ⌝ }
+    ensures { λ r. ⌜ r ≡ Seg.takeOn (now (image .entry)) state (now (rx .entry)) connection (now (segment .entry)) ⌝ }
+    ensures { λ _. ⌜ now (rx .exit) ≡ Seg.memoryOn (now (image .entry)) state (now (rx .entry)) connection (now (segment .entry)) ⌝ }
+{
+    let n = connection as usize;
+    let c = state.connections[n];
+    let part = c.part;
+    let routes = body_of(image, Kind::Route);
+    let start = n * 1464;
+    let end = start + 1464;
+    let taken = receive_stream::take(
+        routes,
+        connection,
+        c.switches,
+        part,
+        &mut rx[start..end],
+        segment,
+    );
+    let left = taken.part;
+    let outcome = taken.outcome;
+    state.connections[n] = c.with_part(left);
+    state.tcp_drops = drops_after(outcome, state.tcp_drops);
+    SegmentTaken {
+        answer: Answer::Done,
+        read: taken.read,
+        outcome: outcome,
+        state: state,
+    }
+}
+
+// A take of a segment: up to the end of its first complete PDU or dropped header.
+pub fn segment_take(
+    image: &[u8],
+    state: State,
+    rx: &mut [u8],
+    tx: &[u8],
+    connection: u8,
+    segment: &[u8],
+) -> SegmentTaken
+    ensures { λ r. ⌜ r ≡ Seg.segmentOf (loan (now (image .entry)) state (now (rx .entry)) (now (tx .entry))) connection (now (segment .entry)) ⌝ }
+    ensures { λ _. ⌜ now (rx .exit) ≡ Seg.memoryOf (loan (now (image .entry)) state (now (rx .entry)) (now (tx .entry))) connection (now (segment .entry)) ⌝ }
+{
+    let answer = may_take(image, state, rx.len(), tx.len(), connection);
+    let done = is_done(answer);
+    if done {
+        return take_on(image, state, rx, connection, segment);
+    }
+    SegmentTaken {
+        answer: answer,
+        read: 0,
+        outcome: Outcome::More,
+        state: state,
+    }
+}
+
+// A connection's stretch of receive memory; what there is of it in memory of another length.
+fn stretch_of(rx: &[u8], connection: u8) -> &[u8]
+    ensures bytes { λ r. ⌜ now r ≡ stretch 1464 connection (now (rx .entry)) ⌝ }
+    ensures place { λ r. ⌜ ptr r ≡ behind (ptr (rx .entry)) (fromAt (now (rx .entry)) (connection * 1464)) ⌝ }
+{
+    let start = connection as usize * 1464;
+    if rx.len() < start {
+        return &rx[..0];
+    }
+    if rx.len() - start < 1464 {
+        return &rx[start..];
+    }
+    &rx[start..start + 1464]
+}
+
+// The payload of the PDU that a take has handed out: the part of whichever of the two lent slices holds it.
+pub fn segment_payload<'a>(
+    segment: &'a [u8],
+    rx: &'a [u8],
+    connection: u8,
+    outcome: Outcome,
+) -> &'a [u8]
+    ensures bytes { λ r. ⌜ now r ≡ Seg.payloadOf (now (segment .entry)) (now (rx .entry)) connection outcome ⌝ }
+    ensures place { λ r. ⌜ ptr r ≡ Seg.payloadStands (ptr (segment .entry)) (now (segment .entry)) (ptr (rx .entry)) (now (rx .entry)) connection outcome ⌝ }
+{
+    let own = stretch_of(rx, connection);
+    match outcome {
+        Outcome::More => &segment[..0],
+        Outcome::Pdu {
+            route: _,
+            id: _,
+            in_segment,
+            at,
+            length,
+        } => receive_stream::payload_of(segment, own, in_segment, at, length),
+        Outcome::Drop {
+            reason: _,
+            id: _,
+            length: _,
+        } => &segment[..0],
+    }
+}
+
+// A drop adds to the UDP count.
+fn count_walk(outcome: receive_datagram::Outcome, state: State) -> State
+    ensures { λ r. ⌜ r ≡ Wk.countWalk outcome state ⌝ }
+{
+    match outcome {
+        receive_datagram::Outcome::End => state,
+        receive_datagram::Outcome::Pdu {
+            route: _,
+            id: _,
+            at: _,
+            length: _,
+        } => state,
+        receive_datagram::Outcome::Drop {
+            reason: _,
+            id: _,
+            length: _,
+        } => state.dropped(false),
+    }
+}
+
+// Past all refusals: the walk with the record's switches.
+fn walk_on(
+    image: &[u8],
+    state: State,
+    connection: u8,
+    datagram: &[u8],
+    place: usize,
+) -> DatagramWalked
+    requires { ⌜ connection < 16 ⌝ }
+    ensures { λ r. ⌜ r ≡ Wk.walkOn (now (image .entry)) state connection (now (datagram .entry)) place ⌝ }
+{
+    let c = state.connections[connection as usize];
+    let routes = body_of(image, Kind::Route);
+    let walked = receive_datagram::walk(datagram, place, routes, connection, c.switches);
+    let outcome = walked.outcome;
+    let after = count_walk(outcome, state);
+    DatagramWalked {
+        answer: Answer::Done,
+        outcome: outcome,
+        next: walked.next,
+        state: after,
+    }
+}
+
+// A step of a walk at a place of a datagram.
+pub fn walk_datagram(
+    image: &[u8],
+    state: State,
+    rx: &[u8],
+    tx: &[u8],
+    connection: u8,
+    datagram: &[u8],
+    place: usize,
+) -> DatagramWalked
+    ensures { λ r. ⌜ r ≡ Wk.walkOf (lentBy (now (image .entry)) state (now (rx .entry)) (now (tx .entry))) connection (now (datagram .entry)) place ⌝ }
+{
+    let n = connection as usize;
+    let config = config_of(image, n);
+    let allowed = !config.tcp & (place <= datagram.len());
+    let answer = answer_at(image, state, rx.len(), tx.len(), n, allowed);
+    let done = is_done(answer);
+    if done {
+        return walk_on(image, state, connection, datagram, place);
+    }
+    DatagramWalked {
+        answer: answer,
+        outcome: receive_datagram::Outcome::End,
+        next: place,
+        state: state,
+    }
+}

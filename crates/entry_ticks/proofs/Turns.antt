@@ -1,0 +1,62 @@
+-- Ticks of a connection that rests, and one turn of the loop over the records.
+use Prim.Native.Nat.{ℕ, zero, suc, _+_, _<_}
+use mathlib.Core.Path.{_≡_, refl, sym, ap, _∙_, subst}
+use mathlib.Core.Bool.{true, false, not, _&&_, _||_}
+use mathlib.Core.List.{List}
+use lib.Dec.{eqb}
+use native.Mathlib.Omega.{arith}
+use borrow.Author.Tests.{not-true}
+use lib.ListN.{length}
+use Rattle.connection.specs.declared.Config.{Config}
+use Rattle.connection.specs.declared.Connection.{Connection}
+use Rattle.connection.specs.declared.Mode.{Mode}
+use Rattle.connection.specs.declared.Mode.the-variants.{Offline, Reconnect, Online}
+use Rattle.connection.specs.Connection.{isOffline, isReconnect, isOnline, wildcard, runOf, tickOf}
+use Rattle.lists.proofs.Both.{and-left, and-right, impossible}
+use Rattle.state.specs.declared.State.{State}
+use Rattle.state.specs.State.{recordAt, withRecord}
+use Rattle.state.specs.Fresh.{configOf}
+use Rattle.state.proofs.Records.{put-back}
+use Rattle.state.proofs.Upto.{Upto, still, turn}
+use Rattle.entry_ticks.specs.Many.{manyOf, turnsNext}
+use Rattle.entry_ticks.specs.Tick.{restsOf}
+use Rattle.entry_ticks.proofs.Many.{manyAt, only-runs}
+
+module _ (g : Config) (c : Connection) where
+  -- an online connection that is not to be closed has nothing to start and nothing to reach
+  online-quiet : (m : Mode) → c .mode ≡ m → isOnline m ≡ true → c .«close_wanted» ≡ false → turnsNext g c ≡ false
+  online-quiet Offline e p k = impossible p
+  online-quiet Reconnect e p k = impossible p
+  online-quiet Online e p k = rw (k, e)
+
+  run-stays : eqb (c .timer) 0 ≡ true → runOf c ≡ c
+  unfolding runOf
+  run-stays p = rw p
+
+  rests-tick : restsOf c ≡ true → tickOf g c ≡ c
+  rests-tick p =
+      let up = not (c .«close_wanted») && isOnline (c .mode) in
+      let q : up ≡ true = and-left up _ p in
+      let k : c .«close_wanted» ≡ false = not-true (c .«close_wanted») (and-left (not (c .«close_wanted»)) _ q) in
+      only-runs g c (online-quiet (c .mode) refl (and-right (not (c .«close_wanted»)) _ q) k) ∙ run-stays (and-right up _ p)
+
+  -- no number of ticks changes a connection that rests
+  pub rests-many : (n : ℕ) → restsOf c ≡ true → c ≡ manyOf g n c
+  unfolding manyOf
+  rests-many zero p = refl
+  rests-many (suc n) p = rests-many n p ∙ ap (manyOf g n) (sym (rests-tick p))
+
+-- one turn of the loop over the records: of one that has ticked, and of one that rests
+module _ (image : List ℕ) (count : ℕ) (s n : State) (i : ℕ) (there : i < length (s .connections)) (upto : Upto (manyAt image count) s n i) where
+  pub many-turn : (g : Config) (d : Connection) → g ≡ configOf image i → d ≡ manyOf g count (recordAt n i)
+      → Upto (manyAt image count) s (withRecord i d n) (i + 1)
+  many-turn g d config ticked =
+      turn (manyAt image count) s n i d there upto
+      (ticked
+      ∙ ap (λ (x : Config). manyOf x count (recordAt n i)) config
+      ∙ ap (manyAt image count i) (still (manyAt image count) s n i upto))
+
+  pub rest-turn : restsOf (recordAt n i) ≡ true → Upto (manyAt image count) s n (i + 1)
+  rest-turn p =
+      subst (λ (m : State). Upto (manyAt image count) s m (i + 1)) (put-back n i)
+      (many-turn (configOf image i) (recordAt n i) refl (rests-many (configOf image i) (recordAt n i) count p))

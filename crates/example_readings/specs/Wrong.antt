@@ -1,0 +1,56 @@
+-- WRONG READINGS (R13.3, R12.11): what each of them would do, of any function that answers as a take, a segment event or the list of a
+-- stream. None of them meets the definition.
+use Prim.Native.Nat.{ℕ, _≤_}
+use mathlib.Core.Path.{_≡_}
+use mathlib.Core.List.{List, [], _∷_, _++_, map}
+use lib.ListN.{length}
+use Rattle.reading.specs.Feed.{Routes, Cell, Out, nothing, pdu, dropped, ready, Took, takeB, bytesRead, Ran, segmentRan, Pdu, pdus}
+use Rattle.reading_lengths.specs.Listed.{Marked, mark, readOut}
+
+abbrev pub TakeReading : Type 0
+TakeReading = Routes → Cell → List ℕ → Took
+
+abbrev pub SegmentReading : Type 0
+SegmentReading = Routes → Cell → List ℕ → Ran
+
+abbrev pub StreamReading : Type 0
+StreamReading = (ℕ → Routes) → List Marked → List Pdu
+
+-- the definition is met
+abbrev pub IsTake : TakeReading → Type 0
+IsTake t = (R : Routes) (c : Cell) (bs : List ℕ) → t R c bs ≡ takeB R c bs
+
+abbrev pub IsSegment : SegmentReading → Type 0
+IsSegment s = (R : Routes) (c : Cell) (bs : List ℕ) → s R c bs ≡ segmentRan R c bs
+
+abbrev pub IsStream : StreamReading → Type 0
+IsStream f = (Q : ℕ → Routes) (ms : List Marked) → f Q ms ≡ pdus (readOut Q ready ms)
+
+-- R13.3: a stream that always wants more
+abbrev pub AlwaysMore : TakeReading → Type 0
+AlwaysMore t = (R : Routes) (c : Cell) (bs : List ℕ) → t R c bs .out ≡ nothing
+
+-- R13.3: a take that always hands out the first route
+abbrev pub FirstRoute : TakeReading → Type 0
+FirstRoute t = (R : Routes) (c : Cell) (bs : List ℕ) (r : ℕ) (p : List ℕ) → t R c bs .out ≡ pdu r p → r ≡ 0
+
+-- R12.11: every read a fresh header, so that what the connection holds does not count
+abbrev pub FreshHeader : TakeReading → Type 0
+FreshHeader t = (R : Routes) (c : Cell) (bs : List ℕ) → t R c bs ≡ t R ready bs
+
+-- R13.3: a made-up read count, here that of a take which says that it read all
+abbrev pub ReadsAll : TakeReading → Type 0
+ReadsAll t = (R : Routes) (c : Cell) (bs : List ℕ) → bytesRead bs (t R c bs) ≡ length bs
+
+-- R13.3: a stream that reads the first PDU and skips later ones
+abbrev pub FirstOnly : SegmentReading → Type 0
+FirstOnly s = (R : Routes) (c : Cell) (bs : List ℕ) → length (pdus (s R c bs .list)) ≤ 1
+
+-- R12.11: closing on an unknown id instead of skipping: nothing comes after a drop 20
+abbrev pub Closing : SegmentReading → Type 0
+Closing s = (R : Routes) (c : Cell) (bs : List ℕ) (i n : ℕ) (os : List Out) → s R c bs .list ≡ dropped 20 i n ∷ os → os ≡ []
+
+-- R12.11: the switch tested when the payload ends: the switches v at the payload decide, whatever those at the header were
+abbrev pub TestedLate : StreamReading → Type 0
+TestedLate f = (Q : ℕ → Routes) (w v : ℕ) (h p : List ℕ) → length h ≡ 8 → 1 ≤ length p
+    → f Q (map (mark w) h ++ map (mark v) p) ≡ f Q (map (mark v) (h ++ p))

@@ -1,0 +1,216 @@
+-- The table is the events' effect on every sound record.
+use Prim.Native.Nat.{_-_}
+use lib.Dec.{eqb}
+use mathlib.Core.Path.{_≡_, refl, ap, _∙_}
+use mathlib.Core.Bool.{Bool, true, false, cond, not, _&&_, _||_, Bool·beq}
+use Rattle.connection.specs.declared.Mode.{Mode}
+use Rattle.connection.specs.declared.Mode.the-variants.{Offline, Reconnect, Online}
+use Rattle.connection.specs.declared.Connection.{Connection}
+use Rattle.connection.specs.declared.Config.{Config}
+use Rattle.connection.specs.declared.Refusal.the-variants.{Denied}
+use Rattle.connection.specs.declared.Answer.the-variants.{Done}
+use Rattle.connection.specs.declared.Event.{Event}
+use Rattle.connection.specs.declared.Event.the-variants.{Open, Close, Connected, Lost, SetRemote, Switch}
+use Rattle.connection.specs.Connection.{isOffline, isReconnect, isOnline, wildcard, withMode, withSend, become, closedOf, startedOf, reachOf, runOf, tickOf}
+use Rattle.connection.specs.Event.{allowed, recordAfter, refusedBy, stepOf}
+use Rattle.connection.specs.Sound.{Sound}
+use Rattle.connection.proofs.Ticks.{step-either}
+use Rattle.lists.proofs.Both.{impossible, and-left, and-right, and-both}
+use Rattle.law_transitions.specs.Table.{Place, at, placeOf, Happening, opens, closes, connects, loses, stays, ticks, happeningOf, modeNumber, table, firstIn, move}
+
+-- the two steps of a tick that goes on
+abbrev startP : Bool → Place → Place
+startP a (at m o k) = cond (isOffline m && (o || a)) (at Reconnect false k) (at m o k)
+
+abbrev reachP : Bool → Bool → Place → Place
+reachP t w (at m o k) = cond (isReconnect m && not t && not w) (at Online o k) (at m o k)
+
+-- what the definitions of the events say of mode and wishes
+effect : Happening → Bool → Bool → Bool → Mode → Bool → Bool → Place
+effect opens t a w m o k = cond (not a && isOffline m && not k) (at m true k) (at m o k)
+effect closes t a w m o k = cond (not a && (o || not (isOffline m))) (at m false true) (at m o k)
+effect connects t a w m o k = cond (t && isReconnect m && not k && not w) (at Online o k) (at m o k)
+effect loses t a w m o k = cond (t && isOnline m) (at Reconnect o k) (at m o k)
+effect stays t a w m o k = at m o k
+effect ticks t a w m o k = cond k (at Offline false false) (reachP t w (startP a (at m o k)))
+
+-- the rules on wishes
+ruled : Bool → Bool → Mode → Bool → Bool → Bool
+ruled t a m o k = (not o || (not a && isOffline m && not k)) && (not k || not a || (t && not (isOffline m)))
+
+same : Place → Place → Bool
+same (at m o k) (at n p q) = eqb (modeNumber m) (modeNumber n) && Bool·beq o p && Bool·beq k q
+
+-- a test of every value
+bools : (Bool → Bool) → Bool
+bools p = p true && p false
+
+modes : (Mode → Bool) → Bool
+modes p = p Offline && p Reconnect && p Online
+
+happenings : (Happening → Bool) → Bool
+happenings p = p opens && p closes && p connects && p loses && p stays && p ticks
+
+agrees : Happening → Bool → Bool → Bool → Mode → Bool → Bool → Bool
+agrees h t a w m o k = not (ruled t a m o k) || same (effect h t a w m o k) (move h t a w (at m o k))
+
+whole : Bool
+whole = happenings (λ h. bools (λ t. bools (λ a. bools (λ w. modes (λ m. bools (λ o. bools (λ k. agrees h t a w m o k)))))))
+
+-- every happening, protocol, mode and wish, by computation
+checked : whole ≡ true
+unfolding move firstIn table whole happenings bools modes agrees ruled same effect
+checked = refl
+
+of-bool : (p : Bool → Bool) → bools p ≡ true → (b : Bool) → p b ≡ true
+unfolding bools
+of-bool p h true = and-left (p true) (p false) h
+of-bool p h false = and-right (p true) (p false) h
+
+of-mode : (p : Mode → Bool) → modes p ≡ true → (m : Mode) → p m ≡ true
+unfolding modes
+of-mode p h Offline = and-left (p Offline) (p Reconnect) (and-left (p Offline && p Reconnect) (p Online) h)
+of-mode p h Reconnect = and-right (p Offline) (p Reconnect) (and-left (p Offline && p Reconnect) (p Online) h)
+of-mode p h Online = and-right (p Offline && p Reconnect) (p Online) h
+
+of-happening : (p : Happening → Bool) → happenings p ≡ true → (h : Happening) → p h ≡ true
+unfolding happenings
+of-happening p e h = go h
+  where
+    five : (p opens && p closes && p connects && p loses && p stays) ≡ true
+    five = and-left (p opens && p closes && p connects && p loses && p stays) (p ticks) e
+
+    four : (p opens && p closes && p connects && p loses) ≡ true
+    four = and-left (p opens && p closes && p connects && p loses) (p stays) five
+
+    three : (p opens && p closes && p connects) ≡ true
+    three = and-left (p opens && p closes && p connects) (p loses) four
+
+    two : (p opens && p closes) ≡ true
+    two = and-left (p opens && p closes) (p connects) three
+
+    go : (x : Happening) → p x ≡ true
+    go opens = and-left (p opens) (p closes) two
+    go closes = and-right (p opens) (p closes) two
+    go connects = and-right (p opens && p closes) (p connects) three
+    go loses = and-right (p opens && p closes && p connects) (p loses) four
+    go stays = and-right (p opens && p closes && p connects && p loses) (p stays) five
+    go ticks = and-right (p opens && p closes && p connects && p loses && p stays) (p ticks) e
+
+bool-is : (a b : Bool) → Bool·beq a b ≡ true → a ≡ b
+bool-is true true e = refl
+bool-is true false e = impossible e
+bool-is false true e = impossible e
+bool-is false false e = refl
+
+mode-is : (m n : Mode) → eqb (modeNumber m) (modeNumber n) ≡ true → m ≡ n
+mode-is Offline Offline e = refl
+mode-is Offline Reconnect e = impossible e
+mode-is Offline Online e = impossible e
+mode-is Reconnect Offline e = impossible e
+mode-is Reconnect Reconnect e = refl
+mode-is Reconnect Online e = impossible e
+mode-is Online Offline e = impossible e
+mode-is Online Reconnect e = impossible e
+mode-is Online Online e = refl
+
+same-is : (x y : Place) → same x y ≡ true → x ≡ y
+unfolding same
+same-is (at m o k) (at n p q) e =
+    let l = and-left (eqb (modeNumber m) (modeNumber n) && Bool·beq o p) (Bool·beq k q) e in
+    let a = mode-is m n (and-left (eqb (modeNumber m) (modeNumber n)) (Bool·beq o p) l) in
+    let b = bool-is o p (and-right (eqb (modeNumber m) (modeNumber n)) (Bool·beq o p) l) in
+    let c = bool-is k q (and-right (eqb (modeNumber m) (modeNumber n) && Bool·beq o p) (Bool·beq k q) e) in
+    rw (a, b, c)
+
+-- of places that meet the rules on wishes
+moved : (h : Happening) (t a w : Bool) (m : Mode) (o k : Bool) → ruled t a m o k ≡ true → effect h t a w m o k ≡ move h t a w (at m o k)
+unfolding whole agrees
+moved h t a w m o k r =
+    let p1 = of-happening (λ h. bools (λ t. bools (λ a. bools (λ w. modes (λ m. bools (λ o. bools (λ k. agrees h t a w m o k))))))) checked h in
+    let p2 = of-bool (λ t. bools (λ a. bools (λ w. modes (λ m. bools (λ o. bools (λ k. agrees h t a w m o k)))))) p1 t in
+    let p3 = of-bool (λ a. bools (λ w. modes (λ m. bools (λ o. bools (λ k. agrees h t a w m o k))))) p2 a in
+    let p4 = of-bool (λ w. modes (λ m. bools (λ o. bools (λ k. agrees h t a w m o k)))) p3 w in
+    let p5 = of-mode (λ m. bools (λ o. bools (λ k. agrees h t a w m o k))) p4 m in
+    let p6 = of-bool (λ o. bools (λ k. agrees h t a w m o k)) p5 o in
+    let p7 = of-bool (λ k. agrees h t a w m o k) p6 k in
+    same-is (effect h t a w m o k) (move h t a w (at m o k)) (rw r at p7)
+
+rules : (g : Config) (c : Connection) → Sound g c → ruled (g .tcp) (g .automatic) (c .mode) (c .«open_wanted») (c .«close_wanted») ≡ true
+unfolding ruled
+rules g c s = and-both (s .opening) (s .closing)
+
+-- an event that is allowed or not
+decided : (b : Bool) (c d : Connection) → placeOf (cond (not b) (refusedBy Denied c) (record { answer = Done; connection = d }) .connection) ≡ cond b (placeOf d) (placeOf c)
+decided true c d = refl
+decided false c d = refl
+
+-- an event that leaves mode and wishes, allowed or not
+stays-put : (e : Event) (g : Config) (c : Connection) → placeOf (recordAfter e g c) ≡ placeOf c → placeOf (stepOf e g c .connection) ≡ placeOf c
+stays-put e g c p = step-either e g c (λ (d : Connection). placeOf d ≡ placeOf c) (λ _. refl) (λ _. p)
+
+step-effect : (e : Event) (g : Config) (c : Connection)
+    → placeOf (stepOf e g c .connection) ≡ effect (happeningOf e) (g .tcp) (g .automatic) (wildcard (c .remote)) (c .mode) (c .«open_wanted») (c .«close_wanted»)
+unfolding stepOf effect
+step-effect Open g c = decided (allowed Open g c) c (recordAfter Open g c)
+step-effect Close g c = decided (allowed Close g c) c (recordAfter Close g c)
+step-effect Connected g c = decided (allowed Connected g c) c (recordAfter Connected g c)
+step-effect Lost g c = decided (allowed Lost g c) c (recordAfter Lost g c)
+step-effect (SetRemote r) g c = stays-put (SetRemote r) g c refl
+step-effect (Switch n on) g c = stays-put (Switch n on) g c refl
+
+start-place : (g : Config) (c : Connection) → placeOf (startedOf g c) ≡ startP (g .automatic) (placeOf c)
+unfolding startedOf
+start-place g c = go (isOffline (c .mode) && (c .«open_wanted» || g .automatic))
+  where
+    go : (b : Bool) → placeOf (cond b (withMode Reconnect false (c .«close_wanted») c) c) ≡ cond b (at Reconnect false (c .«close_wanted»)) (placeOf c)
+    go true = refl
+    go false = refl
+
+start-remote : (g : Config) (c : Connection) → startedOf g c .remote ≡ c .remote
+unfolding startedOf
+start-remote g c = go (isOffline (c .mode) && (c .«open_wanted» || g .automatic))
+  where
+    go : (b : Bool) → cond b (withMode Reconnect false (c .«close_wanted») c) c .remote ≡ c .remote
+    go true = refl
+    go false = refl
+
+reach-place : (g : Config) (c : Connection) → placeOf (reachOf g c) ≡ reachP (g .tcp) (wildcard (c .remote)) (placeOf c)
+unfolding reachOf
+reach-place g c = go (isReconnect (c .mode) && not (g .tcp) && not (wildcard (c .remote)))
+  where
+    go : (b : Bool) → placeOf (cond b (become Online c) c) ≡ cond b (at Online (c .«open_wanted») (c .«close_wanted»)) (placeOf c)
+    go true = refl
+    go false = refl
+
+run-place : (c : Connection) → placeOf (runOf c) ≡ placeOf c
+unfolding runOf
+run-place c = go (eqb (c .timer) 0)
+  where
+    go : (b : Bool) → placeOf (cond b c (withSend (c .used) (c .timer - 1) (eqb (c .timer) 1 || c .due) c)) ≡ placeOf c
+    go true = refl
+    go false = refl
+
+tick-effect : (g : Config) (c : Connection)
+    → placeOf (tickOf g c) ≡ effect ticks (g .tcp) (g .automatic) (wildcard (c .remote)) (c .mode) (c .«open_wanted») (c .«close_wanted»)
+unfolding tickOf effect
+tick-effect g c = go (c .«close_wanted»)
+  where
+    on : placeOf (runOf (reachOf g (startedOf g c))) ≡ reachP (g .tcp) (wildcard (c .remote)) (startP (g .automatic) (placeOf c))
+    on =
+        run-place (reachOf g (startedOf g c))
+        ∙ reach-place g (startedOf g c)
+        ∙ ap (λ r. reachP (g .tcp) (wildcard r) (placeOf (startedOf g c))) (start-remote g c)
+        ∙ ap (reachP (g .tcp) (wildcard (c .remote))) (start-place g c)
+
+    go : (b : Bool) → placeOf (cond b (closedOf g c) (runOf (reachOf g (startedOf g c)))) ≡ cond b (at Offline false false) (reachP (g .tcp) (wildcard (c .remote)) (startP (g .automatic) (placeOf c)))
+    go true = refl
+    go false = on
+
+-- THE TABLE IS THE EVENTS' EFFECT
+pub event-moves : (e : Event) (g : Config) (c : Connection) → Sound g c
+    → placeOf (stepOf e g c .connection) ≡ move (happeningOf e) (g .tcp) (g .automatic) (wildcard (c .remote)) (placeOf c)
+event-moves e g c s = step-effect e g c ∙ moved (happeningOf e) (g .tcp) (g .automatic) (wildcard (c .remote)) (c .mode) (c .«open_wanted») (c .«close_wanted») (rules g c s)
+
+pub tick-moves : (g : Config) (c : Connection) → Sound g c → placeOf (tickOf g c) ≡ move ticks (g .tcp) (g .automatic) (wildcard (c .remote)) (placeOf c)
+tick-moves g c s = tick-effect g c ∙ moved ticks (g .tcp) (g .automatic) (wildcard (c .remote)) (c .mode) (c .«open_wanted») (c .«close_wanted») (rules g c s)

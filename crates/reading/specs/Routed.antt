@@ -1,0 +1,14 @@
+-- WHAT A READER'S ROUTES ACCEPT OF WHAT WAS FRAMED (R5.17).
+use Prim.Native.Nat.{ℕ}
+use mathlib.Core.Path.{_≡_}
+use mathlib.Core.List.{List, [], _∷_}
+use lib.ListN.{length}
+use Rattle.frame.specs.Frame.{Sent, Fits}
+use Rattle.reading.specs.declared.Decision.the-variants.{Accept}
+use Rattle.reading.specs.Feed.{Routes, Pdu, handed}
+
+-- R5.17, routes for those ids, switched on and allowing those lengths: what was sent, and beside it the PDUs of the routes that accept it
+pub data Routed (R : Routes) : List Sent → List Pdu → Type 0 where
+  routed-none : Routed R [] []
+  routed-one : {s : Sent} {r : ℕ} {ss : List Sent} {ps : List Pdu} → Fits s → R (s .id) (length (s .body)) ≡ Accept r → Routed R ss ps
+      → Routed R (s ∷ ss) (handed r (s .body) ∷ ps)

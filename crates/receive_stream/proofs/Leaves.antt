@@ -1,0 +1,318 @@
+-- What a take leaves: its part and receive memory are the stream's cell again, shaped and within its route's limit; and the
+-- payload that it names is the PDU's.
+use Prim.Native.Nat.{ℕ, zero, suc, _+_, _-_, _*_, _/_, _%_, _^_, _≤_, _<_}
+use mathlib.Core.Path.{_≡_, refl, sym, ap, ap₂, _∙_, subst}
+use mathlib.Core.Bool.{Bool, true, false, cond}
+use mathlib.Core.List.{List, [], _∷_, _++_, append-nil, append-assoc}
+use native.Mathlib.Omega.{arith}
+use borrow.Author.Tests.{le-leb, lt-ltb}
+use lib.ListN.{length, getD, take, drop, length-append, take-append-drop}
+use lib.Seq.{take-append-seam, drop-append-seam, length-take-le}
+use Rattle.reading.specs.declared.Decision.{Decision}
+use Rattle.reading.specs.declared.Decision.the-variants.{Accept, Refuse}
+use Rattle.reading.specs.Feed.{Routes, header, payload, skip, Cell, cell, Out, nothing, pdu, dropped, fed, Took, goes, ready, takeB, decided, pieceDone, feed}
+use Rattle.reading.proofs.Laws.{skipCell, grow}
+use Rattle.table_layout.proofs.Parts.{part-fits}
+use Rattle.table_layout.specs.Layout.{partOf}
+use Rattle.lists.proofs.Both.{and-both}
+use Rattle.receive_part.specs.declared.Part.{Part}
+use Rattle.receive_part.specs.declared.Part.the-variants.{Header, Payload, Skip}
+use Rattle.receive_part.specs.Part.{shaped}
+use Rattle.receive_route.specs.Route.{lookupOf, rowsIn}
+use Rattle.receive_route.specs.Decided.{Allows}
+use Rattle.receive_route.proofs.Decided.{route-accepted}
+use Rattle.table_rows.specs.Rows.{routeIn}
+use Rattle.wire.specs.Lay.{lay}
+use Rattle.wire.proofs.Lay.{lay-fits, lay-own, lay-length}
+use Rattle.receive_stream.specs.declared.Outcome.the-variants.{More}
+use Rattle.receive_stream.specs.Stream.{cellOf, partFrom, heldIn, noneHeld, inSegment, wrote, tookOf, takenOf, rxAfter, payloadAt, lengthOf, Fit}
+use Rattle.receive_stream.proofs.Takes.{header-fit, payload-fit, skip-fit, accepted-short}
+
+-- a law of every byte is a law of a take
+stepwise : (R : Routes) (Q : Cell → Type 0) (S : Out → Cell → Type 0) → ((c : Cell) (b : ℕ) → b < 256 → Q c → (Q (feed R c b .to)) × (S (feed R c b .out) (feed R c b .to)))
+    → ((c : Cell) → Q c → S nothing c) → (c : Cell) (bs : List ℕ) → ((i : ℕ) → getD bs i 0 < 256) → Q c → (Q (takeB R c bs .to)) × (S (takeB R c bs .out) (takeB R c bs .to))
+unfolding takeB
+stepwise R Q S step calm c [] hs q = (q, calm c q)
+stepwise R Q S step calm c (b ∷ bs) hs q =
+    let f : (Q (feed R c b .to)) × (S (feed R c b .out) (feed R c b .to)) = step c b (hs 0) q in
+    go (feed R c b .to) (feed R c b .out) (takeB R (feed R c b .to) bs) f (stepwise R Q S step calm (feed R c b .to) bs (λ i. hs (suc i)) (f .0))
+  where
+    go : (d : Cell) (o : Out) (t : Took) → (Q d) × (S o d) → (Q (t .to)) × (S (t .out) (t .to)) → (Q (goes (fed d o) bs t .to)) × (S (goes (fed d o) bs t .out) (goes (fed d o) bs t .to))
+    go d nothing t h later = later
+    go d (pdu r p) t h later = h
+    go d (dropped k i n) t h later = h
+
+-- A CELL AS A TAKE LEAVES IT, where P is what holds of each accepted header's route and length; and each outcome with its cell
+module _ (P : ℕ → ℕ → Type 0) where
+  abbrev pub Sane : Cell → Type 0
+  Sane (cell n (header v)) = (0 < n) × (n ≤ 8) × (v < 256 ^ (8 - n))
+  Sane (cell n (payload r h)) = (0 < n) × (P r (n + length h))
+  Sane (cell n skip) = 0 < n
+
+  abbrev pub Told : Out → Cell → Type 0
+  Told nothing c = Unit {0}
+  Told (pdu r p) c = (c ≡ ready) × (P r (length p))
+  Told (dropped k i n) c = c ≡ skipCell n
+
+  decided-sane : (d : Decision) (i n : ℕ) → ((r : ℕ) → d ≡ Accept r → P r n) → (Sane (decided d i n .to)) × (Told (decided d i n .out) (decided d i n .to))
+  decided-sane (Accept r) i zero ok = ((omega arith, omega arith, omega arith), (refl, ok r refl))
+  decided-sane (Accept r) i (suc n) ok = let e : suc n ≡ suc n + 0 = omega arith in ((omega arith, subst (P r) e (ok r refl)), tt)
+  decided-sane (Refuse k) i zero ok = ((omega arith, omega arith, omega arith), refl)
+  decided-sane (Refuse k) i (suc n) ok = (omega arith, refl)
+
+  -- one byte more of a payload
+  longer : (r m n : ℕ) (h : List ℕ) (b : ℕ) → m ≡ suc n → P r (m + length h) → P r (n + length (h ++ b ∷ []))
+  longer r m n h b e p = let q : m + length h ≡ n + length (h ++ b ∷ []) = omega (arith, length-append h (b ∷ [])) in subst (P r) q p
+
+  module _ (R : Routes) (ok : (i n r : ℕ) → R i n ≡ Accept r → P r n) where
+    feed-sane : (c : Cell) (b : ℕ) → b < 256 → Sane c → (Sane (feed R c b .to)) × (Told (feed R c b .out) (feed R c b .to))
+    unfolding feed pieceDone
+    feed-sane (cell zero k) b hb s = ((omega arith, omega arith, omega arith), tt)
+    feed-sane (cell (suc zero) (header v)) b hb s =
+        let w : ℕ = v * 256 + b in
+        decided-sane (R (w / 2 ^ 32) (w % 2 ^ 32)) (w / 2 ^ 32) (w % 2 ^ 32) (ok (w / 2 ^ 32) (w % 2 ^ 32))
+    feed-sane (cell (suc zero) (payload r h)) b hb s =
+        let e : 0 + length (h ++ b ∷ []) ≡ length (h ++ b ∷ []) = omega arith in
+        ((omega arith, omega arith, omega arith), (refl, subst (P r) e (longer r 1 0 h b refl (s .1))))
+    feed-sane (cell (suc zero) skip) b hb s = ((omega arith, omega arith, omega arith), tt)
+    feed-sane (cell (suc (suc n)) (header v)) b hb s =
+        let e : 8 - suc (suc n) + 1 ≡ 8 - suc n = omega arith in
+        ((omega arith, omega arith, subst (λ (m : ℕ). v * 256 + b < 256 ^ m) e (grow (8 - suc (suc n)) v b (s .2) hb)), tt)
+    feed-sane (cell (suc (suc n)) (payload r h)) b hb s = ((omega arith, longer r (suc (suc n)) (suc n) h b refl (s .1)), tt)
+    feed-sane (cell (suc (suc n)) skip) b hb s = (omega arith, tt)
+
+    pub take-sane : (c : Cell) (bs : List ℕ) → ((i : ℕ) → getD bs i 0 < 256) → Sane c → (Sane (takeB R c bs .to)) × (Told (takeB R c bs .out) (takeB R c bs .to))
+    take-sane = stepwise R Sane Told feed-sane (λ c s. tt)
+
+-- P holds of route and length, where the part is a payload
+abbrev pub PartHolds : (ℕ → ℕ → Type 0) → Part → Type 0
+PartHolds P (Header held value) = Unit {0}
+PartHolds P (Payload route n held) = P route n
+PartHolds P (Skip n) = Unit {0}
+
+module _ (P : ℕ → ℕ → Type 0) where
+  pub part-sane : (routes : List ℕ) (part : Part) (rx : List ℕ) → Fit routes part rx → PartHolds P part → Sane P (cellOf part rx)
+  part-sane routes (Header held value) rx fit h =
+      let f : (held < 8) × (value < 256 ^ held) = header-fit routes (Header held value) rx fit held value refl in
+      let e : held ≡ 8 - (8 - held) = omega arith in
+      (omega arith, omega arith, subst (λ (m : ℕ). value < 256 ^ m) e (f .1))
+  part-sane routes (Payload route n held) rx fit h =
+      let f : (held < n) × (n ≤ length rx) = payload-fit routes (Payload route n held) rx fit route n held refl in
+      let e : n ≡ n - held + length (take held rx) = omega (arith, length-take-le held rx (omega arith)) in
+      (omega arith, subst (P route) e h)
+  part-sane routes (Skip n) rx fit h = skip-fit routes (Skip n) rx fit n refl
+
+  sane-part : (c : Cell) → Sane P c → PartHolds P (partFrom c)
+  sane-part (cell n (header v)) s = tt
+  sane-part (cell n (payload r h)) s = s .1
+  sane-part (cell n skip) s = tt
+
+  sane-shape : (c : Cell) → Sane P c → shaped (partFrom c) ≡ true
+  sane-shape (cell n (header v)) s = and-both (le-leb (8 - n) 7 (omega arith)) (lt-ltb v (256 ^ (8 - n)) (s .2))
+  sane-shape (cell n (payload r h)) s = lt-ltb (length h) (n + length h) (omega arith)
+  sane-shape (cell n skip) s = lt-ltb 0 n s
+
+-- THE PART AND THE MEMORY THAT A TAKE LEAVES ARE THE CELL THAT IT LEAVES
+abbrev Short : ℕ → ℕ → Type 0
+Short r n = n ≤ 1464
+
+back-held : (rx : List ℕ) (c : Cell) → length rx ≡ 1464 → Sane Short c → cellOf (partFrom c) (lay rx 0 (heldIn c)) ≡ c
+back-held rx (cell n (header v)) e s = ap (λ (m : ℕ). cell m (header v)) (omega arith)
+back-held rx (cell n (payload r h)) e s =
+    let m : n + length h - length h ≡ n = omega arith in
+    ap₂ (λ (k : ℕ) (l : List ℕ). cell k (payload r l)) m (lay-own rx 0 h (omega (arith, s .1)))
+back-held rx (cell n skip) e s = refl
+
+back : (s : Bool) (rx : List ℕ) (o : Out) (c : Cell) → length rx ≡ 1464 → Sane Short c → Told Short o c → cellOf (partFrom c) (wrote s o c rx) ≡ c
+back s rx nothing c e h t = back-held rx c e h
+back true rx (pdu r p) c e h t = subst (λ (d : Cell). cellOf (partFrom d) rx ≡ d) (sym (t .0)) refl
+back false rx (pdu r p) c e h t = subst (λ (d : Cell). cellOf (partFrom d) (lay rx 0 p) ≡ d) (sym (t .0)) refl
+back s rx (dropped k i zero) c e h t = subst (λ (d : Cell). cellOf (partFrom d) rx ≡ d) (sym t) refl
+back s rx (dropped k i (suc n)) c e h t = subst (λ (d : Cell). cellOf (partFrom d) rx ≡ d) (sym t) refl
+
+wrote-length : (s : Bool) (o : Out) (c : Cell) (rx : List ℕ) → length (wrote s o c rx) ≡ length rx
+wrote-length s nothing c rx = lay-length rx 0 (heldIn c)
+wrote-length true (pdu r p) c rx = refl
+wrote-length false (pdu r p) c rx = lay-length rx 0 p
+wrote-length s (dropped k i n) c rx = refl
+
+-- THE PAYLOAD STANDS AT THE END OF WHAT WAS READ, with what was held before it
+abbrev Last : Cell → List ℕ → Took → Type 0
+Last c bs t = (r : ℕ) (p : List ℕ) → t .out ≡ pdu r p → (pre : List ℕ) × (heldIn c ++ bs ≡ pre ++ (p ++ t .rest))
+
+-- what a byte leaves to be carried on, or hands out
+abbrev tailOf : Out → Cell → List ℕ
+tailOf nothing c = heldIn c
+tailOf (pdu r p) c = p
+tailOf (dropped k i n) c = []
+
+decided-tail : (d : Decision) (i n : ℕ) → tailOf (decided d i n .out) (decided d i n .to) ≡ []
+decided-tail (Accept r) i zero = refl
+decided-tail (Accept r) i (suc n) = refl
+decided-tail (Refuse k) i zero = refl
+decided-tail (Refuse k) i (suc n) = refl
+
+feed-tail : (R : Routes) (c : Cell) (b : ℕ) → (q : List ℕ) × (heldIn c ++ b ∷ [] ≡ q ++ tailOf (feed R c b .out) (feed R c b .to))
+unfolding feed pieceDone
+feed-tail R (cell zero k) b = (heldIn (cell zero k) ++ b ∷ [], sym (append-nil _))
+feed-tail R (cell (suc zero) (header v)) b =
+    let w : ℕ = v * 256 + b in
+    (b ∷ [], ap (λ (l : List ℕ). (b ∷ []) ++ l) (sym (decided-tail (R (w / 2 ^ 32) (w % 2 ^ 32)) (w / 2 ^ 32) (w % 2 ^ 32))))
+feed-tail R (cell (suc zero) (payload r h)) b = ([], refl)
+feed-tail R (cell (suc zero) skip) b = (b ∷ [], refl)
+feed-tail R (cell (suc (suc n)) (header v)) b = (b ∷ [], refl)
+feed-tail R (cell (suc (suc n)) (payload r h)) b = ([], refl)
+feed-tail R (cell (suc (suc n)) skip) b = (b ∷ [], refl)
+
+take-last : (R : Routes) (c : Cell) (bs : List ℕ) → Last c bs (takeB R c bs)
+unfolding takeB
+take-last R c [] r p e = let z : _≡_ {A = ℕ} 0 1 = cc in absurd (omega arith)
+take-last R c (b ∷ bs) r p e = go (feed R c b .to) (feed R c b .out) (takeB R (feed R c b .to) bs) (feed-tail R c b) (take-last R (feed R c b .to) bs) e
+  where
+    go : (d : Cell) (o : Out) (t : Took) → ((q : List ℕ) × (heldIn c ++ b ∷ [] ≡ q ++ tailOf o d)) → Last d bs t
+        → goes (fed d o) bs t .out ≡ pdu r p → (pre : List ℕ) × (heldIn c ++ b ∷ bs ≡ pre ++ (p ++ goes (fed d o) bs t .rest))
+    go d nothing t f h e =
+        let g : (pre : List ℕ) × (heldIn d ++ bs ≡ pre ++ (p ++ t .rest)) = h r p e in (
+          f .0 ++ g .0,
+          sym (append-assoc (heldIn c) (b ∷ []) bs)
+              ∙ ap (λ (l : List ℕ). l ++ bs) (f .1)
+              ∙ append-assoc (f .0) (heldIn d) bs
+              ∙ ap (λ (l : List ℕ). f .0 ++ l) (g .1)
+              ∙ sym (append-assoc (f .0) (g .0) (p ++ t .rest)),
+        )
+    go d (pdu r′ p′) t f h e =
+        let same : p′ ≡ p = cc in (
+          f .0,
+          sym (append-assoc (heldIn c) (b ∷ []) bs)
+              ∙ ap (λ (l : List ℕ). l ++ bs) (f .1 ∙ ap (λ (l : List ℕ). f .0 ++ l) same)
+              ∙ append-assoc (f .0) p bs,
+        )
+    go d (dropped k i n) t f h e = let z : _≡_ {A = ℕ} 0 1 = cc in absurd (omega arith)
+
+-- the part of a list that ends before its rest
+middle : (l pre p rest : List ℕ) → l ≡ pre ++ (p ++ rest) → partOf l (length l - length rest - length p) (length p) ≡ p
+middle l pre p rest e =
+    let n : length l ≡ length pre + (length p + length rest) = ap length e ∙ length-append pre (p ++ rest) ∙ ap (λ (k : ℕ). length pre + k) (length-append p rest) in
+    let at : length l - length rest - length p ≡ length pre = omega arith in
+    ap (λ (k : ℕ). partOf l k (length p)) at
+    ∙ part-fits l (length pre) (length p) (omega arith)
+    ∙ ap (λ (m : List ℕ). take (length p) (drop (length pre) m)) e
+    ∙ ap (take (length p)) (drop-append-seam pre (p ++ rest)) ∙ take-append-seam p rest
+
+-- a route of the connection that allows the length
+pub record Owns (routes : List ℕ) (connection route n : ℕ) : Type 0 where
+  pub there : route < rowsIn routes
+  pub owned : routeIn routes route .connection ≡ connection
+  pub allows : n ≤ routeIn routes route .longest
+
+owns : (routes : List ℕ) (connection switches i n r : ℕ) → lookupOf routes connection switches i n ≡ Accept r → Owns routes connection r n
+owns routes connection switches i n r e =
+    let a : Allows routes connection switches i n r = route-accepted routes connection switches i n r e in
+    record { there = a .bears .there; owned = a .bears .owned; allows = a .fits }
+
+-- THE WHOLE TAKE, from a part and a stretch that fit, of a segment of bytes
+module _ (routes : List ℕ) (connection switches : ℕ) (part : Part) (rx segment : List ℕ) (fit : Fit routes part rx) (bytes : (i : ℕ) → getD segment i 0 < 256) where
+  within : (i n r : ℕ) → lookupOf routes connection switches i n ≡ Accept r → n ≤ 1464
+  within i n r e = accepted-short routes connection switches i n r e (fit .limits)
+
+  part-short : (p : Part) → lengthOf p ≤ 1464 → PartHolds Short p
+  part-short (Header held value) h = tt
+  part-short (Payload route n held) h = h
+  part-short (Skip n) h = tt
+
+  short-part : (p : Part) → PartHolds Short p → lengthOf p ≤ 1464
+  short-part (Header held value) h = omega arith
+  short-part (Payload route n held) h = h
+  short-part (Skip n) h = omega arith
+
+  taken-sane : (Sane Short (tookOf routes connection switches part rx segment .to))
+      × (Told Short (tookOf routes connection switches part rx segment .out) (tookOf routes connection switches part rx segment .to))
+  unfolding tookOf
+  taken-sane =
+      take-sane Short (lookupOf routes connection switches) within (cellOf part rx) segment bytes
+      (part-sane Short routes part rx fit (part-short part (fit .fits)))
+
+  -- the part and receive memory afterwards are the stream's cell, and fit again
+  pub leaves-cell : cellOf (takenOf routes connection switches part rx segment .part) (rxAfter routes connection switches part rx segment)
+      ≡ tookOf routes connection switches part rx segment .to
+  unfolding takenOf rxAfter
+  leaves-cell =
+      back (inSegment (cellOf part rx)) rx (tookOf routes connection switches part rx segment .out) (tookOf routes connection switches part rx segment .to)
+      (fit .room) (taken-sane .0) (taken-sane .1)
+
+  pub leaves-length : length (rxAfter routes connection switches part rx segment) ≡ length rx
+  unfolding rxAfter
+  leaves-length = wrote-length (inSegment (cellOf part rx)) (tookOf routes connection switches part rx segment .out) (tookOf routes connection switches part rx segment .to) rx
+
+  pub leaves-fit : Fit routes (takenOf routes connection switches part rx segment .part) (rxAfter routes connection switches part rx segment)
+  unfolding takenOf
+  leaves-fit =
+      record {
+        shape = sane-shape Short (tookOf routes connection switches part rx segment .to) (taken-sane .0);
+        fits = short-part (partFrom (tookOf routes connection switches part rx segment .to)) (sane-part Short (tookOf routes connection switches part rx segment .to) (taken-sane .0));
+        room = leaves-length ∙ fit .room;
+        limits = fit .limits;
+      }
+
+  -- R3.4, its route belongs to the connection and allows the length: kept by a take
+  pub leaves-owned : PartHolds (Owns routes connection) part → PartHolds (Owns routes connection) (takenOf routes connection switches part rx segment .part)
+  unfolding takenOf tookOf
+  leaves-owned h =
+      sane-part (Owns routes connection) (tookOf routes connection switches part rx segment .to)
+      (take-sane (Owns routes connection) (lookupOf routes connection switches) (owns routes connection switches) (cellOf part rx) segment bytes
+      (part-sane (Owns routes connection) routes part rx fit h) .0)
+
+  -- WHAT `payload_of` RETURNS OF A TAKE'S ANSWER IS THE PDU'S PAYLOAD
+  told-short : (r : ℕ) (p : List ℕ) (o : Out) (c : Cell) → o ≡ pdu r p → Told Short o c → length p ≤ 1464
+  told-short r p nothing c e t = let z : _≡_ {A = ℕ} 0 1 = cc in absurd (omega arith)
+  told-short r p (pdu r′ p′) c e t = let same : p′ ≡ p = cc in subst (λ (l : List ℕ). length l ≤ 1464) same (t .1)
+  told-short r p (dropped k i n) c e t = let z : _≡_ {A = ℕ} 0 1 = cc in absurd (omega arith)
+
+  pub hands-out : (r : ℕ) (p : List ℕ) → tookOf routes connection switches part rx segment .out ≡ pdu r p
+      → payloadAt segment (rxAfter routes connection switches part rx segment) (inSegment (cellOf part rx))
+      (cond (inSegment (cellOf part rx)) (length segment - length (tookOf routes connection switches part rx segment .rest) - length p) 0) (length p) ≡ p
+  unfolding rxAfter tookOf
+  hands-out r p e =
+      go (heldIn (cellOf part rx)) (take-last (lookupOf routes connection switches) (cellOf part rx) segment r p e)
+      (told-short r p _ (tookOf routes connection switches part rx segment .to) e (taken-sane .1))
+    where
+      t : Took
+      t = takeB (lookupOf routes connection switches) (cellOf part rx) segment
+
+      go : (h : List ℕ) → ((pre : List ℕ) × (h ++ segment ≡ pre ++ (p ++ t .rest))) → length p ≤ 1464
+          → payloadAt segment (wrote (noneHeld h) (t .out) (t .to) rx) (noneHeld h) (cond (noneHeld h) (length segment - length (t .rest) - length p) 0) (length p) ≡ p
+      go [] f l = middle segment (f .0) p (t .rest) (f .1)
+      go (x ∷ h) f l =
+          ap (λ (o : Out). partOf (wrote false o (t .to) rx) 0 (length p)) e
+          ∙ part-fits (lay rx 0 p) 0 (length p) (omega (arith, lay-length rx 0 p, fit .room))
+          ∙ lay-own rx 0 p (omega (arith, fit .room))
+
+-- A TAKE OF NO BYTE reads none, wants more and leaves the part and receive memory as they are
+part-back : (routes : List ℕ) (part : Part) (rx : List ℕ) → Fit routes part rx → partFrom (cellOf part rx) ≡ part
+part-back routes (Header held value) rx fit =
+    let f : (held < 8) × (value < 256 ^ held) = header-fit routes (Header held value) rx fit held value refl in
+    let e : 8 - (8 - held) ≡ held = omega arith in
+    ap (λ (k : ℕ). Header k value) e
+part-back routes (Payload route n held) rx fit =
+    let f : (held < n) × (n ≤ length rx) = payload-fit routes (Payload route n held) rx fit route n held refl in
+    let l : length (take held rx) ≡ held = length-take-le held rx (omega arith) in
+    let e : n - held + length (take held rx) ≡ n = omega arith in
+    ap₂ (Payload route) e l
+part-back routes (Skip n) rx fit = refl
+
+held-there : (routes : List ℕ) (part : Part) (rx : List ℕ) → Fit routes part rx → lay rx 0 (heldIn (cellOf part rx)) ≡ rx
+held-there routes (Header held value) rx fit = lay-fits rx 0 [] (omega arith)
+held-there routes (Payload route n held) rx fit =
+    let f : (held < n) × (n ≤ length rx) = payload-fit routes (Payload route n held) rx fit route n held refl in
+    let l : 0 + length (take held rx) ≡ held = omega (arith, length-take-le held rx (omega arith)) in
+    lay-fits rx 0 (take held rx) (omega arith) ∙ ap (λ (k : ℕ). take held rx ++ drop k rx) l ∙ take-append-drop held rx
+held-there routes (Skip n) rx fit = lay-fits rx 0 [] (omega arith)
+
+module _ (routes : List ℕ) (connection switches : ℕ) (part : Part) (rx : List ℕ) (fit : Fit routes part rx) where
+  pub empty-take : takenOf routes connection switches part rx [] ≡ record { read = 0; outcome = More; part = part }
+  unfolding takenOf tookOf takeB
+  empty-take = ap (λ (p : Part). record { read = 0; outcome = More; part = p }) (part-back routes part rx fit)
+
+  pub empty-memory : rxAfter routes connection switches part rx [] ≡ rx
+  unfolding rxAfter tookOf takeB
+  empty-memory = held-there routes part rx fit

@@ -1,0 +1,142 @@
+// Which member of a group a source belongs to: one pass over the records, the best match first (both fields, the address, the port,
+// neither), then the lowest number. Every function is total.
+ghost use mathlib.Core.Path.{_≡_};
+ghost use Prim.Native.Nat.{_≤_, _<_};
+ghost use Rattle.select.specs.Choose as Is;
+use connection::Connection;
+use connection::Fields;
+use connection::Refusal;
+use connection::Remote;
+use state::State;
+use table_layout::Kind;
+
+pub enum Chosen {
+    Nobody,
+    At(usize),
+}
+
+// What a datagram or an accept is answered: the connection that it met, or why there is none.
+pub enum Arrival {
+    Met(u8),
+    Refused(Refusal),
+    Unmatched,
+}
+
+// The answer, with the state after it.
+pub struct Arrived {
+    pub answer: Arrival,
+    pub state: State,
+}
+
+fn one(b: bool) -> u8
+    ensures { λ r. ⌜ (r ≡ Is.oneOf b) × (r ≤ 1) ⌝ }
+{
+    if b {
+        return 1;
+    }
+    0
+}
+
+// How a match ranks: the address above the port.
+fn rank(equal: Fields) -> u8
+    ensures { λ r. ⌜ (r ≡ Is.rankOf equal) × (r < 255) ⌝ }
+{
+    2 * one(equal.address) + one(equal.port)
+}
+
+// A member's rank and 1 more; 0 for one that does not count or does not match, and for a connection that is no member.
+fn score(accept: bool, source: Remote, member: bool, c: Connection) -> u8
+    ensures { λ r. ⌜ r ≡ Is.scoreOf accept source member c ⌝ }
+{
+    let mode = c.mode;
+    let remote = c.remote;
+    let waits = connection::is_reconnect(mode);
+    let up = connection::is_online(mode);
+    let equal = connection::equal_fields(remote, source);
+    let wild = connection::wild_fields(remote);
+    let counts = (waits | (!accept & up)) & !c.close_wanted;
+    let matches = (equal.address | wild.address) & (equal.port | wild.port);
+    let scores = member & counts & matches;
+    if scores {
+        return 1 + rank(equal);
+    }
+    0
+}
+
+fn choose(image: &[u8], s: State, accept: bool, group: u8, source: Remote) -> Chosen
+    ensures { λ r. ⌜ r ≡ Is.chosenIn (now (image .entry)) s accept group source ⌝ }
+{
+    let rows = table_layout::rows_of(image, Kind::Connection);
+    let body = table_layout::body_of(image, Kind::Connection);
+    let mut best: u8 = 0;
+    let mut at: usize = 0;
+    let mut i: usize = 0;
+    while i < 16 {
+        let row = table_rows::brief_in(body, i);
+        let member = (i < rows) & (row.group == group);
+        if !member {
+            i += 1;
+            continue;
+        }
+        let c = s.connections[i];
+        let found = score(accept, source, member, c);
+        if found <= best {
+            i += 1;
+            continue;
+        }
+        best = found;
+        at = i;
+        i += 1;
+    }
+    if best == 0 {
+        return Chosen::Nobody;
+    }
+    Chosen::At(at)
+}
+
+// A datagram names a UDP group, an accept a TCP group.
+fn protocol_of(accept: bool) -> u8
+    ensures { λ r. ⌜ r ≡ Is.protocolOf accept ⌝ }
+{
+    if accept {
+        return 2;
+    }
+    1
+}
+
+// A datagram (accept false) or an accept (accept true) for a group, from a source.
+pub fn arrive(image: &[u8], mut s: State, accept: bool, group: u8, source: Remote) -> Arrived
+    ensures { λ r. ⌜ r ≡ Is.arriveOf (now (image .entry)) s accept group source ⌝ }
+{
+    let groups = table_layout::rows_of(image, Kind::Group);
+    if groups <= group as usize {
+        return Arrived {
+            answer: Arrival::Refused(Refusal::Missing),
+            state: s,
+        };
+    }
+    let row = table_rows::group_row(image, group as usize);
+    let denied = !(row.protocol == protocol_of(accept)) | connection::has_wildcard(source);
+    if denied {
+        return Arrived {
+            answer: Arrival::Refused(Refusal::Denied),
+            state: s,
+        };
+    }
+    let chosen = choose(image, s, accept, group, source);
+    match chosen {
+        Chosen::Nobody => Arrived {
+            answer: Arrival::Unmatched,
+            state: s,
+        },
+        Chosen::At(k) => {
+            let c = s.connections[k];
+            let met = c.met(source);
+            s.connections[k] = met;
+            Arrived {
+                answer: Arrival::Met(k as u8),
+                state: s,
+            }
+        }
+    }
+}

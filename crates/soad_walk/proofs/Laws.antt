@@ -1,0 +1,58 @@
+-- The walk by a table's own routes, by the tests that led there.
+use Prim.Native.Nat.{ℕ, _≤_, _<_}
+use mathlib.Core.Path.{_≡_, sym, ap, _∙_}
+use mathlib.Core.Bool.{Bool, true, false}
+use mathlib.Core.List.{List}
+use native.Mathlib.Omega.{arith}
+use borrow.Author.Tests.{le-leb, lt-leb, lt-ltb, le-ltb}
+use lib.Dec.{eqb}
+use lib.ListN.{length}
+use Rattle.receive_datagram.specs.declared.Walked.{Walked}
+use Rattle.receive_datagram.specs.Datagram.{walkedOf}
+use Rattle.table_layout.specs.declared.Kind.the-variants.{Connection, Route}
+use Rattle.table_layout.specs.Layout.{rowsOf, bodyOf}
+use Rattle.table_rows.specs.declared.ConnectionRow.{ConnectionRow}
+use Rattle.table_rows.specs.declared.GroupRow.{GroupRow}
+use Rattle.table_rows.specs.Rows.{groupOf, connectionOf}
+use Rattle.table.specs.declared.TableAnswer.{TableAnswer}
+use Rattle.table.specs.Table.{checkTable}
+use Rattle.soad_walk.specs.declared.TableWalk.the-variants.{Refused, Step}
+use Rattle.soad_walk.specs.TableWalk.{isTcp, acceptedWalk, afterCheck, tableWalkOf}
+
+pub tcp-is : (image : List ℕ) (connection : ℕ) (row : ConnectionRow) (group : GroupRow) → row ≡ connectionOf image connection → group ≡ groupOf image (row .group)
+    → eqb (group .protocol) 2 ≡ isTcp image connection
+unfolding isTcp
+tcp-is image connection row group er eg =
+    ap (λ (g : GroupRow). eqb (g .protocol) 2) eg ∙ ap (λ (r : ConnectionRow). eqb (groupOf image (r .group) .protocol) 2) er
+
+-- the order of the checks
+module _ (image : List ℕ) (connection switches : ℕ) (datagram : List ℕ) (place rows : ℕ) (counted : rows ≡ rowsOf image Connection) where
+  pub not-there : rows ≤ connection → Refused 2 ≡ acceptedWalk image connection switches datagram place
+  unfolding acceptedWalk
+  not-there h = let l : rowsOf image Connection ≤ connection = omega arith in simp (le-leb (rowsOf image Connection) connection l)
+
+  module _ (there : connection < rows) (tcp : Bool) (is : tcp ≡ isTcp image connection) where
+    here : connection < rowsOf image Connection
+    here = omega arith
+
+    pub a-tcp : tcp ≡ true → Refused 3 ≡ acceptedWalk image connection switches datagram place
+    unfolding acceptedWalk
+    a-tcp e = simp (lt-leb (rowsOf image Connection) connection here, sym is ∙ e)
+
+    pub past-the-end : tcp ≡ false → length datagram < place → Refused 3 ≡ acceptedWalk image connection switches datagram place
+    unfolding acceptedWalk
+    past-the-end e h = simp (lt-leb (rowsOf image Connection) connection here, sym is ∙ e, lt-ltb (length datagram) place h)
+
+    pub a-step : tcp ≡ false → place ≤ length datagram → (routes : List ℕ) (w : Walked) → routes ≡ bodyOf image Route → w ≡ walkedOf datagram place routes connection switches
+        → Step w ≡ acceptedWalk image connection switches datagram place
+    unfolding acceptedWalk
+    a-step e h routes w er ew =
+        simp (lt-leb (rowsOf image Connection) connection here, sym is ∙ e, le-ltb (length datagram) place h)
+        (ap Step (ew ∙ ap (λ (l : List ℕ). walkedOf datagram place l connection switches) er))
+
+-- the check comes first
+pub checked : (image : List ℕ) (connection switches : ℕ) (datagram : List ℕ) (place : ℕ) (answer : TableAnswer) → checkTable image ≡ answer
+    → afterCheck answer (acceptedWalk image connection switches datagram place) ≡ tableWalkOf image connection switches datagram place
+unfolding tableWalkOf
+checked image connection switches datagram place answer e =
+    ap (λ (a : TableAnswer). afterCheck a (acceptedWalk image connection switches datagram place)) (sym e)

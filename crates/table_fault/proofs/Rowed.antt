@@ -1,0 +1,31 @@
+-- What is told of a row, by values that are its bytes and the numbers it is held against.
+use Prim.Native.Nat.{ℕ}
+use mathlib.Core.Path.{_≡_, _∙_}
+use mathlib.Core.List.{List}
+use Rattle.wire.specs.Be.{be}
+use Rattle.table_layout.specs.Layout.{rowsOf, bodyOf, rowOf}
+use Rattle.table_layout.specs.declared.Kind.{Kind}
+use Rattle.table_layout.specs.declared.Kind.the-variants.{Group, Connection, Route, Destination}
+use Rattle.table_rows.specs.Rules.{sizeIn}
+use Rattle.table_fault.specs.Faults.{groupFault, connectionFault, routeFault, destinationFault, sharedFault, rowFault}
+use Rattle.table_fault.specs.declared.Told.{Told}
+
+module _ (s : List ℕ) (k : Kind) (i : ℕ) {r : Told} {row : List ℕ} where
+  pub group-told : k ≡ Group → row ≡ rowOf s k i → r ≡ groupFault row → r ≡ rowFault s k i
+  unfolding rowFault
+  group-told e p q = q ∙ rw (p, e)
+
+  pub connection-told : {groups : ℕ} → k ≡ Connection → row ≡ rowOf s k i → groups ≡ rowsOf s Group → r ≡ connectionFault groups row → r ≡ rowFault s k i
+  unfolding rowFault
+  connection-told e p g q = q ∙ rw (p, e, g)
+
+  pub route-told : {shared : Told} {connections : ℕ} → k ≡ Route → row ≡ rowOf s k i → shared ≡ sharedFault s Route i → connections ≡ rowsOf s Connection
+      → r ≡ routeFault connections shared row → r ≡ rowFault s k i
+  unfolding rowFault
+  route-told e p f n q = q ∙ rw (p, e, f, n)
+
+  pub destination-told : {shared : Told} {connections c size : ℕ} {body : List ℕ} → k ≡ Destination → row ≡ rowOf s k i → shared ≡ sharedFault s Destination i
+      → body ≡ bodyOf s Connection → c ≡ be 1 row 0 → size ≡ sizeIn body c → connections ≡ rowsOf s Connection
+      → r ≡ destinationFault connections size shared row → r ≡ rowFault s k i
+  unfolding rowFault
+  destination-told e p f b c z n q = q ∙ rw (z, c, b, p, e, f, n)

@@ -1,0 +1,43 @@
+-- `table_rows::destination_value` meets its contract.
+use Rattle.table_rows.specs.Rows.{destinationRow}
+use borrow.Author.Needs.{needs}
+use Rattle.table_rows.proofs.destination_value.Statement.{statement}
+use Rattle.table_rows.proofs.destination_value.Tie as tie
+
+one-byte-requires : tie.Need-one-byte-requires
+one-byte-requires c κs = search needs
+
+be8-requires : tie.Need-be8-requires
+be8-requires c κs = search needs
+
+two-bytes-requires : tie.Need-two-bytes-requires
+two-bytes-requires c κs = search needs
+
+four-bytes-requires : tie.Need-four-bytes-requires
+four-bytes-requires c κs = search needs
+
+two-bytes-requires-2 : tie.Need-two-bytes-requires-2
+two-bytes-requires-2 c κs = search needs
+
+two-bytes-requires-3 : tie.Need-two-bytes-requires-3
+two-bytes-requires-3 c κs = search needs
+
+four-bytes-requires-2 : tie.Need-four-bytes-requires-2
+four-bytes-requires-2 c κs = search needs
+
+returns : tie.Need-returns
+unfolding destinationRow
+returns c = cc
+
+pub destination-value-spec : {M : Type 1} → statement M
+destination-value-spec =
+    tie.close
+    (tie.spec
+    one-byte-requires
+    be8-requires
+    two-bytes-requires
+    four-bytes-requires
+    two-bytes-requires-2
+    two-bytes-requires-3
+    four-bytes-requires-2
+    returns)

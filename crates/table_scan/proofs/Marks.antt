@@ -1,0 +1,113 @@
+-- Rows that share what they may not have one mark; so a row whose mark no earlier row has is clear of them all.
+use Prim.Native.Nat.{ℕ, _+_, _/_, _%_, _<_, _≤_}
+use mathlib.Core.Path.{_≡_, refl, sym, ap, _∙_}
+use mathlib.Core.Bool.{Bool, true, false, not}
+use mathlib.Core.List.{List}
+use native.Mathlib.Omega.{arith}
+use native.Mathlib.Decide.{ℕ-discrete}
+use borrow.Author.Tests.{eqb-true}
+use lib.Dec.{eqb}
+use lib.ListN.{length, getD, set, length-set}
+use lib.Seq.{getD-set-same, getD-set-other}
+use Rattle.wire.specs.Be.{be}
+use Rattle.lists.specs.Search.{every, firstBad}
+use Rattle.lists.proofs.Both.{and-left, and-right, impossible}
+use Rattle.lists.proofs.Search.{every-all, search-start, search-ended}
+use Rattle.table_layout.specs.Layout.{rowIn}
+use Rattle.table_layout.specs.declared.Kind.the-variants.{Route, Destination}
+use Rattle.table_rows.specs.Rules.{routesShare, destinationsShare}
+use Rattle.table_scan.specs.Scan.{share, clearIn, goodIn}
+use Rattle.table_scan.specs.Marks.{routeMark, destinationMark, Come, Struck}
+use Rattle.table_scan.proofs.Rows.{bad-row, shared-row, good-row}
+
+pub mark-small : (x : ℕ) → x % 4294967296 / 2097152 < 2048
+mark-small x = omega arith
+
+pub routes-marked : (a b : List ℕ) → share Route a b ≡ true → routeMark a ≡ routeMark b
+unfolding share routesShare routeMark
+routes-marked a b e =
+    let one : be 1 a 0 ≡ be 1 b 0 = eqb-true _ _ (and-left (eqb (be 1 a 0) (be 1 b 0)) (eqb (be 4 a 4) (be 4 b 4)) e) in
+    let four : be 4 a 4 ≡ be 4 b 4 = eqb-true _ _ (and-right (eqb (be 1 a 0) (be 1 b 0)) (eqb (be 4 a 4) (be 4 b 4)) e) in
+    rw (one, four)
+
+pub destinations-marked : (a b : List ℕ) → share Destination a b ≡ true → destinationMark a ≡ destinationMark b
+unfolding share destinationsShare destinationMark
+destinations-marked a b e =
+    let two : be 2 a 8 ≡ be 2 b 8 = eqb-true _ _ (and-left (eqb (be 2 a 8) (be 2 b 8)) (eqb (be 1 a 0) (be 1 b 0)) e) in
+    let one : be 1 a 0 ≡ be 1 b 0 = eqb-true _ _ (and-right (eqb (be 2 a 8) (be 2 b 8)) (eqb (be 1 a 0) (be 1 b 0)) e) in
+    rw (two, one)
+
+module _ (shares : List ℕ → List ℕ → Bool) (mark : List ℕ → ℕ) (tag : ℕ) (body : List ℕ) where
+  -- the marks of the rows before i are noted
+  abbrev Noted : List ℕ → ℕ → Type 0
+  Noted seen i = (j : ℕ) → j < i → getD seen (mark (rowIn 16 body j)) 0 ≡ tag
+
+  -- a mark that was not met: no earlier row shares
+  noted-new : ((a b : List ℕ) → shares a b ≡ true → mark a ≡ mark b)
+      → (seen : List ℕ) (i m : ℕ) (row : List ℕ) → row ≡ rowIn 16 body i → m ≡ mark row → Noted seen i → (getD seen m 0 ≡ tag → ⊥)
+      → every (clearIn shares 16 body i) i ≡ true
+  unfolding clearIn
+  noted-new law seen i m row is e noted new = every-all _ i (λ j h. go j h (shares (rowIn 16 body j) (rowIn 16 body i)) refl)
+    where
+      go : (j : ℕ) → j < i → (b : Bool) → shares (rowIn 16 body j) (rowIn 16 body i) ≡ b → not (shares (rowIn 16 body j) (rowIn 16 body i)) ≡ true
+      go j h false q = ap not q
+      go j h true q =
+          absurd (new (ap (λ (x : ℕ). getD seen x 0) (e ∙ ap mark is ∙ sym (law (rowIn 16 body j) (rowIn 16 body i) q)) ∙ noted j h))
+
+  -- one more
+  noted-more : (seen : List ℕ) (i m : ℕ) (row : List ℕ) → row ≡ rowIn 16 body i → m ≡ mark row → m < length seen → Noted seen i → Noted (set seen m tag) (i + 1)
+  noted-more seen i m row is e h noted j l = go (ℕ-discrete (mark (rowIn 16 body j)) m)
+    where
+      go : Dec (mark (rowIn 16 body j) ≡ m) → getD (set seen m tag) (mark (rowIn 16 body j)) 0 ≡ tag
+      go (yes q) = ap (λ (x : ℕ). getD (set seen m tag) x 0) q ∙ getD-set-same seen m tag 0 h
+      go (no q) = getD-set-other seen m (mark (rowIn 16 body j)) tag 0 q ∙ before (ℕ-discrete j i)
+        where
+          before : Dec (j ≡ i) → getD seen (mark (rowIn 16 body j)) 0 ≡ tag
+          before (yes p) = absurd (q (ap (λ (x : ℕ). mark (rowIn 16 body x)) p ∙ ap mark (sym is) ∙ sym e))
+          before (no p) = noted j (omega arith)
+
+-- the two loops, at the places where they stand
+module _ (good : List ℕ → Bool) (shares : List ℕ → List ℕ → Bool) (mark : List ℕ → ℕ) (tag : ℕ) (body : List ℕ) where
+  -- before the first row nothing is noted, whatever the marks hold
+  pub come-start : (seen : List ℕ) → length seen ≡ 2048 → Come good shares mark tag body seen 0
+  come-start seen size =
+      let s = search-start (goodIn good shares 16 body) (length body / 16) in
+      record { low = s .0; rest = s .1; size = size; noted = λ j l. absurd (omega arith) }
+
+  pub struck-end : (seen : List ℕ) (i : ℕ) → Come good shares mark tag body seen i → length body / 16 ≤ i → Struck good shares mark tag body seen i
+  struck-end seen i c h = record { come = c; met = λ l g. absurd (omega arith) }
+
+  module _ (seen : List ℕ) (i : ℕ) (row : List ℕ) (is : row ≡ rowIn 16 body i) where
+    -- the loop that most rows stay in
+    pub struck-bad : Come good shares mark tag body seen i → {ok : Bool} → ok ≡ good row → ok ≡ false → Struck good shares mark tag body seen i
+    struck-bad c e f = record { come = c; met = λ l g. impossible (sym f ∙ e ∙ ap good is ∙ g) }
+
+    module _ (m : ℕ) (em : m ≡ mark row) where
+      pub struck-met : Come good shares mark tag body seen i → getD seen m 0 ≡ tag → Struck good shares mark tag body seen i
+      struck-met c e = record { come = c; met = λ l g. ap (λ (x : ℕ). getD seen x 0) (sym (em ∙ ap mark is)) ∙ e }
+
+      pub come-on : ((a b : List ℕ) → shares a b ≡ true → mark a ≡ mark b) → Come good shares mark tag body seen i → i < length body / 16
+          → {ok : Bool} → ok ≡ good row → ok ≡ true → m < 2048 → (getD seen m 0 ≡ tag → ⊥) → Come good shares mark tag body (set seen m tag) (i + 1)
+      come-on law c h e t l new =
+          let a = good-row good shares 16 body i row (c .low, c .rest) h is e t (sym (noted-new shares mark tag body law seen i m row is em (c .noted) new)) refl in
+          record { low = a .0; rest = a .1; size = length-set seen m tag ∙ c .size; noted = noted-more shares mark tag body seen i m row is em (rw (c .size) l) (c .noted) }
+
+    -- the loop around it, at a row that was struck
+    module _ (s : Struck good shares mark tag body seen i) (h : i < length body / 16) where
+      pub found-bad : {ok : Bool} → ok ≡ good row → ok ≡ false → i ≡ firstBad (goodIn good shares 16 body) (length body / 16)
+      found-bad e f = bad-row good shares 16 body i row (s .come .low, s .come .rest) h is e f
+
+      pub found-shared : {ok : Bool} → ok ≡ every (clearIn shares 16 body i) i → ok ≡ false → i ≡ firstBad (goodIn good shares 16 body) (length body / 16)
+      found-shared e f = shared-row good shares 16 body i row (s .come .low, s .come .rest) h is e f
+
+      pub come-past : {ok new : Bool} → ok ≡ good row → ok ≡ true → new ≡ every (clearIn shares 16 body i) i → new ≡ true → Come good shares mark tag body seen (i + 1)
+      come-past e t f u =
+          let a = good-row good shares 16 body i row (s .come .low, s .come .rest) h is e t f u in
+          record { low = a .0; rest = a .1; size = s .come .size; noted = λ j l. go j l (ℕ-discrete j i) }
+        where
+          go : (j : ℕ) → j < i + 1 → Dec (j ≡ i) → getD seen (mark (rowIn 16 body j)) 0 ≡ tag
+          go j l (yes p) = ap (λ (x : ℕ). getD seen (mark (rowIn 16 body x)) 0) p ∙ s .met h (ap good (sym is) ∙ sym e ∙ t)
+          go j l (no p) = s .come .noted j (omega arith)
+
+  pub found-none : (seen : List ℕ) (i : ℕ) → Struck good shares mark tag body seen i → length body / 16 ≤ i → i ≡ firstBad (goodIn good shares 16 body) (length body / 16)
+  found-none seen i s h = search-ended (goodIn good shares 16 body) (length body / 16) i (s .come .low, s .come .rest) h

@@ -1,0 +1,22 @@
+-- `table_scan::destination_mark` meets its contract.
+use Rattle.table_scan.specs.Marks.{destinationMark}
+use borrow.Author.Needs.{needs}
+use Rattle.table_scan.proofs.destination_mark.Statement.{statement}
+use Rattle.table_scan.proofs.destination_mark.Tie as tie
+
+owner-of-requires : tie.Need-owner-of-requires
+owner-of-requires c κs = search needs
+
+be16-requires : tie.Need-be16-requires
+be16-requires c κs = search needs
+
+mark-of-requires : tie.Need-mark-of-requires
+mark-of-requires c κs = search needs
+
+returns : tie.Need-returns
+unfolding destinationMark
+returns c = (cc, c .mark-of .ensures .1)
+
+pub destination-mark-spec : {M : Type 1} → statement M
+destination-mark-spec =
+    tie.close (tie.spec owner-of-requires be16-requires mark-of-requires returns)

@@ -1,0 +1,21 @@
+-- `table_scan::route_mark` meets its contract.
+use Rattle.table_scan.specs.Marks.{routeMark}
+use borrow.Author.Needs.{needs}
+use Rattle.table_scan.proofs.route_mark.Statement.{statement}
+use Rattle.table_scan.proofs.route_mark.Tie as tie
+
+owner-of-requires : tie.Need-owner-of-requires
+owner-of-requires c κs = search needs
+
+be32-requires : tie.Need-be32-requires
+be32-requires c κs = search needs
+
+mark-of-requires : tie.Need-mark-of-requires
+mark-of-requires c κs = search needs
+
+returns : tie.Need-returns
+unfolding routeMark
+returns c = (cc, c .mark-of .ensures .1)
+
+pub route-mark-spec : {M : Type 1} → statement M
+route-mark-spec = tie.close (tie.spec owner-of-requires be32-requires mark-of-requires returns)

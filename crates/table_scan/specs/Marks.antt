@@ -1,0 +1,35 @@
+-- A small number of what two rows may not share: rows with different numbers do not share it. It makes the search quick,
+-- and says nothing of its answer. It is a multiplicative hash (the factor is 2^32 over the golden ratio) of the key with the
+-- connection at its top: rising and stepped keys spread well.
+use Prim.Native.Nat.{ℕ, _+_, _-_, _*_, _/_, _%_, _<_, _≤_}
+use mathlib.Core.Path.{_≡_}
+use mathlib.Core.Bool.{Bool, true}
+use mathlib.Core.List.{List}
+use lib.ListN.{length, getD}
+use Rattle.wire.specs.Be.{be}
+use Rattle.lists.specs.Search.{badFrom, firstBad}
+use Rattle.table_layout.specs.Layout.{rowIn}
+use Rattle.table_scan.specs.Scan.{goodIn}
+
+-- of a connection and the key beside it
+unfoldable pub markOf : ℕ → ℕ → ℕ
+markOf connection key = (key + connection * 268435456) % 4294967296 * 2654435769 % 4294967296 / 2097152
+
+unfoldable pub routeMark : List ℕ → ℕ
+routeMark row = markOf (be 1 row 0) (be 4 row 4)
+
+unfoldable pub destinationMark : List ℕ → ℕ
+destinationMark row = markOf (be 1 row 0) (be 2 row 8)
+
+module _ (good : List ℕ → Bool) (shares : List ℕ → List ℕ → Bool) (mark : List ℕ → ℕ) (tag : ℕ) (body seen : List ℕ) (i : ℕ) where
+  -- a search that has come to row i: what is left of it has the whole one's answer, and the rows before i have left the tag at their marks
+  pub record Come : Type 0 where
+    pub low : i ≤ length body / 16
+    pub rest : badFrom (goodIn good shares 16 body) (length body / 16 - i) i ≡ firstBad (goodIn good shares 16 body) (length body / 16)
+    pub size : length seen ≡ 2048
+    pub noted : (j : ℕ) → j < i → getD seen (mark (rowIn 16 body j)) 0 ≡ tag
+
+  -- the same, stopped at row i: if that row is good by itself, its mark is noted
+  pub record Struck : Type 0 where
+    pub come : Come
+    pub met : i < length body / 16 → good (rowIn 16 body i) ≡ true → getD seen (mark (rowIn 16 body i)) 0 ≡ tag

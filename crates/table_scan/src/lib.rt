@@ -1,0 +1,226 @@
+// The first bad row of each kind's body. A row is tested by itself first; then, where its mark was met before, against
+// each earlier row, outside of the loop that most rows stay in. The marks make the search quick; no public contract shows them.
+ghost use mathlib.Core.Path.{_≡_};
+ghost use Prim.Native.Nat.{ℕ, _/_, _<_, _≤_};
+ghost use lib.ListN.{length};
+ghost use Rattle.lists.specs.Search.{firstBad, every};
+ghost use Rattle.table_rows.specs.Rules.{groupGood, connectionGood, routeGood};
+ghost use Rattle.table_scan.specs.Scan.{share, clearIn, goodIn, destinationRule, badRoute, badDestination, badRows};
+ghost use Rattle.table_scan.specs.Marks.{markOf, routeMark, destinationMark, Come, Struck};
+use table_layout::Kind;
+use table_rows::connection_good;
+use table_rows::destination_good;
+use table_rows::destinations_share;
+use table_rows::group_good;
+use table_rows::owner_of;
+use table_rows::route_good;
+use table_rows::routes_share;
+use wire::be16;
+use wire::be32;
+
+// The first bad row of two kinds.
+pub struct BadRows {
+    pub route: usize,
+    pub destination: usize,
+}
+
+// The first bad group, or the row count where there is none.
+pub fn first_bad_group(body: &[u8]) -> usize
+    ensures { λ r. ⌜ r ≡ firstBad (goodIn groupGood (share Kind.Group) 2 (now (body .entry))) (length (now (body .entry)) / 2) ⌝ }
+{
+    let n = body.len() / 2;
+    let mut i = 0;
+    while i < n {
+        let at = i * 2;
+        let row = &body[at..at + 2];
+        if !group_good(row) {
+            return i;
+        }
+        i += 1;
+    }
+    i
+}
+
+// The first bad connection, or the row count where there is none.
+pub fn first_bad_connection(body: &[u8], groups: usize) -> usize
+    ensures { λ r. ⌜ r ≡ firstBad (goodIn (connectionGood groups) (share Kind.Connection) 16 (now (body .entry))) (length (now (body .entry)) / 16) ⌝ }
+{
+    let n = body.len() / 16;
+    let mut i = 0;
+    while i < n {
+        let at = i * 16;
+        let row = &body[at..at + 16];
+        if !connection_good(row, groups) {
+            return i;
+        }
+        i += 1;
+    }
+    i
+}
+
+// Two rows of a kind share what they may not.
+pub fn rows_share(k: Kind, a: &[u8], b: &[u8]) -> bool
+    ensures { λ r. ⌜ r ≡ share k (now (a .entry)) (now (b .entry)) ⌝ }
+{
+    match k {
+        Kind::Group => false,
+        Kind::Connection => false,
+        Kind::Route => routes_share(a, b),
+        Kind::Destination => destinations_share(a, b),
+    }
+}
+
+// Row i shares with no earlier row what it may not.
+fn fresh(body: &[u8], k: Kind, i: usize) -> bool
+    requires { ⌜ i < length (now body) / 16 ⌝ }
+    ensures { λ r. ⌜ r ≡ every (clearIn (share k) 16 (now (body .entry)) i) i ⌝ }
+{
+    let own = i * 16;
+    let row = &body[own..own + 16];
+    let mut j = 0;
+    while j < i {
+        let at = j * 16;
+        let earlier = &body[at..at + 16];
+        if rows_share(k, earlier, row) {
+            return false;
+        }
+        j += 1;
+    }
+    true
+}
+
+// A number below 2,048 of what a row may share with no other.
+fn mark_of(connection: usize, key: usize) -> usize
+    requires { ⌜ (connection < 256) × (key < 4294967296) ⌝ }
+    ensures { λ r. ⌜ (r ≡ markOf connection key) × (r < 2048) ⌝ }
+{
+    (key + connection * 268435456) % 4294967296 * 2654435769 % 4294967296 / 2097152
+}
+
+fn route_mark(row: &[u8]) -> usize
+    ensures { λ r. ⌜ (r ≡ routeMark (now (row .entry))) × (r < 2048) ⌝ }
+{
+    mark_of(owner_of(row), be32(row, 4))
+}
+
+fn destination_mark(row: &[u8]) -> usize
+    ensures { λ r. ⌜ (r ≡ destinationMark (now (row .entry))) × (r < 2048) ⌝ }
+{
+    mark_of(owner_of(row), be16(row, 8))
+}
+
+// From row `from` on, the first route that is bad by itself or whose mark was met. `seen` holds 1 at each mark met.
+fn next_route(body: &[u8], connections: usize, seen: &mut [u8; 2048], from: usize) -> usize
+    requires { ⌜ Come (routeGood connections) (share Kind.Route) routeMark 1 (now body) (now seen) from ⌝ }
+    ensures { λ r. ⌜ (from ≤ r) × Struck (routeGood connections) (share Kind.Route) routeMark 1 (now (body .entry)) (now (seen .exit)) r ⌝ }
+{
+    let n = body.len() / 16;
+    let mut i = from;
+    while i < n {
+        let at = i * 16;
+        let row = &body[at..at + 16];
+        if !route_good(row, connections) {
+            return i;
+        }
+        let mark = route_mark(row);
+        if seen[mark] == 1 {
+            return i;
+        }
+        seen[mark] = 1;
+        i += 1;
+    }
+    i
+}
+
+// The first bad route, or the row count where there is none.
+fn first_bad_route(body: &[u8], connections: usize, seen: &mut [u8; 2048]) -> usize
+    requires { ⌜ length (now seen) ≡ 2048 ⌝ }
+    ensures { λ r. ⌜ r ≡ badRoute connections (now (body .entry)) ⌝ }
+    ensures { λ _. ⌜ length (now (seen .exit)) ≡ 2048 ⌝ }
+{
+    let n = body.len() / 16;
+    let mut i = 0;
+    loop {
+        i = next_route(body, connections, seen, i);
+        if n <= i {
+            return i;
+        }
+        let at = i * 16;
+        let row = &body[at..at + 16];
+        if !route_good(row, connections) {
+            return i;
+        }
+        if !fresh(body, Kind::Route, i) {
+            return i;
+        }
+        i += 1;
+    }
+}
+
+// The same of destinations. `seen` holds 2 at each mark met.
+fn next_destination<'a>(
+    body: &'a [u8],
+    connections: &'a [u8],
+    seen: &mut [u8; 2048],
+    from: usize,
+) -> usize
+    requires { ⌜ Come (destinationRule (now connections)) (share Kind.Destination) destinationMark 2 (now body) (now seen) from ⌝ }
+    ensures { λ r. ⌜ (from ≤ r) × Struck (destinationRule (now (connections .entry))) (share Kind.Destination) destinationMark 2 (now (body .entry)) (now (seen .exit)) r ⌝ }
+{
+    let n = body.len() / 16;
+    let mut i = from;
+    while i < n {
+        let at = i * 16;
+        let row = &body[at..at + 16];
+        if !destination_good(row, connections) {
+            return i;
+        }
+        let mark = destination_mark(row);
+        if seen[mark] == 2 {
+            return i;
+        }
+        seen[mark] = 2;
+        i += 1;
+    }
+    i
+}
+
+fn first_bad_destination<'a>(body: &'a [u8], connections: &'a [u8], seen: &mut [u8; 2048]) -> usize
+    requires { ⌜ length (now seen) ≡ 2048 ⌝ }
+    ensures { λ r. ⌜ r ≡ badDestination (now (connections .entry)) (now (body .entry)) ⌝ }
+{
+    let n = body.len() / 16;
+    let mut i = 0;
+    loop {
+        i = next_destination(body, connections, seen, i);
+        if n <= i {
+            return i;
+        }
+        let at = i * 16;
+        let row = &body[at..at + 16];
+        if !destination_good(row, connections) {
+            return i;
+        }
+        if !fresh(body, Kind::Destination, i) {
+            return i;
+        }
+        i += 1;
+    }
+}
+
+// The first bad route and the first bad destination, each the row count where there is none; one set of marks serves both.
+pub fn first_bad_rows<'a>(
+    routes: &'a [u8],
+    destinations: &'a [u8],
+    connections: &'a [u8],
+) -> BadRows
+    ensures { λ r. ⌜ r ≡ badRows (now (routes .entry)) (now (destinations .entry)) (now (connections .entry)) ⌝ }
+{
+    let mut seen = [0u8; 2048];
+    let route = first_bad_route(routes, connections.len() / 16, &mut seen);
+    let destination = first_bad_destination(destinations, connections, &mut seen);
+    BadRows {
+        route: route,
+        destination: destination,
+    }
+}
