@@ -1,7 +1,7 @@
 -- A reader that is moved from answer to answer.
 use Prim.Native.Nat.{ℕ, zero, suc, _+_, _≤_}
 use mathlib.Core.Path.{_≡_, refl, sym, ap, ap₂, _∙_, subst}
-use mathlib.Core.Bool.{Bool, true, false, not}
+use mathlib.Core.Bool.{cond, Bool, true, false, not}
 use mathlib.Core.List.{List, map}
 use native.Mathlib.Omega.{arith}
 use lib.Dec.{leb}
@@ -41,7 +41,11 @@ use Rattle.entry_reader.proofs.Payload.{told-is}
 pub refused-stays : (r : DatagramReader) (l : Lent) (k : ℕ) → isDone (walkAnswer l k (now (r .datagram)) (r .place)) ≡ false
     → answerAt r l k ≡ noneWalked (l .state) (r .place) (walkAnswer l k (now (r .datagram)) (r .place))
 unfolding walkOf
-refused-stays r l k h = rw h
+refused-stays r l k h =
+    ap
+    (λ (b : Bool).
+    cond b (walkOn (l .image) (l .state) k (now (r .datagram)) (r .place)) (noneWalked (l .state) (r .place) (walkAnswer l k (now (r .datagram)) (r .place))))
+    h
 
 -- so a reader that is moved to the next place is the reader as it was
 pub refused-reader : (r : DatagramReader) (l : Lent) (k : ℕ) → isDone (walkAnswer l k (now (r .datagram)) (r .place)) ≡ false → movedTo r (answerAt r l k .next) ≡ r
