@@ -149,13 +149,32 @@ fn is_spelt(call: Call) -> bool
         Call::Unknown => false,
         Call::Unfit => false,
         Call::Ticks(_) => true,
-        Call::Own { connection: _, event: _ } => true,
+        Call::Own {
+            connection: _,
+            event: _,
+        } => true,
         Call::Lost(_) => true,
-        Call::Segment { connection: _, at: _ } => true,
-        Call::Walk { connection: _, place: _, at: _ } => true,
-        Call::TakeWaiting { connection: _, room: _ } => true,
-        Call::Datagram { group: _, source: _ } => true,
-        Call::Accept { group: _, source: _ } => true,
+        Call::Segment {
+            connection: _,
+            at: _,
+        } => true,
+        Call::Walk {
+            connection: _,
+            place: _,
+            at: _,
+        } => true,
+        Call::TakeWaiting {
+            connection: _,
+            room: _,
+        } => true,
+        Call::Datagram {
+            group: _,
+            source: _,
+        } => true,
+        Call::Accept {
+            group: _,
+            source: _,
+        } => true,
         Call::Transmit { pdu: _, at: _ } => true,
         Call::SwitchAll { number: _, on: _ } => true,
         Call::ReadCount(_) => true,
@@ -262,7 +281,8 @@ fn answer_fits(number: u16, answer: &[u8]) -> bool
 fn body_fits(number: u16, body: &[u8]) -> bool
     ensures { λ r. ⌜ r ≡ Of.bodyFits number (now (body .entry)) ⌝ }
 {
-    is_spelt(call_of(number, arguments_in(number, body))) & answer_fits(number, answer_in(number, body))
+    is_spelt(call_of(number, arguments_in(number, body)))
+        & answer_fits(number, answer_in(number, body))
 }
 
 // ---- an entry

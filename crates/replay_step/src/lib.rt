@@ -83,7 +83,15 @@ fn happen(
 {
     let later = ticks(image, state, rx, tx, count);
     let before = later.state;
-    let done = dispatch(image, before, rx, tx, number, arguments_in(number, body), out);
+    let done = dispatch(
+        image,
+        before,
+        rx,
+        tx,
+        number,
+        arguments_in(number, body),
+        out,
+    );
     let verdict = done.verdict;
     let after = done.state;
     let played = played_by(verdict, out, answer_in(number, body));
@@ -153,5 +161,15 @@ pub fn replay_step(
     let body = front(rest, long);
     let count = distance(before, stamp_in(row));
     let fault = fault_of(count, row, body);
-    unless_fault(image, state, rx, tx, fault, count, number_in(row), body, out)
+    unless_fault(
+        image,
+        state,
+        rx,
+        tx,
+        fault,
+        count,
+        number_in(row),
+        body,
+        out,
+    )
 }

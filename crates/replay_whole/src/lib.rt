@@ -26,10 +26,7 @@ pub enum End {
     Unread(Front),
     Small,
     Cut(usize),
-    Refused {
-        entry: usize,
-        fault: Fault,
-    },
+    Refused { entry: usize, fault: Fault },
 }
 
 // The end; the entries and ticks that were run; the first entry whose answer differs, from 1, or 0; and the state.
@@ -86,5 +83,30 @@ fn end_at(i: u16, played: Played) -> End
         },
         Played::Same(_) => End::Whole,
         Played::Differs(_) => End::Whole,
+    }
+}
+
+// How far a replay is: the state, where the next body begins, the stamp before, the ticks run so far, and the first entry whose answer
+// differs.
+struct Going {
+    state: State,
+    at: usize,
+    before: u32,
+    ticks: u64,
+    differs: usize,
+}
+
+// The entry i was run.
+fn ongoing(going: Going, i: u16, row: &[u8], played: Played, state: State) -> Going
+    requires { ⌜ going .at + going .ticks < 18446744065119617025 ⌝ }
+    ensures { λ r. ⌜ r ≡ Is.onwards going i (now (row .entry)) played state ⌝ }
+{
+    let stamp = stamp_in(row);
+    Going {
+        state: state,
+        at: going.at + body_long(row),
+        before: stamp,
+        ticks: going.ticks + distance(going.before, stamp) as u64,
+        differs: first_other(going.differs, i, is_other(played)),
     }
 }
