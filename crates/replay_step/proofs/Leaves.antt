@@ -48,12 +48,12 @@ module _ (image : List ℕ) (s : State) (rx tx out : List ℕ) (count number : �
       → Leaves (record { played = p; state = d .state }) rx' tx' out' (happens lent out count number body)
   happens-so t given d answer p rx' tx' out' ticks arguments did left sent told recorded compared =
       let e : dispatchOf (loan image (t .state) rx tx) out number given ≡ did-by =
-          ap₂ (λ (x : Ticked) (g : List ℕ). dispatchOf (loan image (x .state) rx tx) out number g) ticks arguments in
+      ap₂ (λ (x : Ticked) (g : List ℕ). dispatchOf (loan image (x .state) rx tx) out number g) ticks arguments in
       let v : d ≡ dispatched did-by = did ∙ ap dispatched e in
       let o : out' ≡ did-by .out = told ∙ ap (λ (x : Effect). x .out) e in
       let q : p ≡ playedBy (did-by .verdict) (did-by .out) (answerIn number body) =
-          compared ∙ ap₂ (λ (x : Dispatched) (y : List ℕ). playedBy (x .verdict) y answer) v o
-          ∙ ap (λ (y : List ℕ). playedBy (did-by .verdict) (did-by .out) y) recorded in (
+      compared ∙ ap₂ (λ (x : Dispatched) (y : List ℕ). playedBy (x .verdict) y answer) v o
+      ∙ ap (λ (y : List ℕ). playedBy (did-by .verdict) (did-by .out) y) recorded in (
         ap₂ (λ (x : Played) (y : Dispatched). record { played = x; state = y .state }) q v,
         (left ∙ ap (λ (x : Effect). x .rx) e, (sent ∙ ap (λ (x : Effect). x .tx) e, o)),
       )
@@ -72,11 +72,11 @@ module _ (l : Loan) (out : List ℕ) (before : ℕ) (row rest : List ℕ) where
       ap₂ (λ (x : Fault) (y : ℕ). unlessFault l out x y number body) fb db
       ∙ ap₂ (λ (x : ℕ) (y : List ℕ). unlessFault l out (faultOf (distanceIn stamps before (stampIn row)) row (take (bodyLong row) rest)) (distanceIn stamps before (stampIn row)) x y) k bb
       ∙ sym
-        (ap
-        (λ (t : Bool).
-          cond t (unplayed l out Small)
-          (cond (ltb (length rest) (bodyLong row)) (unplayed l out Cut) (entered l out (distanceIn stamps before (stampIn row)) row (take (bodyLong row) rest))))
-        (le-ltb _ _ roomy)
-        ∙ ap
-        (λ (t : Bool). cond t (unplayed l out Cut) (entered l out (distanceIn stamps before (stampIn row)) row (take (bodyLong row) rest)))
-        (le-ltb (length rest) (bodyLong row) (subst (λ (x : ℕ). x ≤ length rest) n there)))
+      (ap
+      (λ (t : Bool).
+      cond t (unplayed l out Small)
+      (cond (ltb (length rest) (bodyLong row)) (unplayed l out Cut) (entered l out (distanceIn stamps before (stampIn row)) row (take (bodyLong row) rest))))
+      (le-ltb _ _ roomy)
+      ∙ ap
+      (λ (t : Bool). cond t (unplayed l out Cut) (entered l out (distanceIn stamps before (stampIn row)) row (take (bodyLong row) rest)))
+      (le-ltb (length rest) (bodyLong row) (subst (λ (x : ℕ). x ≤ length rest) n there)))
