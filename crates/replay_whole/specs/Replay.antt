@@ -126,6 +126,10 @@ module _ (image recording : List ℕ) where
           differs = 0;
         }
 
+    -- all entries, from a state on
+    abbrev pub playedAll : State → Left
+    playedAll s = replayFrom (entriesIn recording) 0 (begun s)
+
     -- nothing is run
     abbrev pub unrun : End → State → Left
     unrun e s = record { replayed = record { end = e; run = 0; ticks = 0; differs = 0; state = s }; rx = rx; tx = tx; out = out }
@@ -135,7 +139,7 @@ module _ (image recording : List ℕ) where
     underFront Shown.Edition = unrun (Unread Shown.Edition) (freshState image)
     underFront Shown.Many = unrun (Unread Shown.Many) (freshState image)
     underFront (Shown.Long i) = unrun (Unread (Shown.Long i)) (freshState image)
-    underFront Shown.Sized = replayFrom (entriesIn recording) 0 (begun (freshState image))
+    underFront Shown.Sized = playedAll (freshState image)
 
     -- "starts fresh under a given table image (a refused one ends it with 1)": with its place, and the state of the empty table
     unfoldable pub underTable : TableAnswer → Left

@@ -14,6 +14,7 @@ use recording::stamp_in;
 use replay_step::Played;
 use replay_step::replay_step;
 use state::State;
+use state::empty_state;
 use state::fresh_state;
 use table::TableAnswer;
 use table::check_table;
@@ -86,27 +87,123 @@ fn end_at(i: u16, played: Played) -> End
     }
 }
 
-// How far a replay is: the state, where the next body begins, the stamp before, the ticks run so far, and the first entry whose answer
-// differs.
-struct Going {
-    state: State,
-    at: usize,
-    before: u32,
-    ticks: u64,
-    differs: usize,
+// Entry after entry, from a state on.
+fn play(
+    image: &[u8],
+    recording: &[u8],
+    start: State,
+    rx: &mut [u8],
+    tx: &mut [u8],
+    out: &mut [u8],
+) -> Replayed
+    ensures { λ r. ⌜ r ≡ Is.playedAll (now (image .entry)) (now (recording .entry)) (now (rx .entry)) (now (tx .entry)) (now (out .entry)) start .replayed ⌝ }
+    ensures { λ _. ⌜ now (rx .exit) ≡ Is.playedAll (now (image .entry)) (now (recording .entry)) (now (rx .entry)) (now (tx .entry)) (now (out .entry)) start .rx ⌝ }
+    ensures { λ _. ⌜ now (tx .exit) ≡ Is.playedAll (now (image .entry)) (now (recording .entry)) (now (rx .entry)) (now (tx .entry)) (now (out .entry)) start .tx ⌝ }
+    ensures { λ _. ⌜ now (out .exit) ≡ Is.playedAll (now (image .entry)) (now (recording .entry)) (now (rx .entry)) (now (tx .entry)) (now (out .entry)) start .out ⌝ }
+{
+    let entries = entries_in(recording);
+    let mut state = start;
+    let mut at = 4 + entries as usize * 12;
+    let mut before = stamp_in(entry_row(recording, 0));
+    let mut ticks: u64 = 0;
+    let mut differs: usize = 0;
+    let mut i: u16 = 0;
+    while i < entries {
+        let row = entry_row(recording, i);
+        let step = replay_step(
+            image,
+            state,
+            rx,
+            tx,
+            before,
+            row,
+            bytes_from(recording, at),
+            out,
+        );
+        let played = step.played;
+        state = step.state;
+        if !is_run(played) {
+            return Replayed {
+                end: end_at(i, played),
+                run: i as usize,
+                ticks: ticks,
+                differs: differs,
+                state: state,
+            };
+        }
+        ticks += distance(before, stamp_in(row)) as u64;
+        at += body_long(row);
+        before = stamp_in(row);
+        differs = first_other(differs, i, is_other(played));
+        i += 1;
+    }
+    Replayed {
+        end: End::Whole,
+        run: i as usize,
+        ticks: ticks,
+        differs: differs,
+        state: state,
+    }
 }
 
-// The entry i was run.
-fn ongoing(going: Going, i: u16, row: &[u8], played: Played, state: State) -> Going
-    requires { ⌜ going .at + going .ticks < 18446744065119617025 ⌝ }
-    ensures { λ r. ⌜ r ≡ Is.onwards going i (now (row .entry)) played state ⌝ }
+// Nothing is run.
+fn unrun(end: End, state: State) -> Replayed
+    ensures { λ r. ⌜ r ≡ record { end = end; run = 0; ticks = 0; differs = 0; state = state } ⌝ }
 {
-    let stamp = stamp_in(row);
-    Going {
+    Replayed {
+        end: end,
+        run: 0,
+        ticks: 0,
+        differs: 0,
         state: state,
-        at: going.at + body_long(row),
-        before: stamp,
-        ticks: going.ticks + distance(going.before, stamp) as u64,
-        differs: first_other(going.differs, i, is_other(played)),
+    }
+}
+
+fn under_front(
+    image: &[u8],
+    recording: &[u8],
+    shown: Front,
+    rx: &mut [u8],
+    tx: &mut [u8],
+    out: &mut [u8],
+) -> Replayed
+    ensures { λ r. ⌜ r ≡ Is.underFront (now (image .entry)) (now (recording .entry)) (now (rx .entry)) (now (tx .entry)) (now (out .entry)) shown .replayed ⌝ }
+    ensures { λ _. ⌜ now (rx .exit) ≡ Is.underFront (now (image .entry)) (now (recording .entry)) (now (rx .entry)) (now (tx .entry)) (now (out .entry)) shown .rx ⌝ }
+    ensures { λ _. ⌜ now (tx .exit) ≡ Is.underFront (now (image .entry)) (now (recording .entry)) (now (rx .entry)) (now (tx .entry)) (now (out .entry)) shown .tx ⌝ }
+    ensures { λ _. ⌜ now (out .exit) ≡ Is.underFront (now (image .entry)) (now (recording .entry)) (now (rx .entry)) (now (tx .entry)) (now (out .entry)) shown .out ⌝ }
+{
+    let state = fresh_state(image);
+    match shown {
+        Front::Contents => unrun(End::Unread(Front::Contents), state),
+        Front::Edition => unrun(End::Unread(Front::Edition), state),
+        Front::Many => unrun(End::Unread(Front::Many), state),
+        Front::Long(i) => unrun(End::Unread(Front::Long(i)), state),
+        Front::Sized => play(image, recording, state, rx, tx, out),
+    }
+}
+
+// A replay: under a table that is refused nothing is run.
+pub fn replay(
+    image: &[u8],
+    recording: &[u8],
+    rx: &mut [u8],
+    tx: &mut [u8],
+    out: &mut [u8],
+) -> Replayed
+    ensures { λ r. ⌜ r ≡ Is.replayOf (now (image .entry)) (now (recording .entry)) (now (rx .entry)) (now (tx .entry)) (now (out .entry)) .replayed ⌝ }
+    ensures { λ _. ⌜ now (rx .exit) ≡ Is.replayOf (now (image .entry)) (now (recording .entry)) (now (rx .entry)) (now (tx .entry)) (now (out .entry)) .rx ⌝ }
+    ensures { λ _. ⌜ now (tx .exit) ≡ Is.replayOf (now (image .entry)) (now (recording .entry)) (now (rx .entry)) (now (tx .entry)) (now (out .entry)) .tx ⌝ }
+    ensures { λ _. ⌜ now (out .exit) ≡ Is.replayOf (now (image .entry)) (now (recording .entry)) (now (rx .entry)) (now (tx .entry)) (now (out .entry)) .out ⌝ }
+{
+    let checked = check_table(image);
+    match checked {
+        TableAnswer::Accepted => {
+            let shown = front_of(recording);
+            under_front(image, recording, shown, rx, tx, out)
+        }
+        TableAnswer::Refused(place) => {
+            let state = empty_state();
+            unrun(End::Table(place), state)
+        }
     }
 }
