@@ -174,3 +174,13 @@ module _ (image recording rx₀ tx₀ out₀ : List ℕ) (start : State) where
               (λ (x y : ℕ).
                 goingOf (now-at .state) (now-at .rx) (now-at .tx) (now-at .out) (g .at + bodyLong (entryRow recording i)) (stampIn (entryRow recording i)) (g .ticks + x) y)
               (di ∙ ap (distanceIn stamps (g .before)) (st ∙ ap stampIn r)) (df ∙ ap (firstOther (g .differs) i) (ot ∙ ap isOther played))
+
+-- nothing is run, from a state that is this one
+pub unrun-so : (e : End) (r : Replayed) (s t : State) → r ≡ record { end = e; run = 0; ticks = 0; differs = 0; state = s } → s ≡ t
+    → r ≡ record { end = e; run = 0; ticks = 0; differs = 0; state = t }
+unrun-so e r s t p q = p ∙ ap (λ (x : State). record { end = e; run = 0; ticks = 0; differs = 0; state = x }) q
+
+-- all is run, from a state that is this one
+pub played-so : (image recording rx₀ tx₀ out₀ : List ℕ) (r : Replayed) (rx tx out : List ℕ) (s t : State)
+    → LeavesAll r rx tx out (playedAll image recording rx₀ tx₀ out₀ s) → s ≡ t → LeavesAll r rx tx out (playedAll image recording rx₀ tx₀ out₀ t)
+played-so image recording rx₀ tx₀ out₀ r rx tx out s t p q = subst (λ (x : State). LeavesAll r rx tx out (playedAll image recording rx₀ tx₀ out₀ x)) q p
