@@ -1,0 +1,204 @@
+-- A REPLAY IS A FOLD (R17.4) that goes along with the run of the events: where it stands before entry i, and where it ends.
+use Prim.Native.Nat.{ℕ, zero, suc, _+_, _<_, _≤_}
+use mathlib.Core.Path.{_≡_, refl, sym, ap, ap₂, _∙_, subst}
+use mathlib.Core.Bool.{Bool, true, false, cond, not, _&&_}
+use mathlib.Core.List.{List, _++_}
+use native.Mathlib.Omega.{arith}
+use borrow.Author.Tests.{le-ltb, lt-ltb}
+use lib.Dec.{ltb}
+use lib.ListN.{length, drop, length-append, length-drop}
+use Rattle.lists.specs.Search.{badFrom}
+use Rattle.lists.proofs.Both.{impossible}
+use Rattle.dispatch.specs.Dispatch.{room}
+use Rattle.recording.specs.declared.Fault.{Fault}
+use Rattle.recording.specs.declared.Fault.the-variants.{Nothing, FarStamp, NoEvent, ZeroField, Misfit}
+use Rattle.recording.specs.Recording.{entryRow, stampIn, bodyLong, distanceIn, stamps}
+use Rattle.replay_step.specs.declared.Played.{Played}
+use Rattle.replay_step.specs.declared.Played.the-variants as Entry
+use Rattle.replay_step.specs.Step.{sameBytes, Stepped, stepOf, unplayed}
+use Rattle.replay_whole.specs.declared.End.{End}
+use Rattle.replay_whole.specs.declared.End.the-variants.{Whole, Table, Unread, Small, Cut, Refused}
+use Rattle.replay_whole.specs.Replay.{Going, Left, isRun, isOther, firstOther, endAt, stepAt, ongoing, stopped, finished, replayFrom}
+use Rattle.model_refines.specs.Machine.{Machine, machine, loanTo}
+use Rattle.model_refines.specs.Run.{afterRun}
+use Rattle.theorem_replay.specs.Entries.{isNothing, bodyBegins, bytesLeft, entryBody, stampBefore, ticksBefore, ticksUpTo, entryNumber, entryArguments, recordedAnswer, entryEvents, eventsUpTo, isCut, entryFault, isFine}
+use Rattle.theorem_replay.specs.Runs.{machineStepped, machineLeft, comparedTo, StepRuns, freshMachine, machineAfter, todayAnswer}
+use Rattle.theorem_replay.proofs.Step.{run-append, step-cut, step-refused, step-runs, step-small}
+
+-- an entry that is compared was run
+compared-run : (a b : List ℕ) → isRun (comparedTo a b) ≡ true
+unfolding isRun comparedTo
+compared-run a b = go (sameBytes b a)
+  where
+    go : (t : Bool) → isRun (cond t (Entry.Same (length b)) (Entry.Differs (length b))) ≡ true
+    go true = refl
+    go false = refl
+
+compared-other : (a b : List ℕ) → isOther (comparedTo a b) ≡ not (sameBytes b a)
+unfolding isOther comparedTo
+compared-other a b = go (sameBytes b a)
+  where
+    go : (t : Bool) → isOther (cond t (Entry.Same (length b)) (Entry.Differs (length b))) ≡ not t
+    go true = refl
+    go false = refl
+
+nothing-is : (f : Fault) → isNothing f ≡ true → f ≡ Nothing
+unfolding isNothing
+nothing-is Nothing e = refl
+nothing-is FarStamp e = impossible e
+nothing-is NoEvent e = impossible e
+nothing-is ZeroField e = impossible e
+nothing-is Misfit e = impossible e
+
+-- the two sides of an entry that is fine
+pub fine-whole : (c n : Bool) → not c && n ≡ true → (c ≡ false) × (n ≡ true)
+fine-whole true n e = impossible e
+fine-whole false n e = (refl, e)
+
+-- how an entry that is not fine ends a replay
+unfoldable pub endBy : Bool → ℕ → Fault → End
+endBy true i f = Cut (i + 1)
+endBy false i f = Refused (i + 1) f
+
+module _ (image r rx tx : List ℕ) where
+  -- the first of n entries whose answer differs, from 1; 0 where none does
+  unfoldable pub unlikeIn : ℕ → ℕ
+  unlikeIn zero = 0
+  unlikeIn (suc n) = firstOther (unlikeIn n) n (not (sameBytes (todayAnswer image r rx tx n) (recordedAnswer r n)))
+
+  -- BEFORE ENTRY i
+  pub record Stands (i : ℕ) (g : Going) : Type 0 where
+    pub left : machine (g .state) (g .rx) (g .tx) ≡ machineAfter image r rx tx i
+    pub at : g .at ≡ bodyBegins r i
+    pub before : g .before ≡ stampBefore r i
+    pub ticks : g .ticks ≡ ticksUpTo r i
+    pub differs : g .differs ≡ unlikeIn i
+    pub long : room ≤ length (g .out)
+
+  -- the step of entry i is that of the run
+  stepRun : ℕ → List ℕ → Stepped
+  stepRun i out = stepOf (loanTo image (machineAfter image r rx tx i)) out (stampBefore r i) (entryRow r i) (bytesLeft r i)
+
+  step-run : (i : ℕ) (g : Going) → Stands i g → stepAt image r i g ≡ stepRun i (g .out)
+  unfolding stepRun
+  step-run i g s =
+      ap (λ (m : Machine). stepOf (loanTo image m) (g .out) (g .before) (entryRow r i) (drop (g .at) r)) (s .left)
+      ∙ ap₂ (λ (b a : ℕ). stepOf (loanTo image (machineAfter image r rx tx i)) (g .out) b (entryRow r i) (drop a r)) (s .before) (s .at)
+
+  module _ (i : ℕ) (g : Going) (s : Stands i g) where
+    abbrev here : Stepped
+    here = stepAt image r i g
+
+    runs : isFine r i ≡ true
+        → StepRuns image (machineAfter image r rx tx i) (g .out) (ticksBefore r i) (entryNumber r i) (entryArguments r i) (recordedAnswer r i) here
+    unfolding stepRun
+    runs fine =
+        let c = fine-whole (isCut r i) (isNothing (entryFault r i)) fine in
+        subst (StepRuns image (machineAfter image r rx tx i) (g .out) (ticksBefore r i) (entryNumber r i) (entryArguments r i) (recordedAnswer r i)) (sym (step-run i g s))
+        (step-runs image (machineAfter image r rx tx i) (g .out) (s .long) (stampBefore r i) (entryRow r i) (bytesLeft r i) (c .0) (nothing-is (entryFault r i) (c .1)))
+
+    -- where it was run, the next entry stands behind it
+    stays-long : (a : List ℕ) → length a ≤ room → room ≤ length (a ++ drop (length a) (g .out))
+    stays-long a h = omega (arith, h, s .long, length-append a (drop (length a) (g .out)), length-drop (length a) (g .out))
+
+    pub stands-on : isFine r i ≡ true → Stands (suc i) (ongoing image r i g here)
+    unfolding eventsUpTo bodyBegins stampBefore ticksUpTo unlikeIn
+    stands-on fine =
+        let ran = runs fine in
+        record {
+          left = ran .left ∙ sym (run-append image (freshMachine image r rx tx) (eventsUpTo r i) (entryEvents r i));
+          at = ap (λ (a : ℕ). a + bodyLong (entryRow r i)) (s .at);
+          before = refl;
+          ticks = ap₂ (λ (t b : ℕ). t + distanceIn stamps b (stampIn (entryRow r i))) (s .ticks) (s .before);
+          differs =
+              ap₂ (λ (d : ℕ) (o : Bool). firstOther d i o) (s .differs)
+              (ap isOther (ran .played) ∙ compared-other (recordedAnswer r i) (todayAnswer image r rx tx i));
+          long = subst (λ (o : List ℕ). room ≤ length o) (sym (ran .front)) (stays-long (todayAnswer image r rx tx i) (ran .fits));
+        }
+
+    pub goes-on : isFine r i ≡ true → isRun (here .played) ≡ true
+    goes-on fine = ap isRun (runs fine .played) ∙ compared-run (recordedAnswer r i) (todayAnswer image r rx tx i)
+
+    -- where it was not, nothing of it is run
+    notRun : Bool → Stepped
+    notRun c = unplayed (loanTo image (machineAfter image r rx tx i)) (g .out) (cond c Entry.Cut (Entry.Refused (entryFault r i)))
+
+    not-run : isFine r i ≡ false → here ≡ notRun (isCut r i)
+    unfolding notRun stepRun
+    not-run bad = step-run i g s ∙ go (isCut r i) refl bad
+      where
+        go : (c : Bool) → isCut r i ≡ c → not c && isNothing (entryFault r i) ≡ false
+            → stepRun i (g .out) ≡ unplayed (loanTo image (machineAfter image r rx tx i)) (g .out) (cond c Entry.Cut (Entry.Refused (entryFault r i)))
+        go true e b = step-cut image (machineAfter image r rx tx i) (g .out) (s .long) (stampBefore r i) (entryRow r i) (bytesLeft r i) e
+        go false e b = step-refused image (machineAfter image r rx tx i) (g .out) (s .long) (stampBefore r i) (entryRow r i) (bytesLeft r i) e b
+
+    pub stops : isFine r i ≡ false → isRun (here .played) ≡ false
+    unfolding notRun isRun
+    stops bad = ap (λ (t : Stepped). isRun (t .played)) (not-run bad) ∙ go (isCut r i)
+      where
+        go : (c : Bool) → isRun (cond c Entry.Cut (Entry.Refused (entryFault r i))) ≡ false
+        go true = refl
+        go false = refl
+
+    ends-so : isFine r i ≡ false → endAt i (here .played) ≡ endBy (isCut r i) i (entryFault r i)
+    unfolding notRun endAt endBy
+    ends-so bad = ap (λ (t : Stepped). endAt i (t .played)) (not-run bad) ∙ go (isCut r i)
+      where
+        go : (c : Bool) → endAt i (cond c Entry.Cut (Entry.Refused (entryFault r i))) ≡ endBy c i (entryFault r i)
+        go true = refl
+        go false = refl
+
+  -- WHERE IT ENDS, k entries run of so many
+  unfoldable pub endOf : ℕ → ℕ → End
+  endOf total k = cond (ltb k total) (endBy (isCut r k) k (entryFault r k)) Whole
+
+  pub record Ended (total k : ℕ) (l : Left) : Type 0 where
+    pub run : l .replayed .run ≡ k
+    pub end : l .replayed .end ≡ endOf total k
+    pub ticks : l .replayed .ticks ≡ ticksUpTo r k
+    pub differs : l .replayed .differs ≡ unlikeIn k
+    pub left : machineLeft l ≡ machineAfter image r rx tx k
+
+  finished-ended : (i : ℕ) (g : Going) → Stands i g → Ended i i (finished image r i g)
+  unfolding endOf
+  finished-ended i g s =
+      record {
+        run = refl;
+        end = ap (λ (b : Bool). cond b (endBy (isCut r i) i (entryFault r i)) Whole) (sym (le-ltb i i (omega arith)));
+        ticks = s .ticks;
+        differs = s .differs;
+        left = s .left;
+      }
+
+  stopped-ended : (total i : ℕ) (g : Going) → i < total → Stands i g → isFine r i ≡ false → Ended total i (stopped image r i g (stepAt image r i g))
+  unfolding endOf notRun
+  stopped-ended total i g h s bad =
+      record {
+        run = refl;
+        end =
+            ends-so i g s bad ∙ ap (λ (b : Bool). cond b (endBy (isCut r i) i (entryFault r i)) Whole) (sym (lt-ltb i total h));
+        ticks = s .ticks;
+        differs = s .differs;
+        left = ap machineStepped (not-run i g s bad);
+      }
+
+  -- THE ENTRIES FROM i ON: those before the first that is not fine are run
+  abbrev next : ℕ → Going → Going
+  next i g = ongoing image r i g (stepAt image r i g)
+
+  pub replay-ends : (total n i : ℕ) (g : Going) → i + n ≡ total → Stands i g → Ended total (badFrom (isFine r) n i) (replayFrom image r n i g)
+  unfolding badFrom replayFrom
+  replay-ends total zero i g e s =
+      let z : i ≡ total = omega (arith, e) in
+      subst (λ (t : ℕ). Ended t i (finished image r i g)) z (finished-ended i g s)
+  replay-ends total (suc n) i g e s = go (isFine r i) refl (replay-ends total n (suc i) (next i g) (omega (arith, e)))
+    where
+      go : (b : Bool) → isFine r i ≡ b → (Stands (suc i) (next i g) → Ended total (badFrom (isFine r) n (suc i)) (replayFrom image r n (suc i) (next i g)))
+          → Ended total (cond b (badFrom (isFine r) n (suc i)) i)
+          (cond (isRun (stepAt image r i g .played)) (replayFrom image r n (suc i) (next i g)) (stopped image r i g (stepAt image r i g)))
+      go true f later =
+          subst (λ (b : Bool). Ended total (badFrom (isFine r) n (suc i)) (cond b (replayFrom image r n (suc i) (next i g)) (stopped image r i g (stepAt image r i g))))
+          (sym (goes-on i g s f)) (later (stands-on i g s f))
+      go false f later =
+          subst (λ (b : Bool). Ended total i (cond b (replayFrom image r n (suc i) (next i g)) (stopped image r i g (stepAt image r i g))))
+          (sym (stops i g s f)) (stopped-ended total i g (omega (arith, e)) s f)

@@ -1,0 +1,209 @@
+-- A STEP (R17.3): of an entry that is cut or has a fault nothing is run; of any other its ticks and then its event, with today's answer at
+-- the front of the out buffer, beside the recorded one.
+use Prim.Native.Nat.{ℕ, _+_, _<_, _≤_}
+use mathlib.Core.Path.{_≡_, refl, sym, ap, ap₂, _∙_, subst}
+use mathlib.Core.Bool.{Bool, true, false, cond, not, _&&_, false≢true}
+use mathlib.Core.List.{List, [], _∷_, _++_}
+use native.Mathlib.Omega.{arith}
+use borrow.Author.Tests.{le-ltb, lt-ltb, not-false}
+use lib.Dec.{eqb, ltb}
+use lib.ListN.{length, take, drop}
+use Rattle.lists.proofs.Both.{and-left, impossible}
+use Rattle.event_decode.specs.declared.Call.{Call}
+use Rattle.event_decode.specs.declared.Call.the-variants.{Unknown, Unfit}
+use Rattle.event_decode.specs.Calls.{callOf}
+use Rattle.event_answer.specs.declared.Verdict.{Verdict}
+use Rattle.event_answer.specs.declared.Verdict.the-variants.{Done}
+use Rattle.event_answer.specs.declared.Verdict.the-variants as Said
+use Rattle.entry_ticks.specs.Tick.{ticksEvent}
+use Rattle.dispatch.specs.Dispatch.{room, dispatchOf}
+use Rattle.dispatch.specs.Whole.{StandsWhole, answer, unknown, unfit, small}
+use Rattle.dispatch.proofs.Whole.{answer-whole}
+use Rattle.recording.specs.declared.Fault.{Fault}
+use Rattle.recording.specs.declared.Fault.the-variants.{Nothing, FarStamp, NoEvent, ZeroField, Misfit}
+use Rattle.recording.specs.Recording.{stampIn, numberIn, zeroIn, bodyLong, distanceIn, stamps}
+use Rattle.recording.specs.Entry.{isRecorded, argumentsIn, answerIn, isSpelt, answerFits, bodyFits, faultOf}
+use Rattle.replay_step.specs.declared.Played.{Played}
+use Rattle.replay_step.specs.declared.Played.the-variants.{Small, Cut, Refused, Same, Differs}
+use Rattle.replay_step.specs.Step.{sameBytes, Stepped, playedBy, toldBeside, unplayed, happens, unlessFault, entered, stepOf}
+use Rattle.model.specs.Events.{Event}
+use Rattle.model_refines.specs.Machine.{Machine, machine, loanTo, lentTo}
+use Rattle.model_refines.specs.Run.{afterEvent, afterRun}
+use Rattle.dispatch_refines.specs.Spelt.{eventsOf, Spoken, speltBy, machineOf}
+use Rattle.dispatch_refines.specs.Answer.{answerOf, answerBy}
+use Rattle.dispatch_refines.proofs.Ticks.{ticks-run}
+use Rattle.dispatch_refines.proofs.Event.{dispatched-events}
+use Rattle.dispatch_refines.proofs.Answer.{answer-named, event-answered}
+use Rattle.theorem_replay.specs.Entries.{isNothing, tickEvents}
+use Rattle.theorem_replay.specs.Runs.{machineStepped, comparedTo, StepRuns}
+
+-- an entry without a fault spells an event
+no-fault-fits : (distance : ℕ) (row body : List ℕ) → faultOf distance row body ≡ Nothing → bodyFits (numberIn row) body ≡ true
+unfolding faultOf isNothing
+no-fault-fits distance row body e =
+    go (ltb 65535 distance) (not (isRecorded (numberIn row))) (not (eqb (zeroIn row) 0)) (bodyFits (numberIn row) body) e
+  where
+    go : (a b c d : Bool) → cond a FarStamp (cond b NoEvent (cond c ZeroField (cond (not d) Misfit Nothing))) ≡ Nothing → d ≡ true
+    go true b c d h = impossible (ap isNothing h)
+    go false true c d h = impossible (ap isNothing h)
+    go false false true d h = impossible (ap isNothing h)
+    go false false false true h = refl
+    go false false false false h = impossible (ap isNothing h)
+
+pub no-fault-spells : (distance : ℕ) (row body : List ℕ) → faultOf distance row body ≡ Nothing
+    → isSpelt (callOf (numberIn row) (argumentsIn (numberIn row) body)) ≡ true
+unfolding bodyFits
+no-fault-spells distance row body e =
+    and-left (isSpelt (callOf (numberIn row) (argumentsIn (numberIn row) body))) (answerFits (numberIn row) (answerIn (numberIn row) body))
+    (no-fault-fits distance row body e)
+
+spelt-known : (c : Call) → isSpelt c ≡ true → c ≡ Unknown → ⊥
+unfolding isSpelt
+spelt-known c s e = false≢true (ap isSpelt (sym e) ∙ s)
+
+spelt-fits : (c : Call) → isSpelt c ≡ true → c ≡ Unfit → ⊥
+unfolding isSpelt
+spelt-fits c s e = false≢true (ap isSpelt (sym e) ∙ s)
+
+-- the front of a list
+take-front : (a b : List ℕ) → take (length a) (a ++ b) ≡ a
+take-front [] b = refl
+take-front (x ∷ xs) b = ap (λ (l : List ℕ). x ∷ l) (take-front xs b)
+
+pub run-append : (image : List ℕ) (m : Machine) (es fs : List Event) → afterRun image m (es ++ fs) ≡ afterRun image (afterRun image m es) fs
+unfolding afterRun
+run-append image m [] fs = refl
+run-append image m (e ∷ es) fs = run-append image (afterEvent image e m) es fs
+
+abbrev written : Verdict → ℕ
+written (Done n) = n
+written (Said.Unknown) = 0
+written (Said.Unfit) = 0
+written (Said.Small) = 0
+
+answer-fits : {out : List ℕ} {v : Verdict} {after : List ℕ} → StandsWhole out v after → (n : ℕ) → v ≡ Done n → n ≤ room
+answer-fits (answer bytes h) n e = omega (arith, h, ap written e)
+answer-fits unknown n e = omega (arith, ap written e)
+answer-fits unfit n e = omega (arith, ap written e)
+answer-fits small n e = omega (arith, ap written e)
+
+module _ (image : List ℕ) (m : Machine) (out : List ℕ) (long : room ≤ length out) where
+  -- AN EVENT THAT IS SPELT IS ANSWERED: neither Unknown nor Unfit nor Small comes of it
+  module _ (number : ℕ) (arguments : List ℕ) (spelt : isSpelt (callOf number arguments) ≡ true) where
+    abbrev said : Spoken
+    said = record { number = number; body = arguments; out = out }
+
+    abbrev today : List ℕ
+    today = answerBy image m said
+
+    pub step-answers : dispatchOf (loanTo image m) out number arguments .verdict ≡ Done (length today)
+    step-answers =
+        event-answered image m said long (spelt-known (callOf number arguments) spelt) (spelt-fits (callOf number arguments) spelt)
+
+    answers-front : dispatchOf (loanTo image m) out number arguments .out ≡ today ++ drop (length today) out
+    answers-front = answer-named image m said (length today) step-answers .1
+
+    answers-fit : length today ≤ room
+    answers-fit = answer-fits (answer-whole (loanTo image m) out number arguments) (length today) step-answers
+
+    -- today's answer, beside a recorded one
+    module _ (recorded : List ℕ) where
+      abbrev beside : Stepped
+      beside = toldBeside recorded (dispatchOf (loanTo image m) out number arguments)
+
+      event-compared : beside .played ≡ comparedTo recorded today
+      unfolding playedBy comparedTo
+      event-compared =
+          ap₂ (λ (v : Verdict) (o : List ℕ). playedBy v o recorded) step-answers answers-front
+          ∙ ap (λ (a : List ℕ). cond (sameBytes a recorded) (Same (length today)) (Differs (length today))) (take-front today (drop (length today) out))
+
+      event-left : machineStepped beside ≡ afterRun image m (eventsOf arguments (callOf number arguments))
+      unfolding speltBy
+      event-left =
+          dispatched-events image m said
+          ∙ ap (λ (b : Bool). afterRun image m (cond b [] (eventsOf arguments (callOf number arguments)))) (le-ltb (length out) room long)
+
+module _ (image : List ℕ) (m : Machine) (out : List ℕ) (long : room ≤ length out) where
+  -- THE TICKS, AND THEN THE EVENT
+  step-happens : (ticks number : ℕ) (body : List ℕ) → isSpelt (callOf number (argumentsIn number body)) ≡ true
+      → StepRuns image m out ticks number (argumentsIn number body) (answerIn number body) (happens (loanTo image m) out ticks number body)
+  step-happens ticks number body spelt =
+      record {
+        played = ap (λ (s : Stepped). s .played) same ∙ event-compared image later out long number arguments spelt recorded;
+        left = ap machineStepped same ∙ event-left image later out long number arguments spelt recorded ∙ sym (run-append image m (tickEvents ticks) (eventsOf arguments (callOf number arguments)));
+        front = ap (λ (s : Stepped). s .out) same ∙ answers-front image later out long number arguments spelt;
+        fits = answers-fit image later out long number arguments spelt;
+      }
+    where
+      arguments : List ℕ
+      arguments = argumentsIn number body
+
+      recorded : List ℕ
+      recorded = answerIn number body
+
+      later : Machine
+      later = afterRun image m (tickEvents ticks)
+
+      same : happens (loanTo image m) out ticks number body ≡ toldBeside recorded (dispatchOf (loanTo image later) out number arguments)
+      same =
+          ap (λ (n : Machine). toldBeside recorded (dispatchOf (loanTo image n) out number arguments)) (ticks-run image (m .rx) (m .tx) (m .state) ticks)
+
+  refused-leaves : (f : Fault) (distance number : ℕ) (body : List ℕ) → isNothing f ≡ false
+      → unlessFault (loanTo image m) out f distance number body ≡ unplayed (loanTo image m) out (Refused f)
+  unfolding unlessFault isNothing
+  refused-leaves Nothing distance number body h = impossible (sym h)
+  refused-leaves FarStamp distance number body h = refl
+  refused-leaves NoEvent distance number body h = refl
+  refused-leaves ZeroField distance number body h = refl
+  refused-leaves Misfit distance number body h = refl
+
+  -- an entry whose body is there whole
+  entered-runs : (distance : ℕ) (row body : List ℕ) → faultOf distance row body ≡ Nothing
+      → StepRuns image m out distance (numberIn row) (argumentsIn (numberIn row) body) (answerIn (numberIn row) body) (entered (loanTo image m) out distance row body)
+  unfolding entered unlessFault
+  entered-runs distance row body e =
+      subst (λ (f : Fault). StepRuns image m out distance (numberIn row) (argumentsIn (numberIn row) body) (answerIn (numberIn row) body) (unlessFault (loanTo image m) out f distance (numberIn row) body))
+      (sym e) (step-happens distance (numberIn row) body (no-fault-spells distance row body e))
+
+  entered-refused : (distance : ℕ) (row body : List ℕ) → isNothing (faultOf distance row body) ≡ false
+      → entered (loanTo image m) out distance row body ≡ unplayed (loanTo image m) out (Refused (faultOf distance row body))
+  unfolding entered
+  entered-refused distance row body e = refused-leaves (faultOf distance row body) distance (numberIn row) body e
+
+  -- THE TESTS OF A STEP: cut, refused, else run
+  module _ (before : ℕ) (row rest : List ℕ) where
+    abbrev distance : ℕ
+    distance = distanceIn stamps before (stampIn row)
+
+    abbrev body : List ℕ
+    body = take (bodyLong row) rest
+
+    roomy : stepOf (loanTo image m) out before row rest
+        ≡ cond (ltb (length rest) (bodyLong row)) (unplayed (loanTo image m) out Cut) (entered (loanTo image m) out distance row body)
+    unfolding stepOf
+    roomy =
+        ap (λ (b : Bool). cond b (unplayed (loanTo image m) out Small) (cond (ltb (length rest) (bodyLong row)) (unplayed (loanTo image m) out Cut) (entered (loanTo image m) out distance row body)))
+        (le-ltb (length out) room long)
+
+    pub step-cut : ltb (length rest) (bodyLong row) ≡ true → stepOf (loanTo image m) out before row rest ≡ unplayed (loanTo image m) out Cut
+    step-cut c = roomy ∙ ap (λ (b : Bool). cond b (unplayed (loanTo image m) out Cut) (entered (loanTo image m) out distance row body)) c
+
+    there : ltb (length rest) (bodyLong row) ≡ false → stepOf (loanTo image m) out before row rest ≡ entered (loanTo image m) out distance row body
+    there c = roomy ∙ ap (λ (b : Bool). cond b (unplayed (loanTo image m) out Cut) (entered (loanTo image m) out distance row body)) c
+
+    pub step-refused : ltb (length rest) (bodyLong row) ≡ false → isNothing (faultOf distance row body) ≡ false
+        → stepOf (loanTo image m) out before row rest ≡ unplayed (loanTo image m) out (Refused (faultOf distance row body))
+    step-refused c e = there c ∙ entered-refused distance row body e
+
+    pub step-runs : ltb (length rest) (bodyLong row) ≡ false → faultOf distance row body ≡ Nothing
+        → StepRuns image m out distance (numberIn row) (argumentsIn (numberIn row) body) (answerIn (numberIn row) body) (stepOf (loanTo image m) out before row rest)
+    step-runs c e =
+        subst (StepRuns image m out distance (numberIn row) (argumentsIn (numberIn row) body) (answerIn (numberIn row) body)) (sym (there c)) (entered-runs distance row body e)
+
+-- AN OUT BUFFER THAT IS TOO SHORT: nothing is run
+pub step-small : (image : List ℕ) (m : Machine) (out : List ℕ) → length out < room → (before : ℕ) (row rest : List ℕ)
+    → stepOf (loanTo image m) out before row rest ≡ unplayed (loanTo image m) out Small
+unfolding stepOf
+step-small image m out short before row rest =
+    ap (λ (b : Bool). cond b (unplayed (loanTo image m) out Small) (cond (ltb (length rest) (bodyLong row)) (unplayed (loanTo image m) out Cut) (entered (loanTo image m) out (distanceIn stamps before (stampIn row)) row (take (bodyLong row) rest))))
+    (lt-ltb (length out) room short)

@@ -1,0 +1,71 @@
+-- THE RUN OF THE EVENTS THAT A RECORDING SPELLS (R17.5), from a fresh state under the table: the machine after its first n entries, and
+-- the answer that this run gives to the event of an entry.
+use Prim.Native.Nat.{ℕ, _<_, _≤_}
+use mathlib.Core.Path.{_≡_}
+use mathlib.Core.Bool.{true, false, cond}
+use mathlib.Core.List.{List, _++_}
+use lib.ListN.{length, drop}
+use Rattle.state.specs.Fresh.{freshState}
+use Rattle.event_decode.specs.Calls.{callOf}
+use Rattle.dispatch.specs.Dispatch.{room}
+use Rattle.recording.specs.Recording.{entriesIn}
+use Rattle.replay_step.specs.declared.Played.{Played}
+use Rattle.replay_step.specs.declared.Played.the-variants.{Same, Differs}
+use Rattle.replay_step.specs.Step.{sameBytes, Stepped}
+use Rattle.replay_whole.specs.Replay.{Left}
+use Rattle.model_refines.specs.Machine.{Machine, machine, loanTo}
+use Rattle.model_refines.specs.Run.{afterRun}
+use Rattle.dispatch_refines.specs.Spelt.{eventsOf}
+use Rattle.dispatch_refines.specs.Answer.{answerOf}
+use Rattle.theorem_replay.specs.Entries.{tickEvents, ticksBefore, entryArguments, entryCall, recordedAnswer, eventsUpTo, isFine}
+
+-- the machine that a step leaves, and that a replay leaves
+abbrev pub machineStepped : Stepped → Machine
+machineStepped s = machine (s .state) (s .rx) (s .tx)
+
+abbrev pub machineLeft : Left → Machine
+machineLeft l = machine (l .replayed .state) (l .rx) (l .tx)
+
+-- the entry was run: today's answer, all bytes, is the recorded one, or it differs
+unfoldable pub comparedTo : List ℕ → List ℕ → Played
+comparedTo recorded today = cond (sameBytes today recorded) (Same (length today)) (Differs (length today))
+
+-- A STEP THAT IS RUN, of so many ticks and the event that a number and arguments spell, beside a recorded answer: the machine after these
+-- events; all bytes of the event's answer at the front of the out buffer, and behind them the buffer as it was
+module _ (image : List ℕ) (m : Machine) (out : List ℕ) (ticks number : ℕ) (arguments recorded : List ℕ) where
+  abbrev pub answerStepped : List ℕ
+  answerStepped = answerOf (loanTo image (afterRun image m (tickEvents ticks))) arguments (callOf number arguments)
+
+  pub record StepRuns (s : Stepped) : Type 0 where
+    pub played : s .played ≡ comparedTo recorded answerStepped
+    pub left : machineStepped s ≡ afterRun image m (tickEvents ticks ++ eventsOf arguments (callOf number arguments))
+    pub front : s .out ≡ answerStepped ++ drop (length answerStepped) out
+    pub fits : length answerStepped ≤ room
+
+module _ (image r rx tx : List ℕ) where
+  abbrev pub freshMachine : Machine
+  freshMachine = machine (freshState image) rx tx
+
+  -- after the first n entries
+  abbrev pub machineAfter : ℕ → Machine
+  machineAfter n = afterRun image freshMachine (eventsUpTo r n)
+
+  -- .. and the ticks before the next
+  abbrev pub machineBefore : ℕ → Machine
+  machineBefore i = afterRun image (machineAfter i) (tickEvents (ticksBefore r i))
+
+  -- the answer of this run to the event of an entry
+  abbrev pub todayAnswer : ℕ → List ℕ
+  todayAnswer i = answerOf (loanTo image (machineBefore i)) (entryArguments r i) (entryCall r i)
+
+  -- the recorded answer is that of this run
+  abbrev pub Alike : ℕ → Type 0
+  Alike i = recordedAnswer r i ≡ todayAnswer i
+
+  -- the first of so many entries that are run whose recorded answer is not the answer of this run
+  abbrev pub FirstUnlike : ℕ → ℕ → Type 0
+  FirstUnlike run i = (i < run) × (Alike i → ⊥) × ((j : ℕ) → j < i → Alike j)
+
+-- the first entry that is cut or has a fault: those before it have none
+abbrev pub FirstNotFine : List ℕ → ℕ → Type 0
+FirstNotFine r i = (i < entriesIn r) × ((j : ℕ) → j < i → isFine r j ≡ true) × (isFine r i ≡ false)
