@@ -3,6 +3,7 @@ use Prim.Native.Nat.{ℕ, zero, suc, _+_, _<_, _≤_}
 use mathlib.Core.Path.{_≡_, refl, sym, ap, ap₂, _∙_, subst}
 use mathlib.Core.Bool.{Bool, true, false, cond, not, _&&_}
 use mathlib.Core.List.{List, _++_}
+use native.Mathlib.Nat.{zero-add}
 use native.Mathlib.Omega.{arith}
 use borrow.Author.Tests.{le-ltb, lt-ltb}
 use lib.Dec.{ltb}
@@ -22,7 +23,8 @@ use Rattle.replay_whole.specs.Replay.{Going, Left, isRun, isOther, firstOther, 
 use Rattle.model_refines.specs.Machine.{Machine, machine, loanTo}
 use Rattle.model_refines.specs.Run.{afterRun}
 use Rattle.theorem_replay.specs.Entries.{isNothing, bodyBegins, bytesLeft, entryBody, stampBefore, ticksBefore, ticksUpTo, entryNumber, entryArguments, recordedAnswer, entryEvents, eventsUpTo, isCut, entryFault, isFine}
-use Rattle.theorem_replay.specs.Runs.{machineStepped, machineLeft, comparedTo, StepRuns, freshMachine, machineAfter, todayAnswer}
+use Rattle.theorem_replay.specs.Runs.{machineStepped, machineLeft, comparedTo, StepRuns, freshMachine, machineAfter, todayAnswer, goingAt}
+use Rattle.theorem_replay.proofs.First.{otherIn}
 use Rattle.theorem_replay.proofs.Step.{run-append, step-cut, step-refused, step-runs, step-small}
 
 -- an entry that is compared was run
@@ -62,9 +64,11 @@ endBy false i f = Refused (i + 1) f
 
 module _ (image r rx tx : List ℕ) where
   -- the first of n entries whose answer differs, from 1; 0 where none does
-  unfoldable pub unlikeIn : ℕ → ℕ
-  unlikeIn zero = 0
-  unlikeIn (suc n) = firstOther (unlikeIn n) n (not (sameBytes (todayAnswer image r rx tx n) (recordedAnswer r n)))
+  abbrev pub sameAt : ℕ → Bool
+  sameAt i = sameBytes (todayAnswer image r rx tx i) (recordedAnswer r i)
+
+  abbrev pub unlikeIn : ℕ → ℕ
+  unlikeIn n = otherIn sameAt n
 
   -- BEFORE ENTRY i
   pub record Stands (i : ℕ) (g : Going) : Type 0 where
@@ -89,7 +93,7 @@ module _ (image r rx tx : List ℕ) where
     abbrev here : Stepped
     here = stepAt image r i g
 
-    runs : isFine r i ≡ true
+    pub runs : isFine r i ≡ true
         → StepRuns image (machineAfter image r rx tx i) (g .out) (ticksBefore r i) (entryNumber r i) (entryArguments r i) (recordedAnswer r i) here
     unfolding stepRun
     runs fine =
@@ -102,11 +106,11 @@ module _ (image r rx tx : List ℕ) where
     stays-long a h = omega (arith, h, s .long, length-append a (drop (length a) (g .out)), length-drop (length a) (g .out))
 
     pub stands-on : isFine r i ≡ true → Stands (suc i) (ongoing image r i g here)
-    unfolding eventsUpTo bodyBegins stampBefore ticksUpTo unlikeIn
+    unfolding eventsUpTo bodyBegins stampBefore ticksUpTo otherIn
     stands-on fine =
         let ran = runs fine in
         record {
-          left = ran .left ∙ sym (run-append image (freshMachine image r rx tx) (eventsUpTo r i) (entryEvents r i));
+          left = ran .left ∙ sym (run-append image (freshMachine image rx tx) (eventsUpTo r i) (entryEvents r i));
           at = ap (λ (a : ℕ). a + bodyLong (entryRow r i)) (s .at);
           before = refl;
           ticks = ap₂ (λ (t b : ℕ). t + distanceIn stamps b (stampIn (entryRow r i))) (s .ticks) (s .before);
@@ -202,3 +206,26 @@ module _ (image r rx tx : List ℕ) where
       go false f later =
           subst (λ (b : Bool). Ended total i (cond b (replayFrom image r n (suc i) (next i g)) (stopped image r i g (stepAt image r i g))))
           (sym (stops i g s f)) (stopped-ended total i g (omega (arith, e)) s f)
+
+  -- BEFORE ENTRY i, where all before it are fine: the replay stands there, and what is left of it is what is left to do
+  module _ (out : List ℕ) (long : room ≤ length out) where
+    pub going-stands : (i : ℕ) → ((j : ℕ) → j < i → isFine r j ≡ true) → Stands i (goingAt image r rx tx out i)
+    unfolding goingAt eventsUpTo bodyBegins stampBefore ticksUpTo otherIn afterRun
+    going-stands zero fine = record { left = refl; at = refl; before = refl; ticks = refl; differs = refl; long = long }
+    going-stands (suc i) fine =
+        stands-on i (goingAt image r rx tx out i) (going-stands i (λ j h. fine j (omega arith))) (fine i (omega arith))
+
+    one-more : (n i : ℕ) → Stands i (goingAt image r rx tx out i) → isFine r i ≡ true
+        → replayFrom image r (suc n) i (goingAt image r rx tx out i) ≡ replayFrom image r n (suc i) (goingAt image r rx tx out (suc i))
+    unfolding goingAt replayFrom
+    one-more n i s f =
+        ap (λ (b : Bool). cond b (replayFrom image r n (suc i) (next i (goingAt image r rx tx out i))) (stopped image r i (goingAt image r rx tx out i) (stepAt image r i (goingAt image r rx tx out i))))
+        (goes-on i (goingAt image r rx tx out i) s f)
+
+    pub going-left : (n i : ℕ) → ((j : ℕ) → j < i → isFine r j ≡ true)
+        → replayFrom image r (i + n) 0 (goingAt image r rx tx out 0) ≡ replayFrom image r n i (goingAt image r rx tx out i)
+    going-left n zero fine = ap (λ (k : ℕ). replayFrom image r k 0 (goingAt image r rx tx out 0)) (zero-add n)
+    going-left n (suc i) fine =
+        ap (λ (k : ℕ). replayFrom image r k 0 (goingAt image r rx tx out 0)) (omega arith)
+        ∙ going-left (suc n) i (λ j h. fine j (omega arith))
+        ∙ one-more n i (going-stands i (λ j h. fine j (omega arith))) (fine i (omega arith))

@@ -1,6 +1,6 @@
 -- THE RUN OF THE EVENTS THAT A RECORDING SPELLS (R17.5), from a fresh state under the table: the machine after its first n entries, and
 -- the answer that this run gives to the event of an entry.
-use Prim.Native.Nat.{ℕ, _<_, _≤_}
+use Prim.Native.Nat.{ℕ, zero, suc, _<_, _≤_}
 use mathlib.Core.Path.{_≡_}
 use mathlib.Core.Bool.{true, false, cond}
 use mathlib.Core.List.{List, _++_}
@@ -12,7 +12,7 @@ use Rattle.recording.specs.Recording.{entriesIn}
 use Rattle.replay_step.specs.declared.Played.{Played}
 use Rattle.replay_step.specs.declared.Played.the-variants.{Same, Differs}
 use Rattle.replay_step.specs.Step.{sameBytes, Stepped}
-use Rattle.replay_whole.specs.Replay.{Left}
+use Rattle.replay_whole.specs.Replay.{Going, Left, stepAt, ongoing, begun}
 use Rattle.model_refines.specs.Machine.{Machine, machine, loanTo}
 use Rattle.model_refines.specs.Run.{afterRun}
 use Rattle.dispatch_refines.specs.Spelt.{eventsOf}
@@ -42,13 +42,14 @@ module _ (image : List ℕ) (m : Machine) (out : List ℕ) (ticks number : ℕ) 
     pub front : s .out ≡ answerStepped ++ drop (length answerStepped) out
     pub fits : length answerStepped ≤ room
 
-module _ (image r rx tx : List ℕ) where
-  abbrev pub freshMachine : Machine
-  freshMachine = machine (freshState image) rx tx
+-- "starts fresh under a given table image"
+abbrev pub freshMachine : List ℕ → List ℕ → List ℕ → Machine
+freshMachine image rx tx = machine (freshState image) rx tx
 
+module _ (image r rx tx : List ℕ) where
   -- after the first n entries
   abbrev pub machineAfter : ℕ → Machine
-  machineAfter n = afterRun image freshMachine (eventsUpTo r n)
+  machineAfter n = afterRun image (freshMachine image rx tx) (eventsUpTo r n)
 
   -- .. and the ticks before the next
   abbrev pub machineBefore : ℕ → Machine
@@ -65,6 +66,12 @@ module _ (image r rx tx : List ℕ) where
   -- the first of so many entries that are run whose recorded answer is not the answer of this run
   abbrev pub FirstUnlike : ℕ → ℕ → Type 0
   FirstUnlike run i = (i < run) × (Alike i → ⊥) × ((j : ℕ) → j < i → Alike j)
+
+  -- HOW FAR THE REPLAY IS before entry i: the steps of the entries before it
+  module _ (out : List ℕ) where
+    unfoldable pub goingAt : ℕ → Going
+    goingAt zero = begun image r rx tx out (freshState image)
+    goingAt (suc i) = ongoing image r i (goingAt i) (stepAt image r i (goingAt i))
 
 -- the first entry that is cut or has a fault: those before it have none
 abbrev pub FirstNotFine : List ℕ → ℕ → Type 0
