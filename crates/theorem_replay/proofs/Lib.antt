@@ -5,3 +5,5 @@ pub mod First
 pub mod Step
 pub mod Fold
 pub mod Replay
+pub mod Difference
+pub mod Ends
