@@ -1,11 +1,11 @@
 -- HOW A REPLAY ENDS (R17.4), under an accepted table, of contents that are whole, and into an out buffer of 16,384 bytes or more: by the first entry
 -- that is cut or has a fault; the entries before it are run, and nothing of it.
 use Prim.Native.Nat.{ℕ, zero, suc, _+_, _<_, _≤_}
-use mathlib.Core.Path.{_≡_, refl, sym, ap, _∙_, subst}
+use mathlib.Core.Path.{_≡_, refl, sym, ap, ap₂, _∙_, subst}
 use mathlib.Core.Logic.{_↔_}
 use mathlib.Core.Bool.{Bool, true, false, cond}
 use mathlib.Core.List.{List}
-use native.Mathlib.Decide.{decLt}
+use native.Mathlib.Numerals.{add-one}
 use native.Mathlib.Omega.{arith}
 use borrow.Author.Tests.{lt-ltb, le-ltb, ltb-true, ltb-false}
 use lib.Dec.{ltb}
@@ -73,13 +73,100 @@ module _ (image r rx tx : List ℕ) where
   first-is : (i : ℕ) → FirstNotFine r i → bad ≡ i
   first-is i f = bad-only (isFine r) (entriesIn r) i (f .0) (f .1) (f .2)
 
-  -- the end, by that entry
-  end-told : (k i : ℕ) → endOf image r rx tx (entriesIn r) k ≡ Cut (suc i) → (k < entriesIn r) × (k ≡ i) × (isCut r k ≡ true)
+  -- the end, by the entry k before which the replay stopped
+  abbrev ended : ℕ → End
+  ended k = endOf image r rx tx (entriesIn r) k
+
+  end-cut : (k i : ℕ) → ended k ≡ Cut (suc i) → (k < entriesIn r) × (k ≡ i) × (isCut r k ≡ true)
   unfolding endOf endBy
-  end-told k i e = go (ltb k (entriesIn r)) refl (isCut r k) refl e
+  end-cut k i e = go (ltb k (entriesIn r)) refl (isCut r k) e
     where
-      go : (b : Bool) → ltb k (entriesIn r) ≡ b → (c : Bool) → isCut r k ≡ c → cond b (endBy c k (entryFault r k)) Whole ≡ Cut (suc i)
+      go : (b : Bool) → ltb k (entriesIn r) ≡ b → (c : Bool) → cond b (endBy c k (entryFault r k)) Whole ≡ Cut (suc i)
           → (k < entriesIn r) × (k ≡ i) × (c ≡ true)
-      go true l true t e = (ltb-true k (entriesIn r) l, omega (arith, ap endEntry e), refl)
-      go true l false t e = impossible (ap endCut e)
-      go false l c t e = impossible (ap endCut e)
+      go true l true e = (ltb-true k (entriesIn r) l, omega (arith, ap endEntry e), refl)
+      go true l false e = impossible (ap endCut e)
+      go false l c e = impossible (ap endCut e)
+
+  end-refused : (k i : ℕ) (f : Fault) → ended k ≡ Refused (suc i) f → (k < entriesIn r) × (k ≡ i) × (isCut r k ≡ false) × (entryFault r k ≡ f)
+  unfolding endOf endBy
+  end-refused k i f e = go (ltb k (entriesIn r)) refl (isCut r k) e
+    where
+      go : (b : Bool) → ltb k (entriesIn r) ≡ b → (c : Bool) → cond b (endBy c k (entryFault r k)) Whole ≡ Refused (suc i) f
+          → (k < entriesIn r) × (k ≡ i) × (c ≡ false) × (entryFault r k ≡ f)
+      go true l true e = impossible (sym (ap endCut e))
+      go true l false e = (ltb-true k (entriesIn r) l, omega (arith, ap endEntry e), refl, ap endFault e)
+      go false l c e = impossible (sym (ap isWhole e))
+
+  end-whole : (k : ℕ) → ended k ≡ Whole → entriesIn r ≤ k
+  unfolding endOf endBy
+  end-whole k e = go (ltb k (entriesIn r)) refl (isCut r k) e
+    where
+      go : (b : Bool) → ltb k (entriesIn r) ≡ b → (c : Bool) → cond b (endBy c k (entryFault r k)) Whole ≡ Whole → entriesIn r ≤ k
+      go true l true e = impossible (ap isWhole e)
+      go true l false e = impossible (ap isWhole e)
+      go false l c e = ltb-false k (entriesIn r) l
+
+  ended-there : (k : ℕ) → k < entriesIn r → ended k ≡ endBy (isCut r k) k (entryFault r k)
+  unfolding endOf
+  ended-there k h = ap (λ (b : Bool). cond b (endBy (isCut r k) k (entryFault r k)) Whole) (lt-ltb k (entriesIn r) h)
+
+  ended-whole : ended (entriesIn r) ≡ Whole
+  unfolding endOf
+  ended-whole =
+      ap (λ (b : Bool). cond b (endBy (isCut r (entriesIn r)) (entriesIn r) (entryFault r (entriesIn r))) Whole) (le-ltb (entriesIn r) (entriesIn r) (omega arith))
+
+  first-at : (i : ℕ) → (bad < entriesIn r) → bad ≡ i → FirstNotFine r i
+  first-at i h e = subst (FirstNotFine r) e (bad-first h)
+
+  cut-at : (i : ℕ) → FirstNotFine r i → isCut r i ≡ true → ended bad ≡ Cut (suc i)
+  unfolding endBy
+  cut-at i f c = ap ended (first-is i f) ∙ ended-there i (f .0) ∙ ap (λ (b : Bool). endBy b i (entryFault r i)) c ∙ ap Cut (add-one i)
+
+  refused-at : (i : ℕ) (f : Fault) → FirstNotFine r i → isCut r i ≡ false → entryFault r i ≡ f → ended bad ≡ Refused (suc i) f
+  unfolding endBy
+  refused-at i f n c e = ap ended (first-is i n) ∙ ended-there i (n .0) ∙ ap₂ (λ (b : Bool) (g : Fault). endBy b i g) c e ∙ ap (λ (k : ℕ). Refused k f) (add-one i)
+
+  -- THE REPLAY
+  module _ (out : List ℕ) (accepted : checkTable image ≡ Answered.Accepted) (sized : frontOf r ≡ Shown.Sized) (long : room ≤ length out) where
+    abbrev replay : Left
+    replay = replayOf image r rx tx out
+
+    pub replay-ended : Ended image r rx tx (entriesIn r) bad replay
+    unfolding underFront
+    replay-ended =
+        subst (Ended image r rx tx (entriesIn r) bad) (sym (under-accepted image r rx tx out accepted ∙ ap (underFront image r rx tx out) sized))
+        (long-ends image r rx tx out long)
+
+    -- CUT, by the first entry that is not fine, where it is cut
+    pub cut-first : (i : ℕ) → (replay .replayed .end ≡ Cut (suc i)) ↔ (FirstNotFine r i × (isCut r i ≡ true))
+    cut-first i =
+        (λ e. let f = end-cut bad i (sym (replay-ended .end) ∙ e) in (first-at i (f .0) (f .1), ap (isCut r) (sym (f .1)) ∙ f .2),
+        λ f. replay-ended .end ∙ cut-at i (f .0) (f .1))
+
+    -- REFUSED, by the first entry that is not fine, where it is not cut, and for its fault
+    pub refused-first : (i : ℕ) (f : Fault)
+        → (replay .replayed .end ≡ Refused (suc i) f) ↔ (FirstNotFine r i × (isCut r i ≡ false) × (entryFault r i ≡ f))
+    refused-first i f =
+        (λ e. let n = end-refused bad i f (sym (replay-ended .end) ∙ e) in
+        (first-at i (n .0) (n .1), ap (isCut r) (sym (n .1)) ∙ n .2, ap (entryFault r) (sym (n .1)) ∙ n .3),
+        λ n. replay-ended .end ∙ refused-at i f (n .0) (n .1) (n .2))
+
+    -- WHOLE, where every entry is fine
+    pub whole-exactly : (replay .replayed .end ≡ Whole) ↔ ((j : ℕ) → j < entriesIn r → isFine r j ≡ true)
+    whole-exactly =
+        (λ e j h. before-bad (isFine r) (entriesIn r) j (omega (arith, h, end-whole bad (sym (replay-ended .end) ∙ e))),
+        λ all. replay-ended .end ∙ ap ended (bad-none (isFine r) (entriesIn r) all) ∙ ended-whole)
+
+    -- THE ENTRIES BEFORE IT HAVE BEEN RUN, and nothing of it
+    pub run-before : (i : ℕ) → FirstNotFine r i
+        → (replay .replayed .run ≡ i) × (replay .replayed .ticks ≡ ticksUpTo r i) × (machineLeft replay ≡ machineAfter image r rx tx i)
+    run-before i f =
+        let is = first-is i f in
+        (replay-ended .run ∙ is, replay-ended .ticks ∙ ap (ticksUpTo r) is, replay-ended .left ∙ ap (machineAfter image r rx tx) is)
+
+    -- .. all of them where none is cut or has a fault
+    pub run-whole : ((j : ℕ) → j < entriesIn r → isFine r j ≡ true)
+        → (replay .replayed .run ≡ entriesIn r) × (replay .replayed .ticks ≡ ticksUpTo r (entriesIn r)) × (machineLeft replay ≡ machineAfter image r rx tx (entriesIn r))
+    run-whole all =
+        let is = bad-none (isFine r) (entriesIn r) all in
+        (replay-ended .run ∙ is, replay-ended .ticks ∙ ap (ticksUpTo r) is, replay-ended .left ∙ ap (machineAfter image r rx tx) is)
