@@ -50,7 +50,7 @@ no-fault-fits distance row body e =
     go false false false true h = refl
     go false false false false h = impossible (ap isNothing h)
 
-pub no-fault-spells : (distance : ℕ) (row body : List ℕ) → faultOf distance row body ≡ Nothing
+no-fault-spells : (distance : ℕ) (row body : List ℕ) → faultOf distance row body ≡ Nothing
     → isSpelt (callOf (numberIn row) (argumentsIn (numberIn row) body)) ≡ true
 unfolding bodyFits
 no-fault-spells distance row body e =
@@ -88,7 +88,7 @@ answer-fits unfit n e = omega (arith, ap written e)
 answer-fits small n e = omega (arith, ap written e)
 
 module _ (image : List ℕ) (m : Machine) (out : List ℕ) (long : room ≤ length out) where
-  -- AN EVENT THAT IS SPELT IS ANSWERED: neither Unknown nor Unfit nor Small comes of it
+  -- an event that is spelt is answered
   module _ (number : ℕ) (arguments : List ℕ) (spelt : isSpelt (callOf number arguments) ≡ true) where
     abbrev said : Spoken
     said = record { number = number; body = arguments; out = out }
@@ -96,15 +96,15 @@ module _ (image : List ℕ) (m : Machine) (out : List ℕ) (long : room ≤ leng
     abbrev today : List ℕ
     today = answerBy image m said
 
-    pub step-answers : dispatchOf (loanTo image m) out number arguments .verdict ≡ Done (length today)
-    step-answers =
+    spelt-answers : dispatchOf (loanTo image m) out number arguments .verdict ≡ Done (length today)
+    spelt-answers =
         event-answered image m said long (spelt-known (callOf number arguments) spelt) (spelt-fits (callOf number arguments) spelt)
 
     answers-front : dispatchOf (loanTo image m) out number arguments .out ≡ today ++ drop (length today) out
-    answers-front = answer-named image m said (length today) step-answers .1
+    answers-front = answer-named image m said (length today) spelt-answers .1
 
     answers-fit : length today ≤ room
-    answers-fit = answer-fits (answer-whole (loanTo image m) out number arguments) (length today) step-answers
+    answers-fit = answer-fits (answer-whole (loanTo image m) out number arguments) (length today) spelt-answers
 
     -- today's answer, beside a recorded one
     module _ (recorded : List ℕ) where
@@ -114,7 +114,7 @@ module _ (image : List ℕ) (m : Machine) (out : List ℕ) (long : room ≤ leng
       event-compared : beside .played ≡ comparedTo recorded today
       unfolding playedBy comparedTo
       event-compared =
-          ap₂ (λ (v : Verdict) (o : List ℕ). playedBy v o recorded) step-answers answers-front
+          ap₂ (λ (v : Verdict) (o : List ℕ). playedBy v o recorded) spelt-answers answers-front
           ∙ ap (λ (a : List ℕ). cond (sameBytes a recorded) (Same (length today)) (Differs (length today))) (take-front today (drop (length today) out))
 
       event-left : machineStepped beside ≡ afterRun image m (eventsOf arguments (callOf number arguments))
@@ -122,6 +122,13 @@ module _ (image : List ℕ) (m : Machine) (out : List ℕ) (long : room ≤ leng
       event-left =
           dispatched-events image m said
           ∙ ap (λ (b : Bool). afterRun image m (cond b [] (eventsOf arguments (callOf number arguments)))) (le-ltb (length out) room long)
+
+-- AN ENTRY WITHOUT A FAULT IS ANSWERED, into an out buffer that has the room: neither Unknown nor Unfit nor Small comes of it
+pub step-answers : (image : List ℕ) (m : Machine) (out : List ℕ) → room ≤ length out → (distance : ℕ) (row body : List ℕ) → faultOf distance row body ≡ Nothing
+    → dispatchOf (loanTo image m) out (numberIn row) (argumentsIn (numberIn row) body) .verdict
+    ≡ Done (length (answerOf (loanTo image m) (argumentsIn (numberIn row) body) (callOf (numberIn row) (argumentsIn (numberIn row) body))))
+step-answers image m out long distance row body e =
+    spelt-answers image m out long (numberIn row) (argumentsIn (numberIn row) body) (no-fault-spells distance row body e)
 
 module _ (image : List ℕ) (m : Machine) (out : List ℕ) (long : room ≤ length out) where
   -- THE TICKS, AND THEN THE EVENT
