@@ -8,7 +8,7 @@ use mathlib.Core.List.{List}
 use Rattle.lists.proofs.Both.{impossible}
 use Rattle.table.specs.declared.TableAnswer.the-variants as Answered
 use Rattle.table.specs.Table.{checkTable}
-use Rattle.replay_step.specs.Step.{sameBytes}
+use Rattle.replay_whole.specs.declared.Replayed.{Replayed}
 use Rattle.replay_whole.specs.Replay.{replayOf}
 use Rattle.theorem_replay.specs.Entries.{recordedAnswer}
 use Rattle.theorem_replay.specs.Runs.{todayAnswer, Alike, FirstUnlike}
@@ -45,17 +45,18 @@ module _ (image r rx tx : List ℕ) where
   unlike-first n i f = first-other (sameAt image r rx tx) n i (f .0) (from-unlike i (f .1)) (λ j h. from-alike j (f .2 j h))
 
   module _ (out : List ℕ) (accepted : checkTable image ≡ Answered.Accepted) where
+    abbrev replay : Replayed
+    replay = replayOf image r rx tx out .replayed
+
     -- THE ENTRY THAT IS TOLD, from 1
-    pub first-difference : (i : ℕ)
-        → (replayOf image r rx tx out .replayed .differs ≡ suc i) ↔ FirstUnlike image r rx tx (replayOf image r rx tx out .replayed .run) i
+    pub first-difference : (i : ℕ) → (replay .differs ≡ suc i) ↔ FirstUnlike image r rx tx (replay .run) i
     first-difference i =
         let told = replay-along image r rx tx out accepted .differs in
-        (λ e. first-unlike (replayOf image r rx tx out .replayed .run) i (sym told ∙ e), λ f. told ∙ unlike-first (replayOf image r rx tx out .replayed .run) i f)
+        (λ e. first-unlike (replay .run) i (sym told ∙ e), λ f. told ∙ unlike-first (replay .run) i f)
 
     -- NONE IS TOLD
-    pub no-difference : (replayOf image r rx tx out .replayed .differs ≡ 0)
-        ↔ ((j : ℕ) → j < replayOf image r rx tx out .replayed .run → Alike image r rx tx j)
+    pub no-difference : (replay .differs ≡ 0) ↔ ((j : ℕ) → j < replay .run → Alike image r rx tx j)
     no-difference =
         let told = replay-along image r rx tx out accepted .differs in
-        (λ e j h. to-alike j (none-other (sameAt image r rx tx) (replayOf image r rx tx out .replayed .run) (sym told ∙ e) j h),
-        λ all. told ∙ all-same (sameAt image r rx tx) (replayOf image r rx tx out .replayed .run) (λ j h. from-alike j (all j h)))
+        (λ e j h. to-alike j (none-other (sameAt image r rx tx) (replay .run) (sym told ∙ e) j h),
+        λ all. told ∙ all-same (sameAt image r rx tx) (replay .run) (λ j h. from-alike j (all j h)))

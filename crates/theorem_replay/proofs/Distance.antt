@@ -52,7 +52,11 @@ module _ (most before stamp : ℕ) (low : before < most) (high : stamp < most) w
   distance-back e =
       let round : most - 1 + (stamp + 1) ≡ stamp + most = omega arith in
       sym (distance-only most before stamp (most - 1) low (omega arith)
-      (ap (λ (k : ℕ). (most - 1 + k) % most) (sym e) ∙ add-mod-mod (most - 1) (stamp + 1) most ∙ ap (λ (k : ℕ). k % most) round ∙ add-mod-right stamp most ∙ mod-eq-of-lt high))
+      (ap (λ (k : ℕ). (most - 1 + k) % most) (sym e)
+      ∙ add-mod-mod (most - 1) (stamp + 1) most
+      ∙ ap (λ (k : ℕ). k % most) round
+      ∙ add-mod-right stamp most
+      ∙ mod-eq-of-lt high))
 
 -- n after a stamp, n below the width, the distance is n
 pub distance-after : (most stamp n : ℕ) → stamp < most → n < most → distanceIn most stamp ((n + stamp) % most) ≡ n

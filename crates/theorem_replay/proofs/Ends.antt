@@ -1,6 +1,6 @@
 -- HOW A REPLAY ENDS (R17.4), under an accepted table, of contents that are whole, and into an out buffer of 16,384 bytes or more: by the first entry
 -- that is cut or has a fault; the entries before it are run, and nothing of it.
-use Prim.Native.Nat.{ℕ, zero, suc, _+_, _<_, _≤_}
+use Prim.Native.Nat.{ℕ, suc, _<_, _≤_}
 use mathlib.Core.Path.{_≡_, refl, sym, ap, ap₂, _∙_, subst}
 use mathlib.Core.Logic.{_↔_}
 use mathlib.Core.Bool.{Bool, true, false, cond}
@@ -25,7 +25,7 @@ use Rattle.replay_whole.specs.declared.End.the-variants.{Whole, Table, Unread, 
 use Rattle.replay_whole.specs.Replay.{Left, underFront, replayOf}
 use Rattle.theorem_replay.specs.Entries.{ticksUpTo, isCut, entryFault, isFine}
 use Rattle.theorem_replay.specs.Runs.{machineLeft, machineAfter, FirstNotFine}
-use Rattle.theorem_replay.proofs.First.{before-bad, bad-most, bad-only, bad-none}
+use Rattle.theorem_replay.proofs.First.{before-bad, bad-only, bad-none}
 use Rattle.theorem_replay.proofs.Fold.{endBy, endOf, Ended}
 use Rattle.theorem_replay.proofs.Replay.{under-accepted, long-ends}
 
@@ -113,7 +113,8 @@ module _ (image r rx tx : List ℕ) where
   ended-whole : ended (entriesIn r) ≡ Whole
   unfolding endOf
   ended-whole =
-      ap (λ (b : Bool). cond b (endBy (isCut r (entriesIn r)) (entriesIn r) (entryFault r (entriesIn r))) Whole) (le-ltb (entriesIn r) (entriesIn r) (omega arith))
+      let n = entriesIn r in
+      ap (λ (b : Bool). cond b (endBy (isCut r n) n (entryFault r n)) Whole) (le-ltb n n (omega arith))
 
   first-at : (i : ℕ) → (bad < entriesIn r) → bad ≡ i → FirstNotFine r i
   first-at i h e = subst (FirstNotFine r) e (bad-first h)
@@ -124,12 +125,17 @@ module _ (image r rx tx : List ℕ) where
 
   refused-at : (i : ℕ) (f : Fault) → FirstNotFine r i → isCut r i ≡ false → entryFault r i ≡ f → ended bad ≡ Refused (suc i) f
   unfolding endBy
-  refused-at i f n c e = ap ended (first-is i n) ∙ ended-there i (n .0) ∙ ap₂ (λ (b : Bool) (g : Fault). endBy b i g) c e ∙ ap (λ (k : ℕ). Refused k f) (add-one i)
+  refused-at i f n c e =
+      ap ended (first-is i n) ∙ ended-there i (n .0) ∙ ap₂ (λ (b : Bool) (g : Fault). endBy b i g) c e ∙ ap (λ (k : ℕ). Refused k f) (add-one i)
 
   -- THE REPLAY
   module _ (out : List ℕ) (accepted : checkTable image ≡ Answered.Accepted) (sized : frontOf r ≡ Shown.Sized) (long : room ≤ length out) where
     abbrev replay : Left
     replay = replayOf image r rx tx out
+
+    -- .. of which so many entries have been run, and nothing else
+    abbrev Ran : ℕ → Type 0
+    Ran n = (replay .replayed .run ≡ n) × (replay .replayed .ticks ≡ ticksUpTo r n) × (machineLeft replay ≡ machineAfter image r rx tx n)
 
     pub replay-ended : Ended image r rx tx (entriesIn r) bad replay
     unfolding underFront
@@ -157,16 +163,12 @@ module _ (image r rx tx : List ℕ) where
         (λ e j h. before-bad (isFine r) (entriesIn r) j (omega (arith, h, end-whole bad (sym (replay-ended .end) ∙ e))),
         λ all. replay-ended .end ∙ ap ended (bad-none (isFine r) (entriesIn r) all) ∙ ended-whole)
 
-    -- THE ENTRIES BEFORE IT HAVE BEEN RUN, and nothing of it
-    pub run-before : (i : ℕ) → FirstNotFine r i
-        → (replay .replayed .run ≡ i) × (replay .replayed .ticks ≡ ticksUpTo r i) × (machineLeft replay ≡ machineAfter image r rx tx i)
-    run-before i f =
-        let is = first-is i f in
-        (replay-ended .run ∙ is, replay-ended .ticks ∙ ap (ticksUpTo r) is, replay-ended .left ∙ ap (machineAfter image r rx tx) is)
+    -- THE ENTRIES BEFORE IT HAVE BEEN RUN, and nothing of it; all of them where none is cut or has a fault
+    ran : (n : ℕ) → bad ≡ n → Ran n
+    ran n is = (replay-ended .run ∙ is, replay-ended .ticks ∙ ap (ticksUpTo r) is, replay-ended .left ∙ ap (machineAfter image r rx tx) is)
 
-    -- .. all of them where none is cut or has a fault
-    pub run-whole : ((j : ℕ) → j < entriesIn r → isFine r j ≡ true)
-        → (replay .replayed .run ≡ entriesIn r) × (replay .replayed .ticks ≡ ticksUpTo r (entriesIn r)) × (machineLeft replay ≡ machineAfter image r rx tx (entriesIn r))
-    run-whole all =
-        let is = bad-none (isFine r) (entriesIn r) all in
-        (replay-ended .run ∙ is, replay-ended .ticks ∙ ap (ticksUpTo r) is, replay-ended .left ∙ ap (machineAfter image r rx tx) is)
+    pub run-before : (i : ℕ) → FirstNotFine r i → Ran i
+    run-before i f = ran i (first-is i f)
+
+    pub run-whole : ((j : ℕ) → j < entriesIn r → isFine r j ≡ true) → Ran (entriesIn r)
+    run-whole all = ran (entriesIn r) (bad-none (isFine r) (entriesIn r) all)

@@ -6,7 +6,7 @@ use mathlib.Core.Bool.{Bool, true, false, cond, not}
 use native.Mathlib.Nat.{eq-or-lt-of-le}
 use native.Mathlib.Decide.{decLt}
 use native.Mathlib.Omega.{arith}
-use borrow.Author.Tests.{eqb-true, eqb-false, eq-eqb}
+use borrow.Author.Tests.{eqb-true, eqb-false}
 use lib.Dec.{eqb}
 use Rattle.lists.specs.Search.{badFrom, firstBad}
 use Rattle.lists.proofs.Search.{found-bad}
@@ -67,7 +67,8 @@ module _ (same : ℕ → Bool) where
       go : (b : Bool) → eqb (otherIn n) 0 ≡ b → (s : Bool) → same n ≡ s → cond b (cond (not s) (n + 1) 0) (otherIn n) ≡ 0
           → (otherIn n ≡ 0 → (j : ℕ) → j < n → same j ≡ true) → same j ≡ true
       go true z true t e rest =
-          ⊎-elim (λ (q : suc j ≡ suc n). ap same (omega (arith, q)) ∙ t) (λ (l : suc j < suc n). rest (eqb-true (otherIn n) 0 z) j (omega (arith, l))) (eq-or-lt-of-le h)
+          ⊎-elim (λ (q : suc j ≡ suc n). ap same (omega (arith, q)) ∙ t)
+          (λ (l : suc j < suc n). rest (eqb-true (otherIn n) 0 z) j (omega (arith, l))) (eq-or-lt-of-le h)
       go true z false t e rest = absurd (omega (arith, e))
       go false z s t e rest = absurd (eqb-false (otherIn n) 0 z e)
 

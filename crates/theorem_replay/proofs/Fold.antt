@@ -14,18 +14,17 @@ use Rattle.dispatch.specs.Dispatch.{room}
 use Rattle.recording.specs.declared.Fault.{Fault}
 use Rattle.recording.specs.declared.Fault.the-variants.{Nothing, FarStamp, NoEvent, ZeroField, Misfit}
 use Rattle.recording.specs.Recording.{entryRow, stampIn, bodyLong, distanceIn, stamps}
-use Rattle.replay_step.specs.declared.Played.{Played}
 use Rattle.replay_step.specs.declared.Played.the-variants as Entry
 use Rattle.replay_step.specs.Step.{sameBytes, Stepped, stepOf, unplayed}
 use Rattle.replay_whole.specs.declared.End.{End}
-use Rattle.replay_whole.specs.declared.End.the-variants.{Whole, Table, Unread, Small, Cut, Refused}
+use Rattle.replay_whole.specs.declared.End.the-variants.{Whole, Cut, Refused}
 use Rattle.replay_whole.specs.Replay.{Going, Left, isRun, isOther, firstOther, endAt, stepAt, ongoing, stopped, finished, replayFrom}
 use Rattle.model_refines.specs.Machine.{Machine, machine, loanTo}
 use Rattle.model_refines.specs.Run.{afterRun}
-use Rattle.theorem_replay.specs.Entries.{isNothing, bodyBegins, bytesLeft, entryBody, stampBefore, ticksBefore, ticksUpTo, entryNumber, entryArguments, recordedAnswer, entryEvents, eventsUpTo, isCut, entryFault, isFine}
-use Rattle.theorem_replay.specs.Runs.{machineStepped, machineLeft, comparedTo, StepRuns, freshMachine, machineAfter, todayAnswer, goingAt}
+use Rattle.theorem_replay.specs.Entries.{isNothing, bodyBegins, bytesLeft, stampBefore, ticksUpTo, recordedAnswer, entryEvents, eventsUpTo, isCut, entryFault, isFine}
+use Rattle.theorem_replay.specs.Runs.{machineStepped, machineLeft, comparedTo, freshMachine, machineAfter, todayAnswer, EntryRuns, goingAt}
 use Rattle.theorem_replay.proofs.First.{otherIn}
-use Rattle.theorem_replay.proofs.Step.{run-append, step-cut, step-refused, step-runs, step-small}
+use Rattle.theorem_replay.proofs.Step.{run-append, step-cut, step-refused, step-runs}
 
 -- an entry that is compared was run
 compared-run : (a b : List ℕ) → isRun (comparedTo a b) ≡ true
@@ -80,26 +79,26 @@ module _ (image r rx tx : List ℕ) where
     pub long : room ≤ length (g .out)
 
   -- the step of entry i is that of the run
-  stepRun : ℕ → List ℕ → Stepped
-  stepRun i out = stepOf (loanTo image (machineAfter image r rx tx i)) out (stampBefore r i) (entryRow r i) (bytesLeft r i)
+  abbrev before : ℕ → Machine
+  before i = machineAfter image r rx tx i
+
+  abbrev stepRun : ℕ → List ℕ → Stepped
+  stepRun i out = stepOf (loanTo image (before i)) out (stampBefore r i) (entryRow r i) (bytesLeft r i)
 
   step-run : (i : ℕ) (g : Going) → Stands i g → stepAt image r i g ≡ stepRun i (g .out)
-  unfolding stepRun
   step-run i g s =
       ap (λ (m : Machine). stepOf (loanTo image m) (g .out) (g .before) (entryRow r i) (drop (g .at) r)) (s .left)
-      ∙ ap₂ (λ (b a : ℕ). stepOf (loanTo image (machineAfter image r rx tx i)) (g .out) b (entryRow r i) (drop a r)) (s .before) (s .at)
+      ∙ ap₂ (λ (b a : ℕ). stepOf (loanTo image (before i)) (g .out) b (entryRow r i) (drop a r)) (s .before) (s .at)
 
   module _ (i : ℕ) (g : Going) (s : Stands i g) where
     abbrev here : Stepped
     here = stepAt image r i g
 
-    pub runs : isFine r i ≡ true
-        → StepRuns image (machineAfter image r rx tx i) (g .out) (ticksBefore r i) (entryNumber r i) (entryArguments r i) (recordedAnswer r i) here
-    unfolding stepRun
+    pub runs : isFine r i ≡ true → EntryRuns image r rx tx i (g .out) here
     runs fine =
         let c = fine-whole (isCut r i) (isNothing (entryFault r i)) fine in
-        subst (StepRuns image (machineAfter image r rx tx i) (g .out) (ticksBefore r i) (entryNumber r i) (entryArguments r i) (recordedAnswer r i)) (sym (step-run i g s))
-        (step-runs image (machineAfter image r rx tx i) (g .out) (s .long) (stampBefore r i) (entryRow r i) (bytesLeft r i) (c .0) (nothing-is (entryFault r i) (c .1)))
+        subst (EntryRuns image r rx tx i (g .out)) (sym (step-run i g s))
+        (step-runs image (before i) (g .out) (stampBefore r i) (entryRow r i) (bytesLeft r i) (s .long) (c .0) (nothing-is (entryFault r i) (c .1)))
 
     -- where it was run, the next entry stands behind it
     stays-long : (a : List ℕ) → length a ≤ room → room ≤ length (a ++ drop (length a) (g .out))
@@ -124,20 +123,18 @@ module _ (image r rx tx : List ℕ) where
     goes-on fine = ap isRun (runs fine .played) ∙ compared-run (recordedAnswer r i) (todayAnswer image r rx tx i)
 
     -- where it was not, nothing of it is run
-    notRun : Bool → Stepped
-    notRun c = unplayed (loanTo image (machineAfter image r rx tx i)) (g .out) (cond c Entry.Cut (Entry.Refused (entryFault r i)))
+    abbrev notRun : Bool → Stepped
+    notRun c = unplayed (loanTo image (before i)) (g .out) (cond c Entry.Cut (Entry.Refused (entryFault r i)))
 
     not-run : isFine r i ≡ false → here ≡ notRun (isCut r i)
-    unfolding notRun stepRun
     not-run bad = step-run i g s ∙ go (isCut r i) refl bad
       where
-        go : (c : Bool) → isCut r i ≡ c → not c && isNothing (entryFault r i) ≡ false
-            → stepRun i (g .out) ≡ unplayed (loanTo image (machineAfter image r rx tx i)) (g .out) (cond c Entry.Cut (Entry.Refused (entryFault r i)))
-        go true e b = step-cut image (machineAfter image r rx tx i) (g .out) (s .long) (stampBefore r i) (entryRow r i) (bytesLeft r i) e
-        go false e b = step-refused image (machineAfter image r rx tx i) (g .out) (s .long) (stampBefore r i) (entryRow r i) (bytesLeft r i) e b
+        go : (c : Bool) → isCut r i ≡ c → not c && isNothing (entryFault r i) ≡ false → stepRun i (g .out) ≡ notRun c
+        go true e b = step-cut image (before i) (g .out) (stampBefore r i) (entryRow r i) (bytesLeft r i) (s .long) e
+        go false e b = step-refused image (before i) (g .out) (stampBefore r i) (entryRow r i) (bytesLeft r i) (s .long) e b
 
     pub stops : isFine r i ≡ false → isRun (here .played) ≡ false
-    unfolding notRun isRun
+    unfolding isRun
     stops bad = ap (λ (t : Stepped). isRun (t .played)) (not-run bad) ∙ go (isCut r i)
       where
         go : (c : Bool) → isRun (cond c Entry.Cut (Entry.Refused (entryFault r i))) ≡ false
@@ -145,7 +142,7 @@ module _ (image r rx tx : List ℕ) where
         go false = refl
 
     ends-so : isFine r i ≡ false → endAt i (here .played) ≡ endBy (isCut r i) i (entryFault r i)
-    unfolding notRun endAt endBy
+    unfolding endAt endBy
     ends-so bad = ap (λ (t : Stepped). endAt i (t .played)) (not-run bad) ∙ go (isCut r i)
       where
         go : (c : Bool) → endAt i (cond c Entry.Cut (Entry.Refused (entryFault r i))) ≡ endBy c i (entryFault r i)
@@ -175,7 +172,7 @@ module _ (image r rx tx : List ℕ) where
       }
 
   stopped-ended : (total i : ℕ) (g : Going) → i < total → Stands i g → isFine r i ≡ false → Ended total i (stopped image r i g (stepAt image r i g))
-  unfolding endOf notRun
+  unfolding endOf
   stopped-ended total i g h s bad =
       record {
         run = refl;
@@ -190,6 +187,9 @@ module _ (image r rx tx : List ℕ) where
   abbrev next : ℕ → Going → Going
   next i g = ongoing image r i g (stepAt image r i g)
 
+  abbrev either : ℕ → ℕ → Going → Bool → Left
+  either n i g go = cond go (replayFrom image r n (suc i) (next i g)) (stopped image r i g (stepAt image r i g))
+
   pub replay-ends : (total n i : ℕ) (g : Going) → i + n ≡ total → Stands i g → Ended total (badFrom (isFine r) n i) (replayFrom image r n i g)
   unfolding badFrom replayFrom
   replay-ends total zero i g e s =
@@ -197,35 +197,34 @@ module _ (image r rx tx : List ℕ) where
       subst (λ (t : ℕ). Ended t i (finished image r i g)) z (finished-ended i g s)
   replay-ends total (suc n) i g e s = go (isFine r i) refl (replay-ends total n (suc i) (next i g) (omega (arith, e)))
     where
-      go : (b : Bool) → isFine r i ≡ b → (Stands (suc i) (next i g) → Ended total (badFrom (isFine r) n (suc i)) (replayFrom image r n (suc i) (next i g)))
-          → Ended total (cond b (badFrom (isFine r) n (suc i)) i)
-          (cond (isRun (stepAt image r i g .played)) (replayFrom image r n (suc i) (next i g)) (stopped image r i g (stepAt image r i g)))
+      go : (b : Bool) → isFine r i ≡ b
+          → (Stands (suc i) (next i g) → Ended total (badFrom (isFine r) n (suc i)) (replayFrom image r n (suc i) (next i g)))
+          → Ended total (cond b (badFrom (isFine r) n (suc i)) i) (either n i g (isRun (stepAt image r i g .played)))
       go true f later =
-          subst (λ (b : Bool). Ended total (badFrom (isFine r) n (suc i)) (cond b (replayFrom image r n (suc i) (next i g)) (stopped image r i g (stepAt image r i g))))
-          (sym (goes-on i g s f)) (later (stands-on i g s f))
+          subst (λ (b : Bool). Ended total (badFrom (isFine r) n (suc i)) (either n i g b)) (sym (goes-on i g s f)) (later (stands-on i g s f))
       go false f later =
-          subst (λ (b : Bool). Ended total i (cond b (replayFrom image r n (suc i) (next i g)) (stopped image r i g (stepAt image r i g))))
-          (sym (stops i g s f)) (stopped-ended total i g (omega (arith, e)) s f)
+          subst (λ (b : Bool). Ended total i (either n i g b)) (sym (stops i g s f)) (stopped-ended total i g (omega (arith, e)) s f)
 
   -- BEFORE ENTRY i, where all before it are fine: the replay stands there, and what is left of it is what is left to do
   module _ (out : List ℕ) (long : room ≤ length out) where
-    pub going-stands : (i : ℕ) → ((j : ℕ) → j < i → isFine r j ≡ true) → Stands i (goingAt image r rx tx out i)
+    abbrev going : ℕ → Going
+    going i = goingAt image r rx tx out i
+
+    abbrev FineTo : ℕ → Type 0
+    FineTo i = (j : ℕ) → j < i → isFine r j ≡ true
+
+    pub going-stands : (i : ℕ) → FineTo i → Stands i (going i)
     unfolding goingAt eventsUpTo bodyBegins stampBefore ticksUpTo otherIn afterRun
     going-stands zero fine = record { left = refl; at = refl; before = refl; ticks = refl; differs = refl; long = long }
-    going-stands (suc i) fine =
-        stands-on i (goingAt image r rx tx out i) (going-stands i (λ j h. fine j (omega arith))) (fine i (omega arith))
+    going-stands (suc i) fine = stands-on i (going i) (going-stands i (λ j h. fine j (omega arith))) (fine i (omega arith))
 
-    one-more : (n i : ℕ) → Stands i (goingAt image r rx tx out i) → isFine r i ≡ true
-        → replayFrom image r (suc n) i (goingAt image r rx tx out i) ≡ replayFrom image r n (suc i) (goingAt image r rx tx out (suc i))
+    one-more : (n i : ℕ) → Stands i (going i) → isFine r i ≡ true → replayFrom image r (suc n) i (going i) ≡ replayFrom image r n (suc i) (going (suc i))
     unfolding goingAt replayFrom
-    one-more n i s f =
-        ap (λ (b : Bool). cond b (replayFrom image r n (suc i) (next i (goingAt image r rx tx out i))) (stopped image r i (goingAt image r rx tx out i) (stepAt image r i (goingAt image r rx tx out i))))
-        (goes-on i (goingAt image r rx tx out i) s f)
+    one-more n i s f = ap (either n i (going i)) (goes-on i (going i) s f)
 
-    pub going-left : (n i : ℕ) → ((j : ℕ) → j < i → isFine r j ≡ true)
-        → replayFrom image r (i + n) 0 (goingAt image r rx tx out 0) ≡ replayFrom image r n i (goingAt image r rx tx out i)
-    going-left n zero fine = ap (λ (k : ℕ). replayFrom image r k 0 (goingAt image r rx tx out 0)) (zero-add n)
+    pub going-left : (n i : ℕ) → FineTo i → replayFrom image r (i + n) 0 (going 0) ≡ replayFrom image r n i (going i)
+    going-left n zero fine = ap (λ (k : ℕ). replayFrom image r k 0 (going 0)) (zero-add n)
     going-left n (suc i) fine =
-        ap (λ (k : ℕ). replayFrom image r k 0 (goingAt image r rx tx out 0)) (omega arith)
+        ap (λ (k : ℕ). replayFrom image r k 0 (going 0)) (omega arith)
         ∙ going-left (suc n) i (λ j h. fine j (omega arith))
         ∙ one-more n i (going-stands i (λ j h. fine j (omega arith))) (fine i (omega arith))

@@ -1,8 +1,8 @@
 -- REPLAYING EQUALS CALLING THE EVENTS ONE BY ONE (R17.5), under an accepted table, for every recording, memories and out buffer; and the answers
 -- that are compared are those of that run.
-use Prim.Native.Nat.{ℕ, zero, suc, _+_, _-_, _<_, _≤_}
+use Prim.Native.Nat.{ℕ, zero, suc, _-_, _<_, _≤_}
 use mathlib.Core.Path.{_≡_, refl, sym, ap, _∙_, subst}
-use mathlib.Core.Bool.{Bool, true, false, cond}
+use mathlib.Core.Bool.{true, cond}
 use mathlib.Core.List.{List}
 use native.Mathlib.Decide.{decLt}
 use native.Mathlib.Omega.{arith}
@@ -15,18 +15,16 @@ use Rattle.dispatch.specs.Dispatch.{room}
 use Rattle.recording.specs.declared.Front.{Front}
 use Rattle.recording.specs.declared.Front.the-variants as Shown
 use Rattle.recording.specs.Recording.{entriesIn, contentsTo, entryRow, stampIn, frontOf}
-use Rattle.replay_step.specs.declared.Played.the-variants as Entry
-use Rattle.replay_step.specs.Step.{Stepped, unplayed}
+use Rattle.replay_step.specs.Step.{Stepped}
 use Rattle.replay_whole.specs.declared.End.{End}
-use Rattle.replay_whole.specs.declared.End.the-variants.{Whole, Table, Unread, Small, Cut, Refused}
+use Rattle.replay_whole.specs.declared.End.the-variants.{Whole, Table, Unread, Small, Refused}
 use Rattle.replay_whole.specs.Replay.{Going, Left, isRun, endAt, stepAt, ongoing, stopped, replayFrom, begun, unrun, underFront, underTable, replayOf}
-use Rattle.model_refines.specs.Machine.{Machine, machine, loanTo}
 use Rattle.model_refines.specs.Run.{afterRun}
-use Rattle.theorem_replay.specs.Entries.{bodyBegins, stampBefore, ticksBefore, ticksUpTo, entryNumber, entryArguments, recordedAnswer, eventsUpTo, isFine}
-use Rattle.theorem_replay.specs.Runs.{machineLeft, freshMachine, machineAfter, goingAt, StepRuns}
+use Rattle.theorem_replay.specs.Entries.{ticksUpTo, eventsUpTo, isFine}
+use Rattle.theorem_replay.specs.Runs.{machineLeft, freshMachine, machineAfter, EntryRuns, goingAt}
 use Rattle.theorem_replay.proofs.First.{before-bad, bad-most, otherIn}
 use Rattle.theorem_replay.proofs.Step.{step-small}
-use Rattle.theorem_replay.proofs.Fold.{unlikeIn, Stands, Ended, runs, replay-ends, going-stands, going-left}
+use Rattle.theorem_replay.proofs.Fold.{unlikeIn, Ended, runs, replay-ends, going-stands, going-left}
 
 module _ (image r rx tx out : List ℕ) where
   -- A REPLAY GOES ALONG WITH THE RUN as far as it goes
@@ -41,7 +39,15 @@ module _ (image r rx tx out : List ℕ) where
   -- nothing is run
   none-along : (e : End) → Along (unrun image r rx tx out e (freshState image))
   unfolding eventsUpTo ticksUpTo otherIn afterRun
-  none-along e = record { left = refl; ticks = refl; differs = refl; fine = λ j h. absurd (omega (arith, h)); most = omega arith; roomy = λ h. absurd (omega (arith, h)) }
+  none-along e =
+      record {
+        left = refl;
+        ticks = refl;
+        differs = refl;
+        fine = λ j h. absurd (omega (arith, h));
+        most = omega arith;
+        roomy = λ h. absurd (omega (arith, h));
+      }
 
   abbrev start : Going
   start = begun image r rx tx out (freshState image)
@@ -54,7 +60,7 @@ module _ (image r rx tx out : List ℕ) where
   unfolding replayFrom isRun endAt
   small-stops short n =
       ap (λ (s : Stepped). cond (isRun (s .played)) (replayFrom image r n 1 (ongoing image r 0 start s)) (stopped image r 0 start s))
-      (step-small image (freshMachine image rx tx) out short (stampIn (entryRow r 0)) (entryRow r 0) (drop (contentsTo (entriesIn r)) r))
+      (step-small image (freshMachine image rx tx) out (stampIn (entryRow r 0)) (entryRow r 0) (drop (contentsTo (entriesIn r)) r) short)
 
   small-along : length out < room → (n : ℕ) → Along (played n)
   unfolding replayFrom
@@ -64,7 +70,9 @@ module _ (image r rx tx out : List ℕ) where
   -- into one that has the room, the entries before the first that is not fine are run
   pub long-ends : room ≤ length out → Ended image r rx tx (entriesIn r) (firstBad (isFine r) (entriesIn r)) (played (entriesIn r))
   unfolding goingAt
-  long-ends long = replay-ends image r rx tx (entriesIn r) (entriesIn r) 0 start (omega arith) (going-stands image r rx tx out long 0 (λ j h. absurd (omega (arith, h))))
+  long-ends long =
+      replay-ends image r rx tx (entriesIn r) (entriesIn r) 0 start (omega arith)
+      (going-stands image r rx tx out long 0 (λ j h. absurd (omega (arith, h))))
 
   ended-along : room ≤ length out → (total : ℕ) (l : Left) → Ended image r rx tx total (firstBad (isFine r) (entriesIn r)) l → Along l
   ended-along long total l e =
@@ -105,41 +113,42 @@ module _ (image r rx tx out : List ℕ) where
   run-sized (Shown.Long i) h = absurd (omega (arith, h))
   run-sized Shown.Sized h = refl
 
+  abbrev replay : Left
+  replay = replayOf image r rx tx out
+
   -- A REFUSED TABLE: nothing is run
-  pub table-refused : (place : ℕ) → checkTable image ≡ Answered.Refused place → replayOf image r rx tx out ≡ unrun image r rx tx out (Table place) emptyState
+  pub table-refused : (place : ℕ) → checkTable image ≡ Answered.Refused place → replay ≡ unrun image r rx tx out (Table place) emptyState
   unfolding replayOf underTable
   table-refused place refused = ap (underTable image r rx tx out) refused
 
   module _ (accepted : checkTable image ≡ Answered.Accepted) where
-    pub under-accepted : replayOf image r rx tx out ≡ underFront image r rx tx out (frontOf r)
+    pub under-accepted : replay ≡ underFront image r rx tx out (frontOf r)
     unfolding replayOf underTable
     under-accepted = ap (underTable image r rx tx out) accepted
 
     -- CONTENTS THAT ARE CUT OFF, OF ANOTHER EDITION, OR PAST A LIMIT: nothing is run
-    pub front-unread : (frontOf r ≡ Shown.Sized → ⊥) → replayOf image r rx tx out ≡ unrun image r rx tx out (Unread (frontOf r)) (freshState image)
+    pub front-unread : (frontOf r ≡ Shown.Sized → ⊥) → replay ≡ unrun image r rx tx out (Unread (frontOf r)) (freshState image)
     front-unread unsized = under-accepted ∙ unread (frontOf r) unsized
 
-    pub replay-along : Along (replayOf image r rx tx out)
+    pub replay-along : Along (replay)
     replay-along = subst Along (sym under-accepted) (front-along (frontOf r))
 
     -- THE MACHINE after a replay is the machine after the run of the events that its entries spell, with that many ticks between them
-    pub replay-runs : machineLeft (replayOf image r rx tx out)
-        ≡ afterRun image (freshMachine image rx tx) (eventsUpTo r (replayOf image r rx tx out .replayed .run))
+    pub replay-runs : machineLeft replay ≡ afterRun image (freshMachine image rx tx) (eventsUpTo r (replay .replayed .run))
     replay-runs = replay-along .left
 
-    pub replay-ticks : replayOf image r rx tx out .replayed .ticks ≡ ticksUpTo r (replayOf image r rx tx out .replayed .run)
+    pub replay-ticks : replay .replayed .ticks ≡ ticksUpTo r (replay .replayed .run)
     replay-ticks = replay-along .ticks
 
     -- THE ANSWERS that are compared are the answers that this run gives: the step of each entry that is run is that of the run
-    module _ (i : ℕ) (h : i < replayOf image r rx tx out .replayed .run) where
+    module _ (i : ℕ) (h : i < replay .replayed .run) where
       long-out : room ≤ length out
       long-out = replay-along .roomy (omega (arith, h))
 
       before-fine : (j : ℕ) → j < i → isFine r j ≡ true
       before-fine j l = replay-along .fine j (omega (arith, h, l))
 
-      pub replay-answers : StepRuns image (machineAfter image r rx tx i) (goingAt image r rx tx out i .out) (ticksBefore r i) (entryNumber r i) (entryArguments r i)
-          (recordedAnswer r i) (stepAt image r i (goingAt image r rx tx out i))
+      pub replay-answers : EntryRuns image r rx tx i (goingAt image r rx tx out i .out) (stepAt image r i (goingAt image r rx tx out i))
       replay-answers =
           runs image r rx tx i (goingAt image r rx tx out i) (going-stands image r rx tx out long-out i before-fine) (replay-along .fine i h)
 
@@ -147,7 +156,7 @@ module _ (image r rx tx out : List ℕ) where
       sized = run-sized (frontOf r) (subst (λ (l : Left). 0 < l .replayed .run) under-accepted (omega (arith, h)))
 
       -- .. and the replay makes these steps: after i of them the rest of it is left
-      pub replay-steps : replayOf image r rx tx out ≡ replayFrom image r (entriesIn r - i) i (goingAt image r rx tx out i)
+      pub replay-steps : replay ≡ replayFrom image r (entriesIn r - i) i (goingAt image r rx tx out i)
       unfolding underFront goingAt
       replay-steps =
           under-accepted ∙ ap (underFront image r rx tx out) sized

@@ -1,11 +1,11 @@
 -- A STEP (R17.3): of an entry that is cut or has a fault nothing is run; of any other its ticks and then its event, with today's answer at
 -- the front of the out buffer, beside the recorded one.
-use Prim.Native.Nat.{ℕ, _+_, _<_, _≤_}
+use Prim.Native.Nat.{ℕ, _<_, _≤_}
 use mathlib.Core.Path.{_≡_, refl, sym, ap, ap₂, _∙_, subst}
-use mathlib.Core.Bool.{Bool, true, false, cond, not, _&&_, false≢true}
+use mathlib.Core.Bool.{Bool, true, false, cond, not, false≢true}
 use mathlib.Core.List.{List, [], _∷_, _++_}
 use native.Mathlib.Omega.{arith}
-use borrow.Author.Tests.{le-ltb, lt-ltb, not-false}
+use borrow.Author.Tests.{le-ltb, lt-ltb}
 use lib.Dec.{eqb, ltb}
 use lib.ListN.{length, take, drop}
 use Rattle.lists.proofs.Both.{and-left, impossible}
@@ -15,7 +15,6 @@ use Rattle.event_decode.specs.Calls.{callOf}
 use Rattle.event_answer.specs.declared.Verdict.{Verdict}
 use Rattle.event_answer.specs.declared.Verdict.the-variants.{Done}
 use Rattle.event_answer.specs.declared.Verdict.the-variants as Said
-use Rattle.entry_ticks.specs.Tick.{ticksEvent}
 use Rattle.dispatch.specs.Dispatch.{room, dispatchOf}
 use Rattle.dispatch.specs.Whole.{StandsWhole, answer, unknown, unfit, small}
 use Rattle.dispatch.proofs.Whole.{answer-whole}
@@ -27,9 +26,9 @@ use Rattle.replay_step.specs.declared.Played.{Played}
 use Rattle.replay_step.specs.declared.Played.the-variants.{Small, Cut, Refused, Same, Differs}
 use Rattle.replay_step.specs.Step.{sameBytes, Stepped, playedBy, toldBeside, unplayed, happens, unlessFault, entered, stepOf}
 use Rattle.model.specs.Events.{Event}
-use Rattle.model_refines.specs.Machine.{Machine, machine, loanTo, lentTo}
+use Rattle.model_refines.specs.Machine.{Machine, loanTo}
 use Rattle.model_refines.specs.Run.{afterEvent, afterRun}
-use Rattle.dispatch_refines.specs.Spelt.{eventsOf, Spoken, speltBy, machineOf}
+use Rattle.dispatch_refines.specs.Spelt.{eventsOf, Spoken, speltBy}
 use Rattle.dispatch_refines.specs.Answer.{answerOf, answerBy}
 use Rattle.dispatch_refines.proofs.Ticks.{ticks-run}
 use Rattle.dispatch_refines.proofs.Event.{dispatched-events}
@@ -130,33 +129,13 @@ pub step-answers : (image : List ℕ) (m : Machine) (out : List ℕ) → room �
 step-answers image m out long distance row body e =
     spelt-answers image m out long (numberIn row) (argumentsIn (numberIn row) body) (no-fault-spells distance row body e)
 
-module _ (image : List ℕ) (m : Machine) (out : List ℕ) (long : room ≤ length out) where
-  -- THE TICKS, AND THEN THE EVENT
-  step-happens : (ticks number : ℕ) (body : List ℕ) → isSpelt (callOf number (argumentsIn number body)) ≡ true
-      → StepRuns image m out ticks number (argumentsIn number body) (answerIn number body) (happens (loanTo image m) out ticks number body)
-  step-happens ticks number body spelt =
-      record {
-        played = ap (λ (s : Stepped). s .played) same ∙ event-compared image later out long number arguments spelt recorded;
-        left = ap machineStepped same ∙ event-left image later out long number arguments spelt recorded ∙ sym (run-append image m (tickEvents ticks) (eventsOf arguments (callOf number arguments)));
-        front = ap (λ (s : Stepped). s .out) same ∙ answers-front image later out long number arguments spelt;
-        fits = answers-fit image later out long number arguments spelt;
-      }
-    where
-      arguments : List ℕ
-      arguments = argumentsIn number body
+module _ (image : List ℕ) (m : Machine) (out : List ℕ) where
+  abbrev none : Played → Stepped
+  none = unplayed (loanTo image m) out
 
-      recorded : List ℕ
-      recorded = answerIn number body
-
-      later : Machine
-      later = afterRun image m (tickEvents ticks)
-
-      same : happens (loanTo image m) out ticks number body ≡ toldBeside recorded (dispatchOf (loanTo image later) out number arguments)
-      same =
-          ap (λ (n : Machine). toldBeside recorded (dispatchOf (loanTo image n) out number arguments)) (ticks-run image (m .rx) (m .tx) (m .state) ticks)
-
+  -- a refused entry leaves everything
   refused-leaves : (f : Fault) (distance number : ℕ) (body : List ℕ) → isNothing f ≡ false
-      → unlessFault (loanTo image m) out f distance number body ≡ unplayed (loanTo image m) out (Refused f)
+      → unlessFault (loanTo image m) out f distance number body ≡ none (Refused f)
   unfolding unlessFault isNothing
   refused-leaves Nothing distance number body h = impossible (sym h)
   refused-leaves FarStamp distance number body h = refl
@@ -164,53 +143,75 @@ module _ (image : List ℕ) (m : Machine) (out : List ℕ) (long : room ≤ leng
   refused-leaves ZeroField distance number body h = refl
   refused-leaves Misfit distance number body h = refl
 
-  -- an entry whose body is there whole
-  entered-runs : (distance : ℕ) (row body : List ℕ) → faultOf distance row body ≡ Nothing
-      → StepRuns image m out distance (numberIn row) (argumentsIn (numberIn row) body) (answerIn (numberIn row) body) (entered (loanTo image m) out distance row body)
-  unfolding entered unlessFault
-  entered-runs distance row body e =
-      subst (λ (f : Fault). StepRuns image m out distance (numberIn row) (argumentsIn (numberIn row) body) (answerIn (numberIn row) body) (unlessFault (loanTo image m) out f distance (numberIn row) body))
-      (sym e) (step-happens distance (numberIn row) body (no-fault-spells distance row body e))
-
   entered-refused : (distance : ℕ) (row body : List ℕ) → isNothing (faultOf distance row body) ≡ false
-      → entered (loanTo image m) out distance row body ≡ unplayed (loanTo image m) out (Refused (faultOf distance row body))
+      → entered (loanTo image m) out distance row body ≡ none (Refused (faultOf distance row body))
   unfolding entered
   entered-refused distance row body e = refused-leaves (faultOf distance row body) distance (numberIn row) body e
 
-  -- THE TESTS OF A STEP: cut, refused, else run
+  -- any other runs its ticks and then its event
+  module _ (long : room ≤ length out) where
+    step-happens : (ticks number : ℕ) (body : List ℕ) → isSpelt (callOf number (argumentsIn number body)) ≡ true
+        → StepRuns image m out ticks number body (happens (loanTo image m) out ticks number body)
+    step-happens ticks number body spelt =
+        record {
+          left =
+              ap machineStepped same ∙ event-left image later out long number arguments spelt recorded
+              ∙ sym (run-append image m (tickEvents ticks) (eventsOf arguments (callOf number arguments)));
+          front = ap (λ (s : Stepped). s .out) same ∙ answers-front image later out long number arguments spelt;
+          fits = answers-fit image later out long number arguments spelt;
+          played = ap (λ (s : Stepped). s .played) same ∙ event-compared image later out long number arguments spelt recorded;
+        }
+      where
+        arguments : List ℕ
+        arguments = argumentsIn number body
+
+        recorded : List ℕ
+        recorded = answerIn number body
+
+        later : Machine
+        later = afterRun image m (tickEvents ticks)
+
+        same : happens (loanTo image m) out ticks number body ≡ toldBeside recorded (dispatchOf (loanTo image later) out number arguments)
+        same =
+            ap (λ (n : Machine). toldBeside recorded (dispatchOf (loanTo image n) out number arguments)) (ticks-run image (m .rx) (m .tx) (m .state) ticks)
+
+    entered-runs : (distance : ℕ) (row body : List ℕ) → faultOf distance row body ≡ Nothing
+        → StepRuns image m out distance (numberIn row) body (entered (loanTo image m) out distance row body)
+    unfolding entered unlessFault
+    entered-runs distance row body e =
+        subst (λ (f : Fault). StepRuns image m out distance (numberIn row) body (unlessFault (loanTo image m) out f distance (numberIn row) body))
+        (sym e) (step-happens distance (numberIn row) body (no-fault-spells distance row body e))
+
+  -- THE TESTS OF A STEP: an out buffer that is too short; cut; refused; else run
   module _ (before : ℕ) (row rest : List ℕ) where
+    abbrev step : Stepped
+    step = stepOf (loanTo image m) out before row rest
+
     abbrev distance : ℕ
     distance = distanceIn stamps before (stampIn row)
 
     abbrev body : List ℕ
     body = take (bodyLong row) rest
 
-    roomy : stepOf (loanTo image m) out before row rest
-        ≡ cond (ltb (length rest) (bodyLong row)) (unplayed (loanTo image m) out Cut) (entered (loanTo image m) out distance row body)
+    abbrev tested : Bool → Bool → Stepped
+    tested short cut = cond short (none Small) (cond cut (none Cut) (entered (loanTo image m) out distance row body))
+
+    pub step-small : length out < room → step ≡ none Small
     unfolding stepOf
-    roomy =
-        ap (λ (b : Bool). cond b (unplayed (loanTo image m) out Small) (cond (ltb (length rest) (bodyLong row)) (unplayed (loanTo image m) out Cut) (entered (loanTo image m) out distance row body)))
-        (le-ltb (length out) room long)
+    step-small short = ap (λ (b : Bool). tested b (ltb (length rest) (bodyLong row))) (lt-ltb (length out) room short)
 
-    pub step-cut : ltb (length rest) (bodyLong row) ≡ true → stepOf (loanTo image m) out before row rest ≡ unplayed (loanTo image m) out Cut
-    step-cut c = roomy ∙ ap (λ (b : Bool). cond b (unplayed (loanTo image m) out Cut) (entered (loanTo image m) out distance row body)) c
+    module _ (long : room ≤ length out) where
+      past : (cut : Bool) → ltb (length rest) (bodyLong row) ≡ cut → step ≡ tested false cut
+      unfolding stepOf
+      past cut e = ap₂ tested (le-ltb (length out) room long) e
 
-    there : ltb (length rest) (bodyLong row) ≡ false → stepOf (loanTo image m) out before row rest ≡ entered (loanTo image m) out distance row body
-    there c = roomy ∙ ap (λ (b : Bool). cond b (unplayed (loanTo image m) out Cut) (entered (loanTo image m) out distance row body)) c
+      pub step-cut : ltb (length rest) (bodyLong row) ≡ true → step ≡ none Cut
+      step-cut c = past true c
 
-    pub step-refused : ltb (length rest) (bodyLong row) ≡ false → isNothing (faultOf distance row body) ≡ false
-        → stepOf (loanTo image m) out before row rest ≡ unplayed (loanTo image m) out (Refused (faultOf distance row body))
-    step-refused c e = there c ∙ entered-refused distance row body e
+      pub step-refused : ltb (length rest) (bodyLong row) ≡ false → isNothing (faultOf distance row body) ≡ false
+          → step ≡ none (Refused (faultOf distance row body))
+      step-refused c e = past false c ∙ entered-refused distance row body e
 
-    pub step-runs : ltb (length rest) (bodyLong row) ≡ false → faultOf distance row body ≡ Nothing
-        → StepRuns image m out distance (numberIn row) (argumentsIn (numberIn row) body) (answerIn (numberIn row) body) (stepOf (loanTo image m) out before row rest)
-    step-runs c e =
-        subst (StepRuns image m out distance (numberIn row) (argumentsIn (numberIn row) body) (answerIn (numberIn row) body)) (sym (there c)) (entered-runs distance row body e)
-
--- AN OUT BUFFER THAT IS TOO SHORT: nothing is run
-pub step-small : (image : List ℕ) (m : Machine) (out : List ℕ) → length out < room → (before : ℕ) (row rest : List ℕ)
-    → stepOf (loanTo image m) out before row rest ≡ unplayed (loanTo image m) out Small
-unfolding stepOf
-step-small image m out short before row rest =
-    ap (λ (b : Bool). cond b (unplayed (loanTo image m) out Small) (cond (ltb (length rest) (bodyLong row)) (unplayed (loanTo image m) out Cut) (entered (loanTo image m) out (distanceIn stamps before (stampIn row)) row (take (bodyLong row) rest))))
-    (lt-ltb (length out) room short)
+      pub step-runs : ltb (length rest) (bodyLong row) ≡ false → faultOf distance row body ≡ Nothing
+          → StepRuns image m out distance (numberIn row) body step
+      step-runs c e = subst (StepRuns image m out distance (numberIn row) body) (sym (past false c)) (entered-runs long distance row body e)

@@ -6,9 +6,11 @@ use mathlib.Core.Bool.{true, false, cond}
 use mathlib.Core.List.{List, _++_}
 use lib.ListN.{length, drop}
 use Rattle.state.specs.Fresh.{freshState}
+use Rattle.event_decode.specs.declared.Call.{Call}
 use Rattle.event_decode.specs.Calls.{callOf}
 use Rattle.dispatch.specs.Dispatch.{room}
 use Rattle.recording.specs.Recording.{entriesIn}
+use Rattle.recording.specs.Entry.{argumentsIn, answerIn}
 use Rattle.replay_step.specs.declared.Played.{Played}
 use Rattle.replay_step.specs.declared.Played.the-variants.{Same, Differs}
 use Rattle.replay_step.specs.Step.{sameBytes, Stepped}
@@ -17,7 +19,7 @@ use Rattle.model_refines.specs.Machine.{Machine, machine, loanTo}
 use Rattle.model_refines.specs.Run.{afterRun}
 use Rattle.dispatch_refines.specs.Spelt.{eventsOf}
 use Rattle.dispatch_refines.specs.Answer.{answerOf}
-use Rattle.theorem_replay.specs.Entries.{tickEvents, ticksBefore, entryArguments, entryCall, recordedAnswer, eventsUpTo, isFine}
+use Rattle.theorem_replay.specs.Entries.{tickEvents, entryBody, ticksBefore, entryNumber, entryArguments, entryCall, recordedAnswer, eventsUpTo, isFine}
 
 -- the machine that a step leaves, and that a replay leaves
 abbrev pub machineStepped : Stepped → Machine
@@ -30,17 +32,20 @@ machineLeft l = machine (l .replayed .state) (l .rx) (l .tx)
 unfoldable pub comparedTo : List ℕ → List ℕ → Played
 comparedTo recorded today = cond (sameBytes today recorded) (Same (length today)) (Differs (length today))
 
--- A STEP THAT IS RUN, of so many ticks and the event that a number and arguments spell, beside a recorded answer: the machine after these
--- events; all bytes of the event's answer at the front of the out buffer, and behind them the buffer as it was
-module _ (image : List ℕ) (m : Machine) (out : List ℕ) (ticks number : ℕ) (arguments recorded : List ℕ) where
+-- A STEP THAT IS RUN, of so many ticks and the event that a number and a body's arguments spell: the machine after these events; all bytes of the
+-- event's answer at the front of the out buffer, behind them the buffer as it was; and this answer is what the body's recorded one is compared with
+module _ (image : List ℕ) (m : Machine) (out : List ℕ) (ticks number : ℕ) (body : List ℕ) where
+  abbrev pub callStepped : Call
+  callStepped = callOf number (argumentsIn number body)
+
   abbrev pub answerStepped : List ℕ
-  answerStepped = answerOf (loanTo image (afterRun image m (tickEvents ticks))) arguments (callOf number arguments)
+  answerStepped = answerOf (loanTo image (afterRun image m (tickEvents ticks))) (argumentsIn number body) callStepped
 
   pub record StepRuns (s : Stepped) : Type 0 where
-    pub played : s .played ≡ comparedTo recorded answerStepped
-    pub left : machineStepped s ≡ afterRun image m (tickEvents ticks ++ eventsOf arguments (callOf number arguments))
+    pub left : machineStepped s ≡ afterRun image m (tickEvents ticks ++ eventsOf (argumentsIn number body) callStepped)
     pub front : s .out ≡ answerStepped ++ drop (length answerStepped) out
     pub fits : length answerStepped ≤ room
+    pub played : s .played ≡ comparedTo (answerIn number body) answerStepped
 
 -- "starts fresh under a given table image"
 abbrev pub freshMachine : List ℕ → List ℕ → List ℕ → Machine
@@ -66,6 +71,10 @@ module _ (image r rx tx : List ℕ) where
   -- the first of so many entries that are run whose recorded answer is not the answer of this run
   abbrev pub FirstUnlike : ℕ → ℕ → Type 0
   FirstUnlike run i = (i < run) × (Alike i → ⊥) × ((j : ℕ) → j < i → Alike j)
+
+  -- a step that is the run of entry i, after those before it
+  abbrev pub EntryRuns : ℕ → List ℕ → Stepped → Type 0
+  EntryRuns i out = StepRuns image (machineAfter i) out (ticksBefore r i) (entryNumber r i) (entryBody r i)
 
   -- HOW FAR THE REPLAY IS before entry i: the steps of the entries before it
   module _ (out : List ℕ) where
