@@ -57,6 +57,7 @@ module _ (image r rx tx : List ℕ) where
     -- NONE IS TOLD
     pub no-difference : (replay .differs ≡ 0) ↔ ((j : ℕ) → j < replay .run → Alike image r rx tx j)
     no-difference =
-        let told = replay-along image r rx tx out accepted .differs in
-        (λ e j h. to-alike j (none-other (sameAt image r rx tx) (replay .run) (sym told ∙ e) j h),
-        λ all. told ∙ all-same (sameAt image r rx tx) (replay .run) (λ j h. from-alike j (all j h)))
+        let told = replay-along image r rx tx out accepted .differs in (
+          λ e j h. to-alike j (none-other (sameAt image r rx tx) (replay .run) (sym told ∙ e) j h),
+          λ all. told ∙ all-same (sameAt image r rx tx) (replay .run) (λ j h. from-alike j (all j h)),
+        )

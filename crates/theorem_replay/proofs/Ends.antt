@@ -23,7 +23,7 @@ use Rattle.recording.specs.Recording.{entriesIn, frontOf}
 use Rattle.replay_whole.specs.declared.End.{End}
 use Rattle.replay_whole.specs.declared.End.the-variants.{Whole, Table, Unread, Small, Cut, Refused}
 use Rattle.replay_whole.specs.Replay.{Left, underFront, replayOf}
-use Rattle.theorem_replay.specs.Entries.{ticksUpTo, isCut, entryFault, isFine}
+use Rattle.theorem_replay.specs.Entries.{ticksUpTo, isCut, faultOfEntry, isFine}
 use Rattle.theorem_replay.specs.Runs.{machineLeft, machineAfter, FirstNotFine}
 use Rattle.theorem_replay.proofs.First.{before-bad, bad-only, bad-none}
 use Rattle.theorem_replay.proofs.Fold.{endBy, endOf, Ended}
@@ -81,18 +81,18 @@ module _ (image r rx tx : List ℕ) where
   unfolding endOf endBy
   end-cut k i e = go (ltb k (entriesIn r)) refl (isCut r k) e
     where
-      go : (b : Bool) → ltb k (entriesIn r) ≡ b → (c : Bool) → cond b (endBy c k (entryFault r k)) Whole ≡ Cut (suc i)
+      go : (b : Bool) → ltb k (entriesIn r) ≡ b → (c : Bool) → cond b (endBy c k (faultOfEntry r k)) Whole ≡ Cut (suc i)
           → (k < entriesIn r) × (k ≡ i) × (c ≡ true)
       go true l true e = (ltb-true k (entriesIn r) l, omega (arith, ap endEntry e), refl)
       go true l false e = impossible (ap endCut e)
       go false l c e = impossible (ap endCut e)
 
-  end-refused : (k i : ℕ) (f : Fault) → ended k ≡ Refused (suc i) f → (k < entriesIn r) × (k ≡ i) × (isCut r k ≡ false) × (entryFault r k ≡ f)
+  end-refused : (k i : ℕ) (f : Fault) → ended k ≡ Refused (suc i) f → (k < entriesIn r) × (k ≡ i) × (isCut r k ≡ false) × (faultOfEntry r k ≡ f)
   unfolding endOf endBy
   end-refused k i f e = go (ltb k (entriesIn r)) refl (isCut r k) e
     where
-      go : (b : Bool) → ltb k (entriesIn r) ≡ b → (c : Bool) → cond b (endBy c k (entryFault r k)) Whole ≡ Refused (suc i) f
-          → (k < entriesIn r) × (k ≡ i) × (c ≡ false) × (entryFault r k ≡ f)
+      go : (b : Bool) → ltb k (entriesIn r) ≡ b → (c : Bool) → cond b (endBy c k (faultOfEntry r k)) Whole ≡ Refused (suc i) f
+          → (k < entriesIn r) × (k ≡ i) × (c ≡ false) × (faultOfEntry r k ≡ f)
       go true l true e = impossible (sym (ap endCut e))
       go true l false e = (ltb-true k (entriesIn r) l, omega (arith, ap endEntry e), refl, ap endFault e)
       go false l c e = impossible (sym (ap isWhole e))
@@ -101,29 +101,29 @@ module _ (image r rx tx : List ℕ) where
   unfolding endOf endBy
   end-whole k e = go (ltb k (entriesIn r)) refl (isCut r k) e
     where
-      go : (b : Bool) → ltb k (entriesIn r) ≡ b → (c : Bool) → cond b (endBy c k (entryFault r k)) Whole ≡ Whole → entriesIn r ≤ k
+      go : (b : Bool) → ltb k (entriesIn r) ≡ b → (c : Bool) → cond b (endBy c k (faultOfEntry r k)) Whole ≡ Whole → entriesIn r ≤ k
       go true l true e = impossible (ap isWhole e)
       go true l false e = impossible (ap isWhole e)
       go false l c e = ltb-false k (entriesIn r) l
 
-  ended-there : (k : ℕ) → k < entriesIn r → ended k ≡ endBy (isCut r k) k (entryFault r k)
+  ended-there : (k : ℕ) → k < entriesIn r → ended k ≡ endBy (isCut r k) k (faultOfEntry r k)
   unfolding endOf
-  ended-there k h = ap (λ (b : Bool). cond b (endBy (isCut r k) k (entryFault r k)) Whole) (lt-ltb k (entriesIn r) h)
+  ended-there k h = ap (λ (b : Bool). cond b (endBy (isCut r k) k (faultOfEntry r k)) Whole) (lt-ltb k (entriesIn r) h)
 
   ended-whole : ended (entriesIn r) ≡ Whole
   unfolding endOf
   ended-whole =
       let n = entriesIn r in
-      ap (λ (b : Bool). cond b (endBy (isCut r n) n (entryFault r n)) Whole) (le-ltb n n (omega arith))
+      ap (λ (b : Bool). cond b (endBy (isCut r n) n (faultOfEntry r n)) Whole) (le-ltb n n (omega arith))
 
   first-at : (i : ℕ) → (bad < entriesIn r) → bad ≡ i → FirstNotFine r i
   first-at i h e = subst (FirstNotFine r) e (bad-first h)
 
   cut-at : (i : ℕ) → FirstNotFine r i → isCut r i ≡ true → ended bad ≡ Cut (suc i)
   unfolding endBy
-  cut-at i f c = ap ended (first-is i f) ∙ ended-there i (f .0) ∙ ap (λ (b : Bool). endBy b i (entryFault r i)) c ∙ ap Cut (add-one i)
+  cut-at i f c = ap ended (first-is i f) ∙ ended-there i (f .0) ∙ ap (λ (b : Bool). endBy b i (faultOfEntry r i)) c ∙ ap Cut (add-one i)
 
-  refused-at : (i : ℕ) (f : Fault) → FirstNotFine r i → isCut r i ≡ false → entryFault r i ≡ f → ended bad ≡ Refused (suc i) f
+  refused-at : (i : ℕ) (f : Fault) → FirstNotFine r i → isCut r i ≡ false → faultOfEntry r i ≡ f → ended bad ≡ Refused (suc i) f
   unfolding endBy
   refused-at i f n c e =
       ap ended (first-is i n) ∙ ended-there i (n .0) ∙ ap₂ (λ (b : Bool) (g : Fault). endBy b i g) c e ∙ ap (λ (k : ℕ). Refused k f) (add-one i)
@@ -145,23 +145,26 @@ module _ (image r rx tx : List ℕ) where
 
     -- CUT, by the first entry that is not fine, where it is cut
     pub cut-first : (i : ℕ) → (replay .replayed .end ≡ Cut (suc i)) ↔ (FirstNotFine r i × (isCut r i ≡ true))
-    cut-first i =
-        (λ e. let f = end-cut bad i (sym (replay-ended .end) ∙ e) in (first-at i (f .0) (f .1), ap (isCut r) (sym (f .1)) ∙ f .2),
-        λ f. replay-ended .end ∙ cut-at i (f .0) (f .1))
+    cut-first i = (
+      λ e. let f = end-cut bad i (sym (replay-ended .end) ∙ e) in (first-at i (f .0) (f .1), ap (isCut r) (sym (f .1)) ∙ f .2),
+      λ f. replay-ended .end ∙ cut-at i (f .0) (f .1),
+    )
 
     -- REFUSED, by the first entry that is not fine, where it is not cut, and for its fault
     pub refused-first : (i : ℕ) (f : Fault)
-        → (replay .replayed .end ≡ Refused (suc i) f) ↔ (FirstNotFine r i × (isCut r i ≡ false) × (entryFault r i ≡ f))
-    refused-first i f =
-        (λ e. let n = end-refused bad i f (sym (replay-ended .end) ∙ e) in
-        (first-at i (n .0) (n .1), ap (isCut r) (sym (n .1)) ∙ n .2, ap (entryFault r) (sym (n .1)) ∙ n .3),
-        λ n. replay-ended .end ∙ refused-at i f (n .0) (n .1) (n .2))
+        → (replay .replayed .end ≡ Refused (suc i) f) ↔ (FirstNotFine r i × (isCut r i ≡ false) × (faultOfEntry r i ≡ f))
+    refused-first i f = (
+      λ e. let n = end-refused bad i f (sym (replay-ended .end) ∙ e) in
+          (first-at i (n .0) (n .1), ap (isCut r) (sym (n .1)) ∙ n .2, ap (faultOfEntry r) (sym (n .1)) ∙ n .3),
+      λ n. replay-ended .end ∙ refused-at i f (n .0) (n .1) (n .2),
+    )
 
     -- WHOLE, where every entry is fine
     pub whole-exactly : (replay .replayed .end ≡ Whole) ↔ ((j : ℕ) → j < entriesIn r → isFine r j ≡ true)
-    whole-exactly =
-        (λ e j h. before-bad (isFine r) (entriesIn r) j (omega (arith, h, end-whole bad (sym (replay-ended .end) ∙ e))),
-        λ all. replay-ended .end ∙ ap ended (bad-none (isFine r) (entriesIn r) all) ∙ ended-whole)
+    whole-exactly = (
+      λ e j h. before-bad (isFine r) (entriesIn r) j (omega (arith, h, end-whole bad (sym (replay-ended .end) ∙ e))),
+      λ all. replay-ended .end ∙ ap ended (bad-none (isFine r) (entriesIn r) all) ∙ ended-whole,
+    )
 
     -- THE ENTRIES BEFORE IT HAVE BEEN RUN, and nothing of it; all of them where none is cut or has a fault
     ran : (n : ℕ) → bad ≡ n → Ran n

@@ -21,7 +21,7 @@ use Rattle.replay_whole.specs.declared.End.the-variants.{Whole, Cut, Refused}
 use Rattle.replay_whole.specs.Replay.{Going, Left, isRun, isOther, firstOther, endAt, stepAt, ongoing, stopped, finished, replayFrom}
 use Rattle.model_refines.specs.Machine.{Machine, machine, loanTo}
 use Rattle.model_refines.specs.Run.{afterRun}
-use Rattle.theorem_replay.specs.Entries.{isNothing, bodyBegins, bytesLeft, stampBefore, ticksUpTo, recordedAnswer, entryEvents, eventsUpTo, isCut, entryFault, isFine}
+use Rattle.theorem_replay.specs.Entries.{isNothing, bodyBegins, bytesLeft, stampBefore, ticksUpTo, recordedAnswer, entryEvents, eventsUpTo, isCut, faultOfEntry, isFine}
 use Rattle.theorem_replay.specs.Runs.{machineStepped, machineLeft, comparedTo, freshMachine, machineAfter, todayAnswer, EntryRuns, goingAt}
 use Rattle.theorem_replay.proofs.First.{otherIn}
 use Rattle.theorem_replay.proofs.Step.{run-append, step-cut, step-refused, step-runs}
@@ -96,9 +96,9 @@ module _ (image r rx tx : List ℕ) where
 
     pub runs : isFine r i ≡ true → EntryRuns image r rx tx i (g .out) here
     runs fine =
-        let c = fine-whole (isCut r i) (isNothing (entryFault r i)) fine in
+        let c = fine-whole (isCut r i) (isNothing (faultOfEntry r i)) fine in
         subst (EntryRuns image r rx tx i (g .out)) (sym (step-run i g s))
-        (step-runs image (before i) (g .out) (stampBefore r i) (entryRow r i) (bytesLeft r i) (s .long) (c .0) (nothing-is (entryFault r i) (c .1)))
+        (step-runs image (before i) (g .out) (stampBefore r i) (entryRow r i) (bytesLeft r i) (s .long) (c .0) (nothing-is (faultOfEntry r i) (c .1)))
 
     -- where it was run, the next entry stands behind it
     stays-long : (a : List ℕ) → length a ≤ room → room ≤ length (a ++ drop (length a) (g .out))
@@ -124,12 +124,12 @@ module _ (image r rx tx : List ℕ) where
 
     -- where it was not, nothing of it is run
     abbrev notRun : Bool → Stepped
-    notRun c = unplayed (loanTo image (before i)) (g .out) (cond c Entry.Cut (Entry.Refused (entryFault r i)))
+    notRun c = unplayed (loanTo image (before i)) (g .out) (cond c Entry.Cut (Entry.Refused (faultOfEntry r i)))
 
     not-run : isFine r i ≡ false → here ≡ notRun (isCut r i)
     not-run bad = step-run i g s ∙ go (isCut r i) refl bad
       where
-        go : (c : Bool) → isCut r i ≡ c → not c && isNothing (entryFault r i) ≡ false → stepRun i (g .out) ≡ notRun c
+        go : (c : Bool) → isCut r i ≡ c → not c && isNothing (faultOfEntry r i) ≡ false → stepRun i (g .out) ≡ notRun c
         go true e b = step-cut image (before i) (g .out) (stampBefore r i) (entryRow r i) (bytesLeft r i) (s .long) e
         go false e b = step-refused image (before i) (g .out) (stampBefore r i) (entryRow r i) (bytesLeft r i) (s .long) e b
 
@@ -137,21 +137,21 @@ module _ (image r rx tx : List ℕ) where
     unfolding isRun
     stops bad = ap (λ (t : Stepped). isRun (t .played)) (not-run bad) ∙ go (isCut r i)
       where
-        go : (c : Bool) → isRun (cond c Entry.Cut (Entry.Refused (entryFault r i))) ≡ false
+        go : (c : Bool) → isRun (cond c Entry.Cut (Entry.Refused (faultOfEntry r i))) ≡ false
         go true = refl
         go false = refl
 
-    ends-so : isFine r i ≡ false → endAt i (here .played) ≡ endBy (isCut r i) i (entryFault r i)
+    ends-so : isFine r i ≡ false → endAt i (here .played) ≡ endBy (isCut r i) i (faultOfEntry r i)
     unfolding endAt endBy
     ends-so bad = ap (λ (t : Stepped). endAt i (t .played)) (not-run bad) ∙ go (isCut r i)
       where
-        go : (c : Bool) → endAt i (cond c Entry.Cut (Entry.Refused (entryFault r i))) ≡ endBy c i (entryFault r i)
+        go : (c : Bool) → endAt i (cond c Entry.Cut (Entry.Refused (faultOfEntry r i))) ≡ endBy c i (faultOfEntry r i)
         go true = refl
         go false = refl
 
   -- WHERE IT ENDS, k entries run of so many
   unfoldable pub endOf : ℕ → ℕ → End
-  endOf total k = cond (ltb k total) (endBy (isCut r k) k (entryFault r k)) Whole
+  endOf total k = cond (ltb k total) (endBy (isCut r k) k (faultOfEntry r k)) Whole
 
   pub record Ended (total k : ℕ) (l : Left) : Type 0 where
     pub run : l .replayed .run ≡ k
@@ -165,7 +165,7 @@ module _ (image r rx tx : List ℕ) where
   finished-ended i g s =
       record {
         run = refl;
-        end = ap (λ (b : Bool). cond b (endBy (isCut r i) i (entryFault r i)) Whole) (sym (le-ltb i i (omega arith)));
+        end = ap (λ (b : Bool). cond b (endBy (isCut r i) i (faultOfEntry r i)) Whole) (sym (le-ltb i i (omega arith)));
         ticks = s .ticks;
         differs = s .differs;
         left = s .left;
@@ -177,7 +177,7 @@ module _ (image r rx tx : List ℕ) where
       record {
         run = refl;
         end =
-            ends-so i g s bad ∙ ap (λ (b : Bool). cond b (endBy (isCut r i) i (entryFault r i)) Whole) (sym (lt-ltb i total h));
+            ends-so i g s bad ∙ ap (λ (b : Bool). cond b (endBy (isCut r i) i (faultOfEntry r i)) Whole) (sym (lt-ltb i total h));
         ticks = s .ticks;
         differs = s .differs;
         left = ap machineStepped (not-run i g s bad);

@@ -76,8 +76,8 @@ module _ (r : List ℕ) where
   abbrev pub isCut : ℕ → Bool
   isCut i = ltb (length (bytesLeft i)) (bodyLong (entryRow r i))
 
-  abbrev pub entryFault : ℕ → Fault
-  entryFault i = faultOf (ticksBefore i) (entryRow r i) (entryBody i)
+  abbrev pub faultOfEntry : ℕ → Fault
+  faultOfEntry i = faultOf (ticksBefore i) (entryRow r i) (entryBody i)
 
   abbrev pub isFine : ℕ → Bool
-  isFine i = not (isCut i) && isNothing (entryFault i)
+  isFine i = not (isCut i) && isNothing (faultOfEntry i)
