@@ -1,4 +1,4 @@
--- THE FIRST DIFFERENCE (R17.5), under an accepted table, for every recording, memories and out buffer: it is the first entry whose recorded answer
+-- THE FIRST DIFFERENCE (R17.9), under an accepted table, for every recording, memories and out buffer: it is the first entry whose recorded answer
 -- is not the answer of the run; none is told exactly when there is none.
 use Prim.Native.Nat.{ℕ, suc, _<_}
 use mathlib.Core.Path.{_≡_, refl, sym, _∙_}

@@ -1,16 +1,20 @@
--- THE DISTANCE BETWEEN TWO STAMPS (R17.1), over any width: numbers below `most`, counted modulo `most`; and of a recording's own stamps.
+-- THE DISTANCE BETWEEN TWO STAMPS (R17.4), over any width: numbers below `most`, counted modulo `most`; and of a recording's own stamps.
 use Prim.Native.Nat.{ℕ, zero, suc, _+_, _-_, _%_, _<_, _≤_}
 use mathlib.Core.Path.{_≡_, refl, sym, ap, _∙_}
 use mathlib.Core.Bool.{Bool, true, false, cond}
 use mathlib.Core.List.{List, [], _∷_}
 use native.Mathlib.Nat.{mod-lt, mod-eq-of-lt, mod-add-mod, add-mod-mod, add-mod-right}
 use native.Mathlib.Omega.{arith}
-use lib.Dec.{leb}
+use borrow.Author.Tests.{lt-ltb}
+use lib.Dec.{ltb, leb}
 use lib.ListN.{length, take, drop}
 use Rattle.reading_lengths.specs.Listed.{Bytes}
 use Rattle.reading_lengths.proofs.Bytes.{be-small, bytes-drop}
 use Rattle.table_layout.specs.Layout.{partOf}
+use Rattle.recording.specs.declared.Fault.{Fault}
+use Rattle.recording.specs.declared.Fault.the-variants.{FarStamp}
 use Rattle.recording.specs.Recording.{contentsTo, entryRow, stampIn, distanceIn, stamps}
+use Rattle.recording.specs.Entry.{faultOf}
 use Rattle.theorem_replay.specs.Entries.{stampBefore, ticksBefore}
 
 -- the number below the width that, added to the stamp before, wraps to the stamp is the distance: the only such
@@ -61,6 +65,19 @@ module _ (most before stamp : ℕ) (low : before < most) (high : stamp < most) w
 -- n after a stamp, n below the width, the distance is n
 pub distance-after : (most stamp n : ℕ) → stamp < most → n < most → distanceIn most stamp ((n + stamp) % most) ≡ n
 distance-after most stamp n low h = sym (distance-only most stamp ((n + stamp) % most) n low h refl)
+
+far-first : (b : Bool) (f : Fault) → b ≡ true → cond b FarStamp f ≡ FarStamp
+far-first b f e = rw e
+
+-- SO A STAMP THAT GOES BACK IS REFUSED, unless it goes back so far that it is fewer than 65,536 ticks ahead
+pub back-refused : (before : ℕ) (row body : List ℕ) → before < stamps → stampIn row < before → before ≤ stampIn row + (stamps - 65536)
+    → faultOf (distanceIn stamps before (stampIn row)) row body ≡ FarStamp
+unfolding faultOf
+back-refused before row body low back near =
+    far-first (ltb 65535 (distanceIn stamps before (stampIn row))) _ (lt-ltb 65535 (distanceIn stamps before (stampIn row)) far)
+  where
+    far : 65535 < distanceIn stamps before (stampIn row)
+    far = omega (arith, low, back, near, distance-wrapped stamps before (stampIn row) low (omega (arith, low, back)) back)
 
 -- THE STAMPS OF A RECORDING, whose bytes are bytes, have four bytes
 bytes-take : (n : ℕ) (l : List ℕ) → Bytes l → Bytes (take n l)

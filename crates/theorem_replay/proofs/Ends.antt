@@ -1,4 +1,4 @@
--- HOW A REPLAY ENDS (R17.4), under an accepted table, of contents that are whole, and into an out buffer of 16,384 bytes or more: by the first entry
+-- HOW A REPLAY ENDS (R17.6), under an accepted table, of contents that are whole, and into an out buffer of 16,384 bytes or more: by the first entry
 -- that is cut or has a fault; the entries before it are run, and nothing of it.
 use Prim.Native.Nat.{ℕ, suc, _<_, _≤_}
 use mathlib.Core.Path.{_≡_, refl, sym, ap, ap₂, _∙_, subst}
@@ -24,7 +24,7 @@ use Rattle.replay_whole.specs.declared.End.{End}
 use Rattle.replay_whole.specs.declared.End.the-variants.{Whole, Table, Unread, Small, Cut, Refused}
 use Rattle.replay_whole.specs.Replay.{Left, underFront, replayOf}
 use Rattle.theorem_replay.specs.Entries.{ticksUpTo, isCut, faultOfEntry, isFine}
-use Rattle.theorem_replay.specs.Runs.{machineLeft, machineAfter, FirstNotFine}
+use Rattle.theorem_replay.specs.Runs.{machineAfter, RanTo, FirstNotFine}
 use Rattle.theorem_replay.proofs.First.{before-bad, bad-only, bad-none}
 use Rattle.theorem_replay.proofs.Fold.{endBy, endOf, Ended}
 use Rattle.theorem_replay.proofs.Replay.{under-accepted, long-ends}
@@ -133,10 +133,6 @@ module _ (image r rx tx : List ℕ) where
     abbrev replay : Left
     replay = replayOf image r rx tx out
 
-    -- .. of which so many entries have been run, and nothing else
-    abbrev Ran : ℕ → Type 0
-    Ran n = (replay .replayed .run ≡ n) × (replay .replayed .ticks ≡ ticksUpTo r n) × (machineLeft replay ≡ machineAfter image r rx tx n)
-
     pub replay-ended : Ended image r rx tx (entriesIn r) bad replay
     unfolding underFront
     replay-ended =
@@ -167,11 +163,11 @@ module _ (image r rx tx : List ℕ) where
     )
 
     -- THE ENTRIES BEFORE IT HAVE BEEN RUN, and nothing of it; all of them where none is cut or has a fault
-    ran : (n : ℕ) → bad ≡ n → Ran n
+    ran : (n : ℕ) → bad ≡ n → RanTo image r rx tx n replay
     ran n is = (replay-ended .run ∙ is, replay-ended .ticks ∙ ap (ticksUpTo r) is, replay-ended .left ∙ ap (machineAfter image r rx tx) is)
 
-    pub run-before : (i : ℕ) → FirstNotFine r i → Ran i
+    pub run-before : (i : ℕ) → FirstNotFine r i → RanTo image r rx tx i replay
     run-before i f = ran i (first-is i f)
 
-    pub run-whole : ((j : ℕ) → j < entriesIn r → isFine r j ≡ true) → Ran (entriesIn r)
+    pub run-whole : ((j : ℕ) → j < entriesIn r → isFine r j ≡ true) → RanTo image r rx tx (entriesIn r) replay
     run-whole all = ran (entriesIn r) (bad-none (isFine r) (entriesIn r) all)

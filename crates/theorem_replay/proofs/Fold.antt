@@ -1,4 +1,4 @@
--- A REPLAY IS A FOLD (R17.4) that goes along with the run of the events: where it stands before entry i, and where it ends.
+-- A REPLAY IS A FOLD (R17.8) that goes along with the run of the events: where it stands before entry i, and where it ends.
 use Prim.Native.Nat.{ℕ, zero, suc, _+_, _<_, _≤_}
 use mathlib.Core.Path.{_≡_, refl, sym, ap, ap₂, _∙_, subst}
 use mathlib.Core.Bool.{Bool, true, false, cond, not, _&&_}
@@ -21,7 +21,8 @@ use Rattle.replay_whole.specs.declared.End.the-variants.{Whole, Cut, Refused}
 use Rattle.replay_whole.specs.Replay.{Going, Left, isRun, isOther, firstOther, endAt, stepAt, ongoing, stopped, finished, replayFrom}
 use Rattle.model_refines.specs.Machine.{Machine, machine, loanTo}
 use Rattle.model_refines.specs.Run.{afterRun}
-use Rattle.theorem_replay.specs.Entries.{isNothing, bodyBegins, bytesLeft, stampBefore, ticksUpTo, recordedAnswer, entryEvents, eventsUpTo, isCut, faultOfEntry, isFine}
+use Rattle.theorem_replay.specs.Entries.{isNothing, bodyBegins, bytesLeft, stampBefore, ticksUpTo}
+use Rattle.theorem_replay.specs.Entries.{recordedAnswer, entryEvents, eventsUpTo, isCut, faultOfEntry, isFine}
 use Rattle.theorem_replay.specs.Runs.{machineStepped, machineLeft, comparedTo, freshMachine, machineAfter, todayAnswer, EntryRuns, goingAt}
 use Rattle.theorem_replay.proofs.First.{otherIn}
 use Rattle.theorem_replay.proofs.Step.{run-append, step-cut, step-refused, step-runs}
@@ -43,7 +44,7 @@ compared-other a b = go (sameBytes b a)
     go true = refl
     go false = refl
 
-nothing-is : (f : Fault) → isNothing f ≡ true → f ≡ Nothing
+pub nothing-is : (f : Fault) → isNothing f ≡ true → f ≡ Nothing
 unfolding isNothing
 nothing-is Nothing e = refl
 nothing-is FarStamp e = impossible e

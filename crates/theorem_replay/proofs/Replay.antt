@@ -1,4 +1,4 @@
--- REPLAYING EQUALS CALLING THE EVENTS ONE BY ONE (R17.5), under an accepted table, for every recording, memories and out buffer; and the answers
+-- REPLAYING EQUALS CALLING THE EVENTS ONE BY ONE (R17.8), under an accepted table, for every recording, memories and out buffer; and the answers
 -- that are compared are those of that run.
 use Prim.Native.Nat.{ℕ, zero, suc, _-_, _<_, _≤_}
 use mathlib.Core.Path.{_≡_, refl, sym, ap, _∙_, subst}
@@ -20,11 +20,11 @@ use Rattle.replay_whole.specs.declared.End.{End}
 use Rattle.replay_whole.specs.declared.End.the-variants.{Whole, Table, Unread, Small, Refused}
 use Rattle.replay_whole.specs.Replay.{Going, Left, isRun, endAt, stepAt, ongoing, stopped, replayFrom, begun, unrun, underFront, underTable, replayOf}
 use Rattle.model_refines.specs.Run.{afterRun}
-use Rattle.theorem_replay.specs.Entries.{ticksUpTo, eventsUpTo, isFine}
+use Rattle.theorem_replay.specs.Entries.{isNothing, entryBody, ticksBefore, ticksUpTo, eventsUpTo, isCut, faultOfEntry, isFine}
 use Rattle.theorem_replay.specs.Runs.{machineLeft, freshMachine, machineAfter, EntryRuns, goingAt}
 use Rattle.theorem_replay.proofs.First.{before-bad, bad-most, otherIn}
-use Rattle.theorem_replay.proofs.Step.{step-small}
-use Rattle.theorem_replay.proofs.Fold.{unlikeIn, Ended, runs, replay-ends, going-stands, going-left}
+use Rattle.theorem_replay.proofs.Step.{no-fault-is, step-small}
+use Rattle.theorem_replay.proofs.Fold.{nothing-is, fine-whole, unlikeIn, Ended, runs, replay-ends, going-stands, going-left}
 
 module _ (image r rx tx out : List ℕ) where
   -- A REPLAY GOES ALONG WITH THE RUN as far as it goes
@@ -151,6 +151,12 @@ module _ (image r rx tx out : List ℕ) where
       pub replay-answers : EntryRuns image r rx tx i (goingAt image r rx tx out i .out) (stepAt image r i (goingAt image r rx tx out i))
       replay-answers =
           runs image r rx tx i (goingAt image r rx tx out i) (going-stands image r rx tx out long-out i before-fine) (replay-along .fine i h)
+
+      -- .. of 65,535 ticks at most
+      pub replay-near : ticksBefore r i ≤ 65535
+      replay-near =
+          let fault = nothing-is (faultOfEntry r i) (fine-whole (isCut r i) (isNothing (faultOfEntry r i)) (replay-along .fine i h) .1) in
+          no-fault-is (ticksBefore r i) (entryRow r i) (entryBody r i) fault .0
 
       sized : frontOf r ≡ Shown.Sized
       sized = run-sized (frontOf r) (subst (λ (l : Left). 0 < l .replayed .run) under-accepted (omega (arith, h)))

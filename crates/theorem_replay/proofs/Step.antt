@@ -1,13 +1,14 @@
--- A STEP (R17.3): of an entry that is cut or has a fault nothing is run; of any other its ticks and then its event, with today's answer at
+-- A STEP (R17.7): of an entry that is cut or has a fault nothing is run; of any other its ticks and then its event, with today's answer at
 -- the front of the out buffer, beside the recorded one.
 use Prim.Native.Nat.{ℕ, _<_, _≤_}
 use mathlib.Core.Path.{_≡_, refl, sym, ap, ap₂, _∙_, subst}
 use mathlib.Core.Bool.{Bool, true, false, cond, not, false≢true}
 use mathlib.Core.List.{List, [], _∷_, _++_}
 use native.Mathlib.Omega.{arith}
-use borrow.Author.Tests.{le-ltb, lt-ltb}
+use borrow.Author.Tests.{le-ltb, lt-ltb, ltb-false}
 use lib.Dec.{eqb, ltb}
 use lib.ListN.{length, take, drop}
+use lib.Seq.{take-append-seam}
 use Rattle.lists.proofs.Both.{and-left, impossible}
 use Rattle.event_decode.specs.declared.Call.{Call}
 use Rattle.event_decode.specs.declared.Call.the-variants.{Unknown, Unfit}
@@ -36,25 +37,26 @@ use Rattle.dispatch_refines.proofs.Answer.{answer-named, event-answered}
 use Rattle.theorem_replay.specs.Entries.{isNothing, tickEvents}
 use Rattle.theorem_replay.specs.Runs.{machineStepped, comparedTo, StepRuns}
 
--- an entry without a fault spells an event
-no-fault-fits : (distance : ℕ) (row body : List ℕ) → faultOf distance row body ≡ Nothing → bodyFits (numberIn row) body ≡ true
+-- AN ENTRY WITHOUT A FAULT has a distance of 65,535 at most, and a body that fits
+pub no-fault-is : (distance : ℕ) (row body : List ℕ) → faultOf distance row body ≡ Nothing → (distance ≤ 65535) × (bodyFits (numberIn row) body ≡ true)
 unfolding faultOf isNothing
-no-fault-fits distance row body e =
-    go (ltb 65535 distance) (not (isRecorded (numberIn row))) (not (eqb (zeroIn row) 0)) (bodyFits (numberIn row) body) e
+no-fault-is distance row body e =
+    go (ltb 65535 distance) refl (not (isRecorded (numberIn row))) (not (eqb (zeroIn row) 0)) (bodyFits (numberIn row) body) e
   where
-    go : (a b c d : Bool) → cond a FarStamp (cond b NoEvent (cond c ZeroField (cond (not d) Misfit Nothing))) ≡ Nothing → d ≡ true
-    go true b c d h = impossible (ap isNothing h)
-    go false true c d h = impossible (ap isNothing h)
-    go false false true d h = impossible (ap isNothing h)
-    go false false false true h = refl
-    go false false false false h = impossible (ap isNothing h)
+    go : (a : Bool) → ltb 65535 distance ≡ a → (b c d : Bool) → cond a FarStamp (cond b NoEvent (cond c ZeroField (cond (not d) Misfit Nothing))) ≡ Nothing
+        → (distance ≤ 65535) × (d ≡ true)
+    go true f b c d h = impossible (ap isNothing h)
+    go false f true c d h = impossible (ap isNothing h)
+    go false f false true d h = impossible (ap isNothing h)
+    go false f false false true h = (ltb-false 65535 distance f, refl)
+    go false f false false false h = impossible (ap isNothing h)
 
 no-fault-spells : (distance : ℕ) (row body : List ℕ) → faultOf distance row body ≡ Nothing
     → isSpelt (callOf (numberIn row) (argumentsIn (numberIn row) body)) ≡ true
 unfolding bodyFits
 no-fault-spells distance row body e =
     and-left (isSpelt (callOf (numberIn row) (argumentsIn (numberIn row) body))) (answerFits (numberIn row) (answerIn (numberIn row) body))
-    (no-fault-fits distance row body e)
+    (no-fault-is distance row body e .1)
 
 spelt-known : (c : Call) → isSpelt c ≡ true → c ≡ Unknown → ⊥
 unfolding isSpelt
@@ -63,11 +65,6 @@ spelt-known c s e = false≢true (ap isSpelt (sym e) ∙ s)
 spelt-fits : (c : Call) → isSpelt c ≡ true → c ≡ Unfit → ⊥
 unfolding isSpelt
 spelt-fits c s e = false≢true (ap isSpelt (sym e) ∙ s)
-
--- the front of a list
-take-front : (a b : List ℕ) → take (length a) (a ++ b) ≡ a
-take-front [] b = refl
-take-front (x ∷ xs) b = ap (λ (l : List ℕ). x ∷ l) (take-front xs b)
 
 pub run-append : (image : List ℕ) (m : Machine) (es fs : List Event) → afterRun image m (es ++ fs) ≡ afterRun image (afterRun image m es) fs
 unfolding afterRun
@@ -114,7 +111,7 @@ module _ (image : List ℕ) (m : Machine) (out : List ℕ) (long : room ≤ leng
       unfolding playedBy comparedTo
       event-compared =
           ap₂ (λ (v : Verdict) (o : List ℕ). playedBy v o recorded) spelt-answers answers-front
-          ∙ ap (λ (a : List ℕ). cond (sameBytes a recorded) (Same (length today)) (Differs (length today))) (take-front today (drop (length today) out))
+          ∙ ap (λ (a : List ℕ). cond (sameBytes a recorded) (Same (length today)) (Differs (length today))) (take-append-seam today (drop (length today) out))
 
       event-left : machineStepped beside ≡ afterRun image m (eventsOf arguments (callOf number arguments))
       unfolding speltBy

@@ -1,4 +1,4 @@
--- THE ENTRIES OF A RECORDING, each by its number from 0 (R17.2): where its body begins, the ticks before it, the events that its
+-- THE ENTRIES OF A RECORDING, each by its number from 0 (R17.1, R17.2): where its body begins, the ticks before it, the events that its
 -- arguments spell, the recorded answer, and whether it is cut or has a fault.
 use Prim.Native.Nat.{ℕ, zero, suc, _+_}
 use mathlib.Core.Bool.{Bool, true, false, not, _&&_}
@@ -72,7 +72,7 @@ module _ (r : List ℕ) where
   eventsUpTo zero = []
   eventsUpTo (suc n) = eventsUpTo n ++ entryEvents n
 
-  -- cut off inside its body; why it is refused; neither
+  -- R17.6: cut off inside its body; why it is refused; neither
   abbrev pub isCut : ℕ → Bool
   isCut i = ltb (length (bytesLeft i)) (bodyLong (entryRow r i))
 

@@ -1,4 +1,4 @@
--- THE RUN OF THE EVENTS THAT A RECORDING SPELLS (R17.5), from a fresh state under the table: the machine after its first n entries, and
+-- THE RUN OF THE EVENTS THAT A RECORDING SPELLS (R17.8), from a fresh state under the table: the machine after its first n entries, and
 -- the answer that this run gives to the event of an entry.
 use Prim.Native.Nat.{ℕ, zero, suc, _<_, _≤_}
 use mathlib.Core.Path.{_≡_}
@@ -19,7 +19,8 @@ use Rattle.model_refines.specs.Machine.{Machine, machine, loanTo}
 use Rattle.model_refines.specs.Run.{afterRun}
 use Rattle.dispatch_refines.specs.Spelt.{eventsOf}
 use Rattle.dispatch_refines.specs.Answer.{answerOf}
-use Rattle.theorem_replay.specs.Entries.{tickEvents, entryBody, ticksBefore, entryNumber, entryArguments, entryCall, recordedAnswer, eventsUpTo, isFine}
+use Rattle.theorem_replay.specs.Entries.{tickEvents, entryBody, ticksBefore, ticksUpTo, entryNumber}
+use Rattle.theorem_replay.specs.Entries.{entryArguments, entryCall, recordedAnswer, eventsUpTo, isFine}
 
 -- the machine that a step leaves, and that a replay leaves
 abbrev pub machineStepped : Stepped → Machine
@@ -68,9 +69,13 @@ module _ (image r rx tx : List ℕ) where
   abbrev pub Alike : ℕ → Type 0
   Alike i = recordedAnswer r i ≡ todayAnswer i
 
-  -- the first of so many entries that are run whose recorded answer is not the answer of this run
+  -- R17.9: the first of so many entries that are run whose recorded answer is not the answer of this run
   abbrev pub FirstUnlike : ℕ → ℕ → Type 0
   FirstUnlike run i = (i < run) × (Alike i → ⊥) × ((j : ℕ) → j < i → Alike j)
+
+  -- so many entries have been run, with their ticks, and nothing else
+  abbrev pub RanTo : ℕ → Left → Type 0
+  RanTo n l = (l .replayed .run ≡ n) × (l .replayed .ticks ≡ ticksUpTo r n) × (machineLeft l ≡ machineAfter n)
 
   -- a step that is the run of entry i, after those before it
   abbrev pub EntryRuns : ℕ → List ℕ → Stepped → Type 0
@@ -82,6 +87,6 @@ module _ (image r rx tx : List ℕ) where
     goingAt zero = begun image r rx tx out (freshState image)
     goingAt (suc i) = ongoing image r i (goingAt i) (stepAt image r i (goingAt i))
 
--- the first entry that is cut or has a fault: those before it have none
+-- R17.6: the first entry that is cut or has a fault: those before it have none
 abbrev pub FirstNotFine : List ℕ → ℕ → Type 0
 FirstNotFine r i = (i < entriesIn r) × ((j : ℕ) → j < i → isFine r j ≡ true) × (isFine r i ≡ false)
