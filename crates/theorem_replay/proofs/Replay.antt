@@ -130,7 +130,16 @@ module _ (image r rx tx out : List ℕ) where
     pub front-unread : (frontOf r ≡ Shown.Sized → ⊥) → replay ≡ unrun image r rx tx out (Unread (frontOf r)) (freshState image)
     front-unread unsized = under-accepted ∙ unread (frontOf r) unsized
 
-    pub replay-along : Along (replay)
+    -- AN OUT BUFFER THAT IS TOO SHORT for entries that are there: nothing is run
+    pub replay-small : frontOf r ≡ Shown.Sized → length out < room → 0 < entriesIn r → replay ≡ unrun image r rx tx out Small (freshState image)
+    unfolding underFront
+    replay-small sized short some = under-accepted ∙ ap (underFront image r rx tx out) sized ∙ go (entriesIn r) some
+      where
+        go : (n : ℕ) → 0 < n → played n ≡ unrun image r rx tx out Small (freshState image)
+        go zero h = absurd (omega (arith, h))
+        go (suc n) h = small-stops short n
+
+    pub replay-along : Along replay
     replay-along = subst Along (sym under-accepted) (front-along (frontOf r))
 
     -- THE MACHINE after a replay is the machine after the run of the events that its entries spell, with that many ticks between them
