@@ -1,0 +1,48 @@
+-- CALLS AND THEIR ANSWERS, entry by entry with the ticks between them, as a run of the machine gives them; and a replay that finds no
+-- difference.
+use Prim.Native.Nat.{ℕ}
+use mathlib.Core.Path.{_≡_}
+use mathlib.Core.List.{List, [], _∷_}
+use lib.ListN.{length, replicate}
+use Rattle.event_decode.specs.Calls.{callOf}
+use Rattle.model.specs.Events.{tick, onWhole}
+use Rattle.model_refines.specs.Machine.{Machine, loanTo}
+use Rattle.model_refines.specs.Run.{afterRun}
+use Rattle.dispatch_refines.specs.Spelt.{eventsOf}
+use Rattle.dispatch_refines.specs.Answer.{answerOf}
+use Rattle.recording.specs.Recording.{distanceIn, stamps}
+use Rattle.replay_whole.specs.declared.End.the-variants.{Whole}
+use Rattle.replay_whole.specs.Replay.{Left}
+use Rattle.theorem_record.specs.Record.{Noted}
+
+-- A CALL with the stamp at which it was made
+pub record Timed : Type 0 where
+  pub stamp : ℕ
+  pub number : ℕ
+  pub arguments : List ℕ
+
+module _ (image : List ℕ) where
+  -- so many ticks later
+  abbrev pub afterTicks : ℕ → Machine → Machine
+  afterTicks n m = afterRun image m (replicate n (onWhole tick))
+
+  -- what an event leaves, and its answer
+  module _ (number : ℕ) (arguments : List ℕ) where
+    abbrev pub afterCall : Machine → Machine
+    afterCall m = afterRun image m (eventsOf arguments (callOf number arguments))
+
+    abbrev pub answerTo : Machine → List ℕ
+    answerTo m = answerOf (loanTo image m) arguments (callOf number arguments)
+
+  -- THE ANSWERS ARE THOSE OF A RUN: each after the ticks since the stamp before, from the machine that the entries before left
+  abbrev pub Answered : ℕ → Machine → List Noted → Type 0
+  Answered before m [] = Unit {0}
+  Answered before m (e ∷ es) =
+      (e .answer ≡ answerTo (e .number) (e .arguments) (afterTicks (distanceIn stamps before (e .stamp)) m))
+      × Answered (e .stamp) (afterCall (e .number) (e .arguments) (afterTicks (distanceIn stamps before (e .stamp)) m)) es
+
+-- A REPLAY THAT FINDS NO DIFFERENCE in so many entries, all run
+pub record Same (n : ℕ) (left : Left) : Type 0 where
+  pub end : left .replayed .end ≡ Whole
+  pub run : left .replayed .run ≡ n
+  pub differs : left .replayed .differs ≡ 0
