@@ -126,6 +126,12 @@ module _ (es : List Noted) (more : List ℕ) (few : length es < 256 ^ 2) where
   pub entries-back : entriesIn r ≡ length es
   entries-back = number-at 2 (length es) (spell 2 1) (rowsFor es ++ bodiesFor es ++ more) 2 few (length-spell 2 1) (simp append-assoc)
 
+  -- all rows are there
+  pub front-there : contentsTo (length es) ≤ length r
+  front-there =
+      omega (arith, length-append (frontFor es ++ rowsFor es ++ bodiesFor es) more, length-append (frontFor es ++ rowsFor es) (bodiesFor es),
+      length-append (frontFor es) (rowsFor es), front-length, rows-length es)
+
   pub made-stands : Stands r 0 (contentsTo (length es)) es (bodiesFor es ++ more) more
   made-stands =
       record {

@@ -2,3 +2,6 @@
 pub mod Numbers
 pub mod Back
 pub mod Answers
+pub mod Step
+pub mod Replay
+pub mod Calls

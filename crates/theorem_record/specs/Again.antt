@@ -4,9 +4,10 @@ use Prim.Native.Nat.{ℕ}
 use mathlib.Core.Path.{_≡_}
 use mathlib.Core.List.{List, [], _∷_}
 use lib.ListN.{length, replicate}
+use Rattle.state.specs.Fresh.{freshState}
 use Rattle.event_decode.specs.Calls.{callOf}
 use Rattle.model.specs.Events.{tick, onWhole}
-use Rattle.model_refines.specs.Machine.{Machine, loanTo}
+use Rattle.model_refines.specs.Machine.{Machine, machine, loanTo}
 use Rattle.model_refines.specs.Run.{afterRun}
 use Rattle.dispatch_refines.specs.Spelt.{eventsOf}
 use Rattle.dispatch_refines.specs.Answer.{answerOf}
@@ -20,6 +21,10 @@ pub record Timed : Type 0 where
   pub stamp : ℕ
   pub number : ℕ
   pub arguments : List ℕ
+
+abbrev pub firstAt : List Timed → ℕ
+firstAt [] = 0
+firstAt (c ∷ cs) = c .stamp
 
 module _ (image : List ℕ) where
   -- so many ticks later
@@ -40,6 +45,26 @@ module _ (image : List ℕ) where
   Answered before m (e ∷ es) =
       (e .answer ≡ answerTo (e .number) (e .arguments) (afterTicks (distanceIn stamps before (e .stamp)) m))
       × Answered (e .stamp) (afterCall (e .number) (e .arguments) (afterTicks (distanceIn stamps before (e .stamp)) m)) es
+
+  -- THE RECORDER: calls one after the other, the stamp before the first, and the machine before it
+  unfoldable pub recorded : ℕ → Machine → List Timed → List Noted
+  recorded before m [] = []
+  recorded before m (c ∷ cs) =
+      record {
+        stamp = c .stamp;
+        number = c .number;
+        arguments = c .arguments;
+        answer = answerTo (c .number) (c .arguments) (afterTicks (distanceIn stamps before (c .stamp)) m);
+      }
+      ∷ recorded (c .stamp) (afterCall (c .number) (c .arguments) (afterTicks (distanceIn stamps before (c .stamp)) m)) cs
+
+  -- from a fresh state, the first call at once
+  abbrev pub recordedFresh : List ℕ → List ℕ → List Timed → List Noted
+  recordedFresh rx tx cs = recorded (firstAt cs) (machine (freshState image) rx tx) cs
+
+-- the call of an entry
+abbrev pub timedOf : Noted → Timed
+timedOf e = record { stamp = e .stamp; number = e .number; arguments = e .arguments }
 
 -- A REPLAY THAT FINDS NO DIFFERENCE in so many entries, all run
 pub record Same (n : ℕ) (left : Left) : Type 0 where

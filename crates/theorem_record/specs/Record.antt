@@ -59,7 +59,11 @@ abbrev pub Near : ℕ → List Noted → Type 0
 Near before [] = Unit {0}
 Near before (e ∷ es) = (distanceIn stamps before (e .stamp) ≤ 65535) × Near (e .stamp) es
 
--- the first stamp, which "counts as distance 0"
+-- "the first stamp counts as distance 0": whatever it is
+abbrev pub NearEnough : List Noted → Type 0
+NearEnough [] = Unit {0}
+NearEnough (e ∷ es) = Near (e .stamp) es
+
 abbrev pub firstStamp : List Noted → ℕ
 firstStamp [] = 0
 firstStamp (e ∷ es) = e .stamp
@@ -67,7 +71,7 @@ firstStamp (e ∷ es) = e .stamp
 pub record Recordable (es : List Noted) : Type 0 where
   pub entries : length es ≤ mostEntries
   pub each : AllNotable es
-  pub near : Near (firstStamp es) es
+  pub near : NearEnough es
 
 -- WHAT A READER GETS: entry i, whose body begins at the byte `at`, and those behind it
 module _ (r : List ℕ) where
