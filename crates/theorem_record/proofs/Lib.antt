@@ -5,3 +5,4 @@ pub mod Answers
 pub mod Step
 pub mod Replay
 pub mod Calls
+pub mod Short

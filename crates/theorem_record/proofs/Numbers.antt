@@ -49,7 +49,7 @@ spelt-fits false call e = absurd (false≢true e)
 
 -- so their length is fixed, or told by a length within them
 module _ (a : List ℕ) where
-  plain-long : (n : ℕ) → plain a n ≡ true → n ≡ length a
+  pub plain-long : (n : ℕ) → plain a n ≡ true → n ≡ length a
   plain-long n e = sym (eqb-true (length a) n (and-left (eqb (length a) n) (eqb (be 1 a 0) 0) e))
 
   addressed-long : addressed a ≡ true → 21 ≡ length a
@@ -58,7 +58,7 @@ module _ (a : List ℕ) where
   positioned-long : (n at : ℕ) → positioned a n at ≡ true → n ≡ length a
   positioned-long n at e = plain-long n (and-left (plain a n) (leb (be 1 a at) 1) e)
 
-  told-long : (at : ℕ) → lengthFits a at ≡ true → be 4 a at + (at + 4) ≡ length a
+  pub told-long : (at : ℕ) → lengthFits a at ≡ true → be 4 a at + (at + 4) ≡ length a
   told-long at e =
       eqb-true (be 4 a at + (at + 4)) (length a)
       (and-left (eqb (be 4 a at + (at + 4)) (length a)) (eqb (be 1 a 0) 0)

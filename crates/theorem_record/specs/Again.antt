@@ -1,9 +1,12 @@
 -- CALLS AND THEIR ANSWERS, entry by entry with the ticks between them, as a run of the machine gives them; and a replay that finds no
 -- difference.
-use Prim.Native.Nat.{ℕ}
+use Prim.Native.Nat.{ℕ, _≤_, _<_}
 use mathlib.Core.Path.{_≡_}
+use mathlib.Core.Bool.{true, cond}
 use mathlib.Core.List.{List, [], _∷_}
+use lib.Dec.{eqb}
 use lib.ListN.{length, replicate}
+use Rattle.reading_lengths.specs.Listed.{Bytes}
 use Rattle.state.specs.Fresh.{freshState}
 use Rattle.event_decode.specs.Calls.{callOf}
 use Rattle.model.specs.Events.{tick, onWhole}
@@ -12,6 +15,7 @@ use Rattle.model_refines.specs.Run.{afterRun}
 use Rattle.dispatch_refines.specs.Spelt.{eventsOf}
 use Rattle.dispatch_refines.specs.Answer.{answerOf}
 use Rattle.recording.specs.Recording.{distanceIn, stamps}
+use Rattle.recording.specs.Entry.{isRecorded, isSpelt}
 use Rattle.replay_whole.specs.declared.End.the-variants.{Whole}
 use Rattle.replay_whole.specs.Replay.{Left}
 use Rattle.theorem_record.specs.Record.{Noted}
@@ -61,6 +65,28 @@ module _ (image : List ℕ) where
   -- from a fresh state, the first call at once
   abbrev pub recordedFresh : List ℕ → List ℕ → List Timed → List Noted
   recordedFresh rx tx cs = recorded (firstAt cs) (machine (freshState image) rx tx) cs
+
+-- A CALL THAT CAN BE RECORDED, whatever its answer is: one with room for it in a body of 4,096 bytes. Arguments have so many bytes: of a
+-- segment 653 at most, of any other event 4,076
+unfoldable pub mostArguments : ℕ → ℕ
+mostArguments n = cond (eqb n 7) 653 4076
+
+pub record Callable (c : Timed) : Type 0 where
+  pub event : isRecorded (c .number) ≡ true
+  pub spells : isSpelt (callOf (c .number) (c .arguments)) ≡ true
+  pub bytes : Bytes (c .arguments)
+  pub inWidth : c .stamp < stamps
+  pub roomy : length (c .arguments) ≤ mostArguments (c .number)
+
+-- .. and one after the other, at distances of at most 65,535
+abbrev pub Followed : ℕ → List Timed → Type 0
+Followed before [] = Unit {0}
+Followed before (c ∷ cs) = Callable c × ((distanceIn stamps before (c .stamp) ≤ 65535) × Followed (c .stamp) cs)
+
+-- the first at any stamp
+abbrev pub AllCallable : List Timed → Type 0
+AllCallable [] = Unit {0}
+AllCallable (c ∷ cs) = Callable c × Followed (c .stamp) cs
 
 -- the call of an entry
 abbrev pub timedOf : Noted → Timed
