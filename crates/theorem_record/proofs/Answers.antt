@@ -1,7 +1,7 @@
 -- EVERY ANSWER FITS ITS EVENT (R17.2): what the dispatcher answers to arguments that spell an event is laid out as that event's answer.
 use Prim.Native.Nat.{ℕ, zero, suc, _+_, _≤_, _<_, _^_}
-use mathlib.Core.Path.{_≡_, refl, sym, ap, ap₂, _∙_, subst}
-use mathlib.Core.Bool.{Bool, true, false, cond, _&&_, _||_}
+use mathlib.Core.Path.{_≡_, refl, sym, ap, _∙_, subst}
+use mathlib.Core.Bool.{Bool, true, false, _||_}
 use mathlib.Core.List.{List, [], _∷_, _++_, append-assoc, append-nil}
 use native.Mathlib.Nat.{zero-add}
 use native.Mathlib.Omega.{arith}
@@ -50,13 +50,13 @@ use Rattle.send_waiting.specs.declared.Taking.the-variants as Took
 use Rattle.entry_send.specs.Sending.{notSent, sendOf, takenWaiting, takenOut}
 use Rattle.event_decode.specs.declared.Call.{Call}
 use Rattle.event_decode.specs.declared.Call.the-variants.{Own, Lost, Segment, Walk, TakeWaiting, Datagram, Accept, Transmit, SwitchAll, ReadCount, ClearCount}
-use Rattle.event_decode.specs.Calls.{fitted, plain, lengthFits, addressed, remoteIn, positioned, callOf, bytesFrom}
+use Rattle.event_decode.specs.Calls.{remoteIn, callOf, bytesFrom}
 use Rattle.event_answer.specs.Answers.{refused, refusal, doneAlone, doneWith, foundBytes, waiting}
 use Rattle.event_answer.proofs.Chain.{length-found, length-waiting}
 use Rattle.dispatch_events.specs.Events.{toldBytes, lossBytes, countBytes}
 use Rattle.dispatch_receive.specs.Long.{longestBody}
 use Rattle.dispatch_receive.specs.Walk.{orRefused, walkBytes}
-use Rattle.dispatch_receive.specs.Segment.{hereBytes, heldBytes, takeBytes, lends, Progress, begun, oneTake, allTakes, eventBytes}
+use Rattle.dispatch_receive.specs.Segment.{hereBytes, heldBytes, takeBytes, lends, Progress, begun, oneTake, allTakes}
 use Rattle.dispatch_receive.proofs.Written.{length-step, length-pdu, length-here, length-held}
 use Rattle.dispatch_receive.proofs.Run.{read-within, count-fits}
 use Rattle.dispatch_send.specs.Send.{arrivalBytes, transmissionBytes, takingBytes, roomOf}
@@ -70,8 +70,8 @@ use Rattle.dispatch_refines.specs.Answer.{takesOver, takesAnswer, takeAnswer, a
 use Rattle.dispatch_refines.proofs.Answer.{takes-count}
 use Rattle.dispatch_refines.proofs.Read.{number-at, kind-at, length-at, some-number, TakeFits}
 use Rattle.dispatch_refines.proofs.Fits.{take-fits}
-use Rattle.recording.specs.Entry.{isRecorded, isSpelt, takeFits, takeNeeds, takesFit, segmentFits, stepFits, waitingFits, doneLong, doneFits, answerFits}
-use Rattle.theorem_record.proofs.Numbers.{by-number, spelt-fits}
+use Rattle.recording.specs.Entry.{isRecorded, isSpelt, takeFits, takeNeeds, takesFit, segmentFits, stepFits, doneLong, doneFits, answerFits}
+use Rattle.theorem_record.proofs.Numbers.{by-call}
 
 -- A REFUSAL: its number, and four bytes more
 refused-fits : (n number destination : ℕ) → number < 256 ^ 2 → eqb number 0 ≡ false → answerFits n (refused number destination) ≡ true
@@ -146,7 +146,8 @@ module _ (n : ℕ) (plain : Plain n) where
   unfolding sendOf
   sent-fits l pdu payload long = go (gateOf (sizes l))
     where
-      go : (g : Gate) → answerFits n (transmissionBytes (through g (notSent (l .state)) (transmittedOf (l .image) (l .state) pdu payload (l .tx)) .answer)) ≡ true
+      go : (g : Gate)
+          → answerFits n (transmissionBytes (through g (notSent (l .state)) (transmittedOf (l .image) (l .state) pdu payload (l .tx)) .answer)) ≡ true
       go Gated.Pass = transmission-fits _ (refused-at (l .image) (machine (l .state) (l .rx) (l .tx)) pdu payload) long
       go (Gated.Refused r) = refusal-fits n r
 
@@ -176,20 +177,25 @@ module _ (next kind which id n : ℕ) (behind : List ℕ) {a : List ℕ} (is : a
       number-at 1 kind (spell 2 0 ++ spell 4 next) (spell 1 which ++ spell 4 id ++ spell 4 n ++ behind) 6 h (simp (length-append, length-spell))
       (is ∙ simp append-assoc)
 
+nothing-behind : (l : List ℕ) → doneAlone ++ l ≡ doneAlone ++ (l ++ [])
+nothing-behind l = ap (λ (x : List ℕ). doneAlone ++ x) (sym (append-nil l))
+
 step-fits : (next : ℕ) (o : Walked) → stepFits (walkBytes next o) ≡ true
 unfolding stepFits
 step-fits next Met.End =
-    rw (step-kind next 0 0 0 0 [] (ap (λ (l : List ℕ). doneAlone ++ l) (sym (append-nil (foundBytes next 0 0 0 0)))) (omega arith), length-step next 0 0 0 0) refl
+    rw (step-kind next 0 0 0 0 [] (nothing-behind (foundBytes next 0 0 0 0)) (omega arith), length-step next 0 0 0 0) refl
 step-fits next (Met.Pdu route id at n) =
-    rw (step-kind next 1 route id n (spell 4 at) (append-assoc doneAlone (foundBytes next 1 route id n) (spell 4 at)) (omega arith), length-pdu next route id n at) refl
+    let is : walkBytes next (Met.Pdu route id at n) ≡ doneAlone ++ (foundBytes next 1 route id n ++ spell 4 at) = append-assoc doneAlone _ (spell 4 at) in
+    rw (step-kind next 1 route id n (spell 4 at) is (omega arith), length-pdu next route id n at) refl
 step-fits next (Met.Drop reason id n) =
-    rw (step-kind next 2 reason id n [] (ap (λ (l : List ℕ). doneAlone ++ l) (sym (append-nil (foundBytes next 2 reason id n)))) (omega arith), length-step next 2 reason id n) refl
+    rw (step-kind next 2 reason id n [] (nothing-behind (foundBytes next 2 reason id n)) (omega arith), length-step next 2 reason id n) refl
 
 walk-done : (next : ℕ) (o : Walked) → answerFits 8 (walkBytes next o) ≡ true
 unfolding doneFits
 walk-done next Met.End = done-fits 8 _ (foundBytes next 0 0 0 0) refl (step-fits next Met.End)
 walk-done next (Met.Pdu route id at n) =
-    done-fits 8 _ (foundBytes next 1 route id n ++ spell 4 at) (append-assoc doneAlone (foundBytes next 1 route id n) (spell 4 at)) (step-fits next (Met.Pdu route id at n))
+    done-fits 8 _ (foundBytes next 1 route id n ++ spell 4 at) (append-assoc doneAlone (foundBytes next 1 route id n) (spell 4 at))
+    (step-fits next (Met.Pdu route id at n))
 walk-done next (Met.Drop reason id n) = done-fits 8 _ (foundBytes next 2 reason id n) refl (step-fits next (Met.Drop reason id n))
 
 or-fits : (n : ℕ) (a : Received) (bytes : List ℕ) → (a ≡ Received.Done → answerFits n bytes ≡ true) → answerFits n (orRefused a bytes) ≡ true
@@ -221,13 +227,16 @@ take-stands : (begins read : ℕ) (o : Outcome) (payload rest : List ℕ) → Ta
 take-stands begins read Found.More payload rest h =
     stands-by (foundBytes read 0 0 0 0) rest 14 (other-needs _ 0 (kind-at read 0 0 0 0 rest refl (omega arith)) refl refl) (length-found read 0 0 0 0)
 take-stands begins read (Found.Drop reason id n) payload rest h =
-    stands-by (foundBytes read 2 reason id n) rest 14 (other-needs _ 2 (kind-at read 2 reason id n rest refl (omega arith)) refl refl) (length-found read 2 reason id n)
+    stands-by (foundBytes read 2 reason id n) rest 14
+    (other-needs _ 2 (kind-at read 2 reason id n rest refl (omega arith)) refl refl) (length-found read 2 reason id n)
 take-stands begins read (Found.Pdu route id true at n) payload rest h =
     let l : List ℕ = hereBytes read route id n begins at ++ rest in
     let behind : List ℕ = spell 1 0 ++ (spell 4 (begins + at) ++ rest) in
     let is : l ≡ foundBytes read 1 route id n ++ behind = simp append-assoc in
-    let mark : be 1 l 14 ≡ 0 = number-at 1 0 (foundBytes read 1 route id n) (spell 4 (begins + at) ++ rest) 14 (omega arith) (length-found read 1 route id n) is in
-    stands-by (hereBytes read route id n begins at) rest 19 (here-needs l (kind-at read 1 route id n behind is (omega arith)) mark) (length-here read route id n begins at)
+    let mark : be 1 l 14 ≡ 0 =
+    number-at 1 0 (foundBytes read 1 route id n) (spell 4 (begins + at) ++ rest) 14 (omega arith) (length-found read 1 route id n) is in
+    stands-by (hereBytes read route id n begins at) rest 19
+    (here-needs l (kind-at read 1 route id n behind is (omega arith)) mark) (length-here read route id n begins at)
 take-stands begins read (Found.Pdu route id false at n) payload rest h =
     let l : List ℕ = heldBytes read route id n payload ++ rest in
     let behind : List ℕ = spell 1 1 ++ (payload ++ rest) in
@@ -250,7 +259,8 @@ one-fits t ts h later =
     let rest : drop (takeNeeds (b ++ bytesIn ts)) (b ++ bytesIn ts) ≡ bytesIn ts = drop-at b (bytesIn ts) (takeNeeds (b ++ bytesIn ts)) (sym (s .1)) in
     and-both (and-both (s .0) (le-leb (takeNeeds (b ++ bytesIn ts)) (length (b ++ bytesIn ts)) room)) (ap (takesFit (length ts)) rest ∙ later)
 
-more-fit : (done left : Bool) (t : Take) (ts : List Take) → (done ≡ true → TakeFits (t .begins) (t .outcome) (t .payload)) → AllFit ts → AllFit (tookThen done left t ts)
+more-fit : (done left : Bool) (t : Take) (ts : List Take) → (done ≡ true → TakeFits (t .begins) (t .outcome) (t .payload))
+    → AllFit ts → AllFit (tookThen done left t ts)
 unfolding takesFit bytesIn
 more-fit true true t ts h later = one-fits t ts (h refl) later
 more-fit true false t ts h later = one-fits t [] (h refl) refl
@@ -263,7 +273,8 @@ module _ (l : Loan) (k : ℕ) (seg : List ℕ) (bytes : Bytes seg) (short : leng
 
   takes-fit : (n : ℕ) (r : Progress) → r .at ≤ length seg → AllFit (takesFrom l k seg n r)
   unfolding takesFrom oneTake takesFit bytesIn
-  takes-fit zero r within = more-fit (isDone (next r .answer)) false (nextTake l k seg r) [] (take-fits l k seg bytes short (lends l k seg r) (r .at) within) refl
+  takes-fit zero r within =
+      more-fit (isDone (next r .answer)) false (nextTake l k seg r) [] (take-fits l k seg bytes short (lends l k seg r) (r .at) within) refl
   takes-fit (suc n) r within =
       more-fit (isDone (next r .answer)) (ltb (next r .at) (length seg)) (nextTake l k seg r) (takesFrom l k seg n (next r))
       (take-fits l k seg bytes short (lends l k seg r) (r .at) within)
@@ -284,18 +295,14 @@ module _ (l : Loan) (k : ℕ) (seg : List ℕ) (bytes : Bytes seg) (short : leng
       or-fits 7 (allTakes l k seg .answer) (doneWith 2 (length (takesOver l k seg)) ++ bytesIn (takesOver l k seg))
       (λ e.
       segment-done (takesOver l k seg)
-      (omega (arith, zero-add (length (takesOver l k seg)), takes-count l k seg (length seg) (begun (l .state) (l .rx)) (ap isDone e), count-fits l k seg short))
+      (omega
+      (arith, zero-add (length (takesOver l k seg)), takes-count l k seg (length seg) (begun (l .state) (l .rx)) (ap isDone e), count-fits l k seg short))
       (takes-fit (length seg) (begun (l .state) (l .rx)) (omega arith)))
 
 -- EVERY EVENT: of arguments that spell it
 module _ (l : Loan) (a : List ℕ) where
   abbrev Fitting : ℕ → Call → Type 0
   Fitting n call = Short a call → answerFits n (answerOf l a call) ≡ true
-
-  spelt-call : (n : ℕ) (t : Bool) (call : Call) → isSpelt (fitted t call) ≡ true → Fitting n call → Fitting n (fitted t call)
-  unfolding isSpelt
-  spelt-call n true call e h = h
-  spelt-call n false call e h = impossible e
 
   own-fits : (n c : ℕ) (event : Event) → Plain n → doneLong n ≡ 2 → Fitting n (Own c event)
   unfolding answerOf
@@ -342,30 +349,27 @@ module _ (l : Loan) (a : List ℕ) where
   unfolding answerOf
   clear-fits n protocol plain long short = counted-fits n plain (clearOf (sizes l) protocol .answer) long
 
-abbrev AnswerFits : ℕ → Type 0
-AnswerFits n = (l : Loan) (a : List ℕ) → Bytes a → isSpelt (callOf n a) ≡ true → Fitting l a n (callOf n a)
-
-call-fits : (n : ℕ) → isRecorded n ≡ true → AnswerFits n
-unfolding callOf doneFits doneLong
+call-fits : (n : ℕ) → isRecorded n ≡ true → (a : List ℕ) → isSpelt (callOf n a) ≡ true → (l : Loan) → Bytes a → Fitting l a n (callOf n a)
+unfolding doneFits doneLong
 call-fits =
-    by-number AnswerFits
-    (λ l a b e. spelt-call l a 1 (plain a 2) (Own (be 1 a 1) Open) e (own-fits l a 1 _ _ (λ _. refl) refl))
-    (λ l a b e. spelt-call l a 2 (plain a 2) (Own (be 1 a 1) Close) e (own-fits l a 2 _ _ (λ _. refl) refl))
-    (λ l a b e. spelt-call l a 3 (plain a 2) (Own (be 1 a 1) Connected) e (own-fits l a 3 _ _ (λ _. refl) refl))
-    (λ l a b e. spelt-call l a 4 (plain a 2) (Lost (be 1 a 1)) e (lost-fits l a 4 _ (λ _. refl) refl))
-    (λ l a b e. spelt-call l a 5 (addressed a) (Own (be 1 a 1) (SetRemote (remoteIn (drop 2 a)))) e (own-fits l a 5 _ _ (λ _. refl) refl))
-    (λ l a b e. spelt-call l a 6 (positioned a 4 3) (Own (be 1 a 1) (Switch (be 1 a 2) (eqb (be 1 a 3) 1))) e (own-fits l a 6 _ _ (λ _. refl) refl))
-    (λ l a b e. spelt-call l a 7 (lengthFits a 2) (Segment (be 1 a 1) 6) e (segment-fits l a b _ _))
-    (λ l a b e. spelt-call l a 8 (lengthFits a 6) (Walk (be 1 a 1) (be 4 a 2) 10) e (walk-fits l a _ _ _))
-    (λ l a b e. spelt-call l a 9 (plain a 6) (TakeWaiting (be 1 a 1) (be 4 a 2)) e (waiting-fits l a _ _))
-    (λ l a b e. spelt-call l a 10 (addressed a) (Datagram (be 1 a 1) (remoteIn (drop 2 a))) e (datagram-fits l a 10 _ _ (λ _. refl) refl))
-    (λ l a b e. spelt-call l a 11 (addressed a) (Accept (be 1 a 1) (remoteIn (drop 2 a))) e (accept-fits l a 11 _ _ (λ _. refl) refl))
-    (λ l a b e. spelt-call l a 12 (lengthFits a 3) (Transmit (be 2 a 1) 7) e (transmit-fits l a 12 _ _ (λ _. refl) refl))
-    (λ l a b e. spelt-call l a 13 (positioned a 3 2) (SwitchAll (be 1 a 1) (eqb (be 1 a 2) 1)) e (switches-fit l a 13 _ _ (λ _. refl) refl))
-    (λ l a b e. spelt-call l a 14 (plain a 2) (ReadCount (be 1 a 1)) e (read-fits l a 14 _ (λ _. refl) refl))
-    (λ l a b e. spelt-call l a 15 (plain a 2) (ClearCount (be 1 a 1)) e (clear-fits l a 15 _ (λ _. refl) refl))
+    by-call (λ n a call. (l : Loan) → Bytes a → Fitting l a n call)
+    (λ a t l b. own-fits l a 1 (be 1 a 1) Open (λ _. refl) refl)
+    (λ a t l b. own-fits l a 2 (be 1 a 1) Close (λ _. refl) refl)
+    (λ a t l b. own-fits l a 3 (be 1 a 1) Connected (λ _. refl) refl)
+    (λ a t l b. lost-fits l a 4 (be 1 a 1) (λ _. refl) refl)
+    (λ a t l b. own-fits l a 5 (be 1 a 1) (SetRemote (remoteIn (drop 2 a))) (λ _. refl) refl)
+    (λ a t l b. own-fits l a 6 (be 1 a 1) (Switch (be 1 a 2) (eqb (be 1 a 3) 1)) (λ _. refl) refl)
+    (λ a t l b. segment-fits l a b (be 1 a 1) 6)
+    (λ a t l b. walk-fits l a (be 1 a 1) (be 4 a 2) 10)
+    (λ a t l b. waiting-fits l a (be 1 a 1) (be 4 a 2))
+    (λ a t l b. datagram-fits l a 10 (be 1 a 1) (remoteIn (drop 2 a)) (λ _. refl) refl)
+    (λ a t l b. accept-fits l a 11 (be 1 a 1) (remoteIn (drop 2 a)) (λ _. refl) refl)
+    (λ a t l b. transmit-fits l a 12 (be 2 a 1) 7 (λ _. refl) refl)
+    (λ a t l b. switches-fit l a 13 (be 1 a 1) (eqb (be 1 a 2) 1) (λ _. refl) refl)
+    (λ a t l b. read-fits l a 14 (be 1 a 1) (λ _. refl) refl)
+    (λ a t l b. clear-fits l a 15 (be 1 a 1) (λ _. refl) refl)
 
 -- THE ANSWER FITS, of any image, state and memory
 pub answer-fits : (n : ℕ) → isRecorded n ≡ true → (l : Loan) (a : List ℕ) → Bytes a → isSpelt (callOf n a) ≡ true
     → answerFits n (answerOf l a (callOf n a)) ≡ true
-answer-fits n event l a bytes spells = call-fits n event l a bytes spells (call-short n a)
+answer-fits n event l a bytes spells = call-fits n event a spells l bytes (call-short n a)

@@ -1,14 +1,12 @@
 -- A RECORDING IS READ BACK: front, contents rows and bodies of what a recorder wrote, with any bytes behind them.
-use Prim.Native.Nat.{ℕ, zero, suc, _+_, _*_, _≤_, _<_, _^_}
+use Prim.Native.Nat.{ℕ, suc, _+_, _*_, _≤_, _<_, _^_}
 use mathlib.Core.Path.{_≡_, refl, sym, ap, ap₂, _∙_}
-use mathlib.Core.Bool.{Bool, true, false, cond}
 use mathlib.Core.List.{List, [], _∷_, _++_, append-assoc, append-nil}
 use native.Mathlib.Omega.{arith}
 use borrow.Author.Tests.{leb-true}
-use lib.Dec.{eqb, ltb, leb}
+use lib.Dec.{ltb, leb}
 use lib.ListN.{length, take, drop, length-append, length-drop}
 use lib.Seq.{take-at, drop-at, drop-drop, take-append-seam, drop-append-seam}
-use Rattle.wire.specs.Be.{be}
 use Rattle.wire.specs.Lay.{spell}
 use Rattle.wire.proofs.Spell.{length-spell}
 use Rattle.lists.proofs.Both.{and-right}
@@ -16,7 +14,8 @@ use Rattle.table_layout.proofs.Parts.{part-fits}
 use Rattle.dispatch_refines.proofs.Read.{number-at}
 use Rattle.recording.specs.Recording.{editionIn, entriesIn, contentsTo, entryRow, stampIn, numberIn, zeroIn, bodyLong}
 use Rattle.recording.specs.Entry.{argumentsIn, answerIn}
-use Rattle.theorem_record.specs.Record.{Noted, noteBody, noteRow, rowsFor, bodiesFor, frontFor, recordingOf, Notable, AllNotable, noteAt, notesFrom, notesIn}
+use Rattle.theorem_record.specs.Record.{Noted, noteBody, noteRow, rowsFor, bodiesFor, frontFor}
+use Rattle.theorem_record.specs.Record.{recordingOf, Notable, AllNotable, noteAt, notesFrom, notesIn}
 use Rattle.theorem_record.proofs.Numbers.{arguments-in, answer-in}
 
 -- A CONTENTS ROW: its fields
@@ -35,19 +34,21 @@ module _ (e : Noted) where
 
   pub zero-back : zeroIn (noteRow e) ≡ 0
   zero-back =
-      number-at 2 0 (spell 4 (e .stamp) ++ spell 2 (e .number)) (spell 4 (length (noteBody e))) 6 (omega arith) (simp (length-append, length-spell)) (simp append-assoc)
+      number-at 2 0 (spell 4 (e .stamp) ++ spell 2 (e .number)) (spell 4 (length (noteBody e))) 6 (omega arith)
+      (simp (length-append, length-spell)) (simp append-assoc)
 
   pub long-back : Notable e → bodyLong (noteRow e) ≡ length (noteBody e)
   long-back n =
-      number-at 4 (length (noteBody e)) (spell 4 (e .stamp) ++ spell 2 (e .number) ++ spell 2 0) [] 8 (omega (arith, n .short)) (simp (length-append, length-spell))
+      number-at 4 (length (noteBody e)) (spell 4 (e .stamp) ++ spell 2 (e .number) ++ spell 2 0) [] 8 (omega (arith, n .short))
+      (simp (length-append, length-spell))
       (ap (λ (l : List ℕ). spell 4 (e .stamp) ++ spell 2 (e .number) ++ spell 2 0 ++ l) (sym (append-nil (spell 4 (length (noteBody e))))))
 
 -- ENTRIES AND THEIR BODIES: the rows from row i on, and the bodies from the byte `at` on, with other bytes behind both
-pub record Stands (r : List ℕ) (i at : ℕ) (es : List Noted) (behind more : List ℕ) : Type 0 where
+pub record WrittenAt (r : List ℕ) (i at : ℕ) (es : List Noted) (behind more : List ℕ) : Type 0 where
   pub rows : drop (contentsTo i) r ≡ rowsFor es ++ behind
   pub bodies : drop at r ≡ bodiesFor es ++ more
 
-module _ {r : List ℕ} {i at : ℕ} {e : Noted} {es : List Noted} {behind more : List ℕ} (s : Stands r i at (e ∷ es) behind more) where
+module _ {r : List ℕ} {i at : ℕ} {e : Noted} {es : List Noted} {behind more : List ℕ} (s : WrittenAt r i at (e ∷ es) behind more) where
   row-first : drop (contentsTo i) r ≡ noteRow e ++ (rowsFor es ++ behind)
   unfolding rowsFor
   row-first = s .rows ∙ append-assoc (noteRow e) (rowsFor es) behind
@@ -88,8 +89,8 @@ module _ {r : List ℕ} {i at : ℕ} {e : Noted} {es : List Noted} {behind more 
             → _≡_ {A = Noted} (record { stamp = a; number = b; arguments = c; answer = d }) (record { stamp = x; number = y; arguments = z; answer = w })
         noted p q s t = rw (p, q, s, t) refl
 
-    pub stands-on : Stands r (suc i) (at + bodyLong (entryRow r i)) es behind more
-    stands-on =
+    pub written-on : WrittenAt r (suc i) (at + bodyLong (entryRow r i)) es behind more
+    written-on =
         let on : contentsTo i + 12 ≡ contentsTo (suc i) = omega arith in
         record {
           rows =
@@ -101,11 +102,12 @@ module _ {r : List ℕ} {i at : ℕ} {e : Noted} {es : List Noted} {behind more 
         }
 
 -- ALL ENTRIES
-notes-back : (r : List ℕ) (i at : ℕ) (es : List Noted) (behind more : List ℕ) → Stands r i at es behind more → AllNotable es → notesFrom r (length es) i at ≡ es
+notes-back : (r : List ℕ) (i at : ℕ) (es : List Noted) (behind more : List ℕ) → WrittenAt r i at es behind more → AllNotable es
+    → notesFrom r (length es) i at ≡ es
 unfolding notesFrom
 notes-back r i at [] behind more s n = refl
 notes-back r i at (e ∷ es) behind more s (n, ns) =
-    ap₂ (λ (x : Noted) (xs : List Noted). x ∷ xs) (note-back s n) (notes-back r (suc i) (at + bodyLong (entryRow r i)) es behind more (stands-on s n) ns)
+    ap₂ (λ (x : Noted) (xs : List Noted). x ∷ xs) (note-back s n) (notes-back r (suc i) (at + bodyLong (entryRow r i)) es behind more (written-on s n) ns)
 
 rows-length : (es : List Noted) → length (rowsFor es) ≡ length es * 12
 unfolding rowsFor
@@ -129,11 +131,17 @@ module _ (es : List Noted) (more : List ℕ) (few : length es < 256 ^ 2) where
   -- all rows are there
   pub front-there : contentsTo (length es) ≤ length r
   front-there =
-      omega (arith, length-append (frontFor es ++ rowsFor es ++ bodiesFor es) more, length-append (frontFor es ++ rowsFor es) (bodiesFor es),
-      length-append (frontFor es) (rowsFor es), front-length, rows-length es)
+      omega (
+        arith,
+        length-append (frontFor es ++ rowsFor es ++ bodiesFor es) more,
+        length-append (frontFor es ++ rowsFor es) (bodiesFor es),
+        length-append (frontFor es) (rowsFor es),
+        front-length,
+        rows-length es,
+      )
 
-  pub made-stands : Stands r 0 (contentsTo (length es)) es (bodiesFor es ++ more) more
-  made-stands =
+  pub made-written : WrittenAt r 0 (contentsTo (length es)) es (bodiesFor es ++ more) more
+  made-written =
       record {
         rows =
             ap (drop 4) (append-assoc (frontFor es ++ rowsFor es) (bodiesFor es) more ∙ append-assoc (frontFor es) (rowsFor es) (bodiesFor es ++ more))
@@ -145,7 +153,7 @@ module _ (es : List Noted) (more : List ℕ) (few : length es < 256 ^ 2) where
       }
 
 -- WHAT A RECORDER WROTE IS READ BACK AS THAT: the calls, their stamps and their answers
-pub read-back : (es : List Noted) (more : List ℕ) → length es < 256 ^ 2 → AllNotable es → notesIn (recordingOf es ++ more) ≡ es
-read-back es more few each =
+pub recording-back : (es : List Noted) (more : List ℕ) → length es < 256 ^ 2 → AllNotable es → notesIn (recordingOf es ++ more) ≡ es
+recording-back es more few each =
     ap (λ (n : ℕ). notesFrom (recordingOf es ++ more) n 0 (contentsTo n)) (entries-back es more few)
-    ∙ notes-back (recordingOf es ++ more) 0 (contentsTo (length es)) es (bodiesFor es ++ more) more (made-stands es more few) each
+    ∙ notes-back (recordingOf es ++ more) 0 (contentsTo (length es)) es (bodiesFor es ++ more) more (made-written es more few) each

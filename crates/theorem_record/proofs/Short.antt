@@ -1,13 +1,12 @@
 -- CALLS THAT CAN BE RECORDED: whatever is answered, arguments of so many bytes leave room for it in a body of 4,096 bytes.
 use Prim.Native.Nat.{ℕ, _+_, suc, _*_, _≤_}
-use mathlib.Core.Path.{_≡_, refl, sym, ap, _∙_}
-use mathlib.Core.Bool.{Bool, true, false, cond}
-use mathlib.Core.List.{List, [], _∷_, _++_}
+use mathlib.Core.Path.{_≡_, refl, ap}
+use mathlib.Core.Bool.{Bool, true}
+use mathlib.Core.List.{List, [], _∷_}
 use native.Mathlib.Omega.{arith}
 use lib.Dec.{eqb}
 use lib.ListN.{length, take, drop, replicate, length-append, length-drop}
 use Rattle.wire.specs.Be.{be}
-use Rattle.lists.proofs.Both.{impossible}
 use Rattle.connection.specs.declared.Event.{Event}
 use Rattle.connection.specs.declared.Remote.{Remote}
 use Rattle.connection.specs.declared.Event.the-variants.{Open, Close, Connected, SetRemote, Switch}
@@ -20,19 +19,19 @@ use Rattle.entry_receive.specs.Walk.{walkOf}
 use Rattle.entry_send.specs.Sending.{sendOf, takenWaiting, takenOut}
 use Rattle.event_decode.specs.declared.Call.{Call}
 use Rattle.event_decode.specs.declared.Call.the-variants.{Own, Lost, Segment, Walk, TakeWaiting, Datagram, Accept, Transmit, SwitchAll, ReadCount, ClearCount}
-use Rattle.event_decode.specs.Calls.{fitted, plain, lengthFits, addressed, remoteIn, positioned, callOf, bytesFrom}
+use Rattle.event_decode.specs.Calls.{remoteIn, callOf, bytesFrom}
 use Rattle.dispatch_receive.proofs.Room.{event-fits}
 use Rattle.dispatch_send.specs.Send.{roomOf}
 use Rattle.dispatch.proofs.Sizes.{told-size, loss-size, count-size, arrival-size, transmission-size, walked-size, taking-size, taken-size, buffer-size}
-use Rattle.dispatch_refines.specs.Answer.{takesAnswer, answerOf}
+use Rattle.dispatch_refines.specs.Answer.{answerOf}
 use Rattle.dispatch_refines.proofs.Answer.{segment-named}
 use Rattle.model_refines.specs.Machine.{Machine, machine, loanTo}
 use Rattle.state.specs.Fresh.{freshState}
 use Rattle.recording.specs.Recording.{distanceIn, stamps, mostEntries}
 use Rattle.recording.specs.Entry.{isRecorded, isSpelt}
-use Rattle.theorem_record.specs.Record.{Noted, noteBody, Notable, AllNotable, Near, NearEnough, Recordable}
-use Rattle.theorem_record.specs.Again.{Timed, afterTicks, afterCall, answerTo, recorded, firstAt, recordedFresh, mostArguments, Callable, Followed, AllCallable}
-use Rattle.theorem_record.proofs.Numbers.{by-number, plain-long, told-long}
+use Rattle.theorem_record.specs.Record.{Notable, AllNotable, Near, Recordable}
+use Rattle.theorem_record.specs.Again.{Timed, afterTicks, afterNote, answerTo, recorded, recordedFresh, mostArguments, Callable, Followed, AllCallable}
+use Rattle.theorem_record.proofs.Numbers.{by-call, plain-long, told-long}
 
 -- ANSWERS: of a segment event at most 1,502 bytes and three for each of the segment
 module _ (l : Loan) (a : List ℕ) where
@@ -89,36 +88,28 @@ module _ (l : Loan) (a : List ℕ) where
   abbrev Fills : Call → Type 0
   Fills call = length a + length (answerOf l a call) ≤ 4096
 
-  spelt-fills : (t : Bool) (call : Call) → isSpelt (fitted t call) ≡ true → (t ≡ true → Fills call) → Fills (fitted t call)
-  unfolding isSpelt
-  spelt-fills true call e h = h refl
-  spelt-fills false call e h = impossible e
-
   six : (call : Call) → length a ≤ 4076 → Below 6 call → Fills call
   six call h b = omega (arith, h, b)
 
-abbrev NumberFills : ℕ → Type 0
-NumberFills n = (l : Loan) (a : List ℕ) → isSpelt (callOf n a) ≡ true → length a ≤ mostArguments n → Fills l a (callOf n a)
-
-call-fills : (n : ℕ) → isRecorded n ≡ true → NumberFills n
-unfolding callOf mostArguments
+call-fills : (n : ℕ) → isRecorded n ≡ true → (a : List ℕ) → isSpelt (callOf n a) ≡ true → (l : Loan) → length a ≤ mostArguments n → Fills l a (callOf n a)
+unfolding mostArguments
 call-fills =
-    by-number NumberFills
-    (λ l a e h. spelt-fills l a (plain a 2) (Own (be 1 a 1) Open) e (λ _. six l a _ h (own-below l a _ _)))
-    (λ l a e h. spelt-fills l a (plain a 2) (Own (be 1 a 1) Close) e (λ _. six l a _ h (own-below l a _ _)))
-    (λ l a e h. spelt-fills l a (plain a 2) (Own (be 1 a 1) Connected) e (λ _. six l a _ h (own-below l a _ _)))
-    (λ l a e h. spelt-fills l a (plain a 2) (Lost (be 1 a 1)) e (λ _. six l a _ h (lost-below l a _)))
-    (λ l a e h. spelt-fills l a (addressed a) (Own (be 1 a 1) (SetRemote (remoteIn (drop 2 a)))) e (λ _. six l a _ h (own-below l a _ _)))
-    (λ l a e h. spelt-fills l a (positioned a 4 3) (Own (be 1 a 1) (Switch (be 1 a 2) (eqb (be 1 a 3) 1))) e (λ _. six l a _ h (own-below l a _ _)))
-    (λ l a e h. spelt-fills l a (lengthFits a 2) (Segment (be 1 a 1) 6) e (λ t. omega (arith, h, told-long a 2 t, segment-below l a (be 1 a 1) 6, length-drop 6 a)))
-    (λ l a e h. spelt-fills l a (lengthFits a 6) (Walk (be 1 a 1) (be 4 a 2) 10) e (λ _. omega (arith, h, walk-below l a (be 1 a 1) (be 4 a 2) 10)))
-    (λ l a e h. spelt-fills l a (plain a 6) (TakeWaiting (be 1 a 1) (be 4 a 2)) e (λ t. omega (arith, plain-long a 6 t, waiting-below l a (be 1 a 1) (be 4 a 2))))
-    (λ l a e h. spelt-fills l a (addressed a) (Datagram (be 1 a 1) (remoteIn (drop 2 a))) e (λ _. six l a _ h (datagram-below l a _ _)))
-    (λ l a e h. spelt-fills l a (addressed a) (Accept (be 1 a 1) (remoteIn (drop 2 a))) e (λ _. six l a _ h (accept-below l a _ _)))
-    (λ l a e h. spelt-fills l a (lengthFits a 3) (Transmit (be 2 a 1) 7) e (λ _. six l a _ h (transmit-below l a _ _)))
-    (λ l a e h. spelt-fills l a (positioned a 3 2) (SwitchAll (be 1 a 1) (eqb (be 1 a 2) 1)) e (λ _. six l a _ h (switches-below l a _ _)))
-    (λ l a e h. spelt-fills l a (plain a 2) (ReadCount (be 1 a 1)) e (λ _. six l a _ h (read-below l a _)))
-    (λ l a e h. spelt-fills l a (plain a 2) (ClearCount (be 1 a 1)) e (λ _. six l a _ h (clear-below l a _)))
+    by-call (λ n a call. (l : Loan) → length a ≤ mostArguments n → Fills l a call)
+    (λ a t l h. six l a _ h (own-below l a (be 1 a 1) Open))
+    (λ a t l h. six l a _ h (own-below l a (be 1 a 1) Close))
+    (λ a t l h. six l a _ h (own-below l a (be 1 a 1) Connected))
+    (λ a t l h. six l a _ h (lost-below l a (be 1 a 1)))
+    (λ a t l h. six l a _ h (own-below l a (be 1 a 1) (SetRemote (remoteIn (drop 2 a)))))
+    (λ a t l h. six l a _ h (own-below l a (be 1 a 1) (Switch (be 1 a 2) (eqb (be 1 a 3) 1))))
+    (λ a t l h. omega (arith, h, told-long a 2 t, segment-below l a (be 1 a 1) 6, length-drop 6 a))
+    (λ a t l h. omega (arith, h, walk-below l a (be 1 a 1) (be 4 a 2) 10))
+    (λ a t l h. omega (arith, plain-long a 6 t, waiting-below l a (be 1 a 1) (be 4 a 2)))
+    (λ a t l h. six l a _ h (datagram-below l a (be 1 a 1) (remoteIn (drop 2 a))))
+    (λ a t l h. six l a _ h (accept-below l a (be 1 a 1) (remoteIn (drop 2 a))))
+    (λ a t l h. six l a _ h (transmit-below l a (be 2 a 1) 7))
+    (λ a t l h. six l a _ h (switches-below l a (be 1 a 1) (eqb (be 1 a 2) 1)))
+    (λ a t l h. six l a _ h (read-below l a (be 1 a 1)))
+    (λ a t l h. six l a _ h (clear-below l a (be 1 a 1)))
 
 -- SO THE ENTRY OF SUCH A CALL can be recorded, from any machine
 module _ (image : List ℕ) where
@@ -131,14 +122,14 @@ module _ (image : List ℕ) where
         spells = h .spells;
         bytes = h .bytes;
         inWidth = h .inWidth;
-        short = omega (arith, length-append (c .arguments) answer, call-fills (c .number) (h .event) (loanTo image m) (c .arguments) (h .spells) (h .roomy));
+        short = omega (arith, length-append (c .arguments) answer, call-fills (c .number) (h .event) (c .arguments) (h .spells) (loanTo image m) (h .roomy));
       }
 
   abbrev later : ℕ → Machine → Timed → Machine
   later before m c = afterTicks image (distanceIn stamps before (c .stamp)) m
 
   abbrev left : ℕ → Machine → Timed → Machine
-  left before m c = afterCall image (c .number) (c .arguments) (later before m c)
+  left before m c = afterNote image (c .number) (c .arguments) (later before m c)
 
   each-notable : (before : ℕ) (m : Machine) (cs : List Timed) → Followed before cs → AllNotable (recorded image before m cs)
   unfolding recorded

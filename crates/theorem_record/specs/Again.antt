@@ -37,8 +37,8 @@ module _ (image : List ℕ) where
 
   -- what an event leaves, and its answer
   module _ (number : ℕ) (arguments : List ℕ) where
-    abbrev pub afterCall : Machine → Machine
-    afterCall m = afterRun image m (eventsOf arguments (callOf number arguments))
+    abbrev pub afterNote : Machine → Machine
+    afterNote m = afterRun image m (eventsOf arguments (callOf number arguments))
 
     abbrev pub answerTo : Machine → List ℕ
     answerTo m = answerOf (loanTo image m) arguments (callOf number arguments)
@@ -48,7 +48,7 @@ module _ (image : List ℕ) where
   Answered before m [] = Unit {0}
   Answered before m (e ∷ es) =
       (e .answer ≡ answerTo (e .number) (e .arguments) (afterTicks (distanceIn stamps before (e .stamp)) m))
-      × Answered (e .stamp) (afterCall (e .number) (e .arguments) (afterTicks (distanceIn stamps before (e .stamp)) m)) es
+      × Answered (e .stamp) (afterNote (e .number) (e .arguments) (afterTicks (distanceIn stamps before (e .stamp)) m)) es
 
   -- THE RECORDER: calls one after the other, the stamp before the first, and the machine before it
   unfoldable pub recorded : ℕ → Machine → List Timed → List Noted
@@ -60,7 +60,7 @@ module _ (image : List ℕ) where
         arguments = c .arguments;
         answer = answerTo (c .number) (c .arguments) (afterTicks (distanceIn stamps before (c .stamp)) m);
       }
-      ∷ recorded (c .stamp) (afterCall (c .number) (c .arguments) (afterTicks (distanceIn stamps before (c .stamp)) m)) cs
+      ∷ recorded (c .stamp) (afterNote (c .number) (c .arguments) (afterTicks (distanceIn stamps before (c .stamp)) m)) cs
 
   -- from a fresh state, the first call at once
   abbrev pub recordedFresh : List ℕ → List ℕ → List Timed → List Noted
@@ -93,7 +93,7 @@ abbrev pub timedOf : Noted → Timed
 timedOf e = record { stamp = e .stamp; number = e .number; arguments = e .arguments }
 
 -- A REPLAY THAT FINDS NO DIFFERENCE in so many entries, all run
-pub record Same (n : ℕ) (left : Left) : Type 0 where
+pub record NoDifference (n : ℕ) (left : Left) : Type 0 where
   pub end : left .replayed .end ≡ Whole
   pub run : left .replayed .run ≡ n
   pub differs : left .replayed .differs ≡ 0

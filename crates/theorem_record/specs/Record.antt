@@ -75,16 +75,16 @@ pub record Recordable (es : List Noted) : Type 0 where
 
 -- WHAT A READER GETS: entry i, whose body begins at the byte `at`, and those behind it
 module _ (r : List ℕ) where
-  abbrev pub bodyAt : ℕ → ℕ → List ℕ
-  bodyAt i at = take (bodyLong (entryRow r i)) (drop at r)
+  abbrev pub bodyRead : ℕ → ℕ → List ℕ
+  bodyRead i at = take (bodyLong (entryRow r i)) (drop at r)
 
   abbrev pub noteAt : ℕ → ℕ → Noted
   noteAt i at =
       record {
         stamp = stampIn (entryRow r i);
         number = numberIn (entryRow r i);
-        arguments = argumentsIn (numberIn (entryRow r i)) (bodyAt i at);
-        answer = answerIn (numberIn (entryRow r i)) (bodyAt i at);
+        arguments = argumentsIn (numberIn (entryRow r i)) (bodyRead i at);
+        answer = answerIn (numberIn (entryRow r i)) (bodyRead i at);
       }
 
   unfoldable pub notesFrom : ℕ → ℕ → ℕ → List Noted
