@@ -6,3 +6,5 @@ pub mod Step
 pub mod Replay
 pub mod Calls
 pub mod Short
+pub mod Memory
+pub mod Anywhere
