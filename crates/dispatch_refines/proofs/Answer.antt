@@ -69,7 +69,7 @@ module _ (l : Loan) (k : ℕ) (seg : List ℕ) where
   event-named Received.NotReceiving count bytes ts c e = refl
 
 module _ (l : Loan) where
-  segment-named : (c : ℕ) (seg : List ℕ)
+  pub segment-named : (c : ℕ) (seg : List ℕ)
       → eventBytes (allTakes l c seg .answer) (allTakes l c seg .count) (allTakes l c seg .bytes)
       ≡ takesAnswer l c seg
   segment-named c seg =

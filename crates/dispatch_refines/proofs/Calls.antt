@@ -38,11 +38,11 @@ module _ (image : List ℕ) where
       ∙ sym (run-append m (speltBy c) (speltIn cs))
 
 -- calls whose bodies are bytes spell a run whose segments are bytes
-ticks-bytes : (n : ℕ) → RunBytes (replicate n (onWhole tick))
+pub ticks-bytes : (n : ℕ) → RunBytes (replicate n (onWhole tick))
 ticks-bytes zero = tt
 ticks-bytes (suc n) = (tt, ticks-bytes n)
 
-events-bytes : (body : List ℕ) → Bytes body → (call : Call) → RunBytes (eventsOf body call)
+pub events-bytes : (body : List ℕ) → Bytes body → (call : Call) → RunBytes (eventsOf body call)
 unfolding eventsOf
 events-bytes body b Unknown = tt
 events-bytes body b Unfit = tt

@@ -175,7 +175,7 @@ module _ (start : Loan) (k : ℕ) (seg : List ℕ) (bytes : Bytes seg) (notLong 
     unfolding memoryOf memoryOn
     memory-long = rw e (lay-length rx _ (stretchAt image s rx k rest) ∙ clear .passed .receive)
 
-    take-fits : TakeFits at (takeAt l k seg at .outcome) (payloadOf rest (memoryAt l k seg at) k (takeAt l k seg at .outcome))
+    pub take-fits : TakeFits at (takeAt l k seg at .outcome) (payloadOf rest (memoryAt l k seg at) k (takeAt l k seg at .outcome))
     take-fits =
         subst (λ (o : _). TakeFits at o (payloadOf rest (memoryOf l k rest) k o)) (sym outcome-is)
         (outcome-fits (idOf routes) (inSegment part) at (length rest - length (takeB R part rest .rest)) rest (memoryOf l k rest) k (takeB R part rest .out) small spelt

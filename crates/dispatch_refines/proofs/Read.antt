@@ -34,12 +34,12 @@ use Rattle.dispatch_refines.specs.Read.{payloadRead, takeRead, takeLong,
 use Rattle.dispatch_refines.proofs.Drops.{Spelt}
 
 -- a number behind other bytes
-number-at : (w v : ℕ) (a r : List ℕ) {l : List ℕ} (at : ℕ) → v < 256 ^ w → length a ≡ at → l ≡ a ++ (spell w v ++ r) → be w l at ≡ v
+pub number-at : (w v : ℕ) (a r : List ℕ) {l : List ℕ} (at : ℕ) → v < 256 ^ w → length a ≡ at → l ≡ a ++ (spell w v ++ r) → be w l at ≡ v
 number-at w v a r at small e f = ap₂ (λ (x : List ℕ) (n : ℕ). be w x n) f (sym e) ∙ be-spell w v a r small
 
 -- WHAT A TAKE OR A WALK FOUND, and r behind it
 module _ (first kind which id n : ℕ) (r : List ℕ) {l : List ℕ} (is : l ≡ foundBytes first kind which id n ++ r) where
-  kind-at : kind < 256 → be 1 l 4 ≡ kind
+  pub kind-at : kind < 256 → be 1 l 4 ≡ kind
   kind-at h =
       number-at 1 kind (spell 4 first) (spell 1 which ++ spell 4 id ++ spell 4 n ++ r) 4 h (length-spell 4 first) (is ∙ simp append-assoc)
 
@@ -51,7 +51,7 @@ module _ (first kind which id n : ℕ) (r : List ℕ) {l : List ℕ} (is : l ≡
   id-at h =
       number-at 4 id (spell 4 first ++ spell 1 kind ++ spell 1 which) (spell 4 n ++ r) 6 h (simp (length-append, length-spell)) (is ∙ simp append-assoc)
 
-  length-at : n < 256 ^ 4 → be 4 l 10 ≡ n
+  pub length-at : n < 256 ^ 4 → be 4 l 10 ≡ n
   length-at h =
       number-at 4 n (spell 4 first ++ spell 1 kind ++ spell 1 which ++ spell 4 id) r 10 h (simp (length-append, length-spell)) (is ∙ simp append-assoc)
 
@@ -164,7 +164,7 @@ module _ (segment : List ℕ) where
       rw (zero-at, count, rest) later
 
 -- A REFUSAL tells nothing
-some-number : (r : Refusal) → (refusalNumber r < 256 ^ 2) × (eqb (refusalNumber r) 0 ≡ false)
+pub some-number : (r : Refusal) → (refusalNumber r < 256 ^ 2) × (eqb (refusalNumber r) 0 ≡ false)
 some-number Memory = (omega arith, refl)
 some-number Unsound = (omega arith, refl)
 some-number Missing = (omega arith, refl)
