@@ -156,8 +156,6 @@ def body_lines(told, data, row_at, at, end, event):
         told.damage("REFUSED", f"  refused at byte {row_at + 4}: event number: {event} is unknown")
     if data[row_at + 6:row_at + 8] != bytes(2):
         told.damage("REFUSED", f"  refused at byte {row_at + 6}: zero field: {data[row_at + 6:row_at + 8].hex()} is not 0000")
-    if end - at > MOST_BODY:
-        told.damage("REFUSED", f"  over the limit at byte {row_at + 8}: body of {size(end - at)}, {MOST_BODY} bytes are the most")
     if event not in ENDS and event not in LENGTHS:
         told.lines += [bytes_at(data, at, end, "body of an unknown event")] * (end > at)
         return
@@ -173,31 +171,41 @@ def body_lines(told, data, row_at, at, end, event):
 
 
 def row_line(told, data, number, before, place):
-    """The line of a contents row; the distance where it is one."""
+    """The line of a contents row; its own place, its stamp, event number and body length, and its distance."""
     at = FRONT + ROW * number
     stamp, event, _, length = struct.unpack_from(">IHHI", data, at)
-    distance = 0 if before is None else (stamp - before) % 2 ** 32
-    told.lines.append(f"entry {number + 1}, row at byte {at}: stamp {stamp}, after {counted(distance, 'tick')}, event {event}, body of {size(length)}{place}")
-    if distance > MOST_DISTANCE:
-        told.damage("REFUSED", f"  refused at byte {at}: stamp: {distance} ticks after the one before, {MOST_DISTANCE} ticks are the most")
-    return at, stamp, event, length
+    ticks = 0 if before is None else (stamp - before) % 2 ** 32
+    told.lines.append(f"entry {number + 1}, row at byte {at}: stamp {stamp}, after {counted(ticks, 'tick')}, event {event}, body of {size(length)}{place}")
+    return at, stamp, event, length, ticks
 
 
 def entry_lines(told, data, entries):
-    """Every entry, up to one that is cut."""
+    """Every entry, up to one that is cut; the tests of each in the order of a replay."""
     at, before = FRONT + ROW * entries, None
     for number in range(entries):
-        length = int.from_bytes(data[FRONT + ROW * number + 8:FRONT + ROW * number + 12], "big")
-        row, before, event, _ = row_line(told, data, number, before, f" at byte {at}")
+        row, before, event, length, ticks = row_line(told, data, number, before, f" at byte {at}")
         if length > len(data) - at:
             there = "1 byte is" if len(data) - at == 1 else f"{len(data) - at} bytes are"
             told.lines += [bytes_at(data, at, len(data), "cut")] * (len(data) > at)
-            return told.damage("CUT", f"  cut at byte {len(data)}: body of {size(length)}, {there} there")
+            told.damage("CUT", f"  cut at byte {len(data)}: body of {size(length)}, {there} there")
+            return
+        if ticks > MOST_DISTANCE:
+            told.damage("REFUSED", f"  refused at byte {row}: stamp: {ticks} ticks after the one before, {MOST_DISTANCE} ticks are the most")
         body_lines(told, data, row, at, at + length, event)
         at += length
     if at < len(data):
         told.lines.append(f"{size(len(data) - at)} behind the last body, from byte {at} on: ignored")
-    return None
+
+
+def limit_lines(told, data, entries):
+    """What passes a limit is told before the entries: nothing of such a recording is replayed."""
+    if entries > MOST_ENTRIES:
+        told.damage("REFUSED", f"over the limit at byte 2: {entries} entries, {MOST_ENTRIES} entries are the most")
+    for number in range(entries):
+        at = FRONT + ROW * number + 8
+        length = int.from_bytes(data[at:at + 4], "big")
+        if length > MOST_BODY:
+            told.damage("REFUSED", f"over the limit at byte {at}: entry {number + 1}: body of {size(length)}, {MOST_BODY} bytes are the most")
 
 
 def to_text(data):
@@ -218,8 +226,7 @@ def to_text(data):
             need = f"{count} {'needs' if entries == 1 else 'need'} {FRONT + ROW * entries} bytes"
             told.damage("CUT", f"cut at byte {len(data)}: the contents end after {size(len(data))}, {need}")
         else:
-            if entries > MOST_ENTRIES:
-                told.damage("REFUSED", f"over the limit at byte 2: {entries} entries, {MOST_ENTRIES} entries are the most")
+            limit_lines(told, data, entries)
             entry_lines(told, data, entries)
     return [*told.lines, told.word]
 
