@@ -132,37 +132,30 @@ pub fn printed(program: &[String], input: &[u8]) -> Result<Vec<String>, String> 
     Ok(String::from_utf8_lossy(&output.stdout).lines().map(compared).collect())
 }
 
+/// How many programs run at a time.
+pub fn workers() -> usize {
+    std::thread::available_parallelism().map_or(1, usize::from)
+}
+
+/// What `work` makes of each number below `count`, in order, on all processors, and what `beside` makes meanwhile.
+pub fn spread<T: Send, U>(count: usize, work: impl Fn(usize) -> T + Sync, beside: impl FnOnce() -> U) -> (Vec<T>, U) {
+    let next = AtomicUsize::new(0);
+    let numbers = || std::iter::repeat_with(|| next.fetch_add(1, Ordering::Relaxed)).take_while(|&number| number < count);
+    let some = || numbers().map(|number| (number, work(number))).collect::<Vec<_>>();
+    std::thread::scope(|scope| {
+        let started: Vec<_> = (0..workers()).map(|_| scope.spawn(some)).collect();
+        let other = beside();
+        let mut all: Vec<(usize, T)> = started.into_iter().flat_map(|worker| worker.join().expect("a worker ends")).collect();
+        all.sort_by_key(|(number, _)| *number);
+        (all.into_iter().map(|(_, made)| made).collect(), other)
+    })
+}
+
 /// Inputs, each with a name.
 pub type Inputs = [(String, Vec<u8>)];
 
 /// How many inputs are given to programs before what they print is looked at.
 const BATCH: usize = 256;
-
-/// What the program prints for each input, in order, and what `expect` says of each. As many programs run at a time as there are processors.
-fn printed_beside<T>(
-    program: &[String],
-    inputs: &Inputs,
-    expect: impl FnMut(&[u8]) -> T,
-) -> Result<Vec<(T, Vec<String>)>, String> {
-    let next = AtomicUsize::new(0);
-    let work = || {
-        let mut done = Vec::new();
-        while let Some((number, (_, input))) =
-            Some(next.fetch_add(1, Ordering::Relaxed)).and_then(|n| Some((n, inputs.get(n)?)))
-        {
-            done.push((number, printed(program, input)));
-        }
-        done
-    };
-    let workers = std::thread::available_parallelism().map_or(1, usize::from);
-    std::thread::scope(|scope| {
-        let started: Vec<_> = (0..workers).map(|_| scope.spawn(work)).collect();
-        let expected: Vec<T> = inputs.iter().map(|(_, input)| &input[..]).map(expect).collect();
-        let mut all: Vec<_> = started.into_iter().flat_map(|worker| worker.join().expect("a worker ends")).collect();
-        all.sort_by_key(|(number, _)| *number);
-        expected.into_iter().zip(all).map(|(want, (_, got))| Ok((want, got?))).collect()
-    })
-}
 
 /// How many inputs differ. The first one is given to `tell`; of a few others the name is printed.
 pub fn compare_all(
@@ -173,8 +166,12 @@ pub fn compare_all(
 ) -> Result<usize, String> {
     let mut different = 0;
     for batch in inputs.chunks(BATCH) {
-        let all = printed_beside(program, batch, &mut expect)?;
-        for ((name, input), _) in batch.iter().zip(all).filter(|(_, (want, got))| want != got) {
+        let expected = || batch.iter().map(|(_, input)| expect(input)).collect::<Vec<_>>();
+        let (got, want) = spread(batch.len(), |number| printed(program, &batch[number].1), expected);
+        for ((name, input), (got, want)) in batch.iter().zip(got.into_iter().zip(want)) {
+            if got? == want {
+                continue;
+            }
             different += 1;
             match different {
                 1 => tell(name, input),
@@ -213,14 +210,18 @@ pub fn try_faults(
     program: &[String],
     inputs: &Inputs,
     faults: &[(Fault, &str)],
-    lines: impl Fn(&[u8]) -> Vec<String> + Copy + RefUnwindSafe,
+    lines: impl Fn(&[u8]) -> Vec<String> + Copy + RefUnwindSafe + Sync,
 ) -> Result<Vec<usize>, String> {
-    let got: Vec<Vec<String>> = printed_beside(program, inputs, |_| ())?.into_iter().map(|(_, got)| got).collect();
-    let noticed = |&(fault, _): &(Fault, &str)| {
+    let (got, _) = spread(inputs.len(), |number| printed(program, &inputs[number].1), || ());
+    let got: Vec<Vec<String>> = got.into_iter().collect::<Result<_, _>>()?;
+    let noticed = |number: usize| {
         let pairs = inputs.iter().zip(&got);
-        pairs.filter(|((_, input), printed)| faulty_lines(fault, input, lines).map_or(true, |lines| lines != **printed)).count()
+        let differs = |input: &[u8], printed: &[String]| {
+            faulty_lines(faults[number].0, input, lines).map_or(true, |lines| lines != printed)
+        };
+        pairs.filter(|((_, input), printed)| differs(input, printed)).count()
     };
-    Ok(faults.iter().map(noticed).collect())
+    Ok(spread(faults.len(), noticed, || ()).0)
 }
 
 /// The lines with a fault on; nothing where the fault leads to a place that no sound state reaches.

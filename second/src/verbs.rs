@@ -233,18 +233,24 @@ fn take_cases(words: &Words) -> Vec<takes::Case> {
 /// A case, the lines that are expected of it and those printed.
 type Told = (takes::Case, Vec<String>, Vec<String>);
 
-/// Cases with the lines that are expected of each and those that the program prints; what it prints beyond goes with the last.
+/// Cases with the lines that are expected of each and those that the program prints; what it prints beyond goes with the last. The cases are
+/// given to as many programs as there are processors.
 fn printed_takes(cases: Vec<takes::Case>, words: &Words) -> Result<Vec<Told>, String> {
-    let input: Vec<u8> = cases.iter().flat_map(takes::input).collect();
-    let mut printed = runs::printed(&words.program, &input)?.into_iter();
+    let share = cases.len() / runs::workers() + 1;
+    let inputs: Vec<Vec<u8>> = cases.chunks(share).map(|some| some.iter().flat_map(takes::input).collect()).collect();
+    let expected = || cases.iter().map(takes::lines).collect::<Vec<_>>();
+    let (printed, want) = runs::spread(inputs.len(), |number| runs::printed(&words.program, &inputs[number]), expected);
     let mut all: Vec<Told> = Vec::new();
-    for case in cases {
-        let want = takes::lines(&case);
-        let got = printed.by_ref().take(want.len()).collect();
-        all.push((case, want, got));
-    }
-    if let Some((_, _, got)) = all.last_mut() {
-        got.extend(printed);
+    let mut wanted = cases.into_iter().zip(want);
+    for lines in printed {
+        let mut lines = lines?.into_iter();
+        for (case, want) in wanted.by_ref().take(share) {
+            let got = lines.by_ref().take(want.len()).collect();
+            all.push((case, want, got));
+        }
+        if let Some((_, _, got)) = all.last_mut() {
+            got.extend(lines);
+        }
     }
     Ok(all)
 }
