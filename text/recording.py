@@ -337,8 +337,8 @@ def made(script, said):
             waited += int.from_bytes(body, "big")
             continue
         if rows and waited > MOST_DISTANCE:
-            reason = f"{waited} since the event before, {MOST_DISTANCE} are the most in a recording: put an event that changes nothing between them, as `count 1`"
-            raise script.wrong(number, "ticks", reason)
+            raise script.wrong(number, "ticks", f"{waited} since the event before, {MOST_DISTANCE} are the most in a recording: put an event that "
+                                                "changes nothing between them, as `count 1`")
         event, whole = answered(script, number, said[number])
         if len(whole) > MOST_BODY:
             raise script.wrong(number, "body", f"arguments and answer have {len(whole)} bytes, {MOST_BODY} are the most in a recording")

@@ -166,7 +166,8 @@ def damaged():
     many = b"\0\1\x0f\xa1" + struct.pack(">IHHI", 0, 14, 0, 8) * 4001 + bytes.fromhex("0001000000000000") * 4001
     for name, recording, word, line, text in (
             ("cut in a body", data[:60], "CUT", "cut: entry 3: body of 15 bytes, 8 bytes are there", "  cut at byte 60: body of 15 bytes, 8 bytes are there"),
-            ("without its last byte", data[:66], "CUT", "cut: entry 3: body of 15 bytes, 14 bytes are there", "  cut at byte 66: body of 15 bytes, 14 bytes are there"),
+            ("without its last byte", data[:66], "CUT", "cut: entry 3: body of 15 bytes, 14 bytes are there",
+             "  cut at byte 66: body of 15 bytes, 14 bytes are there"),
             ("cut in its contents", data[:30], "CUT", "cut: the contents end after 30 bytes, 3 entries need 40 bytes",
              "cut at byte 30: the contents end after 30 bytes, 3 entries need 40 bytes"),
             ("of one byte", data[:1], "CUT", "cut: the contents end after 1 byte, the front needs 4 bytes",
@@ -179,7 +180,8 @@ def damaged():
              "  refused at byte 28: stamp: 4294967295 ticks after the one before, 65535 ticks are the most"),
             ("with event 16", new().field(2, 1, 16).bytes(), "REFUSED", "refused: entry 2: unknown event number 16",
              "  refused at byte 20: event number: 16 is unknown"),
-            ("with a tick", new().field(2, 1, 0).bytes(), "REFUSED", "refused: entry 2: unknown event number 0", "  refused at byte 20: event number: 0 is unknown"),
+            ("with a tick", new().field(2, 1, 0).bytes(), "REFUSED", "refused: entry 2: unknown event number 0",
+             "  refused at byte 20: event number: 0 is unknown"),
             ("with another zero", new().field(3, 2, 1).bytes(), "REFUSED", "refused: entry 3: zero field is not 0",
              "  refused at byte 34: zero field: 0001 is not 0000"),
             ("with party 1", new().body(2, b"\1\0\0\0").bytes(), "REFUSED", "refused: entry 2: body does not fit", "  refused at byte 48: party: 01 is not 00"),
@@ -197,11 +199,12 @@ def damaged():
         same(told[-1], word, f"a recording {name} as a text: the last word")
     behind = file("behind", data + b"truck")
     same(lines("replay", TABLE, behind)[1][-1], "SAME", "bytes behind the last body")
-    same(lines("recording", "to-text", behind)[1][-2:], ["5 bytes behind the last body, from byte 67 on: ignored", "OK"], "bytes behind the last body, as a text")
+    ignored = "5 bytes behind the last body, from byte 67 on: ignored"
+    same(lines("recording", "to-text", behind)[1][-2:], [ignored, "OK"], "bytes behind the last body, as a text")
     both = Parts(contents(CHANGED)).field(200, 1, 77).bytes()
     status, told = lines("replay", TABLE, file("both", both))
-    same((status, told[0][:29], told[3:5], told[-1]), (1, "first difference: entry 109, ", ["refused: entry 200: unknown event number 77", "entries run: 199 of 329"],
-                                                       "DIFFERS"), "a difference and a refusal")
+    same((status, told[0][:29], told[-1]), (1, "first difference: entry 109, ", "DIFFERS"), "a difference and a refusal")
+    same(told[3:5], ["refused: entry 200: unknown event number 77", "entries run: 199 of 329"], "a refusal behind a difference")
 
 
 def tables():
@@ -221,16 +224,19 @@ def tables():
 def refused_scripts():
     out = os.path.join(FOLDER, "never")
     state = file("state.txt", b"# a start\nstate\nend\ncount 1\n")
-    known = subprocess.run([os.path.join(ROOT, "text", "convert"), "script", "bytes"], input=b"count 1\ntick 2\nlost 9\n", stdout=subprocess.PIPE, check=True).stdout
+    convert = [os.path.join(ROOT, "text", "convert"), "script", "bytes"]
+    known = subprocess.run(convert, input=b"count 1\ntick 2\nlost 9\n", stdout=subprocess.PIPE, check=True).stdout
     payload = "aa" * 4080
     for name, script, error in (
             ("a start state", state, f"script {state}, line 2: state: a recording starts fresh and holds no start state\nREFUSED\n"),
-            ("many ticks", file("far.txt", b"count 1\ntick 65535\ntick 1\ncount 2\n"), "script {}, line 4: ticks: 65536 since the event before, 65535 are the most"),
+            ("many ticks", file("far.txt", b"count 1\ntick 65535\ntick 1\ncount 2\n"),
+             "script {}, line 4: ticks: 65536 since the event before, 65535 are the most"),
             ("a long body", file("long.txt", f"transmit 0x0201 {payload}\ncount 1\ntransmit 1 {payload}aaaaaaaa\n".encode()),
              "script {}, line 3: body: arguments and answer have 4097 bytes, 4096 are the most"),
             ("4,001 events", file("many.txt", b"count 1\n" * 4001), "script {}, line 4001: entries: 4000 are the most in a recording\nREFUSED\n"),
             ("a late stamp", file("late.txt", b"count 1\nstamp 7\n"), "script {}, line 2, column 1: stamp: is not the first line\nREFUSED\n"),
-            ("a stamp too large", file("large.txt", b"stamp 4294967296\n"), "script {}, line 1, column 7: stamp: 4294967296 is more than 4294967295\nREFUSED\n"),
+            ("a stamp too large", file("large.txt", b"stamp 4294967296\n"),
+             "script {}, line 1, column 7: stamp: 4294967296 is more than 4294967295\nREFUSED\n"),
             ("a text with a fault", file("bad.txt", b"tick one\n"), "script {}, line 1, column 6: ticks: `one` is no number"),
             ("an unknown event", file("unknown", known + b"\0\x10" + bytes(6)), "script {}, entry 4, byte 32: entry: unknown event number 16\nREFUSED\n"),
             ("an entry that is cut", file("cut", known[:-1]), "script {}: ends inside an entry\nCUT\n")):
@@ -249,16 +255,18 @@ def arguments():
                          ("replay", TABLE, RECORDING, "--each", "--each")), "replay takes a table and a recording"),
                        ((("record",), ("record", TABLE), ("record", TABLE, ""), ("record", TABLE, SHIFT, ""), ("record", TABLE, SHIFT, "a", "b")),
                         "record takes a table, a script and perhaps a file to write"),
-                       ((("recording",), ("recording", "to-text"), ("recording", "to-text", ""), ("recording", RECORDING)), "recording takes a direction and a file"),
+                       ((("recording",), ("recording", "to-text"), ("recording", "to-text", ""), ("recording", RECORDING)),
+                        "recording takes a direction and a file"),
                        ((("recording", "to-bytes", RECORDING),), "recording: there is no direction to-bytes")):
         for call in words:
             status, out, error = soad(*call)
             true((status, out) == (2, b"") and error.startswith(f"soad: {why}\nusage: ./soad {call[0]} "), f"./soad {call}: {status} {error}")
     missing = os.path.join(FOLDER, "missing")
-    for call in (("replay", missing, RECORDING), ("replay", TABLE, missing), ("record", TABLE, missing), ("record", missing, SHIFT), ("recording", "to-text", missing),
-                 ("replay", TABLE, FOLDER)):
+    for call in (("replay", missing, RECORDING), ("replay", TABLE, missing), ("record", TABLE, missing), ("record", missing, SHIFT),
+                 ("recording", "to-text", missing), ("replay", TABLE, FOLDER)):
         same(soad(*call), (2, b"", f"soad: cannot read the file {FOLDER if FOLDER in call else missing}\n"), f"./soad {call}")
-    same(soad("record", TABLE, LONG, os.path.join(missing, "out")), (2, b"", f"soad: cannot write the file {missing}/out\n"), "record to a folder that is not there")
+    out = os.path.join(missing, "out")
+    same(soad("record", TABLE, LONG, out), (2, b"", f"soad: cannot write the file {out}\n"), "record to a folder that is not there")
     for verb in ("replay", "record", "recording"):
         status, out, error = soad(verb, "--help")
         true((status, error) == (0, "") and out.startswith(f"./soad {verb} ".encode()), f"./soad {verb} --help")
