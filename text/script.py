@@ -75,7 +75,7 @@ EMPTY = (bytes([0, 0, 0, 4]) + bytes(39)) * 16 + bytes(8 + 16 * (RX + TX))
 def forms():
     events = [form(name, row) for name, (_, row) in EVENTS.items()]
     events.insert(list(EVENTS).index("transmit") + 1, "transmit <PDU> <value> <unit>")
-    return events + [
+    return ["stamp <stamp of the first event> (the first line or none; for ./soad record)"] + events + [
         "state", form("record <connection>", RECORDS), form("drops", LINES["drops"][3]), "rx <connection> <bytes in hex>",
         "tx <connection> <bytes in hex>", "end"]
 
@@ -140,10 +140,31 @@ def event_body(name, words, units):
     return body
 
 
+def stamped(words):
+    """The stamp of the first event, where this line gives it: for ./soad record, and no entry."""
+    if words.words[0] != "stamp":
+        return None
+    words.next("stamp")
+    stamp = words.number("stamp", 2 ** 32 - 1)
+    words.end()
+    return stamp
+
+
+def first_stamp(text):
+    """The stamp that the first line of a text gives; None where it gives none."""
+    return next(map(stamped, lines(text)), None)
+
+
 def entries(text, units):
-    """(line, bytes) of each entry."""
-    rest, first = lines(text), True
+    """(line, bytes) of each entry. The first line may be a stamp."""
+    rest, first, front = lines(text), True, True
     for words in rest:
+        if words.words[0] == "stamp" and not front:
+            words.next("stamp")
+            raise words.wrong("stamp", "is not the first line")
+        front = False
+        if stamped(words) is not None:
+            continue
         name = words.choice("event", [*EVENTS, "state"])
         if name != "state":
             yield words.line, entry(EVENTS[name][0], event_body(name, words, units))

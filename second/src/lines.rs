@@ -1,37 +1,11 @@
 //! What `run` prints: docs/EVENTS.md, "What `./soad run` prints".
 
+use crate::answer::{self, bytes_words as bytes, count_words as count, remote_words as remote};
 use crate::bytes::{hex, spell, Reader};
-use crate::event::{run, Answer, Done, Event};
-use crate::header::Header;
+use crate::event::{run, Answer, Event};
 use crate::script::{image_end, read_body, read_head, Entry, Refused};
 use crate::state::{Mode, State, World};
-use crate::stream::{Outcome, Part, Stood, Take};
-use crate::table::Remote;
-use crate::walk::{Found, Step};
-
-/// "bytes are lower-case hex without spaces, and `-` where there are none".
-fn bytes(bytes: &[u8]) -> String {
-    if bytes.is_empty() {
-        "-".into()
-    } else {
-        hex(bytes)
-    }
-}
-
-/// "An address prints as `192.168.10.11 port 30501`, and a wildcard (0) as `any`".
-fn remote(remote: Remote) -> String {
-    let address = match remote.address.to_be_bytes() {
-        [0, 0, 0, 0] => "any".into(),
-        [a, b, c, d] => format!("{}.{}.{}.{}", a, b, c, d),
-    };
-    let port = if remote.port == 0 { "any".into() } else { remote.port.to_string() };
-    format!("{} port {}", address, port)
-}
-
-/// "A unit behind the number 1 is singular".
-fn count(number: u64, unit: &str) -> String {
-    format!("{} {}{}", number, unit, if number == 1 { "" } else { "s" })
-}
+use crate::stream::Part;
 
 fn length(bytes: &[u8]) -> String {
     count(bytes.len() as u64, "byte")
@@ -53,7 +27,7 @@ fn yes(wanted: bool) -> &'static str {
     }
 }
 
-fn event_words(event: &Event) -> String {
+pub fn event_words(event: &Event) -> String {
     match event {
         Event::Ticks(times) => format!("tick {}", count(u64::from(*times), "time")),
         Event::Open(connection) => format!("open connection {}", connection),
@@ -66,7 +40,9 @@ fn event_words(event: &Event) -> String {
         Event::Walk(connection, place, datagram) => {
             format!("walk on connection {} from byte {} of {}", connection, place, length(datagram))
         }
-        Event::TakeWaiting(connection, room) => format!("take waiting of connection {} into {}", connection, count(u64::from(*room), "byte")),
+        Event::TakeWaiting(connection, room) => {
+            format!("take waiting of connection {} into {}", connection, count(u64::from(*room), "byte"))
+        }
         Event::Datagram(group, source) => format!("datagram to group {} from {}", group, remote(*source)),
         Event::Accept(group, source) => format!("accept to group {} from {}", group, remote(*source)),
         Event::Transmit(pdu, payload) => format!("transmit PDU 0x{:04x}, {}: {}", pdu, length(payload), bytes(payload)),
@@ -76,88 +52,8 @@ fn event_words(event: &Event) -> String {
     }
 }
 
-fn meaning(number: u8) -> &'static str {
-    match number {
-        2 => "not there",
-        3 => "not allowed",
-        4 => "not online",
-        5 => "no destination",
-        6 => "switched off",
-        7 => "too long",
-        8 => "flush first",
-        9 => "out buffer too short",
-        10 => "no connection matches",
-        11 => "lent memory has another length",
-        _ => "state or table not sound",
-    }
-}
-
-fn reason_words(reason: u8) -> &'static str {
-    match reason {
-        20 => "no route for this id",
-        21 => "switched off",
-        22 => "longer than its route allows",
-        _ => "cut off: no whole header, or a length beyond the end",
-    }
-}
-
-fn header(header: Header) -> String {
-    format!("id 0x{:08x}, length {}", header.id, count(u64::from(header.length), "byte"))
-}
-
-fn drop_words(reason: u8, of: Header) -> String {
-    format!("drop {}, {}, {}", reason, reason_words(reason), header(of))
-}
-
-fn take_words(take: &Take) -> String {
-    match &take.outcome {
-        Outcome::More => "more wanted".into(),
-        Outcome::Drop { reason, header: of } => drop_words(*reason, *of),
-        Outcome::Pdu { route, header: of, stood, payload } => {
-            let from = match stood {
-                Stood::Segment(at) => format!("the segment at byte {}", at),
-                Stood::Memory => "receive memory".into(),
-            };
-            format!("PDU of route {}, {}, from {}: {}", route, header(*of), from, bytes(payload))
-        }
-    }
-}
-
-fn walk_words(step: &Step, datagram: &[u8]) -> String {
-    let found = match step.found {
-        Found::End => "the end".into(),
-        Found::Drop { reason, header: of } => drop_words(reason, of),
-        Found::Pdu { route, header: of, at } => {
-            let payload = datagram.get(at..at + of.length as usize).unwrap_or_default();
-            format!("PDU of route {}, {}, at byte {}: {}", route, header(of), at, bytes(payload))
-        }
-    };
-    format!("; {}, next byte {}", found, step.next)
-}
-
-fn answer_words(event: &Event, answer: &Answer) -> String {
-    let done = match answer {
-        Err((number, None)) => return format!("{} {}", number, meaning(*number)),
-        Err((number, Some(destination))) => return format!("{} {}, destination {}", number, meaning(*number), destination),
-        Ok(done) => done,
-    };
-    let values = match (done, event) {
-        (Done::Takes(takes), _) => takes
-            .iter()
-            .enumerate()
-            .map(|(i, take)| format!("; take {} read {}: {}", i + 1, count(take.read as u64, "byte"), take_words(take)))
-            .collect(),
-        (Done::Walked(step), Event::Walk(_, _, datagram)) => walk_words(step, datagram),
-        (Done::Waiting(to, waiting), _) => format!("; {} for {}: {}", length(waiting), remote(*to), bytes(waiting)),
-        (Done::Chosen(connection), _) => format!("; connection {}", connection),
-        (Done::Count(value), _) => format!("; {}", count(u64::from(*value), "drop")),
-        _ => String::new(),
-    };
-    format!("0 done{}", values)
-}
-
 /// The end: "a line for each record that the table has a row for, then the counts".
-fn end_lines(world: &World) -> Vec<String> {
+pub fn end_lines(world: &World) -> Vec<String> {
     let rows = world.table.as_ref().map_or(0, |table| table.connections.len());
     let mut lines: Vec<String> = (0..rows).map(|connection| record_line(world, connection)).collect();
     lines.push(format!("drops: UDP {}, TCP {}", world.state.udp_drops, world.state.tcp_drops));
@@ -173,7 +69,9 @@ fn record_line(world: &World, connection: usize) -> String {
     };
     let part = match record.part {
         Part::Header { held: 0, .. } => "ready".into(),
-        Part::Header { held, value } => format!("header {}: {}", count(u64::from(held), "byte"), hex(&spell(value, usize::from(held.min(8))))),
+        Part::Header { held, value } => {
+            format!("header {}: {}", count(u64::from(held), "byte"), hex(&spell(value, usize::from(held.min(8)))))
+        }
         Part::Payload { route, length, held } => {
             format!(
                 "payload of route {}, {} of {}: {}",
@@ -186,7 +84,8 @@ fn record_line(world: &World, connection: usize) -> String {
         Part::Skip(left) => format!("skip {}", count(u64::from(left), "byte")),
     };
     let send = format!("send {}: {}", count(u64::from(record.used), "byte"), bytes(world.waiting(connection)));
-    let timer = if record.timer == 0 { "timer stopped".into() } else { format!("timer {}", count(u64::from(record.timer), "tick")) };
+    let timer =
+        if record.timer == 0 { "timer stopped".into() } else { format!("timer {}", count(u64::from(record.timer), "tick")) };
     let wishes = format!("open wanted {}, close wanted {}", yes(record.open_wanted), yes(record.close_wanted));
     let (to, due) = (remote(record.remote), yes(record.due));
     format!(
@@ -208,7 +107,7 @@ pub fn lines(input: &[u8], mut met: impl FnMut(&Seen)) -> Vec<String> {
     let image = image_end(input);
     let mut world = World::new(&input[..image]);
     if let Err(place) = world.table {
-        return vec![format!("refused 1 at byte {}", place), "REFUSED".into()];
+        return refused_table(place);
     }
     let mut lines = Vec::new();
     let mut rest = &input[image..];
@@ -238,7 +137,12 @@ pub fn lines(input: &[u8], mut met: impl FnMut(&Seen)) -> Vec<String> {
                 let before = world.state.clone();
                 let answer = run(&mut world, &event);
                 met(&Seen { event: &event, before: &before, after: &world, answer: &answer });
-                lines.push(format!("entry {}: {}: {}", number, event_words(&event), answer_words(&event, &answer)));
+                lines.push(format!(
+                    "entry {}: {}: {}",
+                    number,
+                    event_words(&event),
+                    answer::words(&event, &answer::spell(&event, &answer))
+                ));
             }
             Ok(Entry::Start(start)) => {
                 world = World { state: start.state, receive: start.receive, send: start.send, ..world };
@@ -253,6 +157,11 @@ pub fn lines(input: &[u8], mut met: impl FnMut(&Seen)) -> Vec<String> {
     lines.extend(end_lines(&world));
     lines.push(last.into());
     lines
+}
+
+/// A refused table: its place, without the words behind it.
+pub fn refused_table(place: usize) -> Vec<String> {
+    vec![format!("refused 1 at byte {}", place), "REFUSED".into()]
 }
 
 fn refused_words(why: Refused, event: u16) -> String {

@@ -1,6 +1,7 @@
 //! The second program: the rules (docs/RULES.md) written down once more, independently, and compared with the C functions of libsoad.a and
-//! with the program `run`.
+//! with the programs `run` and `replay`.
 
+mod answer;
 mod bytes;
 mod compare;
 mod connection;
@@ -12,6 +13,9 @@ mod generate;
 mod header;
 mod lines;
 mod random;
+mod recording;
+mod recordings;
+mod replay;
 mod runs;
 mod script;
 mod select;
@@ -35,7 +39,8 @@ use std::process::ExitCode;
 
 const USAGE: &str = "second compare PART [--seed N] [--count N] [--store FOLDER] -- PROGRAM ..
     random cases: the program answers as this one expects. PART is table, walk or frame (PROGRAM is the C driver), runs,
-    streams or selections (PROGRAM is run), takes (PROGRAM is takes); or, for a fixed list, changes (of the 86-byte image) or cuts (of a datagram)
+    streams or selections (PROGRAM is run), takes (PROGRAM is takes), recordings (PROGRAM is replay); or, for a fixed list, changes (of the
+    86-byte image), cuts (of a datagram) or recording-edges (limits of recordings, and a small one cut at every byte)
 second replay PART FOLDER -- PROGRAM ..
     the same for the cases stored in a folder
 second faults PART [--seed N] [--count N] -- PROGRAM ..
@@ -49,7 +54,7 @@ second edges
     prints what tests/edges.c is to print
 second files FOLDER OUT
     writes the images stored in a folder as files of bytes, and prints what tests/edges.c is to print of them
-second simulate run|takes|driver
+second simulate run|takes|replay|driver
     gives what this program is to give for its input
 With --fault NAME a seeded fault is on in any of these.";
 
@@ -82,6 +87,11 @@ fn obey(words: &Words) -> Result<(), String> {
     let plain: Vec<&str> = words.plain.iter().map(String::as_str).collect();
     match plain[..] {
         ["compare", "takes"] => verbs::compare_takes(words),
+        ["compare", "recordings"] => verbs::compare_recordings(words),
+        ["compare", "recording-edges"] => verbs::compare_recording_edges(words),
+        ["replay", "recordings", folder] => verbs::replay_recordings(Path::new(folder), words),
+        ["faults", "recordings"] => verbs::fault_recordings(words),
+        ["simulate", "replay"] => verbs::simulate(replay::lines),
         ["faults", "takes"] => verbs::fault_takes(words),
         ["compare", part] if verbs::is_script(part) => verbs::compare_scripts(part, words),
         ["compare", part] => verbs::compare_requests(part, words),

@@ -12,8 +12,10 @@ use crate::tell;
 use crate::walk::Found;
 use std::collections::BTreeMap;
 use std::io::Write;
+use std::panic::RefUnwindSafe;
 use std::path::Path;
 use std::process::{Command, Stdio};
+use std::sync::atomic::{AtomicUsize, Ordering};
 
 /// How often each answer number, drop reason, mode change and kind of receive part was met, and how many takes there were.
 pub type Met = BTreeMap<String, usize>;
@@ -130,21 +132,62 @@ pub fn printed(program: &[String], input: &[u8]) -> Result<Vec<String>, String> 
     Ok(String::from_utf8_lossy(&output.stdout).lines().map(compared).collect())
 }
 
-/// Compares what is printed for each script. The first one that differs is made smaller, printed and stored; of a few others, the name.
-pub fn compare(program: &[String], scripts: &[(String, Vec<u8>)], store: Option<&Path>) -> Result<(usize, Met), String> {
-    let mut met = Met::new();
+/// How many programs run at a time.
+pub fn workers() -> usize {
+    std::thread::available_parallelism().map_or(1, usize::from)
+}
+
+/// What `work` makes of each number below `count`, in order, on all processors, and what `beside` makes meanwhile.
+pub fn spread<T: Send, U>(count: usize, work: impl Fn(usize) -> T + Sync, beside: impl FnOnce() -> U) -> (Vec<T>, U) {
+    let next = AtomicUsize::new(0);
+    let numbers = || std::iter::repeat_with(|| next.fetch_add(1, Ordering::Relaxed)).take_while(|&number| number < count);
+    let some = || numbers().map(|number| (number, work(number))).collect::<Vec<_>>();
+    std::thread::scope(|scope| {
+        let started: Vec<_> = (0..workers()).map(|_| scope.spawn(some)).collect();
+        let other = beside();
+        let mut all: Vec<(usize, T)> = started.into_iter().flat_map(|worker| worker.join().expect("a worker ends")).collect();
+        all.sort_by_key(|(number, _)| *number);
+        (all.into_iter().map(|(_, made)| made).collect(), other)
+    })
+}
+
+/// Inputs, each with a name.
+pub type Inputs = [(String, Vec<u8>)];
+
+/// How many inputs are given to programs before what they print is looked at.
+const BATCH: usize = 256;
+
+/// How many inputs differ. The first one is given to `tell`; of a few others the name is printed.
+pub fn compare_all(
+    program: &[String],
+    inputs: &Inputs,
+    mut expect: impl FnMut(&[u8]) -> Vec<String>,
+    mut tell: impl FnMut(&str, &[u8]),
+) -> Result<usize, String> {
     let mut different = 0;
-    for (name, input) in scripts {
-        let want = lines(input, |seen| note(&mut met, seen));
-        if want != printed(program, input)? {
+    for batch in inputs.chunks(BATCH) {
+        let expected = || batch.iter().map(|(_, input)| expect(input)).collect::<Vec<_>>();
+        let (got, want) = spread(batch.len(), |number| printed(program, &batch[number].1), expected);
+        for ((name, input), (got, want)) in batch.iter().zip(got.into_iter().zip(want)) {
+            if got? == want {
+                continue;
+            }
             different += 1;
             match different {
-                1 => tell(program, name, input, store),
+                1 => tell(name, input),
                 2..=4 => println!("different, too: {}", name),
                 _ => {}
             }
         }
     }
+    Ok(different)
+}
+
+/// Compares what is printed for each script. The first one that differs is made smaller, printed and stored.
+pub fn compare(program: &[String], scripts: &Inputs, store: Option<&Path>) -> Result<(usize, Met), String> {
+    let mut met = Met::new();
+    let expect = |input: &[u8]| lines(input, |seen| note(&mut met, seen));
+    let different = compare_all(program, scripts, expect, |name, input| tell(program, name, input, store))?;
     Ok((different, met))
 }
 
@@ -162,17 +205,26 @@ fn tell(program: &[String], name: &str, input: &[u8], store: Option<&Path>) {
     tell::script(name, &least.bytes(), want, got).print(calls, BOUND, store);
 }
 
-/// In how many scripts each fault changes what is printed.
-pub fn try_faults(program: &[String], scripts: &[(String, Vec<u8>)], faults: &[(Fault, &str)]) -> Result<Vec<usize>, String> {
-    let got: Vec<Vec<String>> = scripts.iter().map(|(_, input)| printed(program, input)).collect::<Result<_, _>>()?;
-    let noticed = |&(fault, _): &(Fault, &str)| {
-        let pairs = scripts.iter().zip(&got);
-        pairs.filter(|((_, input), printed)| faulty_lines(fault, input).map_or(true, |lines| lines != **printed)).count()
+/// In how many inputs each fault changes what `lines` expects of the program.
+pub fn try_faults(
+    program: &[String],
+    inputs: &Inputs,
+    faults: &[(Fault, &str)],
+    lines: impl Fn(&[u8]) -> Vec<String> + Copy + RefUnwindSafe + Sync,
+) -> Result<Vec<usize>, String> {
+    let (got, _) = spread(inputs.len(), |number| printed(program, &inputs[number].1), || ());
+    let got: Vec<Vec<String>> = got.into_iter().collect::<Result<_, _>>()?;
+    let noticed = |number: usize| {
+        let pairs = inputs.iter().zip(&got);
+        let differs = |input: &[u8], printed: &[String]| {
+            faulty_lines(faults[number].0, input, lines).map_or(true, |lines| lines != printed)
+        };
+        pairs.filter(|((_, input), printed)| differs(input, printed)).count()
     };
-    Ok(faults.iter().map(noticed).collect())
+    Ok(spread(faults.len(), noticed, || ()).0)
 }
 
 /// The lines with a fault on; nothing where the fault leads to a place that no sound state reaches.
-fn faulty_lines(fault: Fault, input: &[u8]) -> Option<Vec<String>> {
-    fault::with(fault, || std::panic::catch_unwind(|| lines(input, |_| ())).ok())
+fn faulty_lines(fault: Fault, input: &[u8], lines: impl Fn(&[u8]) -> Vec<String> + RefUnwindSafe) -> Option<Vec<String>> {
+    fault::with(fault, || std::panic::catch_unwind(|| lines(input)).ok())
 }

@@ -40,7 +40,7 @@ pub fn entry(number: u16, zero: u16, body: &[u8]) -> Vec<u8> {
 
 /// "An address is family (1), which is 4; sixteen bytes (16), of which the first twelve are 0 and the last four the IPv4
 /// address; port (2)."
-fn address(body: Writer, remote: Remote) -> Writer {
+pub fn address(body: Writer, remote: Remote) -> Writer {
     body.number(4u8, 1).bytes(&[0; 12]).number(remote.address, 4).number(remote.port, 2)
 }
 
@@ -48,6 +48,11 @@ fn read_address(body: &mut Reader) -> Option<Remote> {
     let (family, zeros) = (body.number(1), body.bytes(12));
     let remote = Remote { address: body.number(4) as u32, port: body.number(2) as u16 };
     (family == 4 && zeros.iter().all(|&byte| byte == 0)).then_some(remote)
+}
+
+/// The number of an event.
+pub fn number_of(event: &Event) -> u16 {
+    crate::bytes::number(&write(event), 0, 2) as u16
 }
 
 /// The entry of an event.
@@ -76,14 +81,14 @@ pub fn write(event: &Event) -> Vec<u8> {
 }
 
 /// A body that is read to its end, or does not fit.
-struct Body<'a> {
+pub struct Body<'a> {
     reader: Reader<'a>,
     left: usize,
     fits: bool,
 }
 
 impl<'a> Body<'a> {
-    fn new(body: &'a [u8]) -> Self {
+    pub fn new(body: &'a [u8]) -> Self {
         Body { reader: Reader::new(body, 0), left: body.len(), fits: true }
     }
 
@@ -93,7 +98,7 @@ impl<'a> Body<'a> {
         self.fits
     }
 
-    fn number(&mut self, width: usize) -> u64 {
+    pub fn number(&mut self, width: usize) -> u64 {
         match self.takes(width) {
             true => self.reader.number(width),
             false => 0,
@@ -105,7 +110,7 @@ impl<'a> Body<'a> {
     }
 
     /// A number that must be at most this.
-    fn at_most(&mut self, width: usize, most: u64) -> u64 {
+    pub fn at_most(&mut self, width: usize, most: u64) -> u64 {
         let value = self.number(width);
         self.fits &= value <= most;
         value
@@ -121,6 +126,13 @@ impl<'a> Body<'a> {
         remote.unwrap_or_default()
     }
 
+    /// Bytes that are not looked at.
+    pub fn skip(&mut self, width: usize) {
+        if self.takes(width) {
+            self.reader.bytes(width);
+        }
+    }
+
     fn bytes(&mut self, length: usize) -> Vec<u8> {
         match self.takes(length) {
             true => self.reader.bytes(length).to_vec(),
@@ -134,7 +146,7 @@ impl<'a> Body<'a> {
         self.bytes(length)
     }
 
-    fn end<T>(self, value: T) -> Result<T, Refused> {
+    pub fn end<T>(self, value: T) -> Result<T, Refused> {
         (self.fits && self.left == 0).then_some(value).ok_or(Refused::Body)
     }
 }

@@ -3,6 +3,8 @@
 
 use crate::bytes::hex;
 use crate::exchange::words;
+use crate::script::image_end;
+use crate::shrink::recording::Recording;
 use crate::shrink::request::Request;
 use crate::shrink::script::{Piece, Script};
 use crate::shrink::Bound;
@@ -59,6 +61,16 @@ pub fn script(name: &str, input: &[u8], want: Vec<String>, got: Vec<String>) -> 
     let size = format!("{}, {}, {} bytes", entries(script.entries.len()), count(rows, "table row"), input.len());
     let case = [table_lines(&script.image.bytes()), script_lines(&script)].concat();
     Told { name: name.into(), size, case, stored: input.to_vec(), got, want }
+}
+
+/// A recording and what both programs print.
+pub fn recording(name: &str, input: &[u8], want: Vec<String>, got: Vec<String>) -> Told {
+    let (image, bytes) = input.split_at(image_end(input));
+    let recording = Recording::read(input);
+    let rows: usize = recording.image.counts().iter().sum();
+    let size = format!("{}, {}, {} bytes", entries(recording.entries.len()), count(rows, "table row"), input.len());
+    let front = vec![format!("# recording in hex, {}, for ./soad replay", count(bytes.len(), "byte")), text::bytes(bytes)];
+    Told { name: name.into(), size, case: [table_lines(image), front].concat(), stored: input.to_vec(), got, want }
 }
 
 /// A request and what the C function and the second program answer.

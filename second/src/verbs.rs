@@ -5,12 +5,14 @@ use crate::fault::{self, Fault};
 use crate::generate::datagram::{walk_cuts, walk_request};
 use crate::generate::framing::framing;
 use crate::generate::image::{changes, image, single_changes};
+use crate::generate::recording::{cuts, limits, recording};
 use crate::generate::script::{image_script, misfit_script, script, stream_script, unsound_script};
 use crate::generate::selection::selection_script;
+use crate::lines::lines;
 use crate::random::Random;
 use crate::shrink::{shrink, Bound};
 use crate::vectors::Vector;
-use crate::{exchange, runs, stored, table, takes, tell, vectors as lists, Words, USAGE};
+use crate::{exchange, recordings, replay, runs, stored, table, takes, tell, vectors as lists, Words, USAGE};
 use std::io::Read;
 use std::path::Path;
 
@@ -173,8 +175,52 @@ pub fn fault_scripts(part: &str, words: &Words) -> Outcome {
     };
     let faults = fault::of(of).ok_or(USAGE)?;
     let scripts = scripts(part, words);
-    let noticed = runs::try_faults(&words.program, &scripts, faults)?;
+    let noticed = runs::try_faults(&words.program, &scripts, faults, |input| lines(input, |_| ()))?;
     tell_faults(faults, &noticed, &format!("{} scripts", scripts.len()))
+}
+
+/// Random recordings of different lengths.
+fn random_recordings(words: &Words) -> Vec<(String, Vec<u8>)> {
+    let random = &mut Random::new(words.seed);
+    let recording = |number| {
+        let events = *random.pick(&[1, 4, 12, 40, 120]);
+        (format!("recordings-{}-{}", words.seed, number), recording(random, events))
+    };
+    (0..words.count).map(recording).collect()
+}
+
+/// Fixed recordings, each by its number.
+fn fixed(name: &str, recordings: Vec<Vec<u8>>) -> Vec<(String, Vec<u8>)> {
+    (0..).map(|number: usize| format!("{}-{}", name, number)).zip(recordings).collect()
+}
+
+fn compare_replays(recordings: &[(String, Vec<u8>)], words: &Words) -> Result<runs::Met, String> {
+    let (different, met) = recordings::compare(&words.program, recordings, words.store.as_deref())?;
+    let kinds: Vec<String> = met.iter().map(|(kind, count)| format!("{} {}", kind, count)).collect();
+    println!("{} recordings, {} different ({})", recordings.len(), different, kinds.join("; "));
+    none_different(different).map(|()| met)
+}
+
+pub fn compare_recordings(words: &Words) -> Outcome {
+    let met = compare_replays(&random_recordings(words), words)?;
+    often_enough(recordings::WORDS, 1 + words.count / 100, |kind| met.get(kind).copied().unwrap_or(0))
+}
+
+/// The limits from both sides, and a small recording cut at every byte.
+pub fn compare_recording_edges(words: &Words) -> Outcome {
+    let met = compare_replays(&[fixed("limits", limits()), fixed("cuts", cuts())].concat(), words)?;
+    often_enough(recordings::TO_MEET, 1, |kind| met.get(kind).copied().unwrap_or(0))
+}
+
+pub fn replay_recordings(folder: &Path, words: &Words) -> Outcome {
+    compare_replays(&stored::read(folder)?, words).map(|_| ())
+}
+
+pub fn fault_recordings(words: &Words) -> Outcome {
+    let faults = fault::of("recordings").ok_or(USAGE)?;
+    let recordings = [fixed("limits", limits()), random_recordings(words)].concat();
+    let noticed = runs::try_faults(&words.program, &recordings, faults, replay::lines)?;
+    tell_faults(faults, &noticed, &format!("{} recordings", recordings.len()))
 }
 
 /// Cases for the program test_takes: a fixed list of cuts, then `count` random ones.
@@ -187,18 +233,24 @@ fn take_cases(words: &Words) -> Vec<takes::Case> {
 /// A case, the lines that are expected of it and those printed.
 type Told = (takes::Case, Vec<String>, Vec<String>);
 
-/// Cases with the lines that are expected of each and those that the program prints; what it prints beyond goes with the last.
+/// Cases with the lines that are expected of each and those that the program prints; what it prints beyond goes with the last. The cases are
+/// given to as many programs as there are processors.
 fn printed_takes(cases: Vec<takes::Case>, words: &Words) -> Result<Vec<Told>, String> {
-    let input: Vec<u8> = cases.iter().flat_map(takes::input).collect();
-    let mut printed = runs::printed(&words.program, &input)?.into_iter();
+    let share = cases.len() / runs::workers() + 1;
+    let inputs: Vec<Vec<u8>> = cases.chunks(share).map(|some| some.iter().flat_map(takes::input).collect()).collect();
+    let expected = || cases.iter().map(takes::lines).collect::<Vec<_>>();
+    let (printed, want) = runs::spread(inputs.len(), |number| runs::printed(&words.program, &inputs[number]), expected);
     let mut all: Vec<Told> = Vec::new();
-    for case in cases {
-        let want = takes::lines(&case);
-        let got = printed.by_ref().take(want.len()).collect();
-        all.push((case, want, got));
-    }
-    if let Some((_, _, got)) = all.last_mut() {
-        got.extend(printed);
+    let mut wanted = cases.into_iter().zip(want);
+    for lines in printed {
+        let mut lines = lines?.into_iter();
+        for (case, want) in wanted.by_ref().take(share) {
+            let got = lines.by_ref().take(want.len()).collect();
+            all.push((case, want, got));
+        }
+        if let Some((_, _, got)) = all.last_mut() {
+            got.extend(lines);
+        }
     }
     Ok(all)
 }

@@ -81,6 +81,8 @@ def readme_commands():
         true(out, f"README: {command} prints something")
         if command.startswith(("./soad check", "./soad run", "./soad bench-example")):
             same(out.split("\n")[-2:], ["OK", ""], f"README: the last line of {command}")
+        if command.startswith("./soad replay"):
+            same(out.split("\n")[-2:], ["SAME", ""], f"README: the last line of {command}")
     shift, example = (next((command for command in commands if command.startswith(f"./soad {verb} ")), "false") for verb in ("run", "bench-example"))
     shown = [line for line in contents("README.md").decode().split("\n") if line.startswith("    entry ")]
     true(len(shown) >= 5, "README shows lines of the shift")
@@ -130,7 +132,7 @@ def arguments():
     same((help[0], help[2]), (0, ""), "./soad help")
     for words, why in (((), "a verb is missing"), (("",), "a verb is missing"), (("", TABLE), "a verb is missing"), (("toast",), "there is no verb toast")):
         same(soad(*words), (2, "", help[1] + f"soad: {why}\n"), f"./soad {words}")
-    for verb in ("check", "run", "table", "script", "bench-example", "test"):
+    for verb in ("check", "run", "replay", "record", "recording", "table", "script", "bench-example", "test"):
         status, out, error = soad(verb, "--help")
         true((status, error) == (0, "") and out.startswith(f"./soad {verb}"), f"./soad {verb} --help")
 

@@ -19,6 +19,7 @@ FAULTS = [
     ("runs", 10, "run", "FewerFieldsWin", {"entries": 3, "table rows": 3}),
     ("runs", 20, "run", "StoredBeforeAllChecked", {"entries": 4, "table rows": 5}),
     ("streams", 10, "run", "SwitchAtTheEnd", {"entries": 4, "table rows": 3}),
+    ("recordings", 100, "replay", "SignedDistance", {"entries": 2, "table rows": 4}),
     ("takes", 100, "takes", "SwitchAtTheEnd", {"segments": 2, "bytes": 150}),
     ("table", 1000, "driver", "SendSizeSeven", {"bytes": 54}),
     ("walk", 1000, "driver", "CutLast", {"bytes": 90}),

@@ -3,6 +3,7 @@
 pub mod datagram;
 pub mod framing;
 pub mod image;
+pub mod recording;
 pub mod script;
 pub mod selection;
 pub mod state;

@@ -4,9 +4,10 @@ use super::datagram::{datagram, frames};
 use super::image::image;
 use super::state::{exact, sound, unsound};
 use super::table::{remote, table_with_few_pdus};
-use crate::event::{run, Event};
+use crate::event::{run, Answer, Event};
 use crate::header::is_on;
 use crate::random::Random;
+use crate::recording::{self, MOST_BODY, MOST_DISTANCE};
 use crate::script::{entry, image_end, write, write_start, START_STATE};
 use crate::state::{Config, Mode, Record, World, RECORDS};
 use crate::stream::{Part, READY};
@@ -222,6 +223,33 @@ fn add_events(input: &mut Vec<u8>, runner: &mut Runner, count: usize, mut next: 
         // what is answered does not matter here
         let _ = run(&mut runner.world, &event);
     }
+}
+
+/// Events from a table's fresh state, each with its answer, that a recording can hold: no tick before the first, at most 65,535 between two,
+/// no body that is too long.
+pub fn answered(random: &mut Random, table: &Table, count: usize) -> Vec<(Event, Answer)> {
+    let (_, mut runner) = begin(random, table.clone(), None);
+    let (mut all, mut left) = (Vec::new(), 0);
+    while all.len() < count {
+        let event = match runner.random.below(200) {
+            0 => Event::Ticks(left),
+            1..=50 => Event::Ticks(runner.random.between(1, 4) as u32),
+            _ => runner.event(),
+        };
+        left = match event {
+            Event::Ticks(ticks) if ticks > left => continue,
+            Event::Ticks(ticks) => left - ticks,
+            _ => MOST_DISTANCE,
+        };
+        let before = runner.world.clone();
+        let answer = run(&mut runner.world, &event);
+        if recording::Entry::new(0, &event, &answer).body.len() > MOST_BODY {
+            runner.world = before;
+        } else {
+            all.push((event, answer));
+        }
+    }
+    all
 }
 
 /// An image and a script of so many events; in some cases an entry at the end that is refused, or cut off.

@@ -2,6 +2,7 @@
 //! ones last; bytes are left out and set to 0; numbers go towards 0. The calls of the other program are counted and bounded.
 
 pub mod image;
+pub mod recording;
 pub mod request;
 pub mod script;
 pub mod takes;
