@@ -27,17 +27,13 @@ use Rattle.recording.specs.Recording.{numberIn, bodyLong, distanceIn, stamps}
 use Rattle.recording.specs.Entry.{isSpelt, answerFits, bodyFits, faultOf}
 use Rattle.replay_step.specs.declared.Played.{Played}
 use Rattle.replay_step.specs.declared.Played.the-variants.{Same}
+use Rattle.replay_step.proofs.Same.{same-self}
 use Rattle.replay_step.specs.Step.{sameBytes, Stepped, playedBy, toldBeside, ticked, happens, unlessFault, entered, stepOf}
 use Rattle.theorem_record.specs.Record.{Noted, noteBody, noteRow, Notable}
 use Rattle.theorem_record.specs.Again.{afterTicks, afterNote, answerTo}
 use Rattle.theorem_record.proofs.Numbers.{arguments-in, answer-in}
 use Rattle.theorem_record.proofs.Answers.{answer-fits}
 use Rattle.theorem_record.proofs.Back.{stamp-back, number-back, zero-back, long-back}
-
-same-self : (l : List ℕ) → sameBytes l l ≡ true
-unfolding sameBytes
-same-self [] = refl
-same-self (x ∷ l) = and-both (eq-eqb x x refl) (same-self l)
 
 -- what a step leaves
 abbrev pub steppedTo : Played → Machine → List ℕ → Stepped

@@ -1,4 +1,4 @@
--- THE FIRST DIFFERENCE (R17.9), under an accepted table, for every recording, memories and out buffer: it is the first entry whose recorded answer
+-- THE FIRST DIFFERENCE (R17.7), under an accepted table, for every recording, memories and out buffer: it is the first entry whose recorded answer
 -- is not the answer of the run; none is told exactly when there is none.
 use Prim.Native.Nat.{ℕ, suc, _<_}
 use mathlib.Core.Path.{_≡_, refl, sym, _∙_}
@@ -12,7 +12,8 @@ use Rattle.replay_whole.specs.declared.Replayed.{Replayed}
 use Rattle.replay_whole.specs.Replay.{replayOf}
 use Rattle.theorem_replay.specs.Entries.{recordedAnswer}
 use Rattle.theorem_replay.specs.Runs.{todayAnswer, Alike, FirstUnlike}
-use Rattle.theorem_replay.proofs.Same.{same-list, list-same}
+use Rattle.replay_step.proofs.Same.{same-equal}
+use Rattle.theorem_replay.proofs.Same.{list-same}
 use Rattle.theorem_replay.proofs.First.{none-other, some-other, all-same, first-other}
 use Rattle.theorem_replay.proofs.Fold.{sameAt, unlikeIn}
 use Rattle.theorem_replay.proofs.Replay.{replay-along}
@@ -20,7 +21,7 @@ use Rattle.theorem_replay.proofs.Replay.{replay-along}
 module _ (image r rx tx : List ℕ) where
   -- the same byte by byte is alike
   to-alike : (i : ℕ) → sameAt image r rx tx i ≡ true → Alike image r rx tx i
-  to-alike i e = sym (same-list (todayAnswer image r rx tx i) (recordedAnswer r i) e)
+  to-alike i e = sym (same-equal (todayAnswer image r rx tx i) (recordedAnswer r i) e)
 
   from-alike : (i : ℕ) → Alike image r rx tx i → sameAt image r rx tx i ≡ true
   from-alike i a = list-same (todayAnswer image r rx tx i) (recordedAnswer r i) (sym a)

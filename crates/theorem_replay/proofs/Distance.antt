@@ -1,4 +1,4 @@
--- THE DISTANCE BETWEEN TWO STAMPS (R17.4), over any width: numbers below `most`, counted modulo `most`; and of a recording's own stamps.
+-- THE DISTANCE BETWEEN TWO STAMPS (R17.5), over any width: numbers below `most`, counted modulo `most`; and of a recording's own stamps.
 use Prim.Native.Nat.{ℕ, zero, suc, _+_, _-_, _%_, _<_, _≤_}
 use mathlib.Core.Path.{_≡_, refl, sym, ap, _∙_}
 use mathlib.Core.Bool.{Bool, true, false, cond}
@@ -15,18 +15,8 @@ use Rattle.recording.specs.declared.Fault.{Fault}
 use Rattle.recording.specs.declared.Fault.the-variants.{FarStamp}
 use Rattle.recording.specs.Recording.{contentsTo, entryRow, stampIn, distanceIn, stamps}
 use Rattle.recording.specs.Entry.{faultOf}
+use Rattle.recording.proofs.Wraps.{distance-only}
 use Rattle.theorem_replay.specs.Entries.{stampBefore, ticksBefore}
-
--- the number below the width that, added to the stamp before, wraps to the stamp is the distance: the only such
-pub distance-only : (most before stamp d : ℕ) → before < most → d < most → (d + before) % most ≡ stamp → d ≡ distanceIn most before stamp
-unfolding distanceIn
-distance-only most before stamp d low h e =
-    let round : d + before + (most - before) ≡ d + most = omega arith in
-    sym (ap (λ (k : ℕ). (k + (most - before)) % most) (sym e)
-    ∙ mod-add-mod (d + before) most (most - before)
-    ∙ ap (λ (k : ℕ). k % most) round
-    ∙ add-mod-right d most
-    ∙ mod-eq-of-lt h)
 
 module _ (most before stamp : ℕ) (low : before < most) (high : stamp < most) where
   -- the distance is below the width ..

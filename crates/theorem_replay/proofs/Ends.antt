@@ -1,4 +1,4 @@
--- HOW A REPLAY ENDS (R17.6), under an accepted table, of contents that are whole, and into an out buffer of 16,384 bytes or more: by the first entry
+-- HOW A REPLAY ENDS (R17.3), under an accepted table, of contents that are whole, and into an out buffer of 16,384 bytes or more: by the first entry
 -- that is cut or has a fault; the entries before it are run, and nothing of it.
 use Prim.Native.Nat.{ℕ, suc, _<_, _≤_}
 use mathlib.Core.Path.{_≡_, refl, sym, ap, ap₂, _∙_, subst}

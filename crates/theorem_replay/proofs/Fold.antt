@@ -1,4 +1,4 @@
--- A REPLAY IS A FOLD (R17.8) that goes along with the run of the events: where it stands before entry i, and where it ends.
+-- A REPLAY IS A FOLD (R17.4) that goes along with the run of the events: where it stands before entry i, and where it ends.
 use Prim.Native.Nat.{ℕ, zero, suc, _+_, _<_, _≤_}
 use mathlib.Core.Path.{_≡_, refl, sym, ap, ap₂, _∙_, subst}
 use mathlib.Core.Bool.{Bool, true, false, cond, not, _&&_}

@@ -1,4 +1,4 @@
--- REPLAYING EQUALS CALLING THE EVENTS ONE BY ONE (R17.8), under an accepted table, for every recording, memories and out buffer; and the answers
+-- REPLAYING EQUALS CALLING THE EVENTS ONE BY ONE (R17.4), under an accepted table, for every recording, memories and out buffer; and the answers
 -- that are compared are those of that run.
 use Prim.Native.Nat.{ℕ, zero, suc, _-_, _<_, _≤_}
 use mathlib.Core.Path.{_≡_, refl, sym, ap, _∙_, subst}

@@ -1,4 +1,4 @@
--- A STEP (R17.7): of an entry that is cut or has a fault nothing is run; of any other its ticks and then its event, with today's answer at
+-- A STEP (R17.3): of an entry that is cut or has a fault nothing is run; of any other its ticks and then its event, with today's answer at
 -- the front of the out buffer, beside the recorded one.
 use Prim.Native.Nat.{ℕ, _<_, _≤_}
 use mathlib.Core.Path.{_≡_, refl, sym, ap, ap₂, _∙_, subst}

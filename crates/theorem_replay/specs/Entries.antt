@@ -72,7 +72,7 @@ module _ (r : List ℕ) where
   eventsUpTo zero = []
   eventsUpTo (suc n) = eventsUpTo n ++ entryEvents n
 
-  -- R17.6: cut off inside its body; why it is refused; neither
+  -- R17.3: cut off inside its body; why it is refused; neither
   abbrev pub isCut : ℕ → Bool
   isCut i = ltb (length (bytesLeft i)) (bodyLong (entryRow r i))
 

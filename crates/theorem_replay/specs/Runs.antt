@@ -1,4 +1,4 @@
--- THE RUN OF THE EVENTS THAT A RECORDING SPELLS (R17.8), from a fresh state under the table: the machine after its first n entries, and
+-- THE RUN OF THE EVENTS THAT A RECORDING SPELLS (R17.4), from a fresh state under the table: the machine after its first n entries, and
 -- the answer that this run gives to the event of an entry.
 use Prim.Native.Nat.{ℕ, zero, suc, _<_, _≤_}
 use mathlib.Core.Path.{_≡_}
@@ -69,7 +69,7 @@ module _ (image r rx tx : List ℕ) where
   abbrev pub Alike : ℕ → Type 0
   Alike i = recordedAnswer r i ≡ todayAnswer i
 
-  -- R17.9: the first of so many entries that are run whose recorded answer is not the answer of this run
+  -- R17.7: the first of so many entries that are run whose recorded answer is not the answer of this run
   abbrev pub FirstUnlike : ℕ → ℕ → Type 0
   FirstUnlike run i = (i < run) × (Alike i → ⊥) × ((j : ℕ) → j < i → Alike j)
 
@@ -87,6 +87,6 @@ module _ (image r rx tx : List ℕ) where
     goingAt zero = begun image r rx tx out (freshState image)
     goingAt (suc i) = ongoing image r i (goingAt i) (stepAt image r i (goingAt i))
 
--- R17.6: the first entry that is cut or has a fault: those before it have none
+-- R17.3: the first entry that is cut or has a fault: those before it have none
 abbrev pub FirstNotFine : List ℕ → ℕ → Type 0
 FirstNotFine r i = (i < entriesIn r) × ((j : ℕ) → j < i → isFine r j ≡ true) × (isFine r i ≡ false)
