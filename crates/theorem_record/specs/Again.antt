@@ -1,5 +1,5 @@
--- CALLS AND THEIR ANSWERS, entry by entry with the ticks between them, as a run of the machine gives them; and a replay that finds no
--- difference.
+-- CALLS AND THEIR ANSWERS (R17.8), entry by entry with the ticks between them, as a run of the machine gives them; and a replay that
+-- finds no difference.
 use Prim.Native.Nat.{ℕ, _≤_, _<_}
 use mathlib.Core.Path.{_≡_}
 use mathlib.Core.Bool.{true, cond}
