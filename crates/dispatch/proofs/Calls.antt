@@ -1,5 +1,4 @@
--- A SEGMENT OR WALK CALL CARRIES 4,090 BYTES AT MOST, for its body has 4,096 at most: so they are not too long for an event, and an out
--- buffer of 16,384 bytes has room for the answer.
+-- A SEGMENT OR WALK CALL CARRIES 4,090 BYTES AT MOST, for its body has 4,096 at most: so they are not too long for an event.
 use Prim.Native.Nat.{ℕ, _+_, _-_, _≤_}
 use mathlib.Core.Path.{_≡_, refl}
 use mathlib.Core.Bool.{Bool, true, false, cond, _&&_}
@@ -15,8 +14,6 @@ use Rattle.event_decode.specs.declared.Call.{Call}
 use Rattle.event_decode.specs.declared.Call.the-variants.{Unknown, Unfit, Ticks, Own, Lost, Segment, Walk, TakeWaiting, Datagram, Accept, Transmit, SwitchAll, ReadCount, ClearCount}
 use Rattle.event_decode.specs.Calls.{fitted, plain, lengthFits, addressed, remoteIn, positioned, callOf, bytesFrom}
 use Rattle.dispatch_receive.specs.Long.{longestBody}
-use Rattle.dispatch_receive.specs.Segment.{answerRoom}
-use Rattle.dispatch.specs.Dispatch.{room}
 
 -- the bytes that a segment or walk call carries
 unfoldable pub carried : List ℕ → Call → ℕ
@@ -81,7 +78,7 @@ call-short n b =
     (either b (eqb n 15) _ _ (fits-short b (plain b 2) (ClearCount (be 1 b 1)) (λ _. omega arith))
     (omega arith))))))))))))))))
 
--- so they are not too long for an event ..
+-- so they are not too long for an event
 pub segment-fits : (b : List ℕ) (c at : ℕ) → Short b (Segment c at) → length (bytesFrom b at) ≤ longestBody
 unfolding carried
 segment-fits b c at h = omega (arith, h)
@@ -89,8 +86,3 @@ segment-fits b c at h = omega (arith, h)
 pub walk-fits : (b : List ℕ) (c place at : ℕ) → Short b (Walk c place at) → length (bytesFrom b at) ≤ longestBody
 unfolding carried
 walk-fits b c place at h = omega (arith, h)
-
--- .. and an out buffer of 16,384 bytes has room for the answer
-pub call-room : (b : List ℕ) (c at : ℕ) → Short b (Segment c at) → answerRoom (bytesFrom b at) ≤ room
-unfolding carried
-call-room b c at h = omega (arith, h)

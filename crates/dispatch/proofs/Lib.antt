@@ -2,3 +2,5 @@
 pub mod Calls
 pub mod Sizes
 pub mod Whole
+pub mod Short
+pub mod Kept

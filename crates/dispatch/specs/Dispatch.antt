@@ -1,24 +1,17 @@
 -- THE DISPATCHER (R16.1): the step of the event that a number and a body spell, with its answer in an out buffer, the new state and all
 -- memory (docs/EVENTS.md).
 use Prim.Native.Nat.{ℕ}
-use mathlib.Core.Bool.{cond}
 use mathlib.Core.List.{List}
-use lib.Dec.{ltb}
-use lib.ListN.{length}
 use Rattle.event_decode.specs.declared.Call.{Call}
 use Rattle.event_decode.specs.declared.Call.the-variants.{Unknown, Unfit, Ticks, Own, Lost, Segment, Walk, TakeWaiting, Datagram, Accept, Transmit, SwitchAll, ReadCount, ClearCount}
 use Rattle.event_decode.specs.Calls.{callOf, bytesFrom}
-use Rattle.event_answer.specs.declared.Verdict.the-variants.{Unknown as NoEvent, Unfit as DoesNotFit, Small}
-use Rattle.event_answer.specs.Answers.{Effect, untouched}
+use Rattle.event_answer.specs.declared.Verdict.the-variants.{Unknown as NoEvent, Unfit as DoesNotFit}
+use Rattle.event_answer.specs.Answers.{Effect, untouched, ifRoom}
 use Rattle.dispatch_events.specs.Events.{ownEffect, lostEffect, ticksEffect, switchAllEffect, readEffect, clearEffect}
 use Rattle.dispatch_receive.specs.Walk.{walkEffect}
 use Rattle.dispatch_receive.specs.Segment.{segmentEffect}
 use Rattle.gate.specs.Lent.{Loan}
 use Rattle.dispatch_send.specs.Send.{datagramEffect, acceptEffect, transmitEffect, takeEffect}
-
--- enough for the answer to any body of 4,096 bytes (proofs/Whole `answer-whole`: every answer stands whole)
-abbrev pub room : ℕ
-room = 16384
 
 module _ (l : Loan) (out : List ℕ) where
   -- the step of a call, whose bytes stand in the body
@@ -40,4 +33,4 @@ module _ (l : Loan) (out : List ℕ) where
 
   -- an out buffer that is too short is refused; else the step of the event that number and body spell
   unfoldable pub dispatchOf : ℕ → List ℕ → Effect
-  dispatchOf number body = cond (ltb (length out) room) (untouched Small (l .state) (l .rx) (l .tx) out) (effectOf body (callOf number body))
+  dispatchOf number body = ifRoom (l .state) (l .rx) (l .tx) out (effectOf body (callOf number body))

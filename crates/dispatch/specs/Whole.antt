@@ -4,7 +4,7 @@ use mathlib.Core.List.{List, _++_}
 use lib.ListN.{length, drop}
 use Rattle.event_answer.specs.declared.Verdict.{Verdict}
 use Rattle.event_answer.specs.declared.Verdict.the-variants.{Done, Unknown, Unfit, Small}
-use Rattle.dispatch.specs.Dispatch.{room}
+use Rattle.event_answer.specs.Answers.{room}
 
 -- of a verdict and the out buffer afterwards: all bytes of the answer at the front, and behind them the buffer as it was; where
 -- there is no answer, the buffer as it was

@@ -17,7 +17,7 @@ use Rattle.entry_events.specs.Count.{readOf, clearOf}
 use Rattle.entry_ticks.specs.declared.Ticked.{Ticked}
 use Rattle.entry_ticks.specs.Tick.{ticksEvent}
 use Rattle.gate.specs.Lent.{Loan, sizes}
-use Rattle.event_answer.specs.Answers.{Effect, answers, refusal, doneAlone, doneWith}
+use Rattle.event_answer.specs.Answers.{Effect, answers, ifRoom, refusal, doneAlone, doneWith}
 
 -- "any other: nothing"
 abbrev pub toldBytes : Answer → List ℕ
@@ -39,7 +39,7 @@ abbrev pub countBytes : CountAnswer → List ℕ
 countBytes (Count v) = doneWith 4 v
 countBytes (Uncounted r) = refusal r
 
--- what each leaves: the state that its entry point gives, both memories as they were
+-- what each leaves where there is room: the state that its entry point gives, both memories as they were
 abbrev pub toldEffect : Told → List ℕ → List ℕ → List ℕ → Effect
 toldEffect t rx tx out = answers (toldBytes (t .answer)) (t .state) rx tx out
 
@@ -52,22 +52,23 @@ ticked t rx tx out = answers (ticksBytes (t .answer)) (t .state) rx tx out
 abbrev pub countedEffect : Counted → List ℕ → List ℕ → List ℕ → Effect
 countedEffect t rx tx out = answers (countBytes (t .answer)) (t .state) rx tx out
 
+-- WHAT EACH LEAVES: an out buffer that is too short is refused
 module _ (l : Loan) (out : List ℕ) where
   -- open, close, connected, set remote, switch
   unfoldable pub ownEffect : ℕ → Event → Effect
-  ownEffect connection event = toldEffect (eventOf (sizes l) connection event) (l .rx) (l .tx) out
+  ownEffect connection event = ifRoom (l .state) (l .rx) (l .tx) out (toldEffect (eventOf (sizes l) connection event) (l .rx) (l .tx) out)
 
   unfoldable pub lostEffect : ℕ → Effect
-  lostEffect connection = lossEffect (lossOf (sizes l) connection) (l .rx) (l .tx) out
+  lostEffect connection = ifRoom (l .state) (l .rx) (l .tx) out (lossEffect (lossOf (sizes l) connection) (l .rx) (l .tx) out)
 
   unfoldable pub ticksEffect : ℕ → Effect
-  ticksEffect count = ticked (ticksEvent (sizes l) count) (l .rx) (l .tx) out
+  ticksEffect count = ifRoom (l .state) (l .rx) (l .tx) out (ticked (ticksEvent (sizes l) count) (l .rx) (l .tx) out)
 
   unfoldable pub switchAllEffect : ℕ → Bool → Effect
-  switchAllEffect number on = toldEffect (switchAllOf (sizes l) number on) (l .rx) (l .tx) out
+  switchAllEffect number on = ifRoom (l .state) (l .rx) (l .tx) out (toldEffect (switchAllOf (sizes l) number on) (l .rx) (l .tx) out)
 
   unfoldable pub readEffect : ℕ → Effect
-  readEffect protocol = countedEffect (readOf (sizes l) protocol) (l .rx) (l .tx) out
+  readEffect protocol = ifRoom (l .state) (l .rx) (l .tx) out (countedEffect (readOf (sizes l) protocol) (l .rx) (l .tx) out)
 
   unfoldable pub clearEffect : ℕ → Effect
-  clearEffect protocol = countedEffect (clearOf (sizes l) protocol) (l .rx) (l .tx) out
+  clearEffect protocol = ifRoom (l .state) (l .rx) (l .tx) out (countedEffect (clearOf (sizes l) protocol) (l .rx) (l .tx) out)

@@ -1,4 +1,5 @@
-// The events that write no memory, each with its answer written to an out buffer. Every function is total.
+// The events that write no memory, each with its answer written to an out buffer; one that is too short for an answer is refused.
+// Every function is total.
 ghost use mathlib.Core.Path.{_≡_};
 ghost use lib.ListN.{length};
 ghost use Rattle.wire.specs.Lay.{lay};
@@ -70,6 +71,12 @@ pub fn own(
     ensures { λ r. ⌜ r ≡ dispatched (Is.ownEffect (loan (now (image .entry)) state (now (rx .entry)) (now (tx .entry))) (now (out .entry)) connection event) ⌝ }
     ensures { λ _. ⌜ now (out .exit) ≡ Is.ownEffect (loan (now (image .entry)) state (now (rx .entry)) (now (tx .entry))) (now (out .entry)) connection event .out ⌝ }
 {
+    if out.len() < 16384 {
+        return Dispatched {
+            verdict: Verdict::Small,
+            state: state,
+        };
+    }
     let entry = entry_events::happen(image, state, rx, tx, connection, event);
     let answer = entry.answer;
     let after = entry.state;
@@ -91,6 +98,12 @@ pub fn lost(
     ensures { λ r. ⌜ r ≡ dispatched (Is.lostEffect (loan (now (image .entry)) state (now (rx .entry)) (now (tx .entry))) (now (out .entry)) connection) ⌝ }
     ensures { λ _. ⌜ now (out .exit) ≡ Is.lostEffect (loan (now (image .entry)) state (now (rx .entry)) (now (tx .entry))) (now (out .entry)) connection .out ⌝ }
 {
+    if out.len() < 16384 {
+        return Dispatched {
+            verdict: Verdict::Small,
+            state: state,
+        };
+    }
     let entry = entry_events::lost(image, state, rx, tx, connection);
     let answer = entry.answer;
     let after = entry.state;
@@ -112,6 +125,12 @@ pub fn many_ticks(
     ensures { λ r. ⌜ r ≡ dispatched (Is.ticksEffect (loan (now (image .entry)) state (now (rx .entry)) (now (tx .entry))) (now (out .entry)) count) ⌝ }
     ensures { λ _. ⌜ now (out .exit) ≡ Is.ticksEffect (loan (now (image .entry)) state (now (rx .entry)) (now (tx .entry))) (now (out .entry)) count .out ⌝ }
 {
+    if out.len() < 16384 {
+        return Dispatched {
+            verdict: Verdict::Small,
+            state: state,
+        };
+    }
     let entry = entry_ticks::ticks(image, state, rx, tx, count);
     let answer = entry.answer;
     let after = entry.state;
@@ -134,6 +153,12 @@ pub fn switch_all(
     ensures { λ r. ⌜ r ≡ dispatched (Is.switchAllEffect (loan (now (image .entry)) state (now (rx .entry)) (now (tx .entry))) (now (out .entry)) number on) ⌝ }
     ensures { λ _. ⌜ now (out .exit) ≡ Is.switchAllEffect (loan (now (image .entry)) state (now (rx .entry)) (now (tx .entry))) (now (out .entry)) number on .out ⌝ }
 {
+    if out.len() < 16384 {
+        return Dispatched {
+            verdict: Verdict::Small,
+            state: state,
+        };
+    }
     let entry = entry_events::switch_all(image, state, rx, tx, number, on);
     let answer = entry.answer;
     let after = entry.state;
@@ -155,6 +180,12 @@ pub fn read_count(
     ensures { λ r. ⌜ r ≡ dispatched (Is.readEffect (loan (now (image .entry)) state (now (rx .entry)) (now (tx .entry))) (now (out .entry)) protocol) ⌝ }
     ensures { λ _. ⌜ now (out .exit) ≡ Is.readEffect (loan (now (image .entry)) state (now (rx .entry)) (now (tx .entry))) (now (out .entry)) protocol .out ⌝ }
 {
+    if out.len() < 16384 {
+        return Dispatched {
+            verdict: Verdict::Small,
+            state: state,
+        };
+    }
     let entry = entry_events::read_count(image, state, rx, tx, protocol);
     let answer = entry.answer;
     let after = entry.state;
@@ -176,6 +207,12 @@ pub fn clear_count(
     ensures { λ r. ⌜ r ≡ dispatched (Is.clearEffect (loan (now (image .entry)) state (now (rx .entry)) (now (tx .entry))) (now (out .entry)) protocol) ⌝ }
     ensures { λ _. ⌜ now (out .exit) ≡ Is.clearEffect (loan (now (image .entry)) state (now (rx .entry)) (now (tx .entry))) (now (out .entry)) protocol .out ⌝ }
 {
+    if out.len() < 16384 {
+        return Dispatched {
+            verdict: Verdict::Small,
+            state: state,
+        };
+    }
     let entry = entry_events::clear_count(image, state, rx, tx, protocol);
     let answer = entry.answer;
     let after = entry.state;

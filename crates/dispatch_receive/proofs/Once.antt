@@ -32,7 +32,7 @@ use Rattle.entry_receive.specs.Segment.{dropsAfter, countTake, takenAt, takeOn,
 use Rattle.gate.specs.Lent.{Loan, sizes, received}
 use Rattle.dispatch_receive.specs.declared.Turn.{Turn}
 use Rattle.dispatch_receive.specs.Segment.{takeBytes, bytesIfDone, takeAt, memoryAt, bytesAt}
-use Rattle.dispatch_receive.specs.Turn.{takenFrom, memoryFrom, bytesFrom, takeTurn, Goes, joined}
+use Rattle.dispatch_receive.specs.Turn.{takenFrom, memoryFrom, turnBytes, takeTurn, Goes, putBack}
 use Rattle.dispatch_receive.proofs.Room.{taken-is, memory-is}
 
 -- a refused take has no bytes, another has them
@@ -49,27 +49,27 @@ done-all NotReceiving x e = let z : _≡_ {A = ℕ} 0 1 = cc in absurd (omega ar
 -- part and drop count put back
 module _ (s : State) (k : ℕ) where
   -- as they were
-  pub joined-own : s ≡ joined s k (recordAt s k .part) (s .«tcp_drops»)
+  pub joined-own : s ≡ putBack s k (recordAt s k .part) (s .«tcp_drops»)
   joined-own =
       ap (λ (l : List Connection). record { connections = l; «udp_drops» = s .«udp_drops»; «tcp_drops» = s .«tcp_drops» })
       (sym (set-getD (s .connections) k zeroRecord))
 
   module _ (there : k < length (s .connections)) (p : Part) (drops : ℕ) where
     -- the record has the part, and is else as it was
-    pub record-joined : recordAt (joined s k p drops) k ≡ withPart p (recordAt s k)
+    pub record-joined : recordAt (putBack s k p drops) k ≡ withPart p (recordAt s k)
     record-joined = getD-set-same (s .connections) k (withPart p (recordAt s k)) zeroRecord there
 
     -- and once more
     pub joined-again : (q : Part) (o : Outcome)
-        → countTake o (withRecord k (withPart q (recordAt (joined s k p drops) k)) (joined s k p drops)) ≡ joined s k q (dropsAfter o drops)
+        → countTake o (withRecord k (withPart q (recordAt (putBack s k p drops) k)) (putBack s k p drops)) ≡ putBack s k q (dropsAfter o drops)
     joined-again q o =
         ap (λ (l : List Connection). record { connections = l; «udp_drops» = s .«udp_drops»; «tcp_drops» = dropsAfter o drops })
-        (set-set (s .connections) k (withPart p (recordAt s k)) (withPart q (recordAt (joined s k p drops) k))
+        (set-set (s .connections) k (withPart p (recordAt s k)) (withPart q (recordAt (putBack s k p drops) k))
         ∙ ap (λ (c : Connection). set (s .connections) k (withPart q c)) record-joined)
 
 -- THE TAKE of a turn, by the routes and switches of its connection
 module _ (l : Loan) (k : ℕ) (segment : List ℕ) (t : Turn) (rx : List ℕ) (there : k < length (l .state .connections))
-    (clear : isDone (segmentAnswer (sizes (received l (joined (l .state) k (t .part) (t .drops)) rx)) k) ≡ true) where
+    (clear : isDone (segmentAnswer (sizes (received l (putBack (l .state) k (t .part) (t .drops)) rx)) k) ≡ true) where
   abbrev image : List ℕ
   image = l .image
 
@@ -77,7 +77,7 @@ module _ (l : Loan) (k : ℕ) (segment : List ℕ) (t : Turn) (rx : List ℕ) (t
   s = l .state
 
   abbrev at-turn : State
-  at-turn = joined s k (t .part) (t .drops)
+  at-turn = putBack s k (t .part) (t .drops)
 
   abbrev taken : Taken
   taken = takenFrom (bodyOf image Routes) (recordAt s k .switches) k segment t rx
@@ -86,7 +86,7 @@ module _ (l : Loan) (k : ℕ) (segment : List ℕ) (t : Turn) (rx : List ℕ) (t
   memory = memoryFrom (bodyOf image Routes) (recordAt s k .switches) k segment t rx
 
   abbrev pub turned : SegmentTaken
-  turned = record { answer = Done; read = taken .read; outcome = taken .outcome; state = joined s k (taken .part) (dropsAfter (taken .outcome) (t .drops)) }
+  turned = record { answer = Done; read = taken .read; outcome = taken .outcome; state = putBack s k (taken .part) (dropsAfter (taken .outcome) (t .drops)) }
 
   same-taken : takenAt image at-turn rx k (drop (t .at) segment) ≡ taken
   same-taken =
@@ -98,7 +98,7 @@ module _ (l : Loan) (k : ℕ) (segment : List ℕ) (t : Turn) (rx : List ℕ) (t
       taken-is (received l at-turn rx) k (drop (t .at) segment) clear
       ∙ ap (λ (x : State). record { answer = Done; read = takenAt image at-turn rx k (drop (t .at) segment) .read; outcome = takenAt image at-turn rx k (drop (t .at) segment) .outcome; state = x })
       (joined-again s k there (t .part) (t .drops) (takenAt image at-turn rx k (drop (t .at) segment) .part) (takenAt image at-turn rx k (drop (t .at) segment) .outcome))
-      ∙ ap (λ (u : Taken). record { answer = Done; read = u .read; outcome = u .outcome; state = joined s k (u .part) (dropsAfter (u .outcome) (t .drops)) }) same-taken
+      ∙ ap (λ (u : Taken). record { answer = Done; read = u .read; outcome = u .outcome; state = putBack s k (u .part) (dropsAfter (u .outcome) (t .drops)) }) same-taken
 
   pub turn-memory : memoryAt (received l at-turn rx) k segment (t .at) ≡ memory
   unfolding memoryOn
@@ -106,7 +106,7 @@ module _ (l : Loan) (k : ℕ) (segment : List ℕ) (t : Turn) (rx : List ℕ) (t
       memory-is (received l at-turn rx) k (drop (t .at) segment) clear
       ∙ ap (λ (c : Connection). lay rx (k * 1464) (rxAfter (bodyOf image Routes) k (c .switches) (c .part) (stretch 1464 k rx) (drop (t .at) segment))) (record-joined s k there (t .part) (t .drops))
 
-  pub turn-bytes : bytesAt (received l at-turn rx) k segment (t .at) ≡ bytesFrom (bodyOf image Routes) (recordAt s k .switches) k segment t rx
+  pub turn-bytes : bytesAt (received l at-turn rx) k segment (t .at) ≡ turnBytes (bodyOf image Routes) (recordAt s k .switches) k segment t rx
   unfolding bytesAt
   turn-bytes =
       ap₂ (λ (u : SegmentTaken) (m : List ℕ). bytesIfDone (u .answer) (takeBytes (t .at) (u .read) (u .outcome) (payloadOf (drop (t .at) segment) m k (u .outcome))))
@@ -141,13 +141,13 @@ module _ (routes : List ℕ) (switches k : ℕ) (segment : List ℕ) (t : Turn) 
           → drops ≡ dropsAfter (u .outcome) (t .drops)
           → (record { part = u .part; drops = drops; at = t .at + u .read; place = place; count = t .count + 1 } ≡ takeTurn routes switches k segment t rx out)
           × ((putMid (k * 1464) (k * 1464 + 1464 - k * 1464) rx m ≡ memoryFrom routes switches k segment t rx)
-          × (out′ ≡ lay out (t .place) (bytesFrom routes switches k segment t rx)))
+          × (out′ ≡ lay out (t .place) (turnBytes routes switches k segment t rx)))
       turn-is {payload} {place} {drops} {out′} ep el eo ed =
-          let told : takeBytes (t .at) (u .read) (u .outcome) payload ≡ bytesFrom routes switches k segment t rx =
+          let told : takeBytes (t .at) (u .read) (u .outcome) payload ≡ turnBytes routes switches k segment t rx =
           ap (takeBytes (t .at) (u .read) (u .outcome)) (ep ∙ ap₂ (λ (z w : List ℕ). payloadOf z w k (u .outcome)) left laid)
           ∙ ap (λ (v : Taken). takeBytes (t .at) (v .read) (v .outcome) (payloadOf (drop (t .at) segment) (memoryFrom routes switches k segment t rx) k (v .outcome))) same in (
             ap₂ (turnWith u) ed (el ∙ ap (placeAfter out (t .place)) told)
-                ∙ ap (λ (v : Taken). turnWith v (dropsAfter (v .outcome) (t .drops)) (placeAfter out (t .place) (bytesFrom routes switches k segment t rx))) same,
+                ∙ ap (λ (v : Taken). turnWith v (dropsAfter (v .outcome) (t .drops)) (placeAfter out (t .place) (turnBytes routes switches k segment t rx))) same,
             (laid, eo ∙ ap (lay out (t .place)) told),
           )
         where

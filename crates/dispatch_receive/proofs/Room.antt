@@ -1,5 +1,5 @@
--- THE WHOLE ANSWER OF A SEGMENT EVENT FITS: whatever the takes find, it has no more bytes than `answerRoom` says, and an out buffer of so
--- many is not refused. A take after another is never refused. And what is refused for its length.
+-- THE WHOLE ANSWER OF A SEGMENT EVENT FITS: whatever the takes find, it has no more bytes than `answerRoom` says, and an out buffer that is
+-- not refused has so many. A take after another is never refused. And what is refused for its length.
 use Prim.Native.Nat.{ℕ, zero, suc, _+_, _-_, _*_, _≤_, _<_}
 use mathlib.Core.Path.{_≡_, refl, sym, ap, ap₂, _∙_, subst}
 use mathlib.Core.Bool.{Bool, true, false, cond}
@@ -35,12 +35,14 @@ use Rattle.entry_receive.specs.Answer.{isDone, judgedOf, judgedAnswer}
 use Rattle.entry_receive.specs.Segment.{takenAt, takeOn, memoryOn, noneTaken, segmentAnswer, segmentOf, memoryOf, payloadOf}
 use Rattle.entry_receive.proofs.Answers.{Clear, done-clear}
 use Rattle.entry_receive.proofs.Keeps.{in-range, count-records, take-clear}
+use Rattle.event_answer.specs.declared.Verdict.{Verdict}
 use Rattle.event_answer.specs.declared.Verdict.the-variants.{Unfit, Small}
-use Rattle.event_answer.specs.Answers.{Effect, untouched, doneWith}
+use Rattle.event_answer.specs.Answers.{Effect, untouched, room, doneWith}
 use Rattle.event_answer.proofs.Chain.{length-found}
-use Rattle.dispatch_receive.specs.Long.{longestBody, tooLong}
+use Rattle.event_answer.proofs.Short.{no-room, room-keeps}
+use Rattle.dispatch_receive.specs.Long.{longestBody, tooLong, ifFits}
 use Rattle.dispatch_receive.specs.Walk.{walkedEffect, walkEffect}
-use Rattle.dispatch_receive.specs.Segment.{lends, takeBytes, bytesIfDone, Progress, begun, takeAt, memoryAt, bytesAt, oneTake, takeFollows, takesUpTo, allTakes, eventBytes, takesEffect, answerRoom, segmentEffect}
+use Rattle.dispatch_receive.specs.Segment.{lentNext, takeBytes, bytesIfDone, Progress, begun, takeAt, memoryAt, bytesAt, oneTake, takeFollows, takesUpTo, allTakes, eventBytes, takesEffect, answerRoom, segmentEffect}
 use Rattle.dispatch_receive.proofs.Size.{most, most-all, most-least, take-most, take-stops, spent-within, spent-stops}
 
 -- what nothing refuses is done
@@ -174,7 +176,7 @@ module _ (l : Loan) (k : ℕ) (segment : List ℕ) where
   -- from anywhere on
   run-fits : (n : ℕ) (r : Progress) → length (takesUpTo l k segment n r .bytes) ≤ length (r .bytes) + most (recordAt (r .state) k .part) + 3 * (length segment - r .at)
   unfolding takesUpTo oneTake
-  run-fits zero r = omega (arith, length-append (r .bytes) (bytesAt (lends l k segment r) k segment (r .at)), bytes-within (lends l k segment r) k segment (r .at))
+  run-fits zero r = omega (arith, length-append (r .bytes) (bytesAt (lentNext l k segment r) k segment (r .at)), bytes-within (lentNext l k segment r) k segment (r .at))
   run-fits (suc n) r = go (takeFollows l k segment (oneTake l k segment r)) refl (run-fits n (oneTake l k segment r))
     where
       go : (b : Bool) → takeFollows l k segment (oneTake l k segment r) ≡ b
@@ -186,11 +188,11 @@ module _ (l : Loan) (k : ℕ) (segment : List ℕ) where
           omega (
             arith,
             h,
-            length-append (r .bytes) (bytesAt (lends l k segment r) k segment (r .at)),
-            bytes-go (lends l k segment r) k segment (r .at) (and-left (isDone (takeAt (lends l k segment r) k segment (r .at) .answer)) (ltb (r .at + takeAt (lends l k segment r) k segment (r .at) .read) (length segment)) e)
-                (ltb-true (r .at + takeAt (lends l k segment r) k segment (r .at) .read) (length segment) (and-right (isDone (takeAt (lends l k segment r) k segment (r .at) .answer)) (ltb (r .at + takeAt (lends l k segment r) k segment (r .at) .read) (length segment)) e)),
+            length-append (r .bytes) (bytesAt (lentNext l k segment r) k segment (r .at)),
+            bytes-go (lentNext l k segment r) k segment (r .at) (and-left (isDone (takeAt (lentNext l k segment r) k segment (r .at) .answer)) (ltb (r .at + takeAt (lentNext l k segment r) k segment (r .at) .read) (length segment)) e)
+                (ltb-true (r .at + takeAt (lentNext l k segment r) k segment (r .at) .read) (length segment) (and-right (isDone (takeAt (lentNext l k segment r) k segment (r .at) .answer)) (ltb (r .at + takeAt (lentNext l k segment r) k segment (r .at) .read) (length segment)) e)),
           )
-      go false e h = omega (arith, length-append (r .bytes) (bytesAt (lends l k segment r) k segment (r .at)), bytes-within (lends l k segment r) k segment (r .at))
+      go false e h = omega (arith, length-append (r .bytes) (bytesAt (lentNext l k segment r) k segment (r .at)), bytes-within (lentNext l k segment r) k segment (r .at))
 
   -- THE WHOLE ANSWER
   pub takes-fit : 4 + length (allTakes l k segment .bytes) ≤ answerRoom segment
@@ -204,55 +206,70 @@ module _ (l : Loan) (k : ℕ) (segment : List ℕ) where
   pub event-fits : length (eventBytes (allTakes l k segment .answer) (allTakes l k segment .count) (allTakes l k segment .bytes)) ≤ answerRoom segment
   event-fits = event-size (allTakes l k segment .answer) (allTakes l k segment .count) (allTakes l k segment .bytes) takes-fit
 
--- A SEGMENT THAT IS NOT TOO LONG, AND AN OUT BUFFER WITH THAT ROOM, ARE NOT REFUSED
+  -- an out buffer that is long enough has room for it
+  pub answer-fits : length segment ≤ longestBody → answerRoom segment ≤ room
+  answer-fits short = omega (arith, short)
+
+-- WHAT IS REFUSED: an out buffer that is too short, and then bytes that are too long; nothing else
+module _ (l : Loan) (out bytes : List ℕ) (e : Effect) where
+  abbrev judged : Bool → Bool → Effect
+  judged small long = cond small (untouched Small (l .state) (l .rx) (l .tx) out) (cond long (untouched Unfit (l .state) (l .rx) (l .tx) out) e)
+
+  pub fits-is : room ≤ length out → length bytes ≤ longestBody → ifFits l out bytes e ≡ e
+  fits-is roomy short = ap₂ judged (le-ltb (length out) room roomy) (le-ltb longestBody (length bytes) short)
+
+  pub long-is : room ≤ length out → longestBody < length bytes → ifFits l out bytes e ≡ untouched Unfit (l .state) (l .rx) (l .tx) out
+  long-is roomy long = ap₂ judged (le-ltb (length out) room roomy) (lt-ltb longestBody (length bytes) long)
+
+  -- what the event leaves as it was, a refusal does
+  pub fits-keeps : {A : Type 0} (f : Effect → A) (x : A) → ((v : Verdict) → x ≡ f (untouched v (l .state) (l .rx) (l .tx) out)) → x ≡ f e → x ≡ f (ifFits l out bytes e)
+  fits-keeps f x refusing h = room-keeps (l .state) (l .rx) (l .tx) out _ f x (refusing Small) (go (tooLong bytes))
+    where
+      go : (long : Bool) → x ≡ f (judged false long)
+      go true = refusing Unfit
+      go false = h
+
+-- .. of a segment
 module _ (l : Loan) (out : List ℕ) (k : ℕ) (segment : List ℕ) where
   abbrev taken : Effect
   taken = takesEffect (allTakes l k segment) (l .tx) out
 
-  abbrev judged : Bool → Bool → Effect
-  judged long short = cond long (untouched Unfit (l .state) (l .rx) (l .tx) out) (cond short (untouched Small (l .state) (l .rx) (l .tx) out) taken)
-
-  segment-judged : (long short : Bool) → tooLong segment ≡ long → ltb (length out) (answerRoom segment) ≡ short → segmentEffect l out k segment ≡ judged long short
+  pub segment-small : length out < room → segmentEffect l out k segment ≡ untouched Small (l .state) (l .rx) (l .tx) out
   unfolding segmentEffect
-  segment-judged long short e f = ap₂ judged e f
+  segment-small small = no-room (l .state) (l .rx) (l .tx) out _ small
 
-  pub segment-roomy : length segment ≤ longestBody → answerRoom segment ≤ length out → segmentEffect l out k segment ≡ taken
-  segment-roomy short roomy = segment-judged false false (le-ltb longestBody (length segment) short) (le-ltb (length out) (answerRoom segment) roomy)
+  pub segment-long : room ≤ length out → longestBody < length segment → segmentEffect l out k segment ≡ untouched Unfit (l .state) (l .rx) (l .tx) out
+  unfolding segmentEffect
+  segment-long roomy long = long-is l out segment taken roomy long
 
-  pub segment-long : longestBody < length segment → segmentEffect l out k segment ≡ untouched Unfit (l .state) (l .rx) (l .tx) out
-  segment-long long = segment-judged true (ltb (length out) (answerRoom segment)) (lt-ltb longestBody (length segment) long) refl
-
-  pub segment-small : length segment ≤ longestBody → length out < answerRoom segment → segmentEffect l out k segment ≡ untouched Small (l .state) (l .rx) (l .tx) out
-  segment-small short small = segment-judged false true (le-ltb longestBody (length segment) short) (lt-ltb (length out) (answerRoom segment) small)
+  pub segment-roomy : room ≤ length out → length segment ≤ longestBody → segmentEffect l out k segment ≡ taken
+  unfolding segmentEffect
+  segment-roomy roomy short = fits-is l out segment taken roomy short
 
   -- refused or not, send memory stays
   pub segment-sent : l .tx ≡ segmentEffect l out k segment .tx
   unfolding segmentEffect
-  segment-sent = go (tooLong segment) (ltb (length out) (answerRoom segment))
-    where
-      go : (long short : Bool) → l .tx ≡ judged long short .tx
-      go true short = refl
-      go false true = refl
-      go false false = refl
+  segment-sent = fits-keeps l out segment taken (λ (e : Effect). e .tx) (l .tx) (λ v. refl) refl
 
--- .. and so a datagram
+-- .. of a datagram
 module _ (l : Loan) (out : List ℕ) (k place : ℕ) (datagram : List ℕ) where
-  abbrev either : Bool → Effect
-  either long = cond long (untouched Unfit (l .state) (l .rx) (l .tx) out) (walkedEffect l out k place datagram)
+  abbrev walked : Effect
+  walked = walkedEffect l out k place datagram
 
-  pub walk-short : length datagram ≤ longestBody → walkEffect l out k place datagram ≡ walkedEffect l out k place datagram
+  pub walk-small : length out < room → walkEffect l out k place datagram ≡ untouched Small (l .state) (l .rx) (l .tx) out
   unfolding walkEffect
-  walk-short short = rw (le-ltb longestBody (length datagram) short)
+  walk-small small = no-room (l .state) (l .rx) (l .tx) out _ small
 
-  pub walk-long : longestBody < length datagram → walkEffect l out k place datagram ≡ untouched Unfit (l .state) (l .rx) (l .tx) out
+  pub walk-long : room ≤ length out → longestBody < length datagram → walkEffect l out k place datagram ≡ untouched Unfit (l .state) (l .rx) (l .tx) out
   unfolding walkEffect
-  walk-long long = rw (lt-ltb longestBody (length datagram) long)
+  walk-long roomy long = long-is l out datagram walked roomy long
+
+  pub walk-short : room ≤ length out → length datagram ≤ longestBody → walkEffect l out k place datagram ≡ walked
+  unfolding walkEffect
+  walk-short roomy short = fits-is l out datagram walked roomy short
 
   -- refused or not, both memories stay
   pub walk-kept : (l .rx ≡ walkEffect l out k place datagram .rx) × (l .tx ≡ walkEffect l out k place datagram .tx)
   unfolding walkEffect
-  walk-kept = go (tooLong datagram)
-    where
-      go : (long : Bool) → (l .rx ≡ either long .rx) × (l .tx ≡ either long .tx)
-      go true = (refl, refl)
-      go false = (refl, refl)
+  walk-kept =
+      (fits-keeps l out datagram walked (λ (e : Effect). e .rx) (l .rx) (λ v. refl) refl, fits-keeps l out datagram walked (λ (e : Effect). e .tx) (l .tx) (λ v. refl) refl)

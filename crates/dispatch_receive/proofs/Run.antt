@@ -34,7 +34,7 @@ use Rattle.event_answer.specs.declared.Dispatched.{Dispatched}
 use Rattle.event_answer.specs.Answers.{dispatched, doneWith}
 use Rattle.dispatch_receive.specs.declared.Takes.{Takes}
 use Rattle.dispatch_receive.specs.Long.{longestBody}
-use Rattle.dispatch_receive.specs.Segment.{lends, bytesIfDone, Progress, begun, takeAt, memoryAt, bytesAt, oneTake, takeFollows, takesUpTo, allTakes, eventBytes, takesEffect, answerRoom}
+use Rattle.dispatch_receive.specs.Segment.{lentNext, bytesIfDone, Progress, begun, takeAt, memoryAt, bytesAt, oneTake, takeFollows, takesUpTo, allTakes, eventBytes, takesEffect, answerRoom}
 use Rattle.dispatch_receive.specs.Turn.{takenBytes, takesOf, frontOf, answerLength}
 use Rattle.dispatch_receive.proofs.Once.{refused-none, done-all}
 use Rattle.dispatch_receive.proofs.Size.{most, most-all}
@@ -85,17 +85,17 @@ module _ (l : Loan) (connection : ℕ) (segment : List ℕ) where
   more n r e = rw e
 
   -- A LATER TAKE IS NEVER REFUSED: the event's answer is that of its first take
-  run-done : Bytes segment → (n : ℕ) (r : Progress) → isDone (segmentAnswer (sizes (lends l connection segment r)) connection) ≡ true → isDone (takesUpTo l connection segment n r .answer) ≡ true
+  run-done : Bytes segment → (n : ℕ) (r : Progress) → isDone (segmentAnswer (sizes (lentNext l connection segment r)) connection) ≡ true → isDone (takesUpTo l connection segment n r .answer) ≡ true
   unfolding takesUpTo oneTake
-  run-done small zero r d = answer-is (lends l connection segment r) connection (drop (r .at) segment) ∙ d
+  run-done small zero r d = answer-is (lentNext l connection segment r) connection (drop (r .at) segment) ∙ d
   run-done small (suc n) r d =
       go (takeFollows l connection segment (oneTake l connection segment r))
-      (run-done small n (oneTake l connection segment r) (bytes-next (lends l connection segment r) connection segment (r .at) small (answer-is (lends l connection segment r) connection (drop (r .at) segment) ∙ d)))
+      (run-done small n (oneTake l connection segment r) (bytes-next (lentNext l connection segment r) connection segment (r .at) small (answer-is (lentNext l connection segment r) connection (drop (r .at) segment) ∙ d)))
     where
       go : (b : Bool) → isDone (takesUpTo l connection segment n (oneTake l connection segment r) .answer) ≡ true
           → isDone (cond b (takesUpTo l connection segment n (oneTake l connection segment r)) (oneTake l connection segment r) .answer) ≡ true
       go true h = h
-      go false h = answer-is (lends l connection segment r) connection (drop (r .at) segment) ∙ d
+      go false h = answer-is (lentNext l connection segment r) connection (drop (r .at) segment) ∙ d
 
   pub first-answer : Bytes segment → allTakes l connection segment .answer ≡ takeAt l connection segment 0 .answer
   unfolding oneTake
@@ -115,7 +115,7 @@ module _ (l : Loan) (connection : ℕ) (segment : List ℕ) where
   run-count (suc n) r low inside = go (takeFollows l connection segment (oneTake l connection segment r)) refl (run-count n (oneTake l connection segment r))
     where
       t : SegmentTaken
-      t = takeAt (lends l connection segment r) connection segment (r .at)
+      t = takeAt (lentNext l connection segment r) connection segment (r .at)
 
       go : (b : Bool) → takeFollows l connection segment (oneTake l connection segment r) ≡ b
           → (r .count + 1 ≤ r .at + t .read → r .at + t .read < length segment → takesUpTo l connection segment n (oneTake l connection segment r) .count ≤ length segment)
@@ -123,7 +123,7 @@ module _ (l : Loan) (connection : ℕ) (segment : List ℕ) where
       go true e h =
           let done : isDone (t .answer) ≡ true = and-left (isDone (t .answer)) (ltb (r .at + t .read) (length segment)) e in
           let left : r .at + t .read < length segment = ltb-true (r .at + t .read) (length segment) (and-right (isDone (t .answer)) (ltb (r .at + t .read) (length segment)) e) in
-          let some = read-some (lends l connection segment r) connection (drop (r .at) segment) done (omega (arith, inside, length-drop (r .at) segment)) in
+          let some = read-some (lentNext l connection segment r) connection (drop (r .at) segment) done (omega (arith, inside, length-drop (r .at) segment)) in
           h (omega (arith, low, some)) left
       go false e h = omega (arith, low, inside)
 

@@ -27,7 +27,7 @@ use Rattle.entry_receive.proofs.Keeps.{in-range}
 use Rattle.gate.specs.Lent.{Lent, Loan, sizes, received}
 use Rattle.dispatch_receive.specs.declared.Turn.{Turn}
 use Rattle.dispatch_receive.specs.Segment.{Progress, takeAt, memoryAt, bytesAt, allTakes, answerRoom}
-use Rattle.dispatch_receive.specs.Turn.{memoryFrom, bytesFrom, takeTurn, Goes, joined, takenBytes, takesOf}
+use Rattle.dispatch_receive.specs.Turn.{memoryFrom, turnBytes, takeTurn, Goes, putBack, takenBytes, takesOf}
 use Rattle.dispatch_receive.proofs.Once.{joined-own, record-joined, turned, turn-taken, turn-memory, turn-bytes}
 use Rattle.dispatch_receive.proofs.Run.{is-done, Going, going-start, going-on, going-end}
 
@@ -52,7 +52,7 @@ module _ (l : Loan) (k : ℕ) (segment : List ℕ) (out₀ : List ℕ) where
 
   -- the loop at a turn
   abbrev pub AtTurn : Turn → List ℕ → List ℕ → Type 0
-  AtTurn t rx out = Going l k segment out₀ (joined s k (t .part) (t .drops)) rx out (t .place) (t .count) (t .at)
+  AtTurn t rx out = Going l k segment out₀ (putBack s k (t .part) (t .drops)) rx out (t .place) (t .count) (t .at)
 
   abbrev all : Progress
   all = allTakes l k segment
@@ -60,7 +60,7 @@ module _ (l : Loan) (k : ℕ) (segment : List ℕ) (out₀ : List ℕ) where
   -- the event's end, after a turn
   abbrev pub Ends : Turn → List ℕ → List ℕ → Type 0
   Ends t rx out =
-      (record { answer = Done; count = t .count; place = t .place; state = joined s k (t .part) (t .drops) } ≡ takesOf all)
+      (record { answer = Done; count = t .count; place = t .place; state = putBack s k (t .part) (t .drops) } ≡ takesOf all)
       × ((rx ≡ all .rx) × (out ≡ lay out₀ 4 (takenBytes all)))
 
   -- the first
@@ -82,7 +82,7 @@ module _ (l : Loan) (k : ℕ) (segment : List ℕ) (out₀ : List ℕ) where
 
   module _ (there : k < length (s .connections)) (t : Turn) (rx out : List ℕ) (g : AtTurn t rx out) {routes : List ℕ} (er : routes ≡ bodyOf image Routes) where
     abbrev at-turn : State
-    at-turn = joined s k (t .part) (t .drops)
+    at-turn = putBack s k (t .part) (t .drops)
 
     abbrev switches : ℕ
     switches = recordAt s k .switches
@@ -105,7 +105,7 @@ module _ (l : Loan) (k : ℕ) (segment : List ℕ) (out₀ : List ℕ) where
     -- what holds of the take, its memory and its bytes, holds of the turn
     moved : (P : SegmentTaken → List ℕ → List ℕ → Type 0)
         → P (takeAt (received l at-turn rx) k segment (t .at)) (memoryAt (received l at-turn rx) k segment (t .at)) (bytesAt (received l at-turn rx) k segment (t .at))
-        → P (turned l k segment t rx there (g .clear)) (memoryFrom (bodyOf image Routes) switches k segment t rx) (bytesFrom (bodyOf image Routes) switches k segment t rx)
+        → P (turned l k segment t rx there (g .clear)) (memoryFrom (bodyOf image Routes) switches k segment t rx) (turnBytes (bodyOf image Routes) switches k segment t rx)
     moved P p =
         subst (P (turned l k segment t rx there (g .clear)) (memoryFrom (bodyOf image Routes) switches k segment t rx)) (turn-bytes l k segment t rx there (g .clear))
         (subst (λ (m : List ℕ). P (turned l k segment t rx there (g .clear)) m (bytesAt (received l at-turn rx) k segment (t .at))) (turn-memory l k segment t rx there (g .clear))
@@ -115,16 +115,16 @@ module _ (l : Loan) (k : ℕ) (segment : List ℕ) (out₀ : List ℕ) where
     read-is = ap (λ (u : SegmentTaken). u .read) (turn-taken l k segment t rx there (g .clear))
 
     module _ {r : Turn} {rx′ out′ : List ℕ} (is : r ≡ takeTurn routes switches k segment t rx out) (memory : rx′ ≡ memoryFrom routes switches k segment t rx)
-        (wrote : out′ ≡ lay out (t .place) (bytesFrom routes switches k segment t rx)) where
+        (wrote : out′ ≡ lay out (t .place) (turnBytes routes switches k segment t rx)) where
       -- by the table's routes
       to : (P : Turn → List ℕ → List ℕ → Type 0)
           → P (takeTurn (bodyOf image Routes) switches k segment t rx out) (memoryFrom (bodyOf image Routes) switches k segment t rx)
-          (lay out (t .place) (bytesFrom (bodyOf image Routes) switches k segment t rx)) → P r rx′ out′
+          (lay out (t .place) (turnBytes (bodyOf image Routes) switches k segment t rx)) → P r rx′ out′
       to P p =
           subst (λ (x : Turn). P x rx′ out′) (sym (is ∙ ap (λ (z : List ℕ). takeTurn z switches k segment t rx out) er))
           (subst (λ (m : List ℕ). P (takeTurn (bodyOf image Routes) switches k segment t rx out) m out′) (sym (memory ∙ ap (λ (z : List ℕ). memoryFrom z switches k segment t rx) er))
           (subst (P (takeTurn (bodyOf image Routes) switches k segment t rx out) (memoryFrom (bodyOf image Routes) switches k segment t rx))
-          (sym (wrote ∙ ap (λ (z : List ℕ). lay out (t .place) (bytesFrom z switches k segment t rx)) er)) p))
+          (sym (wrote ∙ ap (λ (z : List ℕ). lay out (t .place) (turnBytes z switches k segment t rx)) er)) p))
 
       far : r .at ≡ t .at + takeAt (received l at-turn rx) k segment (t .at) .read
       far = ap (λ (x : Turn). x .at) (is ∙ ap (λ (z : List ℕ). takeTurn z switches k segment t rx out) er) ∙ ap (λ (n : ℕ). t .at + n) (sym read-is)

@@ -13,9 +13,8 @@ use Rattle.entry_receive.specs.declared.Answer.the-variants.{Done, Refused, Not
 use Rattle.entry_receive.specs.declared.SegmentTaken.{SegmentTaken}
 use Rattle.entry_receive.specs.Answer.{isDone}
 use Rattle.entry_receive.specs.Segment.{segmentOf, memoryOf, payloadOf}
-use Rattle.event_answer.specs.declared.Verdict.the-variants.{Unfit, Small}
-use Rattle.event_answer.specs.Answers.{Effect, answers, untouched, doneWith, foundBytes}
-use Rattle.dispatch_receive.specs.Long.{tooLong}
+use Rattle.event_answer.specs.Answers.{Effect, answers, doneWith, foundBytes}
+use Rattle.dispatch_receive.specs.Long.{ifFits}
 use Rattle.gate.specs.Lent.{Loan, received}
 use Rattle.dispatch_receive.specs.Walk.{orRefused}
 
@@ -69,19 +68,19 @@ module _ (l : Loan) (connection : ℕ) (segment : List ℕ) (at : ℕ) where
 
 module _ (l : Loan) (connection : ℕ) (segment : List ℕ) where
   -- what the next take of a run is lent
-  abbrev pub lends : Progress → Loan
-  lends r = received l (r .state) (r .rx)
+  abbrev pub lentNext : Progress → Loan
+  lentNext r = received l (r .state) (r .rx)
 
   -- one take more
   unfoldable pub oneTake : Progress → Progress
   oneTake r =
       record {
-        answer = takeAt (lends r) connection segment (r .at) .answer;
-        state = takeAt (lends r) connection segment (r .at) .state;
-        rx = memoryAt (lends r) connection segment (r .at);
-        bytes = r .bytes ++ bytesAt (lends r) connection segment (r .at);
+        answer = takeAt (lentNext r) connection segment (r .at) .answer;
+        state = takeAt (lentNext r) connection segment (r .at) .state;
+        rx = memoryAt (lentNext r) connection segment (r .at);
+        bytes = r .bytes ++ bytesAt (lentNext r) connection segment (r .at);
         count = r .count + 1;
-        at = r .at + takeAt (lends r) connection segment (r .at) .read;
+        at = r .at + takeAt (lentNext r) connection segment (r .at) .read;
       }
 
   -- R5.14, until all is read: a take follows where bytes are left and this one was not refused
@@ -109,10 +108,6 @@ takesEffect r tx out = answers (eventBytes (r .answer) (r .count) (r .bytes)) (r
 abbrev pub answerRoom : List ℕ → ℕ
 answerRoom segment = 1502 + 3 * length segment
 
--- WHAT A SEGMENT EVENT LEAVES: a segment that is too long, and then an out buffer that is too short, "is refused and changes nothing"; in
--- any other the answer stands whole
+-- WHAT A SEGMENT EVENT LEAVES
 unfoldable pub segmentEffect : Loan → List ℕ → ℕ → List ℕ → Effect
-segmentEffect l out connection segment =
-    cond (tooLong segment) (untouched Unfit (l .state) (l .rx) (l .tx) out)
-    (cond (ltb (length out) (answerRoom segment)) (untouched Small (l .state) (l .rx) (l .tx) out)
-    (takesEffect (allTakes l connection segment) (l .tx) out))
+segmentEffect l out connection segment = ifFits l out segment (takesEffect (allTakes l connection segment) (l .tx) out)

@@ -31,8 +31,8 @@ module _ (routes : List ℕ) (switches connection : ℕ) (segment : List ℕ) (t
   abbrev pub memoryFrom : List ℕ
   memoryFrom = lay rx (connection * 1464) (rxAfter routes connection switches (t .part) (stretch 1464 connection rx) (drop (t .at) segment))
 
-  abbrev pub bytesFrom : List ℕ
-  bytesFrom = takeBytes (t .at) (takenFrom .read) (takenFrom .outcome) (payloadOf (drop (t .at) segment) memoryFrom connection (takenFrom .outcome))
+  abbrev pub turnBytes : List ℕ
+  turnBytes = takeBytes (t .at) (takenFrom .read) (takenFrom .outcome) (payloadOf (drop (t .at) segment) memoryFrom connection (takenFrom .outcome))
 
   -- one take more
   abbrev pub takeTurn : List ℕ → turn.Turn
@@ -41,7 +41,7 @@ module _ (routes : List ℕ) (switches connection : ℕ) (segment : List ℕ) (t
         part = takenFrom .part;
         drops = dropsAfter (takenFrom .outcome) (t .drops);
         at = t .at + takenFrom .read;
-        place = placeAfter out (t .place) bytesFrom;
+        place = placeAfter out (t .place) turnBytes;
         count = t .count + 1;
       }
 
@@ -54,8 +54,8 @@ pub record Goes (routes : List ℕ) (connection : ℕ) (segment : List ℕ) (t :
   pub low : t .count ≤ t .at
 
 -- the state that a connection's part and the TCP drop count are put back into
-abbrev pub joined : State → ℕ → Part → ℕ → State
-joined s connection part drops = withCount true drops (withRecord connection (withPart part (recordAt s connection)) s)
+abbrev pub putBack : State → ℕ → Part → ℕ → State
+putBack s connection part drops = withCount true drops (withRecord connection (withPart part (recordAt s connection)) s)
 
 -- all of them: four bytes of the answer come before theirs, and of a refusal none follows
 abbrev pub takenBytes : Progress → List ℕ

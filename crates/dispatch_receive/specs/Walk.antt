@@ -1,6 +1,5 @@
 -- The answer of a walk as bytes (R16.2; docs/EVENTS.md, "The answer").
 use Prim.Native.Nat.{ℕ}
-use mathlib.Core.Bool.{cond}
 use mathlib.Core.List.{List, _++_}
 use lib.ListN.{length}
 use Rattle.wire.specs.Lay.{spell}
@@ -10,10 +9,9 @@ use Rattle.entry_receive.specs.declared.Answer.{Answer}
 use Rattle.entry_receive.specs.declared.Answer.the-variants.{Done, Refused, NotReceiving}
 use Rattle.entry_receive.specs.declared.DatagramWalked.{DatagramWalked}
 use Rattle.entry_receive.specs.Walk.{walkOf}
-use Rattle.event_answer.specs.declared.Verdict.the-variants.{Unfit}
-use Rattle.event_answer.specs.Answers.{Effect, answers, untouched, refused, refusal, doneAlone, foundBytes}
+use Rattle.event_answer.specs.Answers.{Effect, answers, refused, refusal, doneAlone, foundBytes}
 use Rattle.gate.specs.Lent.{Loan, sizes}
-use Rattle.dispatch_receive.specs.Long.{tooLong}
+use Rattle.dispatch_receive.specs.Long.{ifFits}
 
 -- a refusal's bytes; where there is none, these
 abbrev pub orRefused : Answer → List ℕ → List ℕ
@@ -43,7 +41,6 @@ abbrev pub walkedEffect : Loan → List ℕ → ℕ → ℕ → List ℕ → Eff
 walkedEffect l out connection place datagram =
     answers (walkedBytes (walkOf (sizes l) connection datagram place)) (walkOf (sizes l) connection datagram place .state) (l .rx) (l .tx) out
 
--- WHAT A WALK LEAVES: a datagram that is too long "is refused and changes nothing"
+-- WHAT A WALK LEAVES
 unfoldable pub walkEffect : Loan → List ℕ → ℕ → ℕ → List ℕ → Effect
-walkEffect l out connection place datagram =
-    cond (tooLong datagram) (untouched Unfit (l .state) (l .rx) (l .tx) out) (walkedEffect l out connection place datagram)
+walkEffect l out connection place datagram = ifFits l out datagram (walkedEffect l out connection place datagram)

@@ -101,7 +101,7 @@ fn put_walked(
     }
 }
 
-// A walk; a datagram that is too long for an event is refused.
+// A walk; an out buffer that is too short for an answer is refused, and then a datagram that is too long for an event.
 pub fn walk(
     image: &[u8],
     state: State,
@@ -115,6 +115,12 @@ pub fn walk(
     ensures { λ r. ⌜ r ≡ dispatched (Wk.walkEffect (loan (now (image .entry)) state (now (rx .entry)) (now (tx .entry))) (now (out .entry)) connection place (now (datagram .entry))) ⌝ }
     ensures { λ _. ⌜ now (out .exit) ≡ Wk.walkEffect (loan (now (image .entry)) state (now (rx .entry)) (now (tx .entry))) (now (out .entry)) connection place (now (datagram .entry)) .out ⌝ }
 {
+    if out.len() < 16384 {
+        return Dispatched {
+            verdict: Verdict::Small,
+            state: state,
+        };
+    }
     if 4096 < datagram.len() {
         return Dispatched {
             verdict: Verdict::Unfit,
@@ -267,7 +273,7 @@ fn take_once(
     requires { ⌜ Turning.Goes (now routes) connection (now segment) turn (now rx) ⌝ }
     ensures { λ r. ⌜ r ≡ Turning.takeTurn (now (routes .entry)) switches connection (now (segment .entry)) turn (now (rx .entry)) (now (out .entry)) ⌝ }
     ensures { λ _. ⌜ now (rx .exit) ≡ Turning.memoryFrom (now (routes .entry)) switches connection (now (segment .entry)) turn (now (rx .entry)) ⌝ }
-    ensures { λ _. ⌜ now (out .exit) ≡ lay (now (out .entry)) (turn .place) (Turning.bytesFrom (now (routes .entry)) switches connection (now (segment .entry)) turn (now (rx .entry))) ⌝ }
+    ensures { λ _. ⌜ now (out .exit) ≡ lay (now (out .entry)) (turn .place) (Turning.turnBytes (now (routes .entry)) switches connection (now (segment .entry)) turn (now (rx .entry))) ⌝ }
 {
     let rest = bytes_from(segment, turn.at);
     let part = turn.part;
@@ -371,7 +377,7 @@ fn put_takes(out: &mut [u8], answer: Answer, count: usize, place: usize) -> usiz
     }
 }
 
-// A segment event; a segment that is too long for an event is refused, and an out buffer that is too short.
+// A segment event; an out buffer that is too short for an answer is refused, and then a segment that is too long for an event.
 pub fn segment(
     image: &[u8],
     state: State,
@@ -385,15 +391,15 @@ pub fn segment(
     ensures { λ _. ⌜ now (rx .exit) ≡ Seg.segmentEffect (loan (now (image .entry)) state (now (rx .entry)) (now (tx .entry))) (now (out .entry)) connection (now (segment .entry)) .rx ⌝ }
     ensures { λ _. ⌜ now (out .exit) ≡ Seg.segmentEffect (loan (now (image .entry)) state (now (rx .entry)) (now (tx .entry))) (now (out .entry)) connection (now (segment .entry)) .out ⌝ }
 {
-    if 4096 < segment.len() {
+    if out.len() < 16384 {
         return Dispatched {
-            verdict: Verdict::Unfit,
+            verdict: Verdict::Small,
             state: state,
         };
     }
-    if out.len() < 1502 + 3 * segment.len() {
+    if 4096 < segment.len() {
         return Dispatched {
-            verdict: Verdict::Small,
+            verdict: Verdict::Unfit,
             state: state,
         };
     }

@@ -8,28 +8,34 @@ use native.Mathlib.Nat.{zero-add}
 use native.Mathlib.Omega.{arith}
 use borrow.Author.Tests.{ltb-false, le-ltb}
 use lib.Dec.{ltb}
-use lib.ListN.{length, drop}
+use lib.ListN.{length, drop, take, replicate}
 use Rattle.wire.specs.Lay.{lay}
 use Rattle.wire.proofs.Lay.{lay-fits}
 use Rattle.entry_receive.specs.declared.Answer.{Answer}
 use Rattle.entry_receive.specs.declared.Answer.the-variants as Received
 use Rattle.entry_receive.specs.Answer.{isDone}
 use Rattle.entry_receive.specs.Walk.{walkOf}
+use Rattle.entry_events.specs.Change.{eventOf, lossOf}
+use Rattle.entry_events.specs.Module.{switchAllOf}
+use Rattle.entry_events.specs.Count.{readOf, clearOf}
+use Rattle.entry_ticks.specs.Tick.{ticksEvent}
+use Rattle.entry_arrivals.specs.Arrivals.{datagramOf, acceptOf}
 use Rattle.event_decode.specs.declared.Call.{Call}
 use Rattle.event_decode.specs.declared.Call.the-variants.{Unknown, Unfit, Ticks, Own, Lost, Segment, Walk, TakeWaiting, Datagram, Accept, Transmit, SwitchAll, ReadCount, ClearCount}
 use Rattle.event_decode.specs.Calls.{callOf, bytesFrom}
 use Rattle.event_answer.specs.declared.Verdict.{Verdict}
 use Rattle.event_answer.specs.declared.Verdict.the-variants.{Done, Unknown as NoEvent, Unfit as DoesNotFit, Small}
-use Rattle.event_answer.specs.Answers.{Effect, answers, untouched}
-use Rattle.dispatch_events.specs.Events.{ownEffect, lostEffect, ticksEffect, switchAllEffect, readEffect, clearEffect}
+use Rattle.event_answer.specs.Answers.{Effect, answers, untouched, room, ifRoom}
+use Rattle.event_answer.proofs.Short.{with-room}
+use Rattle.dispatch_events.specs.Events.{toldEffect, lossEffect, ticked, countedEffect, ownEffect, lostEffect, ticksEffect, switchAllEffect, readEffect, clearEffect}
 use Rattle.dispatch_receive.specs.Long.{longestBody}
 use Rattle.dispatch_receive.specs.Walk.{walkedBytes}
-use Rattle.dispatch_receive.specs.Segment.{Progress, begun, oneTake, takesUpTo, allTakes, eventBytes, answerRoom, segmentEffect}
+use Rattle.dispatch_receive.specs.Segment.{Progress, begun, oneTake, takesUpTo, allTakes, eventBytes, segmentEffect}
 use Rattle.dispatch_receive.proofs.Room.{segment-roomy, walk-short}
-use Rattle.dispatch_send.specs.Send.{datagramEffect, acceptEffect, transmitEffect, takeEffect}
-use Rattle.dispatch.specs.Dispatch.{room, effectOf, dispatchOf}
+use Rattle.dispatch_send.specs.Send.{roomOf, arrivedEffect, datagramEffect, acceptEffect, sentEffect, transmitEffect, takeInto, takeEffect}
+use Rattle.dispatch.specs.Dispatch.{effectOf, dispatchOf}
 use Rattle.dispatch.specs.Whole.{StandsWhole, answer, unknown, unfit, small}
-use Rattle.dispatch.proofs.Calls.{Short, call-short, segment-fits, walk-fits, call-room}
+use Rattle.dispatch.proofs.Calls.{Short, call-short, segment-fits, walk-fits}
 use Rattle.dispatch.proofs.Whole.{answer-whole}
 use Rattle.model_refines.specs.Machine.{Machine, loanTo}
 use Rattle.dispatch_refines.specs.Spelt.{Spoken}
@@ -77,11 +83,11 @@ module _ (l : Loan) where
       (takesOver l c seg) (λ d. takes-count l c seg (length seg) (begun (l .state) (l .rx)) d ∙ zero-add _) (segment-bytes l c seg)
 
   -- what it leaves, where there is room for it
-  segment-says : (out : List ℕ) (c : ℕ) (seg : List ℕ) → length seg ≤ longestBody → answerRoom seg ≤ length out
+  segment-says : (out : List ℕ) (c : ℕ) (seg : List ℕ) → room ≤ length out → length seg ≤ longestBody
       → segmentEffect l out c seg
       ≡ answers (takesAnswer l c seg) (allTakes l c seg .state) (allTakes l c seg .rx) (l .tx) out
-  segment-says out c seg short h =
-      segment-roomy l out c seg short h
+  segment-says out c seg long short =
+      segment-roomy l out c seg long short
       ∙ ap (λ (bytes : List ℕ). answers bytes (allTakes l c seg .state) (allTakes l c seg .rx) (l .tx) out) (segment-named c seg)
 
 -- how many bytes a verdict says are written, and whether it says so
@@ -114,6 +120,11 @@ module _ (l : Loan) (out : List ℕ) (n : ℕ) (low : n ≤ room) (long : room �
       let z : 0 + length bytes ≡ n = omega (arith, is) in
       (sym is, lay-fits out 0 bytes (omega (arith, is, low, long)) ∙ ap (λ (k : ℕ). bytes ++ drop k out) z)
 
+  -- such a buffer is not refused
+  past : (x : Effect) (bytes : List ℕ) → (x .verdict ≡ Done n → Named out bytes n (x .out))
+      → ifRoom (l .state) (l .rx) (l .tx) out x .verdict ≡ Done n → Named out bytes n (ifRoom (l .state) (l .rx) (l .tx) out x .out)
+  past x bytes h = subst (λ (e : Effect). e .verdict ≡ Done n → Named out bytes n (e .out)) (sym (with-room (l .state) (l .rx) (l .tx) out x long)) h
+
   none : (v : Verdict) → written v ≡ 0 → v ≡ Done n → Named out [] n out
   none v z e =
       let is : n ≡ 0 = sym (ap written e) ∙ z in
@@ -125,44 +136,52 @@ module _ (l : Loan) (out : List ℕ) (n : ℕ) (low : n ≤ room) (long : room �
   unfolding effectOf answerOf ownEffect lostEffect ticksEffect switchAllEffect readEffect clearEffect datagramEffect acceptEffect transmitEffect takeEffect
   call-named body Unknown h e = none NoEvent refl e
   call-named body Unfit h e = none DoesNotFit refl e
-  call-named body (Ticks k) h e = laid _ e
-  call-named body (Own c own) h e = laid _ e
-  call-named body (Lost c) h e = laid _ e
+  call-named body (Ticks k) h e = past (ticked (ticksEvent (sizes l) k) (l .rx) (l .tx) out) (answerOf l body (Ticks k)) (laid _) e
+  call-named body (Own c own) h e = past (toldEffect (eventOf (sizes l) c own) (l .rx) (l .tx) out) (answerOf l body (Own c own)) (laid _) e
+  call-named body (Lost c) h e = past (lossEffect (lossOf (sizes l) c) (l .rx) (l .tx) out) (answerOf l body (Lost c)) (laid _) e
   call-named body (Segment c at) h e =
       subst (λ (x : Effect). x .verdict ≡ Done n → Named out (takesAnswer l c (bytesFrom body at)) n (x .out))
-      (sym (segment-says l out c (bytesFrom body at) (segment-fits body c at h) (omega (arith, long, call-room body c at h)))) (laid _) e
+      (sym (segment-says l out c (bytesFrom body at) long (segment-fits body c at h))) (laid _) e
   call-named body (Walk c place at) h e =
       subst (λ (x : Effect). x .verdict ≡ Done n → Named out (walkedBytes (walkOf (sizes l) c (bytesFrom body at) place)) n (x .out))
-      (sym (walk-short l out c place (bytesFrom body at) (walk-fits body c place at h))) (laid _) e
-  call-named body (TakeWaiting c k) h e = laid _ e
-  call-named body (Datagram group source) h e = laid _ e
-  call-named body (Accept group source) h e = laid _ e
-  call-named body (Transmit pdu at) h e = laid _ e
-  call-named body (SwitchAll number position) h e = laid _ e
-  call-named body (ReadCount protocol) h e = laid _ e
-  call-named body (ClearCount protocol) h e = laid _ e
+      (sym (walk-short l out c place (bytesFrom body at) long (walk-fits body c place at h))) (laid _) e
+  call-named body (TakeWaiting c k) h e = past (takeInto l out c (take (roomOf k) (replicate 1472 0))) (answerOf l body (TakeWaiting c k)) (laid _) e
+  call-named body (Datagram group source) h e =
+      past (arrivedEffect (datagramOf (sizes l) group source) (l .rx) (l .tx) out) (answerOf l body (Datagram group source)) (laid _) e
+  call-named body (Accept group source) h e =
+      past (arrivedEffect (acceptOf (sizes l) group source) (l .rx) (l .tx) out) (answerOf l body (Accept group source)) (laid _) e
+  call-named body (Transmit pdu at) h e = past (sentEffect l out pdu (bytesFrom body at)) (answerOf l body (Transmit pdu at)) (laid _) e
+  call-named body (SwitchAll number position) h e =
+      past (toldEffect (switchAllOf (sizes l) number position) (l .rx) (l .tx) out) (answerOf l body (SwitchAll number position)) (laid _) e
+  call-named body (ReadCount protocol) h e =
+      past (countedEffect (readOf (sizes l) protocol) (l .rx) (l .tx) out) (answerOf l body (ReadCount protocol)) (laid _) e
+  call-named body (ClearCount protocol) h e =
+      past (countedEffect (clearOf (sizes l) protocol) (l .rx) (l .tx) out) (answerOf l body (ClearCount protocol)) (laid _) e
 
 -- EVERY EVENT IS ANSWERED: what a number and a body spell, into an out buffer that is long enough
 module _ (l : Loan) (out : List ℕ) (long : room ≤ length out) where
+  past-too : (x : Effect) → ifRoom (l .state) (l .rx) (l .tx) out x .verdict ≡ x .verdict
+  past-too x = ap (λ (e : Effect). e .verdict) (with-room (l .state) (l .rx) (l .tx) out x long)
+
   call-answered : (body : List ℕ) (call : Call) → Short body call → (call ≡ Unknown → ⊥) → (call ≡ Unfit → ⊥)
       → effectOf l out body call .verdict ≡ Done (length (answerOf l body call))
   unfolding effectOf answerOf ownEffect lostEffect ticksEffect switchAllEffect readEffect clearEffect datagramEffect acceptEffect transmitEffect takeEffect
   call-answered body Unknown h known fit = absurd (known refl)
   call-answered body Unfit h known fit = absurd (fit refl)
-  call-answered body (Ticks k) h known fit = refl
-  call-answered body (Own c e) h known fit = refl
-  call-answered body (Lost c) h known fit = refl
+  call-answered body (Ticks k) h known fit = past-too _
+  call-answered body (Own c e) h known fit = past-too _
+  call-answered body (Lost c) h known fit = past-too _
   call-answered body (Segment c at) h known fit =
-      ap (λ (x : Effect). x .verdict) (segment-says l out c (bytesFrom body at) (segment-fits body c at h) (omega (arith, long, call-room body c at h)))
+      ap (λ (x : Effect). x .verdict) (segment-says l out c (bytesFrom body at) long (segment-fits body c at h))
   call-answered body (Walk c place at) h known fit =
-      ap (λ (x : Effect). x .verdict) (walk-short l out c place (bytesFrom body at) (walk-fits body c place at h))
-  call-answered body (TakeWaiting c k) h known fit = refl
-  call-answered body (Datagram group source) h known fit = refl
-  call-answered body (Accept group source) h known fit = refl
-  call-answered body (Transmit pdu at) h known fit = refl
-  call-answered body (SwitchAll number position) h known fit = refl
-  call-answered body (ReadCount protocol) h known fit = refl
-  call-answered body (ClearCount protocol) h known fit = refl
+      ap (λ (x : Effect). x .verdict) (walk-short l out c place (bytesFrom body at) long (walk-fits body c place at h))
+  call-answered body (TakeWaiting c k) h known fit = past-too _
+  call-answered body (Datagram group source) h known fit = past-too _
+  call-answered body (Accept group source) h known fit = past-too _
+  call-answered body (Transmit pdu at) h known fit = past-too _
+  call-answered body (SwitchAll number position) h known fit = past-too _
+  call-answered body (ReadCount protocol) h known fit = past-too _
+  call-answered body (ClearCount protocol) h known fit = past-too _
 
 pub event-answered : (image : List ℕ) (m : Machine) (c : Spoken) → room ≤ length (c .out)
     → (callOf (c .number) (c .body) ≡ Unknown → ⊥) → (callOf (c .number) (c .body) ≡ Unfit → ⊥)

@@ -13,7 +13,7 @@ use Rattle.gate.specs.Gate.{gateOf}
 use Rattle.event_decode.specs.declared.Call.{Call}
 use Rattle.event_decode.specs.declared.Call.the-variants.{Unknown, Unfit, Ticks, Own, Lost, Segment, Walk, TakeWaiting, Datagram, Accept, Transmit, SwitchAll, ReadCount, ClearCount}
 use Rattle.event_decode.specs.Calls.{callOf}
-use Rattle.dispatch.specs.Dispatch.{room}
+use Rattle.event_answer.specs.Answers.{room}
 use Rattle.model.specs.Events.{tick, Event, onWhole}
 use Rattle.model_runs.specs.Streams.{RunBytes}
 use Rattle.model_refines.specs.Machine.{Machine, lentTo}

@@ -17,12 +17,13 @@ use Rattle.event_decode.specs.declared.Call.{Call}
 use Rattle.event_decode.specs.declared.Call.the-variants.{Unknown, Unfit, Ticks, Own, Lost, Segment, Walk, TakeWaiting, Datagram, Accept, Transmit, SwitchAll, ReadCount, ClearCount}
 use Rattle.event_decode.specs.Calls.{callOf, bytesFrom}
 use Rattle.event_answer.specs.declared.Verdict.the-variants.{Small}
-use Rattle.event_answer.specs.Answers.{untouched}
+use Rattle.event_answer.specs.Answers.{Effect, untouched, room, ifRoom}
+use Rattle.event_answer.proofs.Short.{with-room}
 use Rattle.dispatch_events.specs.Events.{ownEffect, lostEffect, ticksEffect, switchAllEffect, readEffect, clearEffect}
 use Rattle.dispatch_receive.proofs.Room.{segment-roomy, walk-short}
 use Rattle.dispatch_send.specs.Send.{roomOf, datagramEffect, acceptEffect, transmitEffect, takeEffect}
-use Rattle.dispatch.specs.Dispatch.{room, effectOf, dispatchOf}
-use Rattle.dispatch.proofs.Calls.{Short, call-short, segment-fits, walk-fits, call-room}
+use Rattle.dispatch.specs.Dispatch.{effectOf, dispatchOf}
+use Rattle.dispatch.proofs.Calls.{Short, call-short, segment-fits, walk-fits}
 use Rattle.model_refines.specs.Machine.{Machine, machine, loanTo}
 use Rattle.model_refines.specs.Run.{afterOwn, afterWhole, afterEvent, afterRun}
 use Rattle.dispatch_refines.specs.Spelt.{eventsOf, Spoken, speltBy, machineOf, afterDispatch}
@@ -40,26 +41,31 @@ unfolding takenWaiting
 take-room l c a b e = ap (λ (n : ℕ). through (gateAt (sizes l) c) (notTaken (l .state)) (takePast (l .image) (l .state) c n)) e
 
 module _ (image : List ℕ) (m : Machine) (out body : List ℕ) (long : room ≤ length out) where
+  -- such a buffer is not refused
+  past : (e : Effect) → machineOf (ifRoom (m .state) (m .rx) (m .tx) out e) ≡ machineOf e
+  past e = ap machineOf (with-room (m .state) (m .rx) (m .tx) out e long)
+
   -- the step of a call whose segment or datagram, where it has one, is short enough
   call-events : (call : Call) → Short body call → machineOf (effectOf (loanTo image m) out body call) ≡ afterRun image m (eventsOf body call)
   unfolding effectOf eventsOf afterRun afterEvent afterOwn afterWhole ownEffect lostEffect lossOf ticksEffect switchAllEffect readEffect clearEffect datagramEffect acceptEffect transmitEffect takeEffect
   call-events Unknown h = refl
   call-events Unfit h = refl
-  call-events (Ticks n) h = ticks-run image (m .rx) (m .tx) (m .state) n
-  call-events (Own c e) h = refl
-  call-events (Lost c) h = refl
+  call-events (Ticks n) h = past _ ∙ ticks-run image (m .rx) (m .tx) (m .state) n
+  call-events (Own c e) h = past _
+  call-events (Lost c) h = past _
   call-events (Segment c at) h =
-      ap machineOf (segment-roomy (loanTo image m) out c (bytesFrom body at) (segment-fits body c at h) (omega (arith, long, call-room body c at h)))
+      ap machineOf (segment-roomy (loanTo image m) out c (bytesFrom body at) long (segment-fits body c at h))
       ∙ segment-machine image c (bytesFrom body at) m
-  call-events (Walk c place at) h = ap machineOf (walk-short (loanTo image m) out c place (bytesFrom body at) (walk-fits body c place at h))
+  call-events (Walk c place at) h = ap machineOf (walk-short (loanTo image m) out c place (bytesFrom body at) long (walk-fits body c place at h))
   call-events (TakeWaiting c n) h =
-      ap (λ (t : Taken). machine (t .state) (m .rx) (m .tx)) (take-room (loanTo image m) c (front (roomOf n) (replicate 1472 0)) (replicate (roomOf n) 0) (buffer-room n))
-  call-events (Datagram group source) h = refl
-  call-events (Accept group source) h = refl
-  call-events (Transmit pdu at) h = refl
-  call-events (SwitchAll number position) h = refl
-  call-events (ReadCount protocol) h = refl
-  call-events (ClearCount protocol) h = refl
+      past _
+      ∙ ap (λ (t : Taken). machine (t .state) (m .rx) (m .tx)) (take-room (loanTo image m) c (front (roomOf n) (replicate 1472 0)) (replicate (roomOf n) 0) (buffer-room n))
+  call-events (Datagram group source) h = past _
+  call-events (Accept group source) h = past _
+  call-events (Transmit pdu at) h = past _
+  call-events (SwitchAll number position) h = past _
+  call-events (ReadCount protocol) h = past _
+  call-events (ClearCount protocol) h = past _
 
 -- ONE CALL
 pub dispatched-events : (image : List ℕ) (m : Machine) (c : Spoken) → afterDispatch image c m ≡ afterRun image m (speltBy c)

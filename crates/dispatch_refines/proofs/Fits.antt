@@ -52,7 +52,7 @@ use Rattle.event_decode.specs.declared.Call.{Call}
 use Rattle.event_decode.specs.declared.Call.the-variants.{Unknown, Unfit, Ticks, Own, Lost, Segment, Walk, TakeWaiting, Datagram, Accept, Transmit, SwitchAll, ReadCount, ClearCount}
 use Rattle.event_decode.specs.Calls.{callOf, bytesFrom}
 use Rattle.dispatch_receive.specs.Long.{longestBody}
-use Rattle.dispatch_receive.specs.Segment.{lends, Progress, begun, takeAt, memoryAt, oneTake, allTakes, eventBytes}
+use Rattle.dispatch_receive.specs.Segment.{lentNext, Progress, begun, takeAt, memoryAt, oneTake, allTakes, eventBytes}
 use Rattle.dispatch_receive.specs.Walk.{walkedBytes}
 use Rattle.dispatch_receive.proofs.Room.{answer-is}
 use Rattle.dispatch_receive.proofs.Run.{read-within, first-answer, count-fits}
@@ -188,10 +188,10 @@ module _ (start : Loan) (k : ℕ) (seg : List ℕ) (bytes : Bytes seg) (notLong 
   takes-back : (n : ℕ) (r : Progress) → r .at ≤ length seg
       → takesRead seg (length (takesFrom start k seg n r)) (bytesIn (takesFrom start k seg n r)) ≡ outsIn seg (takesFrom start k seg n r)
   unfolding takesFrom oneTake takesRead bytesIn outsIn
-  takes-back zero r within = more-back seg (isDone (next r .answer)) false (nextTake start k seg r) [] (take-fits (lends start k seg r) (r .at) within) refl
+  takes-back zero r within = more-back seg (isDone (next r .answer)) false (nextTake start k seg r) [] (take-fits (lentNext start k seg r) (r .at) within) refl
   takes-back (suc n) r within =
-      more-back seg (isDone (next r .answer)) (ltb (next r .at) (length seg)) (nextTake start k seg r) (takesFrom start k seg n (next r)) (take-fits (lends start k seg r) (r .at) within)
-      (takes-back n (next r) (omega (arith, within, read-within (lends start k seg r) k (drop (r .at) seg), length-drop (r .at) seg)))
+      more-back seg (isDone (next r .answer)) (ltb (next r .at) (length seg)) (nextTake start k seg r) (takesFrom start k seg n (next r)) (take-fits (lentNext start k seg r) (r .at) within)
+      (takes-back n (next r) (omega (arith, within, read-within (lentNext start k seg r) k (drop (r .at) seg), length-drop (r .at) seg)))
 
   none-taken : (n : ℕ) (r : Progress) → isDone (next r .answer) ≡ false → takesFrom start k seg n r ≡ []
   unfolding takesFrom

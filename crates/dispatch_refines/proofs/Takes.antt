@@ -18,7 +18,7 @@ use Rattle.entry_receive.specs.declared.Answer.{Answer}
 use Rattle.entry_receive.specs.declared.Answer.the-variants.{Done, Refused, NotReceiving}
 use Rattle.entry_receive.specs.Answer.{isDone}
 use Rattle.entry_receive.specs.Segment.{segmentOf, segmentAnswer, takeOn, noneTaken, payloadOf}
-use Rattle.dispatch_receive.specs.Segment.{lends, takeBytes, bytesIfDone, Progress, begun, bytesAt, oneTake, takesUpTo, allTakes}
+use Rattle.dispatch_receive.specs.Segment.{lentNext, takeBytes, bytesIfDone, Progress, begun, bytesAt, oneTake, takesUpTo, allTakes}
 use Rattle.model_refines.specs.Machine.{Machine, machine, taken, afterOne, restOf, pduTold, toldBy, goesOn, toldTakes, toldSegment, loanTo}
 use Rattle.dispatch_refines.specs.Told.{Take, bytesIn, outIn, outsIn, nextTake, tookThen, takesFrom}
 use Rattle.gate.specs.Lent.{Loan, sizes}
@@ -122,7 +122,7 @@ module _ (l : Loan) (k : ℕ) (seg : List ℕ) where
   own-told r = pdu-told image k seg (r .at) (afterOne image k (here r) (rest r) .rx) (taken image k (here r) (rest r) .outcome)
 
   own-none : (r : Progress) → isDone (taken image k (here r) (rest r) .answer) ≡ false → toldBy image k (here r) (rest r) ≡ []
-  own-none r = none-told image k seg (lends l k seg r) (rest r) (nextTake l k seg r .payload)
+  own-none r = none-told image k seg (lentNext l k seg r) (rest r) (nextTake l k seg r .payload)
 
   takes-told : (n : ℕ) (r : Progress) → toldTakes image k (suc n) (here r) (rest r) ≡ outsIn seg (takesFrom l k seg n r)
   unfolding toldTakes takesFrom oneTake

@@ -10,7 +10,7 @@ use Rattle.reading_lengths.specs.Listed.{Bytes}
 use Rattle.event_decode.specs.declared.Call.{Call}
 use Rattle.event_decode.specs.declared.Call.the-variants.{Unknown, Unfit, Ticks, Own, Lost, Segment, Walk, TakeWaiting, Datagram, Accept, Transmit, SwitchAll, ReadCount, ClearCount}
 use Rattle.event_decode.specs.Calls.{callOf, bytesFrom}
-use Rattle.dispatch.specs.Dispatch.{room}
+use Rattle.event_answer.specs.Answers.{room}
 use Rattle.model.specs.Events.{tick, Event, onWhole}
 use Rattle.model_runs.specs.Same.{Same}
 use Rattle.model_refines.specs.Machine.{Machine, seen}

@@ -11,7 +11,7 @@ use Rattle.reading.specs.Feed.{Out, pdu, dropped}
 use Rattle.event_decode.specs.declared.Call.{Call}
 use Rattle.event_decode.specs.declared.Call.the-variants.{Unknown, Unfit, Ticks, Own, Lost, Segment, Walk, TakeWaiting, Datagram, Accept, Transmit, SwitchAll, ReadCount, ClearCount}
 use Rattle.event_decode.specs.Calls.{callOf, bytesFrom}
-use Rattle.dispatch.specs.Dispatch.{room}
+use Rattle.event_answer.specs.Answers.{room}
 use Rattle.model_refines.specs.Machine.{Machine}
 use Rattle.dispatch_refines.specs.Spelt.{Spoken, afterDispatch}
 use Rattle.dispatch_refines.specs.Answer.{answerBy}

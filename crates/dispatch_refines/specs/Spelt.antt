@@ -10,9 +10,9 @@ use Rattle.reading_lengths.specs.Listed.{Bytes}
 use Rattle.event_decode.specs.declared.Call.{Call}
 use Rattle.event_decode.specs.declared.Call.the-variants.{Unknown, Unfit, Ticks, Own, Lost, Segment, Walk, TakeWaiting, Datagram, Accept, Transmit, SwitchAll, ReadCount, ClearCount}
 use Rattle.event_decode.specs.Calls.{callOf, bytesFrom}
-use Rattle.event_answer.specs.Answers.{Effect}
+use Rattle.event_answer.specs.Answers.{Effect, room}
 use Rattle.dispatch_send.specs.Send.{roomOf}
-use Rattle.dispatch.specs.Dispatch.{room, dispatchOf}
+use Rattle.dispatch.specs.Dispatch.{dispatchOf}
 use Rattle.model.specs.Events.{change, segment, walk, takeWaiting, datagram, accept, tick, transmit, switchAll, readCount, clearCount, Event, on, onWhole}
 use Rattle.model_refines.specs.Machine.{Machine, machine, loanTo}
 

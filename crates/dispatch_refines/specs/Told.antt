@@ -16,10 +16,10 @@ use Rattle.entry_receive.specs.Walk.{walkOf}
 use Rattle.event_decode.specs.declared.Call.{Call}
 use Rattle.event_decode.specs.declared.Call.the-variants.{Unknown, Unfit, Ticks, Own, Lost, Segment, Walk, TakeWaiting, Datagram, Accept, Transmit, SwitchAll, ReadCount, ClearCount}
 use Rattle.event_decode.specs.Calls.{callOf, bytesFrom}
-use Rattle.dispatch_receive.specs.Segment.{lends, takeBytes, Progress, begun, takeAt, memoryAt, oneTake}
+use Rattle.dispatch_receive.specs.Segment.{lentNext, takeBytes, Progress, begun, takeAt, memoryAt, oneTake}
 use Rattle.model_refines.specs.Machine.{Machine, lentTo, loanTo}
 use Rattle.model_refines.specs.Run.{toldWalk}
-use Rattle.dispatch.specs.Dispatch.{room}
+use Rattle.event_answer.specs.Answers.{room}
 use Rattle.dispatch_refines.specs.Spelt.{Spoken, afterDispatch}
 
 -- ONE TAKE THAT IS NOT REFUSED: where in the segment it began, the bytes read, what it found, and the payload that it handed out
@@ -56,11 +56,11 @@ module _ (l : Loan) (connection : ℕ) (segment : List ℕ) where
   nextTake r =
       record {
         begins = r .at;
-        read = takeAt (lends l connection segment r) connection segment (r .at) .read;
-        outcome = takeAt (lends l connection segment r) connection segment (r .at) .outcome;
+        read = takeAt (lentNext l connection segment r) connection segment (r .at) .read;
+        outcome = takeAt (lentNext l connection segment r) connection segment (r .at) .outcome;
         payload =
-            payloadOf (drop (r .at) segment) (memoryAt (lends l connection segment r) connection segment (r .at)) connection
-            (takeAt (lends l connection segment r) connection segment (r .at) .outcome);
+            payloadOf (drop (r .at) segment) (memoryAt (lentNext l connection segment r) connection segment (r .at)) connection
+            (takeAt (lentNext l connection segment r) connection segment (r .at) .outcome);
       }
 
   -- its takes from here on: the next, and n at most after it

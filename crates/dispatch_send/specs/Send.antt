@@ -13,7 +13,7 @@ use Rattle.send_waiting.specs.declared.Taking.{Taking}
 use Rattle.send_waiting.specs.declared.Taking.the-variants.{Bytes, Refused as NotTaken, Short}
 use Rattle.entry_send.specs.Sending.{sendOf, sentMemory, takenWaiting, takenOut}
 use Rattle.gate.specs.Lent.{Loan, sizes}
-use Rattle.event_answer.specs.Answers.{Effect, answers, refused, refusal, doneAlone, doneWith, waiting}
+use Rattle.event_answer.specs.Answers.{Effect, answers, ifRoom, refused, refusal, doneAlone, doneWith, waiting}
 
 -- "datagram, accept: connection (1)"
 abbrev pub arrivalBytes : Arrival → List ℕ
@@ -42,17 +42,20 @@ roomOf room = min room 1472
 abbrev pub arrivedEffect : Arrived → List ℕ → List ℕ → List ℕ → Effect
 arrivedEffect a rx tx out = answers (arrivalBytes (a .answer)) (a .state) rx tx out
 
+-- WHAT EACH LEAVES: an out buffer that is too short is refused
 module _ (l : Loan) (out : List ℕ) where
   unfoldable pub datagramEffect : ℕ → Remote → Effect
-  datagramEffect group source = arrivedEffect (datagramOf (sizes l) group source) (l .rx) (l .tx) out
+  datagramEffect group source = ifRoom (l .state) (l .rx) (l .tx) out (arrivedEffect (datagramOf (sizes l) group source) (l .rx) (l .tx) out)
 
   unfoldable pub acceptEffect : ℕ → Remote → Effect
-  acceptEffect group source = arrivedEffect (acceptOf (sizes l) group source) (l .rx) (l .tx) out
+  acceptEffect group source = ifRoom (l .state) (l .rx) (l .tx) out (arrivedEffect (acceptOf (sizes l) group source) (l .rx) (l .tx) out)
+
+  abbrev pub sentEffect : ℕ → List ℕ → Effect
+  sentEffect pdu payload =
+      answers (transmissionBytes (sendOf l pdu payload .answer)) (sendOf l pdu payload .state) (l .rx) (sentMemory l pdu payload) out
 
   unfoldable pub transmitEffect : ℕ → List ℕ → Effect
-  transmitEffect pdu payload =
-      answers (transmissionBytes (sendOf l pdu payload .answer)) (sendOf l pdu payload .state)
-      (l .rx) (sentMemory l pdu payload) out
+  transmitEffect pdu payload = ifRoom (l .state) (l .rx) (l .tx) out (sentEffect pdu payload)
 
   -- with a buffer of the call's own
   abbrev pub takeInto : ℕ → List ℕ → Effect
@@ -61,4 +64,4 @@ module _ (l : Loan) (out : List ℕ) where
       (takenWaiting l connection buffer .state) (l .rx) (l .tx) out
 
   unfoldable pub takeEffect : ℕ → ℕ → Effect
-  takeEffect connection room = takeInto connection (take (roomOf room) (replicate 1472 0))
+  takeEffect connection room = ifRoom (l .state) (l .rx) (l .tx) out (takeInto connection (take (roomOf room) (replicate 1472 0)))

@@ -1,5 +1,5 @@
-// A datagram, an accept, a transmit and a take of waiting bytes, each with its answer written to an out buffer.
-// Every function is total.
+// A datagram, an accept, a transmit and a take of waiting bytes, each with its answer written to an out buffer; one that is too short for
+// an answer is refused. Every function is total.
 ghost use mathlib.Core.Path.{_≡_};
 ghost use Prim.Native.Nat.{_≤_};
 ghost use lib.ListN.{length};
@@ -71,6 +71,12 @@ pub fn datagram(
     ensures { λ r. ⌜ r ≡ dispatched (Is.datagramEffect (loan (now (image .entry)) state (now (rx .entry)) (now (tx .entry))) (now (out .entry)) group source) ⌝ }
     ensures { λ _. ⌜ now (out .exit) ≡ Is.datagramEffect (loan (now (image .entry)) state (now (rx .entry)) (now (tx .entry))) (now (out .entry)) group source .out ⌝ }
 {
+    if out.len() < 16384 {
+        return Dispatched {
+            verdict: Verdict::Small,
+            state: state,
+        };
+    }
     let entry = entry_arrivals::datagram(image, state, rx, tx, group, source);
     let answer = entry.answer;
     let after = entry.state;
@@ -93,6 +99,12 @@ pub fn accept(
     ensures { λ r. ⌜ r ≡ dispatched (Is.acceptEffect (loan (now (image .entry)) state (now (rx .entry)) (now (tx .entry))) (now (out .entry)) group source) ⌝ }
     ensures { λ _. ⌜ now (out .exit) ≡ Is.acceptEffect (loan (now (image .entry)) state (now (rx .entry)) (now (tx .entry))) (now (out .entry)) group source .out ⌝ }
 {
+    if out.len() < 16384 {
+        return Dispatched {
+            verdict: Verdict::Small,
+            state: state,
+        };
+    }
     let entry = entry_arrivals::accept(image, state, rx, tx, group, source);
     let answer = entry.answer;
     let after = entry.state;
@@ -116,6 +128,12 @@ pub fn transmit(
     ensures { λ _. ⌜ now (tx .exit) ≡ Is.transmitEffect (loan (now (image .entry)) state (now (rx .entry)) (now (tx .entry))) (now (out .entry)) pdu (now (payload .entry)) .tx ⌝ }
     ensures { λ _. ⌜ now (out .exit) ≡ Is.transmitEffect (loan (now (image .entry)) state (now (rx .entry)) (now (tx .entry))) (now (out .entry)) pdu (now (payload .entry)) .out ⌝ }
 {
+    if out.len() < 16384 {
+        return Dispatched {
+            verdict: Verdict::Small,
+            state: state,
+        };
+    }
     let entry = entry_send::transmit(image, state, rx, tx, pdu, payload);
     let answer = entry.answer;
     let after = entry.state;
@@ -170,6 +188,13 @@ pub fn take_waiting(
     ensures { λ r. ⌜ r ≡ dispatched (Is.takeEffect (loan (now (image .entry)) state (now (rx .entry)) (now (tx .entry))) (now (out .entry)) connection room) ⌝ }
     ensures { λ _. ⌜ now (out .exit) ≡ Is.takeEffect (loan (now (image .entry)) state (now (rx .entry)) (now (tx .entry))) (now (out .entry)) connection room .out ⌝ }
 {
+    let short = out.len() < 16384;
+    if short {
+        return Dispatched {
+            verdict: Verdict::Small,
+            state: state,
+        };
+    }
     let mut buffer = [0u8; 1472];
     let n = room_of(room);
     take_into(image, state, rx, tx, connection, &mut buffer[..n], out)

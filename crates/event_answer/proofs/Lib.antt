@@ -1,3 +1,4 @@
 -- The laws of the crate.
 pub mod Chain
 pub mod Reply
+pub mod Short

@@ -1,6 +1,8 @@
 -- The answer of an event as bytes (R16.2; docs/EVENTS.md, "The answer").
 use Prim.Native.Nat.{ℕ}
+use mathlib.Core.Bool.{cond}
 use mathlib.Core.List.{List, _++_}
+use lib.Dec.{ltb}
 use lib.ListN.{length}
 use Rattle.wire.specs.Lay.{spell, lay}
 use Rattle.connection.specs.declared.Remote.{Remote}
@@ -8,7 +10,7 @@ use Rattle.connection.specs.declared.Refusal.{Refusal}
 use Rattle.connection.specs.Event.{refusalNumber}
 use Rattle.state.specs.declared.State.{State}
 use Rattle.event_answer.specs.declared.Verdict.{Verdict}
-use Rattle.event_answer.specs.declared.Verdict.the-variants.{Done}
+use Rattle.event_answer.specs.declared.Verdict.the-variants.{Done, Small}
 use Rattle.event_answer.specs.declared.Dispatched.{Dispatched}
 
 -- "Answer number (2). Then, when it is not 0: the destination's row number (4) with a transmit's 4, 7 and 8; else 0 (4)"
@@ -34,6 +36,15 @@ answers bytes s rx tx out = record { verdict = Done (length bytes); state = s; r
 -- "refused and changes nothing"
 abbrev pub untouched : Verdict → State → List ℕ → List ℕ → List ℕ → Effect
 untouched v s rx tx out = record { verdict = v; state = s; rx = rx; tx = tx; out = out }
+
+-- THE ROOM that a function with an answer asks of its out buffer: enough for the answer to any body of 4,096 bytes (dispatch/proofs/Whole
+-- `answer-whole`: every answer stands whole)
+abbrev pub room : ℕ
+room = 16384
+
+-- "An out buffer shorter than 16,384 bytes is refused and changes nothing"; with any other, what the event leaves
+abbrev pub ifRoom : State → List ℕ → List ℕ → List ℕ → Effect → Effect
+ifRoom s rx tx out e = cond (ltb (length out) room) (untouched Small s rx tx out) e
 
 -- what is handed back by value
 abbrev pub dispatched : Effect → Dispatched

@@ -46,14 +46,14 @@ use Rattle.send.specs.Send.{appendOf, lookAt, checkOf, wantedAt, storeOf, store
 use Rattle.send_waiting.specs.Waiting.{takeOf}
 use Rattle.entry_send.specs.Sending.{sendOf, takenWaiting}
 use Rattle.example_edges.specs.Table.{image}
-use Rattle.example_changes.specs.Changes.{Change, changes, idle, isWas, isBecomes, holds, Hold, Changes}
+use Rattle.example_changes.specs.Changes.{Change, changes, idleChange, isWas, isBecomes, changeHolds, EveryChange, Changes}
 
-pub changes-hold : Hold changes
+pub changes-hold : EveryChange changes
 unfolding image be badFrom every foldFrom rowsOf bodyBytes startOf endOf rowAt partOf bodyOf rowIn groupRow connectionRow routeRow destinationRow groupGood connectionGood routeGood destinationGood sizeIn routesShare destinationsShare share clearIn goodIn headGood entryGood rule thenCheck entriesPlace headPlace allRowsPlace checkTable pieceDone feed takeB headOf walkAt worth switchOf startsOf reachOf runOf tickOf stepOf soundOf zeroOf counted configOf freshState isOn rowsIn counts rowFor reasonIn reasonOf decisionOf lookupOf tookOf takeFrom walkedOf soundAt recordsSound soundState gateOf gateAt toldOf changeOf eventOf lossOf switchedAll switchAllOf ofProtocol clearPast clearOf tickedTo ticksTo tickEvent ticksEvent better chosenOf rankOf scoreOf scoreAt chosenIn deniedOf arriveOf arrivalOf judgedOf judgedAnswer takeOn segmentOf walkOn walkOf refusalOf lookOf timerOf verdictOf appendOf lookAt checkOf wantedAt storeOf storeAll transmitOf takeOf sendOf takenWaiting
 changes-hold = refl
 
 -- a row that holds: its state is sound, and its event leaves another
-of-row : (c : Change) → holds c ≡ true → Changes c
+of-row : (c : Change) → changeHolds c ≡ true → Changes c
 of-row c h =
     let three : _ = and-left (soundState image (c .before) && isWas c && isBecomes c) _ h in
     let two : _ = and-left (soundState image (c .before) && isWas c) _ three in
@@ -65,11 +65,11 @@ of-row c h =
       moves = λ still. apart (sym before ∙ sym (ap (c .field) still) ∙ after);
     }
 
-pub each-row : (cs : List Change) → Hold cs → (i : ℕ) → i < length cs → Changes (getD cs i idle)
+pub each-row : (cs : List Change) → EveryChange cs → (i : ℕ) → i < length cs → Changes (getD cs i idleChange)
 each-row [] h i l = absurd (omega arith)
-each-row (c ∷ cs) h zero l = of-row c (and-left (holds c) _ h)
-each-row (c ∷ cs) h (suc i) l = each-row cs (and-right (holds c) _ h) i (omega arith)
+each-row (c ∷ cs) h zero l = of-row c (and-left (changeHolds c) _ h)
+each-row (c ∷ cs) h (suc i) l = each-row cs (and-right (changeHolds c) _ h) i (omega arith)
 
 -- EACH EVENT of the table changes a sound state
-pub each-changes : (i : ℕ) → i < length changes → Changes (getD changes i idle)
+pub each-changes : (i : ℕ) → i < length changes → Changes (getD changes i idleChange)
 each-changes i l = each-row changes changes-hold i l

@@ -1,5 +1,5 @@
 -- WHAT EACH EVENT CHANGES, as one table: a state that is sound over the edges' image, an event, and a number of the state before
--- and after it. One statement says all of it: `Hold` of the table.
+-- and after it. One statement says all of it: `EveryChange` of the table.
 -- Every entry that can change the state is in it; reading a count is not, for it changes nothing.
 use Prim.Native.Nat.{ℕ}
 use mathlib.Core.Bool.{Bool, true, false, not, _&&_}
@@ -180,8 +180,8 @@ changes =
     ∷ []
 
 -- past the last row: an event that leaves every state as it was
-abbrev pub idle : Change
-idle = changing fresh (λ s. s) tcpDrops 0 0
+abbrev pub idleChange : Change
+idleChange = changing fresh (λ s. s) tcpDrops 0 0
 
 -- the state is sound, over an accepted table; its field is one number before the event, another one after it
 abbrev pub isWas : Change → Bool
@@ -190,16 +190,16 @@ isWas c = eqb (c .field (c .before)) (c .was)
 abbrev pub isBecomes : Change → Bool
 isBecomes c = eqb (c .field (c .event (c .before))) (c .becomes)
 
-abbrev pub holds : Change → Bool
-holds c = soundState image (c .before) && isWas c && isBecomes c && not (eqb (c .was) (c .becomes))
+abbrev pub changeHolds : Change → Bool
+changeHolds c = soundState image (c .before) && isWas c && isBecomes c && not (eqb (c .was) (c .becomes))
 
-abbrev pub hold : List Change → Bool
-hold [] = true
-hold (c ∷ cs) = holds c && hold cs
+abbrev pub changesHold : List Change → Bool
+changesHold [] = true
+changesHold (c ∷ cs) = changeHolds c && changesHold cs
 
 -- THE ONE STATEMENT
-abbrev pub Hold : List Change → Type 0
-Hold cs = hold cs ≡ true
+abbrev pub EveryChange : List Change → Type 0
+EveryChange cs = changesHold cs ≡ true
 
 -- what it gives of a row: a sound state that the event changes
 pub record Changes (c : Change) : Type 0 where

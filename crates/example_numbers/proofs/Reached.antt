@@ -44,9 +44,9 @@ use Rattle.model.specs.Events.{change, segment, walk, takeWaiting, datagram, ac
 use Rattle.model_refines.specs.Machine.{Machine, machine}
 use Rattle.theorems.specs.Numbers.{numbersFor, among}
 use Rattle.theorems.proofs.Refused.{event-refused}
-use Rattle.example_numbers.specs.Reached.{kindOf, Reached, Example, example, examples, holds, hold}
+use Rattle.example_numbers.specs.Reached.{kindOf, Reached, Example, example, examples, exampleHolds, examplesHold}
 
-examples-hold : hold examples ≡ true
+examples-hold : examplesHold examples ≡ true
 unfolding image be badFrom every foldFrom rowsOf bodyBytes startOf endOf rowAt partOf bodyOf rowIn groupRow connectionRow routeRow destinationRow groupGood connectionGood routeGood destinationGood sizeIn routesShare destinationsShare share clearIn goodIn headGood entryGood rule thenCheck entriesPlace headPlace allRowsPlace checkTable stepOf soundOf zeroOf configOf freshState isOn soundAt recordsSound soundState gateOf gateAt toldOf changeOf eventOf switchAllOf ofProtocol readPast readOf clearPast clearOf tickEvent better chosenOf rankOf scoreOf scoreAt chosenIn deniedOf arriveOf arrivalOf judgedOf judgedAnswer takeOn segmentOf walkOn walkOf refusalOf lookOf verdictOf lookAt checkOf takingOf sendOf takenWaiting
 examples-hold = refl
 
@@ -57,10 +57,10 @@ first = example fresh (onWhole tick) 0
 abbrev row : ℕ → Example
 row i = getD examples i first
 
-each-row : (xs : List Example) → hold xs ≡ true → holds first ≡ true → (i : ℕ) → holds (getD xs i first) ≡ true
+each-row : (xs : List Example) → examplesHold xs ≡ true → exampleHolds first ≡ true → (i : ℕ) → exampleHolds (getD xs i first) ≡ true
 each-row [] h d i = d
-each-row (x ∷ xs) h d zero = and-left (holds x) (hold xs) h
-each-row (x ∷ xs) h d (suc i) = each-row xs (and-right (holds x) (hold xs) h) d i
+each-row (x ∷ xs) h d zero = and-left (exampleHolds x) (examplesHold xs) h
+each-row (x ∷ xs) h d (suc i) = each-row xs (and-right (exampleHolds x) (examplesHold xs) h) d i
 
 -- what row i shows
 at : (i : ℕ) → Reached (kindOf (row i .event)) (row i .number)
@@ -70,7 +70,7 @@ at i =
       machine = machine (row i .state) receiveMemory sendMemory;
       event = row i .event;
       of-kind = refl;
-      answered = eqb-true _ _ (each-row examples examples-hold (and-left (holds first) _ examples-hold) i);
+      answered = eqb-true _ _ (each-row examples examples-hold (and-left (exampleHolds first) _ examples-hold) i);
     }
 
 -- 11: no memory is lent

@@ -117,9 +117,9 @@ examples =
     ∷ example fresh (onWhole (clearCount 2)) 0
     ∷ []
 
-abbrev pub holds : Example → Bool
-holds x = eqb (numberOf (x .table) (machine (x .state) receiveMemory sendMemory) (x .event)) (x .number)
+abbrev pub exampleHolds : Example → Bool
+exampleHolds x = eqb (numberOf (x .table) (machine (x .state) receiveMemory sendMemory) (x .event)) (x .number)
 
-abbrev pub hold : List Example → Bool
-hold [] = true
-hold (x ∷ xs) = holds x && hold xs
+abbrev pub examplesHold : List Example → Bool
+examplesHold [] = true
+examplesHold (x ∷ xs) = exampleHolds x && examplesHold xs

@@ -7,7 +7,7 @@ use lib.ListN.{length, take, drop, length-drop}
 use Rattle.reading.specs.Feed.{Routes, Cell, cell, header, Out, nothing, pdu, dropped, pieceDone, feed, ready, Took, takeB, bytesRead, Ran, takes, segmentRan, pdus}
 use Rattle.switches.specs.Switches.{isOn}
 use Rattle.reading_lengths.specs.Listed.{mark, readOut}
-use Rattle.example_readings.specs.Edges.{rows, readingTable, bar, headerTwo, frameEmpty, frameUnknown}
+use Rattle.example_readings.specs.Edges.{rows, readingTable, frameBar, headerTwo, frameEmpty, frameUnknown}
 use Rattle.example_readings.specs.Wrong.{TakeReading, SegmentReading, StreamReading, IsTake, IsSegment, IsStream, AlwaysMore, FirstRoute, FreshHeader, ReadsAll, FirstOnly, Closing, TestedLate}
 
 -- 1 where a PDU came out
@@ -20,7 +20,7 @@ came (dropped k i n) = 0
 pub no-always-more : (t : TakeReading) → IsTake t → AlwaysMore t → ⊥
 unfolding takeB feed pieceDone isOn rows
 no-always-more t is wrong =
-    let e : came (takeB (readingTable 1) ready bar .out) ≡ came nothing = ap came (ap (λ (x : Took). x .out) (sym (is (readingTable 1) ready bar)) ∙ wrong (readingTable 1) ready bar) in
+    let e : came (takeB (readingTable 1) ready frameBar .out) ≡ came nothing = ap came (ap (λ (x : Took). x .out) (sym (is (readingTable 1) ready frameBar)) ∙ wrong (readingTable 1) ready frameBar) in
     let z : _≡_ {A = ℕ} 1 0 = e in absurd (omega arith)
 
 -- at PDU 0x102, whose route is the second row
@@ -35,7 +35,7 @@ pub no-fresh-header : (t : TakeReading) → IsTake t → FreshHeader t → ⊥
 unfolding takeB feed pieceDone isOn rows
 no-fresh-header t is wrong =
     let c : Cell = cell 5 (header 1) in
-    let e : takeB (readingTable 1) c (drop 3 bar) ≡ takeB (readingTable 1) ready (drop 3 bar) = sym (is (readingTable 1) c (drop 3 bar)) ∙ wrong (readingTable 1) c (drop 3 bar) ∙ is (readingTable 1) ready (drop 3 bar) in
+    let e : takeB (readingTable 1) c (drop 3 frameBar) ≡ takeB (readingTable 1) ready (drop 3 frameBar) = sym (is (readingTable 1) c (drop 3 frameBar)) ∙ wrong (readingTable 1) c (drop 3 frameBar) ∙ is (readingTable 1) ready (drop 3 frameBar) in
     let z : _≡_ {A = ℕ} 1 0 = ap (λ (x : Took). came (x .out)) e in
     absurd (omega arith)
 
@@ -43,7 +43,7 @@ no-fresh-header t is wrong =
 pub no-reading-all : (t : TakeReading) → IsTake t → ReadsAll t → ⊥
 unfolding takeB feed pieceDone isOn rows
 no-reading-all t is wrong =
-    let z : _≡_ {A = ℕ} 10 18 = ap (bytesRead (bar ++ frameEmpty)) (sym (is (readingTable 1) ready (bar ++ frameEmpty))) ∙ wrong (readingTable 1) ready (bar ++ frameEmpty) in
+    let z : _≡_ {A = ℕ} 10 18 = ap (bytesRead (frameBar ++ frameEmpty)) (sym (is (readingTable 1) ready (frameBar ++ frameEmpty))) ∙ wrong (readingTable 1) ready (frameBar ++ frameEmpty) in
     absurd (omega arith)
 
 -- and at every input: a take that leaves what stands behind n bytes is not the take, unless n is the take's count
@@ -56,14 +56,14 @@ no-other-count R c bs t n le e is =
 pub no-first-only : (s : SegmentReading) → IsSegment s → FirstOnly s → ⊥
 unfolding segmentRan takes takeB feed pieceDone isOn rows pdus
 no-first-only s is wrong =
-    let e : length (pdus (s (readingTable 1) ready (bar ++ bar) .list)) ≡ 2 = ap (λ (x : Ran). length (pdus (x .list))) (is (readingTable 1) ready (bar ++ bar)) in
-    absurd (omega (arith, e, wrong (readingTable 1) ready (bar ++ bar)))
+    let e : length (pdus (s (readingTable 1) ready (frameBar ++ frameBar) .list)) ≡ 2 = ap (λ (x : Ran). length (pdus (x .list))) (is (readingTable 1) ready (frameBar ++ frameBar)) in
+    absurd (omega (arith, e, wrong (readingTable 1) ready (frameBar ++ frameBar)))
 
 -- at an unknown id with a PDU behind it
 pub no-closing : (s : SegmentReading) → IsSegment s → Closing s → ⊥
 unfolding segmentRan takes takeB feed pieceDone isOn rows
 no-closing s is wrong =
-    let e : pdu 0 (0 ∷ 180 ∷ []) ∷ [] ≡ [] = wrong (readingTable 1) ready (frameUnknown ++ bar) 0x103 2 (pdu 0 (0 ∷ 180 ∷ []) ∷ []) (ap (λ (x : Ran). x .list) (is (readingTable 1) ready (frameUnknown ++ bar))) in
+    let e : pdu 0 (0 ∷ 180 ∷ []) ∷ [] ≡ [] = wrong (readingTable 1) ready (frameUnknown ++ frameBar) 0x103 2 (pdu 0 (0 ∷ 180 ∷ []) ∷ []) (ap (λ (x : Ran). x .list) (is (readingTable 1) ready (frameUnknown ++ frameBar))) in
     let z : _≡_ {A = ℕ} 1 0 = ap length e in
     absurd (omega arith)
 
@@ -71,8 +71,8 @@ no-closing s is wrong =
 pub no-tested-late : (f : StreamReading) → IsStream f → TestedLate f → ⊥
 unfolding readOut feed pieceDone isOn rows pdus
 no-tested-late f is wrong =
-    let h : List ℕ = take 8 bar in
-    let p : List ℕ = drop 8 bar in
+    let h : List ℕ = take 8 frameBar in
+    let p : List ℕ = drop 8 frameBar in
     let z : _≡_ {A = ℕ} 1 0 =
     ap length (sym (is readingTable (map (mark 1) h ++ map (mark 0) p)) ∙ wrong readingTable 1 0 h p refl (omega arith) ∙ is readingTable (map (mark 0) (h ++ p))) in
     absurd (omega arith)

@@ -31,8 +31,8 @@ abbrev pub readingTable : ℕ → Routes
 readingTable = rows 0 (readingRow 0x101 2 1 ∷ readingRow 0x102 3 0 ∷ [])
 
 -- `00 00 01 01 00 00 00 02 00 B4`
-abbrev pub bar : List ℕ
-bar = 0 ∷ 0 ∷ 1 ∷ 1 ∷ 0 ∷ 0 ∷ 0 ∷ 2 ∷ 0 ∷ 180 ∷ []
+abbrev pub frameBar : List ℕ
+frameBar = 0 ∷ 0 ∷ 1 ∷ 1 ∷ 0 ∷ 0 ∷ 0 ∷ 2 ∷ 0 ∷ 180 ∷ []
 
 abbrev pub headerTwo : List ℕ
 headerTwo = 0 ∷ 0 ∷ 1 ∷ 2 ∷ 0 ∷ 0 ∷ 0 ∷ 2 ∷ []
@@ -51,40 +51,40 @@ headerLongest = 0 ∷ 0 ∷ 1 ∷ 3 ∷ 255 ∷ 255 ∷ 255 ∷ 255 ∷ []
 
 pub record ReadingEdges : Type 0 where
   -- R12.2: PDU 0x101, payload 180
-  pub the-pdu : segmentRan (readingTable 1) ready bar ≡ ran ready (pdu 0 (0 ∷ 180 ∷ []) ∷ [])
+  pub the-pdu : segmentRan (readingTable 1) ready frameBar ≡ ran ready (pdu 0 (0 ∷ 180 ∷ []) ∷ [])
   pub payload-180 : be 2 (0 ∷ 180 ∷ []) 0 ≡ 180
   -- R12.2: cut after byte 3, and after byte 8, the same PDU
-  pub cut-after-3 : segments (readingTable 1) ready (take 3 bar ∷ drop 3 bar ∷ []) ≡ ran ready (pdu 0 (0 ∷ 180 ∷ []) ∷ [])
-  pub cut-after-8 : segments (readingTable 1) ready (take 8 bar ∷ drop 8 bar ∷ []) ≡ ran ready (pdu 0 (0 ∷ 180 ∷ []) ∷ [])
+  pub cut-after-3 : segments (readingTable 1) ready (take 3 frameBar ∷ drop 3 frameBar ∷ []) ≡ ran ready (pdu 0 (0 ∷ 180 ∷ []) ∷ [])
+  pub cut-after-8 : segments (readingTable 1) ready (take 8 frameBar ∷ drop 8 frameBar ∷ []) ≡ ran ready (pdu 0 (0 ∷ 180 ∷ []) ∷ [])
   -- R12.2: `46 50` as payload is 18,000
   pub payload-18000 : be 2 (0x46 ∷ 0x50 ∷ []) 0 ≡ 18000
   pub kilopascal : segmentRan (readingTable 1) ready (headerTwo ++ 0x46 ∷ 0x50 ∷ []) ≡ ran ready (pdu 1 (0x46 ∷ 0x50 ∷ []) ∷ [])
   -- R12.3: length 0
   pub length-0 : segmentRan (readingTable 1) ready frameEmpty ≡ ran ready (pdu 0 [] ∷ [])
   -- R12.3: longest 2 against length 2 and 3: the-pdu, and this drop, whose payload is skipped
-  pub longest-2 : segmentRan (readingTable 1) ready (frameThree ++ bar) ≡ ran ready (dropped 22 0x101 3 ∷ pdu 0 (0 ∷ 180 ∷ []) ∷ [])
+  pub longest-2 : segmentRan (readingTable 1) ready (frameThree ++ frameBar) ≡ ran ready (dropped 22 0x101 3 ∷ pdu 0 (0 ∷ 180 ∷ []) ∷ [])
   -- R12.4: groups 0 with all switches off is on; and a group that is switched off
   pub groups-0 : readingTable 0 0x102 2 ≡ Accept 1
-  pub switched-off : segmentRan (readingTable 2) ready bar ≡ ran ready (dropped 21 0x101 2 ∷ [])
+  pub switched-off : segmentRan (readingTable 2) ready frameBar ≡ ran ready (dropped 21 0x101 2 ∷ [])
   -- no route: dropped and skipped, and the next PDU is read
-  pub no-route : segmentRan (readingTable 1) ready (frameUnknown ++ bar) ≡ ran ready (dropped 20 0x103 2 ∷ pdu 0 (0 ∷ 180 ∷ []) ∷ [])
+  pub no-route : segmentRan (readingTable 1) ready (frameUnknown ++ frameBar) ≡ ran ready (dropped 20 0x103 2 ∷ pdu 0 (0 ∷ 180 ∷ []) ∷ [])
   -- a length of 4,294,967,295 is to be skipped
   pub skip-longest : segmentRan (readingTable 1) ready headerLongest ≡ ran (cell 4294967295 skip) (dropped 20 0x103 4294967295 ∷ [])
   -- a take ends at the first PDU, and at a dropped header
-  pub take-pdu : takeB (readingTable 1) ready (bar ++ frameEmpty) ≡ took ready (pdu 0 (0 ∷ 180 ∷ [])) frameEmpty
+  pub take-pdu : takeB (readingTable 1) ready (frameBar ++ frameEmpty) ≡ took ready (pdu 0 (0 ∷ 180 ∷ [])) frameEmpty
   pub take-drop : takeB (readingTable 1) ready frameUnknown ≡ took (cell 2 skip) (dropped 20 0x103 2) (0 ∷ 180 ∷ [])
-  pub take-more : takeB (readingTable 1) ready (take 9 bar) ≡ took (cell 1 (payload 0 (0 ∷ []))) nothing []
+  pub take-more : takeB (readingTable 1) ready (take 9 frameBar) ≡ took (cell 1 (payload 0 (0 ∷ []))) nothing []
   -- R12.7: a datagram of 7 bytes is 23; and its neighbours
-  pub seven : walkAt (readingTable 1) (take 7 bar) 0 ≡ walked (a-drop 23 0 0) 7
+  pub seven : walkAt (readingTable 1) (take 7 frameBar) 0 ≡ walked (a-drop 23 0 0) 7
   pub eight : walkAt (readingTable 1) frameEmpty 0 ≡ walked (a-pdu 0 8 0 0x101) 8
-  pub nine : walkAt (readingTable 1) (take 9 bar) 0 ≡ walked (a-drop 23 0x101 2) 9
-  pub ten : walkAt (readingTable 1) bar 0 ≡ walked (a-pdu 0 8 2 0x101) 10
-  pub eleven : listOf (readingTable 1) (bar ++ 0 ∷ []) ≡ pdu 0 (0 ∷ 180 ∷ []) ∷ dropped 23 0 0 ∷ []
-  pub end : walkAt (readingTable 1) bar 10 ≡ walked the-end 10
+  pub nine : walkAt (readingTable 1) (take 9 frameBar) 0 ≡ walked (a-drop 23 0x101 2) 9
+  pub ten : walkAt (readingTable 1) frameBar 0 ≡ walked (a-pdu 0 8 2 0x101) 10
+  pub eleven : listOf (readingTable 1) (frameBar ++ 0 ∷ []) ≡ pdu 0 (0 ∷ 180 ∷ []) ∷ dropped 23 0 0 ∷ []
+  pub end : walkAt (readingTable 1) frameBar 10 ≡ walked the-end 10
   -- 23 is tested before 20, 21, 22: each in a datagram that is too short, and then in a whole one
   pub beyond-unknown : walkAt (readingTable 1) headerLongest 0 ≡ walked (a-drop 23 0x103 4294967295) 8
-  pub beyond-off : walkAt (readingTable 2) (take 9 bar) 0 ≡ walked (a-drop 23 0x101 2) 9
+  pub beyond-off : walkAt (readingTable 2) (take 9 frameBar) 0 ≡ walked (a-drop 23 0x101 2) 9
   pub beyond-too-long : walkAt (readingTable 1) (take 10 frameThree) 0 ≡ walked (a-drop 23 0x101 3) 10
-  pub unknown-walked : walkAt (readingTable 1) (frameUnknown ++ bar) 0 ≡ walked (a-drop 20 0x103 2) 10
-  pub off-walked : walkAt (readingTable 2) bar 0 ≡ walked (a-drop 21 0x101 2) 10
+  pub unknown-walked : walkAt (readingTable 1) (frameUnknown ++ frameBar) 0 ≡ walked (a-drop 20 0x103 2) 10
+  pub off-walked : walkAt (readingTable 2) frameBar 0 ≡ walked (a-drop 21 0x101 2) 10
   pub too-long-walked : walkAt (readingTable 1) frameThree 0 ≡ walked (a-drop 22 0x101 3) 11

@@ -13,22 +13,16 @@ use Rattle.dispatch_receive.proofs.segment.Tie as tie
 returns : tie.Need-returns
 returns c =
     let a = c .before .before .before .before .before .before .args in
-    rw (segment-long (loan (a .image .now) (a .state) (a .rx .now) (a .tx .now)) (a .out .now) (a .connection) (a .segment .now) (c .if1 .taken)) (refl, (refl, refl))
-
-mul-if2 : tie.Need-mul-if2
-mul-if2 c = omega (arith, c .if1 .left)
-
-add-if2 : tie.Need-add-if2
-add-if2 c = omega (arith, c .if1 .left)
+    rw (segment-small (loan (a .image .now) (a .state) (a .rx .now) (a .tx .now)) (a .out .now) (a .connection) (a .segment .now) (c .if1 .taken)) (refl, (refl, refl))
 
 returns-2 : tie.Need-returns-2
 returns-2 c =
     let a = c .before .before .before .before .before .before .before .args in
-    rw (segment-small (loan (a .image .now) (a .state) (a .rx .now) (a .tx .now)) (a .out .now) (a .connection) (a .segment .now) (c .before .if1 .left) (c .if2 .taken))
+    rw (segment-long (loan (a .image .now) (a .state) (a .rx .now) (a .tx .now)) (a .out .now) (a .connection) (a .segment .now) (c .before .if1 .left) (c .if2 .taken))
     (refl, (refl, refl))
 
 take-all-requires : tie.Need-take-all-requires
-take-all-requires c κs = c .before .before .if2 .left
+take-all-requires c κs = omega (arith, c .before .before .before .if1 .left, c .before .before .if2 .left)
 
 put-takes-requires : tie.Need-put-takes-requires
 put-takes-requires c κs = search needs
@@ -48,15 +42,13 @@ returns-3 c =
     let p = c .before .before .put-takes .ensures in
     rw (segment-roomy (loan (a .image .now) (a .state) (a .rx .now) (a .tx .now)) (a .out .now) (a .connection) (a .segment .now) (i .before .if1 .left) (i .if2 .left))
     (all-told (allTakes (loan (a .image .now) (a .state) (a .rx .now) (a .tx .now)) (a .connection) (a .segment .now)) (a .tx .now) (a .out .now)
-    (omega (arith, i .if2 .left, takes-fit (loan (a .image .now) (a .state) (a .rx .now) (a .tx .now)) (a .connection) (a .segment .now))) (h .0) (h .1 .0) (h .1 .1) (p .0) (p .1))
+    (omega (arith, i .before .if1 .left, i .if2 .left, takes-fit (loan (a .image .now) (a .state) (a .rx .now) (a .tx .now)) (a .connection) (a .segment .now))) (h .0) (h .1 .0) (h .1 .1) (p .0) (p .1))
 
 pub segment-spec : {M : Type 1} → statement M
 segment-spec =
     tie.close
     (tie.spec
     returns
-    mul-if2
-    add-if2
     returns-2
     take-all-requires
     put-takes-requires

@@ -1,11 +1,15 @@
 -- `dispatch_send::datagram` meets its contract.
 use mathlib.Core.Path.{ap}
-use Rattle.event_answer.proofs.Reply.{reply}
+use Rattle.event_answer.proofs.Short.{refuses, replies}
 use Rattle.select.specs.declared.Arrived.{Arrived}
 use Rattle.dispatch_send.specs.Send.{arrivalBytes, datagramEffect}
 use borrow.Author.Needs.{needs}
 use Rattle.dispatch_send.proofs.datagram.Statement.{statement}
 use Rattle.dispatch_send.proofs.datagram.Tie as tie
+
+returns : tie.Need-returns
+unfolding datagramEffect
+returns c = refuses _ _ _ _ _ (c .if1 .taken)
 
 datagram-requires : tie.Need-datagram-requires
 datagram-requires c κs = search needs
@@ -16,9 +20,15 @@ put-arrival-requires c κs = search needs
 same-length : tie.Need-same-length
 same-length c = search needs
 
-returns : tie.Need-returns
+returns-2 : tie.Need-returns-2
 unfolding datagramEffect
-returns c = let h = c .before .before .before .before .before .datagram .ensures in let p = c .before .before .put-arrival .ensures in reply (c .before .before .before .before .before .before .before .before .before .before .args .out .now) (p .0) (p .1) (ap (λ (t : Arrived). arrivalBytes (t .answer)) h) (ap (λ (t : Arrived). t .state) h)
+returns-2 c =
+    let i = c .before .before .before .before .before .before in
+    let a = i .before .before .before .before .before .args in
+    let h = c .before .before .before .before .before .datagram .ensures in
+    let p = c .before .before .put-arrival .ensures in
+    replies (a .state) (a .rx .now) (a .tx .now) (a .out .now) (i .if1 .left) (p .0) (p .1) (ap (λ (t : Arrived). arrivalBytes (t .answer)) h)
+    (ap (λ (t : Arrived). t .state) h)
 
 pub datagram-spec : {M : Type 1} → statement M
-datagram-spec = tie.close (tie.spec datagram-requires put-arrival-requires same-length returns)
+datagram-spec = tie.close (tie.spec returns datagram-requires put-arrival-requires same-length returns-2)
