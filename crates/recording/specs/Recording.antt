@@ -69,5 +69,5 @@ sizedOf r entries =
     (cond (ltb (firstLong r entries) entries) (Long (firstLong r entries))
     Sized))
 
-unfoldable pub frontOf : List ℕ → Front
-frontOf r = cond (ltb (length r) 2) Contents (cond (not (eqb (editionIn r) 1)) Edition (sizedOf r (entriesIn r)))
+unfoldable pub shownBy : List ℕ → Front
+shownBy r = cond (ltb (length r) 2) Contents (cond (not (eqb (editionIn r) 1)) Edition (sizedOf r (entriesIn r)))

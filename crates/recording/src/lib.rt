@@ -93,7 +93,7 @@ fn sized(recording: &[u8], entries: u16) -> Front
 }
 
 pub fn front_of(recording: &[u8]) -> Front
-    ensures { λ r. ⌜ r ≡ Is.frontOf (now (recording .entry)) ⌝ }
+    ensures { λ r. ⌜ r ≡ Is.shownBy (now (recording .entry)) ⌝ }
 {
     if recording.len() < 2 {
         return Front::Contents;

@@ -12,18 +12,18 @@ use Rattle.entry_ticks.specs.declared.Ticked.{Ticked}
 use Rattle.entry_ticks.specs.Tick.{ticksEvent}
 use Rattle.event_answer.specs.declared.Verdict.{Verdict}
 use Rattle.event_answer.specs.declared.Dispatched.{Dispatched}
-use Rattle.event_answer.specs.Answers.{Effect, dispatched}
-use Rattle.dispatch.specs.Dispatch.{room, dispatchOf}
+use Rattle.event_answer.specs.Answers.{Effect, dispatched, room}
+use Rattle.dispatch.specs.Dispatch.{dispatchOf}
 use Rattle.recording.specs.declared.Fault.{Fault}
 use Rattle.recording.specs.Recording.{stampIn, numberIn, bodyLong, distanceIn, stamps}
 use Rattle.recording.specs.Entry.{argumentsIn, answerIn, faultOf}
 use Rattle.replay_step.specs.declared.Played.{Played}
 use Rattle.replay_step.specs.declared.Played.the-variants.{Small, Cut}
 use Rattle.replay_step.specs.declared.Step.{Step}
-use Rattle.replay_step.specs.Step.{Stepped, stepped, playedBy, unplayed, happens, unlessFault, entered, stepOf}
+use Rattle.replay_step.specs.Step.{Stepped, stepGiven, playedBy, unplayed, thenHappens, unlessFault, entered, entryStep}
 
 abbrev pub Leaves : Step → List ℕ → List ℕ → List ℕ → Stepped → Type 0
-Leaves r rx tx out s = (r ≡ stepped s) × ((rx ≡ s .rx) × ((tx ≡ s .tx) × (out ≡ s .out)))
+Leaves r rx tx out s = (r ≡ stepGiven s) × ((rx ≡ s .rx) × ((tx ≡ s .tx) × (out ≡ s .out)))
 
 pub leaves-by : (r : Step) (rx tx out : List ℕ) (s t : Stepped) → s ≡ t → Leaves r rx tx out s → Leaves r rx tx out t
 leaves-by r rx tx out s t e p = subst (Leaves r rx tx out) e p
@@ -45,7 +45,7 @@ module _ (image : List ℕ) (s : State) (rx tx out : List ℕ) (count number : �
       → out' ≡ dispatchOf (loan image (t .state) rx tx) out number given .out
       → answer ≡ answerIn number body
       → p ≡ playedBy (d .verdict) out' answer
-      → Leaves (record { played = p; state = d .state }) rx' tx' out' (happens lent out count number body)
+      → Leaves (record { played = p; state = d .state }) rx' tx' out' (thenHappens lent out count number body)
   happens-so t given d answer p rx' tx' out' ticks arguments did left sent told recorded compared =
       let e : dispatchOf (loan image (t .state) rx tx) out number given ≡ did-by =
       ap₂ (λ (x : Ticked) (g : List ℕ). dispatchOf (loan image (x .state) rx tx) out number g) ticks arguments in
@@ -63,8 +63,8 @@ module _ (l : Loan) (out : List ℕ) (before : ℕ) (row rest : List ℕ) where
   -- an entry that is there
   pub step-entered : (long stamp distance number : ℕ) (body : List ℕ) (fault : Fault) → room ≤ length out → long ≡ bodyLong row → long ≤ length rest
       → body ≡ take long rest → stamp ≡ stampIn row → distance ≡ distanceIn stamps before stamp → fault ≡ faultOf distance row body → number ≡ numberIn row
-      → unlessFault l out fault distance number body ≡ stepOf l out before row rest
-  unfolding stepOf entered
+      → unlessFault l out fault distance number body ≡ entryStep l out before row rest
+  unfolding entryStep entered
   step-entered long stamp distance number body fault roomy n there b s d f k =
       let db : distance ≡ distanceIn stamps before (stampIn row) = d ∙ ap (distanceIn stamps before) s in
       let bb : body ≡ take (bodyLong row) rest = b ∙ ap (λ (x : ℕ). take x rest) n in

@@ -10,8 +10,8 @@ use Rattle.gate.specs.Lent.{Loan, loan, sizes}
 use Rattle.entry_ticks.specs.Tick.{ticksEvent}
 use Rattle.event_answer.specs.declared.Verdict.{Verdict}
 use Rattle.event_answer.specs.declared.Verdict.the-variants as Said
-use Rattle.event_answer.specs.Answers.{Effect}
-use Rattle.dispatch.specs.Dispatch.{room, dispatchOf}
+use Rattle.event_answer.specs.Answers.{Effect, room}
+use Rattle.dispatch.specs.Dispatch.{dispatchOf}
 use Rattle.recording.specs.declared.Fault.{Fault}
 use Rattle.recording.specs.declared.Fault.the-variants.{Nothing, FarStamp, NoEvent, ZeroField, Misfit}
 use Rattle.recording.specs.Recording.{stampIn, numberIn, bodyLong, distanceIn, stamps}
@@ -36,8 +36,8 @@ pub record Stepped : Type 0 where
   pub out : List ℕ
 
 -- what is handed back by value
-abbrev pub stepped : Stepped → Step
-stepped s = record { played = s .played; state = s .state }
+abbrev pub stepGiven : Stepped → Step
+stepGiven s = record { played = s .played; state = s .state }
 
 -- today's answer, n bytes at the front of the out buffer, beside the recorded one; the other three do not come, for the entry fits and
 -- the out buffer has the room (theorem_replay/proofs/Step `step-answers`)
@@ -58,16 +58,16 @@ module _ (l : Loan) (out : List ℕ) where
   unplayed p = record { played = p; state = l .state; rx = l .rx; tx = l .tx; out = out }
 
   -- "that many ticks are run between entries"
-  abbrev pub ticked : ℕ → Loan
-  ticked n = loan (l .image) (ticksEvent (sizes l) n .state) (l .rx) (l .tx)
+  abbrev pub tickedBy : ℕ → Loan
+  tickedBy n = loan (l .image) (ticksEvent (sizes l) n .state) (l .rx) (l .tx)
 
   -- so many ticks, and the event that the number and the body's arguments spell
-  abbrev pub happens : ℕ → ℕ → List ℕ → Stepped
-  happens ticks number body = toldBeside (answerIn number body) (dispatchOf (ticked ticks) out number (argumentsIn number body))
+  abbrev pub thenHappens : ℕ → ℕ → List ℕ → Stepped
+  thenHappens ticks number body = toldBeside (answerIn number body) (dispatchOf (tickedBy ticks) out number (argumentsIn number body))
 
   -- "its ticks not": a refused entry leaves everything
   unfoldable pub unlessFault : Fault → ℕ → ℕ → List ℕ → Stepped
-  unlessFault Nothing ticks number body = happens ticks number body
+  unlessFault Nothing ticks number body = thenHappens ticks number body
   unlessFault FarStamp ticks number body = unplayed (Refused FarStamp)
   unlessFault NoEvent ticks number body = unplayed (Refused NoEvent)
   unlessFault ZeroField ticks number body = unplayed (Refused ZeroField)
@@ -79,8 +79,8 @@ module _ (l : Loan) (out : List ℕ) where
 
   -- A STEP over a contents row and the bytes that are left, with the stamp before: "cut off inside a body, tested before that entry's
   -- refusals"
-  unfoldable pub stepOf : ℕ → List ℕ → List ℕ → Stepped
-  stepOf before row rest =
+  unfoldable pub entryStep : ℕ → List ℕ → List ℕ → Stepped
+  entryStep before row rest =
       cond (ltb (length out) room) (unplayed Small)
       (cond (ltb (length rest) (bodyLong row)) (unplayed Cut)
       (entered (distanceIn stamps before (stampIn row)) row (take (bodyLong row) rest)))

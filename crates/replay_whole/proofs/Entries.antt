@@ -15,20 +15,20 @@ use Rattle.lists.proofs.Both.{impossible}
 use Rattle.lists.proofs.Search.{left-over}
 use Rattle.state.specs.declared.State.{State}
 use Rattle.gate.specs.Lent.{Loan, loan}
-use Rattle.dispatch.specs.Dispatch.{room}
+use Rattle.event_answer.specs.Answers.{room}
 use Rattle.recording.specs.Recording.{entriesIn, contentsTo, entryRow, stampIn, bodyLong, distanceIn, stamps}
 use Rattle.replay_step.specs.declared.Played.{Played}
 use Rattle.replay_step.specs.declared.Played.the-variants.{Small, Cut}
 use Rattle.replay_step.specs.declared.Step.{Step}
-use Rattle.replay_step.specs.Step.{Stepped, unplayed, entered, stepOf}
+use Rattle.replay_step.specs.Step.{Stepped, unplayed, entered, entryStep}
 use Rattle.replay_step.proofs.Leaves.{Leaves, leaves-by}
 use Rattle.replay_whole.specs.declared.End.{End}
 use Rattle.replay_whole.specs.declared.Replayed.{Replayed}
-use Rattle.replay_whole.specs.Replay.{Going, Left, isRun, isOther, firstOther, endAt, stepAt, ongoing, stopped, finished, replayFrom, begun, playedAll}
+use Rattle.replay_whole.specs.Replay.{Going, Left, isRun, isOther, firstOther, endAt, stepAt, ongoing, stopped, finished, replayFrom, beforeFirst, playedAll}
 
 -- an entry that was run is there whole
-pub run-there : (l : Loan) (out : List ℕ) (before : ℕ) (row rest : List ℕ) → isRun (stepOf l out before row rest .played) ≡ true → bodyLong row ≤ length rest
-unfolding stepOf isRun
+pub run-there : (l : Loan) (out : List ℕ) (before : ℕ) (row rest : List ℕ) → isRun (entryStep l out before row rest .played) ≡ true → bodyLong row ≤ length rest
+unfolding entryStep isRun
 run-there l out before row rest e = go (ltb (length out) room) (ltb (length rest) (bodyLong row)) refl e
   where
     go : (a b : Bool) → ltb (length rest) (bodyLong row) ≡ b
@@ -98,12 +98,12 @@ module _ (image recording rx₀ tx₀ out₀ : List ℕ) (start : State) where
 
   -- the step of an entry, as the loop makes it
   module _ (n i : ℕ) (g : Going) (a : AtEntry n i g) (h : i < n) (row rest : List ℕ) (s : Step) (rx tx out : List ℕ) (r : row ≡ entryRow recording i)
-      (d : rest ≡ drop (g .at) recording) (l : Leaves s rx tx out (stepOf (loan image (g .state) (g .rx) (g .tx)) (g .out) (g .before) row rest)) where
+      (d : rest ≡ drop (g .at) recording) (l : Leaves s rx tx out (entryStep (loan image (g .state) (g .rx) (g .tx)) (g .out) (g .before) row rest)) where
     abbrev now-at : Stepped
     now-at = stepAt image recording i g
 
-    step-is : stepOf (loan image (g .state) (g .rx) (g .tx)) (g .out) (g .before) row rest ≡ now-at
-    step-is = ap₂ (λ (x y : List ℕ). stepOf (loan image (g .state) (g .rx) (g .tx)) (g .out) (g .before) x y) r d
+    step-is : entryStep (loan image (g .state) (g .rx) (g .tx)) (g .out) (g .before) row rest ≡ now-at
+    step-is = ap₂ (λ (x y : List ℕ). entryStep (loan image (g .state) (g .rx) (g .tx)) (g .out) (g .before) x y) r d
 
     leaves : Leaves s rx tx out now-at
     leaves = leaves-by s rx tx out _ now-at step-is l

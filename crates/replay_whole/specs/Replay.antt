@@ -12,10 +12,10 @@ use Rattle.state.specs.Fresh.{freshState, emptyState}
 use Rattle.gate.specs.Lent.{loan}
 use Rattle.recording.specs.declared.Front.{Front}
 use Rattle.recording.specs.declared.Front.the-variants as Shown
-use Rattle.recording.specs.Recording.{entriesIn, contentsTo, entryRow, stampIn, bodyLong, distanceIn, stamps, frontOf}
+use Rattle.recording.specs.Recording.{entriesIn, contentsTo, entryRow, stampIn, bodyLong, distanceIn, stamps, shownBy}
 use Rattle.replay_step.specs.declared.Played.{Played}
 use Rattle.replay_step.specs.declared.Played.the-variants as Entry
-use Rattle.replay_step.specs.Step.{Stepped, stepOf}
+use Rattle.replay_step.specs.Step.{Stepped, entryStep}
 use Rattle.replay_whole.specs.declared.End.{End}
 use Rattle.replay_whole.specs.declared.End.the-variants.{Whole, Table, Unread, Small, Cut, Refused}
 use Rattle.replay_whole.specs.declared.Replayed.{Replayed}
@@ -69,7 +69,7 @@ endAt i (Entry.Differs n) = Whole
 module _ (image recording : List ℕ) where
   -- the step of entry i, from 0
   abbrev pub stepAt : ℕ → Going → Stepped
-  stepAt i g = stepOf (loan image (g .state) (g .rx) (g .tx)) (g .out) (g .before) (entryRow recording i) (drop (g .at) recording)
+  stepAt i g = entryStep (loan image (g .state) (g .rx) (g .tx)) (g .out) (g .before) (entryRow recording i) (drop (g .at) recording)
 
   -- .. which was run
   abbrev pub ongoing : ℕ → Going → Stepped → Going
@@ -113,8 +113,8 @@ module _ (image recording : List ℕ) where
 
   module _ (rx tx out : List ℕ) where
     -- before the first entry, whose stamp "counts as distance 0"
-    abbrev pub begun : State → Going
-    begun s =
+    abbrev pub beforeFirst : State → Going
+    beforeFirst s =
         record {
           state = s;
           rx = rx;
@@ -128,7 +128,7 @@ module _ (image recording : List ℕ) where
 
     -- all entries, from a state on
     abbrev pub playedAll : State → Left
-    playedAll s = replayFrom (entriesIn recording) 0 (begun s)
+    playedAll s = replayFrom (entriesIn recording) 0 (beforeFirst s)
 
     -- nothing is run
     abbrev pub unrun : End → State → Left
@@ -143,7 +143,7 @@ module _ (image recording : List ℕ) where
 
     -- "starts fresh under a given table image (a refused one ends it with 1)": with its place, and the state of the empty table
     unfoldable pub underTable : TableAnswer → Left
-    underTable Answered.Accepted = underFront (frontOf recording)
+    underTable Answered.Accepted = underFront (shownBy recording)
     underTable (Answered.Refused place) = unrun (Table place) emptyState
 
     -- A REPLAY

@@ -11,7 +11,7 @@ use Rattle.connection.specs.declared.Connection.{Connection}
 use Rattle.connection.specs.Connection.{zeroRecord}
 use Rattle.state.specs.Fresh.{freshAt, freshState}
 use Rattle.event_decode.specs.Calls.{callOf}
-use Rattle.dispatch.specs.Dispatch.{room}
+use Rattle.event_answer.specs.Answers.{room}
 use Rattle.model.specs.Events.{Event}
 use Rattle.model.specs.World.{World, Held, viewFrom}
 use Rattle.model.specs.Step.{run}

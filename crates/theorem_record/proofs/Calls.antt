@@ -7,7 +7,7 @@ use lib.ListN.{length, length-map}
 use Rattle.table.specs.declared.TableAnswer.the-variants.{Accepted}
 use Rattle.table.specs.Table.{checkTable}
 use Rattle.state.specs.Fresh.{freshState}
-use Rattle.dispatch.specs.Dispatch.{room}
+use Rattle.event_answer.specs.Answers.{room}
 use Rattle.model_refines.specs.Machine.{Machine, machine}
 use Rattle.recording.specs.Recording.{distanceIn, stamps}
 use Rattle.replay_whole.specs.Replay.{replayOf}

@@ -11,11 +11,11 @@ use Rattle.lists.specs.Search.{badFrom}
 use Rattle.table.specs.declared.TableAnswer.the-variants.{Accepted}
 use Rattle.table.specs.Table.{checkTable}
 use Rattle.state.specs.Fresh.{freshState}
-use Rattle.dispatch.specs.Dispatch.{room}
+use Rattle.event_answer.specs.Answers.{room}
 use Rattle.model_refines.specs.Machine.{Machine, machine, loanTo}
 use Rattle.recording.specs.declared.Front.the-variants.{Sized}
-use Rattle.recording.specs.Recording.{contentsTo, entryRow, stampIn, bodyLong, distanceIn, stamps, bodyShort, sizedOf, frontOf}
-use Rattle.replay_step.specs.Step.{Stepped, stepOf}
+use Rattle.recording.specs.Recording.{contentsTo, entryRow, stampIn, bodyLong, distanceIn, stamps, bodyShort, sizedOf, shownBy}
+use Rattle.replay_step.specs.Step.{Stepped, entryStep}
 use Rattle.replay_whole.specs.Replay.{Going, Left, isRun, isOther, firstOther, stepAt, ongoing, stopped, replayFrom, underFront, underTable, replayOf}
 use Rattle.theorem_record.specs.Record.{Noted, bodiesFor, recordingOf, Notable, AllNotable, Near, firstStamp, Recordable}
 use Rattle.theorem_record.specs.Again.{afterTicks, afterNote, Answered, NoDifference}
@@ -52,8 +52,8 @@ module _ (es : List Noted) (more : List ℕ) (can : Recordable es) where
       )
       refl
 
-  front-sized : frontOf r ≡ Sized
-  unfolding frontOf
+  front-sized : shownBy r ≡ Sized
+  unfolding shownBy
   front-sized =
       rw (le-ltb (length r) 2 (omega (arith, front-there es more few)), edition-back es more few, entries-back es more few) sized
 
@@ -84,7 +84,7 @@ module _ (image r behind more : List ℕ) where
       let long′ : room ≤ length out′ =
       omega (arith, length-append (e .answer) (drop (length (e .answer)) out), length-drop (length (e .answer)) out, short, long) in
       let step : stepAt image r i g ≡ steppedTo (Entry.Same (length (e .answer))) after out′ =
-      ap₂ (λ (row rest : List ℕ). stepOf (loanTo image m) out before row rest) (row-back s) (body-first s)
+      ap₂ (λ (row rest : List ℕ). entryStep (loanTo image m) out before row rest) (row-back s) (body-first s)
       ∙ step-same image m out long before e n close is (bodiesFor es ++ more) in
       let stamp : stampIn (entryRow r i) ≡ e .stamp = ap stampIn (row-back s) ∙ stamp-back e n in
       let on : replayFrom image r (length (e ∷ es)) i g

@@ -13,8 +13,8 @@ use Rattle.gate.specs.Lent.{Loan}
 use Rattle.event_decode.specs.Calls.{callOf}
 use Rattle.event_answer.specs.declared.Verdict.{Verdict}
 use Rattle.event_answer.specs.declared.Verdict.the-variants as Said
-use Rattle.event_answer.specs.Answers.{Effect}
-use Rattle.dispatch.specs.Dispatch.{room, dispatchOf}
+use Rattle.event_answer.specs.Answers.{Effect, room}
+use Rattle.dispatch.specs.Dispatch.{dispatchOf}
 use Rattle.model_refines.specs.Machine.{Machine, loanTo}
 use Rattle.model_refines.specs.Run.{afterRun}
 use Rattle.dispatch_refines.specs.Spelt.{eventsOf, Spoken, speltBy, machineOf}
@@ -28,7 +28,7 @@ use Rattle.recording.specs.Entry.{isSpelt, answerFits, bodyFits, faultOf}
 use Rattle.replay_step.specs.declared.Played.{Played}
 use Rattle.replay_step.specs.declared.Played.the-variants.{Same}
 use Rattle.replay_step.proofs.Same.{same-self}
-use Rattle.replay_step.specs.Step.{sameBytes, Stepped, playedBy, toldBeside, ticked, happens, unlessFault, entered, stepOf}
+use Rattle.replay_step.specs.Step.{sameBytes, Stepped, playedBy, toldBeside, tickedBy, thenHappens, unlessFault, entered, entryStep}
 use Rattle.theorem_record.specs.Record.{Noted, noteBody, noteRow, Notable}
 use Rattle.theorem_record.specs.Again.{afterTicks, afterNote, answerTo}
 use Rattle.theorem_record.proofs.Numbers.{arguments-in, answer-in}
@@ -85,7 +85,7 @@ module _ (image : List ℕ) (m : Machine) (out : List ℕ) (long : room ≤ leng
   abbrev later : Machine
   later = afterTicks image ticks m
 
-  later-lent : ticked (loanTo image m) out ticks ≡ loanTo image later
+  later-lent : tickedBy (loanTo image m) out ticks ≡ loanTo image later
   later-lent = ap (loanTo image) (ticks-run image (m .rx) (m .tx) (m .state) ticks)
 
   module _ (is : e .answer ≡ answerTo image (e .number) (e .arguments) later) where
@@ -103,10 +103,10 @@ module _ (image : List ℕ) (m : Machine) (out : List ℕ) (long : room ≤ leng
     fault-none =
         rw (le-ltb 65535 ticks near, number-back e n, n .event, zero-back e, body-fits) refl
 
-    happens-same : happens (loanTo image m) out ticks (e .number) (noteBody e)
+    happens-same : thenHappens (loanTo image m) out ticks (e .number) (noteBody e)
         ≡ steppedTo (Same (length (e .answer))) (afterNote image (e .number) (e .arguments) later) (e .answer ++ drop (length (e .answer)) out)
     happens-same =
-        ap₂ (λ (a g : List ℕ). toldBeside a (dispatchOf (ticked (loanTo image m) out ticks) out (e .number) g))
+        ap₂ (λ (a g : List ℕ). toldBeside a (dispatchOf (tickedBy (loanTo image m) out ticks) out (e .number) g))
         (answer-in (e .number) (e .arguments) (e .answer) (n .event) (n .spells)) (arguments-in (e .number) (e .arguments) (e .answer) (n .event) (n .spells))
         ∙ ap (λ (l : Loan). toldBeside (e .answer) (dispatchOf l out (e .number) (e .arguments))) later-lent
         ∙ told-same image later out long e n is
@@ -116,12 +116,12 @@ module _ (image : List ℕ) (m : Machine) (out : List ℕ) (long : room ≤ leng
     unfolding entered unlessFault
     entered-same =
         ap (λ (f : Fault). unlessFault (loanTo image m) out f ticks (numberIn (noteRow e)) (noteBody e)) fault-none
-        ∙ ap (λ (k : ℕ). happens (loanTo image m) out ticks k (noteBody e)) (number-back e n)
+        ∙ ap (λ (k : ℕ). thenHappens (loanTo image m) out ticks k (noteBody e)) (number-back e n)
         ∙ happens-same
 
-    pub step-same : (rest : List ℕ) → stepOf (loanTo image m) out before (noteRow e) (noteBody e ++ rest)
+    pub step-same : (rest : List ℕ) → entryStep (loanTo image m) out before (noteRow e) (noteBody e ++ rest)
         ≡ steppedTo (Same (length (e .answer))) (afterNote image (e .number) (e .arguments) later) (e .answer ++ drop (length (e .answer)) out)
-    unfolding stepOf
+    unfolding entryStep
     step-same rest =
         let there : ltb (length (noteBody e ++ rest)) (bodyLong (noteRow e)) ≡ false =
         le-ltb (length (noteBody e ++ rest)) (bodyLong (noteRow e)) (omega (arith, long-back e n, length-append (noteBody e) rest)) in

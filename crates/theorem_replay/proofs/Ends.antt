@@ -15,11 +15,11 @@ use Rattle.lists.proofs.Search.{found-bad}
 use Rattle.lists.proofs.Both.{impossible}
 use Rattle.table.specs.declared.TableAnswer.the-variants as Answered
 use Rattle.table.specs.Table.{checkTable}
-use Rattle.dispatch.specs.Dispatch.{room}
+use Rattle.event_answer.specs.Answers.{room}
 use Rattle.recording.specs.declared.Fault.{Fault}
 use Rattle.recording.specs.declared.Fault.the-variants.{Nothing}
 use Rattle.recording.specs.declared.Front.the-variants as Shown
-use Rattle.recording.specs.Recording.{entriesIn, frontOf}
+use Rattle.recording.specs.Recording.{entriesIn, shownBy}
 use Rattle.replay_whole.specs.declared.End.{End}
 use Rattle.replay_whole.specs.declared.End.the-variants.{Whole, Table, Unread, Small, Cut, Refused}
 use Rattle.replay_whole.specs.Replay.{Left, underFront, replayOf}
@@ -129,7 +129,7 @@ module _ (image r rx tx : List ℕ) where
       ap ended (first-is i n) ∙ ended-there i (n .0) ∙ ap₂ (λ (b : Bool) (g : Fault). endBy b i g) c e ∙ ap (λ (k : ℕ). Refused k f) (add-one i)
 
   -- THE REPLAY
-  module _ (out : List ℕ) (accepted : checkTable image ≡ Answered.Accepted) (sized : frontOf r ≡ Shown.Sized) (long : room ≤ length out) where
+  module _ (out : List ℕ) (accepted : checkTable image ≡ Answered.Accepted) (sized : shownBy r ≡ Shown.Sized) (long : room ≤ length out) where
     abbrev replay : Left
     replay = replayOf image r rx tx out
 

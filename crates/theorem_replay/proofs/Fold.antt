@@ -10,12 +10,12 @@ use lib.Dec.{ltb}
 use lib.ListN.{length, drop, length-append, length-drop}
 use Rattle.lists.specs.Search.{badFrom}
 use Rattle.lists.proofs.Both.{impossible}
-use Rattle.dispatch.specs.Dispatch.{room}
+use Rattle.event_answer.specs.Answers.{room}
 use Rattle.recording.specs.declared.Fault.{Fault}
 use Rattle.recording.specs.declared.Fault.the-variants.{Nothing, FarStamp, NoEvent, ZeroField, Misfit}
 use Rattle.recording.specs.Recording.{entryRow, stampIn, bodyLong, distanceIn, stamps}
 use Rattle.replay_step.specs.declared.Played.the-variants as Entry
-use Rattle.replay_step.specs.Step.{sameBytes, Stepped, stepOf, unplayed}
+use Rattle.replay_step.specs.Step.{sameBytes, Stepped, entryStep, unplayed}
 use Rattle.replay_whole.specs.declared.End.{End}
 use Rattle.replay_whole.specs.declared.End.the-variants.{Whole, Cut, Refused}
 use Rattle.replay_whole.specs.Replay.{Going, Left, isRun, isOther, firstOther, endAt, stepAt, ongoing, stopped, finished, replayFrom}
@@ -84,12 +84,12 @@ module _ (image r rx tx : List ℕ) where
   before i = machineAfter image r rx tx i
 
   abbrev stepRun : ℕ → List ℕ → Stepped
-  stepRun i out = stepOf (loanTo image (before i)) out (stampBefore r i) (entryRow r i) (bytesLeft r i)
+  stepRun i out = entryStep (loanTo image (before i)) out (stampBefore r i) (entryRow r i) (bytesLeft r i)
 
   step-run : (i : ℕ) (g : Going) → Stands i g → stepAt image r i g ≡ stepRun i (g .out)
   step-run i g s =
-      ap (λ (m : Machine). stepOf (loanTo image m) (g .out) (g .before) (entryRow r i) (drop (g .at) r)) (s .left)
-      ∙ ap₂ (λ (b a : ℕ). stepOf (loanTo image (before i)) (g .out) b (entryRow r i) (drop a r)) (s .before) (s .at)
+      ap (λ (m : Machine). entryStep (loanTo image m) (g .out) (g .before) (entryRow r i) (drop (g .at) r)) (s .left)
+      ∙ ap₂ (λ (b a : ℕ). entryStep (loanTo image (before i)) (g .out) b (entryRow r i) (drop a r)) (s .before) (s .at)
 
   module _ (i : ℕ) (g : Going) (s : Stands i g) where
     abbrev here : Stepped

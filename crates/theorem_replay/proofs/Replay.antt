@@ -11,14 +11,14 @@ use Rattle.lists.specs.Search.{firstBad}
 use Rattle.table.specs.declared.TableAnswer.the-variants as Answered
 use Rattle.table.specs.Table.{checkTable}
 use Rattle.state.specs.Fresh.{freshState, emptyState}
-use Rattle.dispatch.specs.Dispatch.{room}
+use Rattle.event_answer.specs.Answers.{room}
 use Rattle.recording.specs.declared.Front.{Front}
 use Rattle.recording.specs.declared.Front.the-variants as Shown
-use Rattle.recording.specs.Recording.{entriesIn, contentsTo, entryRow, stampIn, frontOf}
+use Rattle.recording.specs.Recording.{entriesIn, contentsTo, entryRow, stampIn, shownBy}
 use Rattle.replay_step.specs.Step.{Stepped}
 use Rattle.replay_whole.specs.declared.End.{End}
 use Rattle.replay_whole.specs.declared.End.the-variants.{Whole, Table, Unread, Small, Refused}
-use Rattle.replay_whole.specs.Replay.{Going, Left, isRun, endAt, stepAt, ongoing, stopped, replayFrom, begun, unrun, underFront, underTable, replayOf}
+use Rattle.replay_whole.specs.Replay.{Going, Left, isRun, endAt, stepAt, ongoing, stopped, replayFrom, beforeFirst, unrun, underFront, underTable, replayOf}
 use Rattle.model_refines.specs.Run.{afterRun}
 use Rattle.theorem_replay.specs.Entries.{isNothing, entryBody, ticksBefore, ticksUpTo, eventsUpTo, isCut, faultOfEntry, isFine}
 use Rattle.theorem_replay.specs.Runs.{machineLeft, freshMachine, machineAfter, EntryRuns, goingAt}
@@ -50,7 +50,7 @@ module _ (image r rx tx out : List ℕ) where
       }
 
   abbrev start : Going
-  start = begun image r rx tx out (freshState image)
+  start = beforeFirst image r rx tx out (freshState image)
 
   abbrev played : ℕ → Left
   played n = replayFrom image r n 0 start
@@ -122,16 +122,16 @@ module _ (image r rx tx out : List ℕ) where
   table-refused place refused = ap (underTable image r rx tx out) refused
 
   module _ (accepted : checkTable image ≡ Answered.Accepted) where
-    pub under-accepted : replay ≡ underFront image r rx tx out (frontOf r)
+    pub under-accepted : replay ≡ underFront image r rx tx out (shownBy r)
     unfolding replayOf underTable
     under-accepted = ap (underTable image r rx tx out) accepted
 
     -- CONTENTS THAT ARE CUT OFF, OF ANOTHER EDITION, OR PAST A LIMIT: nothing is run
-    pub front-unread : (frontOf r ≡ Shown.Sized → ⊥) → replay ≡ unrun image r rx tx out (Unread (frontOf r)) (freshState image)
-    front-unread unsized = under-accepted ∙ unread (frontOf r) unsized
+    pub front-unread : (shownBy r ≡ Shown.Sized → ⊥) → replay ≡ unrun image r rx tx out (Unread (shownBy r)) (freshState image)
+    front-unread unsized = under-accepted ∙ unread (shownBy r) unsized
 
     -- AN OUT BUFFER THAT IS TOO SHORT for entries that are there: nothing is run
-    pub replay-small : frontOf r ≡ Shown.Sized → length out < room → 0 < entriesIn r → replay ≡ unrun image r rx tx out Small (freshState image)
+    pub replay-small : shownBy r ≡ Shown.Sized → length out < room → 0 < entriesIn r → replay ≡ unrun image r rx tx out Small (freshState image)
     unfolding underFront
     replay-small sized short some = under-accepted ∙ ap (underFront image r rx tx out) sized ∙ go (entriesIn r) some
       where
@@ -140,7 +140,7 @@ module _ (image r rx tx out : List ℕ) where
         go (suc n) h = small-stops short n
 
     pub replay-along : Along replay
-    replay-along = subst Along (sym under-accepted) (front-along (frontOf r))
+    replay-along = subst Along (sym under-accepted) (front-along (shownBy r))
 
     -- THE MACHINE after a replay is the machine after the run of the events that its entries spell, with that many ticks between them
     pub replay-runs : machineLeft replay ≡ afterRun image (freshMachine image rx tx) (eventsUpTo r (replay .replayed .run))
@@ -167,8 +167,8 @@ module _ (image r rx tx out : List ℕ) where
           let fault = nothing-is (faultOfEntry r i) (fine-whole (isCut r i) (isNothing (faultOfEntry r i)) (replay-along .fine i h) .1) in
           no-fault-is (ticksBefore r i) (entryRow r i) (entryBody r i) fault .0
 
-      sized : frontOf r ≡ Shown.Sized
-      sized = run-sized (frontOf r) (subst (λ (l : Left). 0 < l .replayed .run) under-accepted (omega (arith, h)))
+      sized : shownBy r ≡ Shown.Sized
+      sized = run-sized (shownBy r) (subst (λ (l : Left). 0 < l .replayed .run) under-accepted (omega (arith, h)))
 
       -- .. and the replay makes these steps: after i of them the rest of it is left
       pub replay-steps : replay ≡ replayFrom image r (entriesIn r - i) i (goingAt image r rx tx out i)

@@ -16,7 +16,8 @@ use Rattle.event_decode.specs.Calls.{callOf}
 use Rattle.event_answer.specs.declared.Verdict.{Verdict}
 use Rattle.event_answer.specs.declared.Verdict.the-variants.{Done}
 use Rattle.event_answer.specs.declared.Verdict.the-variants as Said
-use Rattle.dispatch.specs.Dispatch.{room, dispatchOf}
+use Rattle.event_answer.specs.Answers.{room}
+use Rattle.dispatch.specs.Dispatch.{dispatchOf}
 use Rattle.dispatch.specs.Whole.{StandsWhole, answer, unknown, unfit, small}
 use Rattle.dispatch.proofs.Whole.{answer-whole}
 use Rattle.recording.specs.declared.Fault.{Fault}
@@ -25,7 +26,7 @@ use Rattle.recording.specs.Recording.{stampIn, numberIn, zeroIn, bodyLong, dist
 use Rattle.recording.specs.Entry.{isRecorded, argumentsIn, answerIn, isSpelt, answerFits, bodyFits, faultOf}
 use Rattle.replay_step.specs.declared.Played.{Played}
 use Rattle.replay_step.specs.declared.Played.the-variants.{Small, Cut, Refused, Same, Differs}
-use Rattle.replay_step.specs.Step.{sameBytes, Stepped, playedBy, toldBeside, unplayed, happens, unlessFault, entered, stepOf}
+use Rattle.replay_step.specs.Step.{sameBytes, Stepped, playedBy, toldBeside, unplayed, thenHappens, unlessFault, entered, entryStep}
 use Rattle.model.specs.Events.{Event}
 use Rattle.model_refines.specs.Machine.{Machine, loanTo}
 use Rattle.model_refines.specs.Run.{afterEvent, afterRun}
@@ -148,7 +149,7 @@ module _ (image : List ℕ) (m : Machine) (out : List ℕ) where
   -- any other runs its ticks and then its event
   module _ (long : room ≤ length out) where
     step-happens : (ticks number : ℕ) (body : List ℕ) → isSpelt (callOf number (argumentsIn number body)) ≡ true
-        → StepRuns image m out ticks number body (happens (loanTo image m) out ticks number body)
+        → StepRuns image m out ticks number body (thenHappens (loanTo image m) out ticks number body)
     step-happens ticks number body spelt =
         record {
           left =
@@ -168,7 +169,7 @@ module _ (image : List ℕ) (m : Machine) (out : List ℕ) where
         later : Machine
         later = afterRun image m (tickEvents ticks)
 
-        same : happens (loanTo image m) out ticks number body ≡ toldBeside recorded (dispatchOf (loanTo image later) out number arguments)
+        same : thenHappens (loanTo image m) out ticks number body ≡ toldBeside recorded (dispatchOf (loanTo image later) out number arguments)
         same =
             ap (λ (n : Machine). toldBeside recorded (dispatchOf (loanTo image n) out number arguments)) (ticks-run image (m .rx) (m .tx) (m .state) ticks)
 
@@ -182,7 +183,7 @@ module _ (image : List ℕ) (m : Machine) (out : List ℕ) where
   -- THE TESTS OF A STEP: an out buffer that is too short; cut; refused; else run
   module _ (before : ℕ) (row rest : List ℕ) where
     abbrev step : Stepped
-    step = stepOf (loanTo image m) out before row rest
+    step = entryStep (loanTo image m) out before row rest
 
     abbrev distance : ℕ
     distance = distanceIn stamps before (stampIn row)
@@ -194,12 +195,12 @@ module _ (image : List ℕ) (m : Machine) (out : List ℕ) where
     tested short cut = cond short (none Small) (cond cut (none Cut) (entered (loanTo image m) out distance row body))
 
     pub step-small : length out < room → step ≡ none Small
-    unfolding stepOf
+    unfolding entryStep
     step-small short = ap (λ (b : Bool). tested b (ltb (length rest) (bodyLong row))) (lt-ltb (length out) room short)
 
     module _ (long : room ≤ length out) where
       past : (cut : Bool) → ltb (length rest) (bodyLong row) ≡ cut → step ≡ tested false cut
-      unfolding stepOf
+      unfolding entryStep
       past cut e = ap₂ tested (le-ltb (length out) room long) e
 
       pub step-cut : ltb (length rest) (bodyLong row) ≡ true → step ≡ none Cut

@@ -8,13 +8,13 @@ use lib.ListN.{length, drop}
 use Rattle.state.specs.Fresh.{freshState}
 use Rattle.event_decode.specs.declared.Call.{Call}
 use Rattle.event_decode.specs.Calls.{callOf}
-use Rattle.dispatch.specs.Dispatch.{room}
+use Rattle.event_answer.specs.Answers.{room}
 use Rattle.recording.specs.Recording.{entriesIn}
 use Rattle.recording.specs.Entry.{argumentsIn, answerIn}
 use Rattle.replay_step.specs.declared.Played.{Played}
 use Rattle.replay_step.specs.declared.Played.the-variants.{Same, Differs}
 use Rattle.replay_step.specs.Step.{sameBytes, Stepped}
-use Rattle.replay_whole.specs.Replay.{Going, Left, stepAt, ongoing, begun}
+use Rattle.replay_whole.specs.Replay.{Going, Left, stepAt, ongoing, beforeFirst}
 use Rattle.model_refines.specs.Machine.{Machine, machine, loanTo}
 use Rattle.model_refines.specs.Run.{afterRun}
 use Rattle.dispatch_refines.specs.Spelt.{eventsOf}
@@ -84,7 +84,7 @@ module _ (image r rx tx : List ℕ) where
   -- HOW FAR THE REPLAY IS before entry i: the steps of the entries before it
   module _ (out : List ℕ) where
     unfoldable pub goingAt : ℕ → Going
-    goingAt zero = begun image r rx tx out (freshState image)
+    goingAt zero = beforeFirst image r rx tx out (freshState image)
     goingAt (suc i) = ongoing image r i (goingAt i) (stepAt image r i (goingAt i))
 
 -- R17.3: the first entry that is cut or has a fault: those before it have none

@@ -1,7 +1,7 @@
 -- `replay_step::replay_step` meets its contract.
 use mathlib.Core.Path.{refl}
 use borrow.Author.Tests.{lt-ltb, le-ltb}
-use Rattle.replay_step.specs.Step.{stepOf}
+use Rattle.replay_step.specs.Step.{entryStep}
 use Rattle.replay_step.proofs.Leaves.{leaves-by, step-entered}
 use borrow.Author.Needs.{needs}
 use Rattle.replay_step.proofs.replay_step.Statement.{statement}
@@ -11,7 +11,7 @@ unplayed-requires : tie.Need-unplayed-requires
 unplayed-requires c κs = search needs
 
 returns : tie.Need-returns
-unfolding stepOf
+unfolding entryStep
 returns c = rw (lt-ltb _ _ (c .before .if1 .taken)) (c .unplayed .ensures, (refl, (refl, refl)))
 
 body-long-requires : tie.Need-body-long-requires
@@ -21,7 +21,7 @@ unplayed-requires-2 : tie.Need-unplayed-requires-2
 unplayed-requires-2 c κs = search needs
 
 returns-2 : tie.Need-returns-2
-unfolding stepOf
+unfolding entryStep
 returns-2 c = rw (le-ltb _ _ (c .before .before .before .if1 .left), ← (c .before .before .body-long .ensures), lt-ltb _ _ (c .before .if2 .taken)) (c .unplayed2 .ensures, (refl, (refl, refl)))
 
 front-requires : tie.Need-front-requires
