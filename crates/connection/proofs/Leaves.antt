@@ -1,7 +1,7 @@
 -- What an event of the record alone leaves of the bytes held and of the mode: said once for every law above.
 use mathlib.Core.Path.{_≡_, refl, sym}
 use mathlib.Core.Bool.{Bool, true, false, cond}
-use Rattle.receive_part.specs.Part.{ready}
+use Rattle.receive_part.specs.Part.{readyPart}
 use Rattle.lists.proofs.Both.{impossible}
 use Rattle.connection.specs.declared.Connection.{Connection}
 use Rattle.connection.specs.declared.Config.{Config}
@@ -11,7 +11,7 @@ use Rattle.connection.specs.Connection.{isOnline}
 use Rattle.connection.specs.Event.{known, allowed, recordAfter, empties, deniable}
 
 pub record Leaves (e : Event) (g : Config) (c : Connection) : Type 0 where
-  pub part : recordAfter e g c .part ≡ cond (empties e) ready (c .part)
+  pub part : recordAfter e g c .part ≡ cond (empties e) readyPart (c .part)
   pub used : recordAfter e g c .used ≡ cond (empties e) 0 (c .used)
   pub up : empties e ≡ false → isOnline (c .mode) ≡ true → isOnline (recordAfter e g c .mode) ≡ true
   pub there : empties e ≡ true → known e ≡ true

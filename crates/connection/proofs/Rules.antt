@@ -5,7 +5,7 @@ use mathlib.Core.Bool.{Bool, true, false, not, _&&_}
 use borrow.Author.Tests.{eqb-true, not-true}
 use Rattle.receive_part.specs.declared.Part.{Part}
 use Rattle.receive_part.specs.declared.Part.the-variants.{Header, Payload, Skip}
-use Rattle.receive_part.specs.Part.{emptyPart, ready}
+use Rattle.receive_part.specs.Part.{emptyPart, readyPart}
 use Rattle.lists.proofs.Both.{impossible, and-left, and-right}
 use Rattle.connection.specs.declared.Mode.{Mode}
 use Rattle.connection.specs.declared.Mode.the-variants.{Offline, Reconnect, Online}
@@ -55,7 +55,7 @@ offline-is Reconnect p = impossible p
 offline-is Online p = impossible p
 
 -- a receive part that is empty is the ready one
-pub empty-is : (p : Part) → emptyPart p ≡ true → p ≡ ready
+pub empty-is : (p : Part) → emptyPart p ≡ true → p ≡ readyPart
 empty-is (Header h v) e =
     let a : h ≡ 0 = eqb-true _ _ (and-left (eqb h 0) (eqb v 0) e) in
     let b : v ≡ 0 = eqb-true _ _ (and-right (eqb h 0) (eqb v 0) e) in

@@ -4,7 +4,7 @@ use lib.Dec.{eqb, ltb}
 use lib.Bits.{bitOr, bitXor}
 use mathlib.Core.Bool.{Bool, true, false, cond, not, _&&_, _||_}
 use Rattle.receive_part.specs.declared.Part.{Part}
-use Rattle.receive_part.specs.Part.{ready}
+use Rattle.receive_part.specs.Part.{readyPart}
 use Rattle.connection.specs.declared.Mode.{Mode}
 use Rattle.connection.specs.declared.Mode.the-variants.{Offline, Reconnect, Online}
 use Rattle.connection.specs.declared.Remote.{Remote}
@@ -122,7 +122,7 @@ freshOf g =
       «close_wanted» = false;
       remote = g .remote;
       switches = g .switches;
-      part = ready;
+      part = readyPart;
       used = 0;
       timer = 0;
       due = false;
@@ -139,7 +139,7 @@ become m c = withMode m (c .«open_wanted») (c .«close_wanted») c
 
 -- nothing held: no receive part and no send bytes, so the timer is stopped and nothing is due
 abbrev pub emptied : Connection → Connection
-emptied c = withPart ready (withSend 0 0 false c)
+emptied c = withPart readyPart (withSend 0 0 false c)
 
 -- R8.3: open sets open wanted
 abbrev pub openOf : Connection → Connection

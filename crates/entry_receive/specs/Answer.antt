@@ -11,10 +11,10 @@ use Rattle.entry_receive.specs.declared.Answer.{Answer}
 use Rattle.entry_receive.specs.declared.Answer.the-variants.{Done, Refused, NotReceiving}
 
 -- R4.1: the number of an answer
-abbrev pub answerNumber : Answer → ℕ
-answerNumber Done = 0
-answerNumber (Refused r) = refusalNumber r
-answerNumber NotReceiving = 4
+abbrev pub receiveNumber : Answer → ℕ
+receiveNumber Done = 0
+receiveNumber (Refused r) = refusalNumber r
+receiveNumber NotReceiving = 4
 
 abbrev pub isDone : Answer → Bool
 isDone Done = true

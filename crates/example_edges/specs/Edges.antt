@@ -13,7 +13,7 @@ use Rattle.table_rows.specs.Rows.{routeOf}
 use Rattle.reading.specs.Feed.{Routes, Out, nothing, pdu, dropped, ready, segmentRan, segments}
 use Rattle.receive_route.specs.Route.{lookupOf}
 use Rattle.reading_walk.specs.Walk.{walkAt, outsTold}
-use Rattle.table.specs.Table.{checkTable, answerNumber}
+use Rattle.table.specs.Table.{checkTable, tableNumber}
 use Rattle.select.specs.declared.Arrival.{Arrival}
 use Rattle.select.specs.declared.Arrival.the-variants.{Met, Refused, Unmatched}
 use Rattle.select.specs.Choose.{arriveOf, arrivalNumber}
@@ -57,7 +57,7 @@ bar = framed 1 2 (0 ∷ 0xB4 ∷ [])
 abbrev pub edges : List Edge
 edges =
     -- the image is accepted
-    edge (answerNumber (checkTable image) ∷ []) (0 ∷ [])
+    edge (tableNumber (checkTable image) ∷ []) (0 ∷ [])
     -- R12.2: PDU 0x101, payload 180
     ∷ edge (numbers (segmentRan (routes 2 1) ready bar .list)) (0 ∷ 0 ∷ 0x101 ∷ 180 ∷ 2 ∷ [])
     -- R12.2: cut after byte 3, and after byte 8, the same PDU

@@ -3,7 +3,7 @@ use Prim.Native.Nat.{ℕ}
 use mathlib.Core.Bool.{Bool, true, false}
 use mathlib.Core.List.{List, [], _∷_, _++_}
 use lib.ListN.{replicate}
-use Rattle.receive_part.specs.Part.{ready}
+use Rattle.receive_part.specs.Part.{readyPart}
 use Rattle.connection.specs.declared.Mode.{Mode}
 use Rattle.connection.specs.declared.Mode.the-variants.{Online}
 use Rattle.connection.specs.declared.Remote.{Remote}
@@ -39,7 +39,7 @@ remote a p = record { address = a; port = p }
 -- a record of a mode, wishing to close or not, with a remote and so many bytes used
 abbrev pub recordOf : Mode → Bool → Remote → ℕ → Connection
 recordOf m k r used =
-    record { mode = m; «open_wanted» = false; «close_wanted» = k; remote = r; switches = 0; part = ready; used = used; timer = 0; due = false }
+    record { mode = m; «open_wanted» = false; «close_wanted» = k; remote = r; switches = 0; part = readyPart; used = used; timer = 0; due = false }
 
 -- online, with so many bytes used
 abbrev pub holding : ℕ → Connection

@@ -7,7 +7,7 @@ use lib.Dec.{eqb, leb, ltb}
 use native.Mathlib.Omega.{arith}
 use borrow.Author.Tests.{not-true, le-leb, ne-eqb, lt-ltb}
 use Rattle.receive_part.specs.declared.Part.{Part}
-use Rattle.receive_part.specs.Part.{emptyPart, ready}
+use Rattle.receive_part.specs.Part.{emptyPart, readyPart}
 use Rattle.connection.specs.declared.Config.{Config}
 use Rattle.connection.specs.declared.Connection.{Connection}
 use Rattle.connection.specs.declared.Mode.{Mode}
@@ -43,13 +43,13 @@ module _ (g : Config) (routes : List ℕ) (n : ℕ) (mode : Mode) (remote : Remo
   fewer false s t b o = refl
 
   nothing-received : (used timer : ℕ) (due : Bool)
-      → (soundOf g (holding ready used timer due false false) && routed routes n ready) ≡ idleSound (g .size) (holding ready used timer due false false)
+      → (soundOf g (holding readyPart used timer due false false) && routed routes n readyPart) ≡ idleSound (g .size) (holding readyPart used timer due false false)
   unfolding soundOf
   nothing-received used timer due =
-      let c = holding ready used timer due false false in
+      let c = holding readyPart used timer due false false in
       fewer (leb used (g .size)) (sends c) (timed c) (neverBoth c) (onlineRemote c)
 
-  idle-plain : (part : Part) (used timer : ℕ) (due o c : Bool) → part ≡ ready → o ≡ false → c ≡ false
+  idle-plain : (part : Part) (used timer : ℕ) (due o c : Bool) → part ≡ readyPart → o ≡ false → c ≡ false
       → (soundOf g (holding part used timer due o c) && routed routes n part) ≡ idleSound (g .size) (holding part used timer due o c)
   idle-plain part used timer due o c p a b = rw (p, a, b) (nothing-received used timer due)
 

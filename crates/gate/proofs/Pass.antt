@@ -19,7 +19,7 @@ use Rattle.connection.specs.declared.Refusal.the-variants.{Memory, Unsound, Mis
 use Rattle.lists.proofs.Both.{and-left, and-right}
 use Rattle.state.specs.declared.State.{State}
 use Rattle.gate.specs.declared.Gate.{Gate}
-use Rattle.gate.specs.Lent.{Lent, next, Loan, sizes, received, sent}
+use Rattle.gate.specs.Lent.{Lent, next, Loan, sizes, received, lentAfter}
 use Rattle.gate.specs.declared.Gate.the-variants.{Pass, Refused}
 use Rattle.gate.specs.Sound.{recordsSound, isAccepted, soundState}
 use Rattle.gate.specs.Gate.{gateOf, gateAt, thenThere, Passed}
@@ -54,8 +54,8 @@ module _ (l : Loan) (t : State) (p : Passed (sizes l)) (h : recordsSound (l .ima
   pub passed-received : (rx : List ℕ) → length rx ≡ length (l .rx) → Passed (sizes (received l t rx))
   passed-received rx e = passed-by (sizes (received l t rx)) (e ∙ p .receive) (p .send) (p .table) h
 
-  pub passed-sent : (tx : List ℕ) → length tx ≡ length (l .tx) → Passed (sizes (sent l t tx))
-  passed-sent tx e = passed-by (sizes (sent l t tx)) (p .receive) (e ∙ p .send) (p .table) h
+  pub passed-sent : (tx : List ℕ) → length tx ≡ length (l .tx) → Passed (sizes (lentAfter l t tx))
+  passed-sent tx e = passed-by (sizes (lentAfter l t tx)) (p .receive) (e ∙ p .send) (p .table) h
 
 module _ (l : Lent) where
   pub gate-passed : gateOf l ≡ Pass → Passed l

@@ -87,6 +87,6 @@ all-not f i xs d h p = go (allFrom f 0 xs) refl
         impossible (sym p ∙ (rw z at (all-at f 0 i xs d q h)))
 
 -- the size that a row says
-pub size-is : (connections groups : List ℕ) (n : ℕ) → sizeIn connections n ≡ configIn connections groups n .size
+pub size-is : (connections groups : List ℕ) (n : ℕ) → sizeIn 16 connections n ≡ configIn connections groups n .size
 unfolding sizeIn connectionRow
 size-is connections groups n = refl

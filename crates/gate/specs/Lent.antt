@@ -40,5 +40,5 @@ lentBy image s rx tx = sizes (loan image s rx tx)
 abbrev pub received : Loan → State → List ℕ → Loan
 received l s rx = loan (l .image) s rx (l .tx)
 
-abbrev pub sent : Loan → State → List ℕ → Loan
-sent l s tx = loan (l .image) s (l .rx) tx
+abbrev pub lentAfter : Loan → State → List ℕ → Loan
+lentAfter l s tx = loan (l .image) s (l .rx) tx

@@ -98,7 +98,7 @@ fn is_idle(c: Connection) -> bool
 
 // The rules that are left of such a record: without send bytes no timer and no due mark; with them online, not both, and within the size.
 fn is_idle_sound(connections: &[u8], n: usize, c: Connection) -> bool
-    ensures { λ r. ⌜ r ≡ idleSound (sizeIn (now (connections .entry)) n) c ⌝ }
+    ensures { λ r. ⌜ r ≡ idleSound (sizeIn 16 (now (connections .entry)) n) c ⌝ }
 {
     let reached = is_reached(c);
     if c.used == 0 {

@@ -9,7 +9,7 @@ use borrow.Author.Tests.{ltb-true, ltb-false}
 use Rattle.table_layout.specs.Layout.{rowsOf, bodyOf}
 use Rattle.table_layout.specs.declared.Kind.the-variants.{Connection as Connections, Route as Routes}
 use Rattle.receive_part.specs.declared.Part.{Part}
-use Rattle.receive_part.specs.Part.{ready}
+use Rattle.receive_part.specs.Part.{readyPart}
 use Rattle.connection.specs.declared.Config.{Config}
 use Rattle.connection.specs.declared.Connection.{Connection}
 use Rattle.connection.specs.declared.Event.{Event}
@@ -28,7 +28,7 @@ use Rattle.gate.proofs.Records.{row-sound, row-routed, sound-row, record-at, re
 -- a part that is the old one, or the ready one
 pub data Stays (p : Part) : Part → Type 0 where
   unchanged : Stays p p
-  empty : Stays p ready
+  empty : Stays p readyPart
 
 pub stays-same : {p q : Part} → q ≡ p → Stays p q
 stays-same {p} e = subst (Stays p) (sym e) unchanged
@@ -40,7 +40,7 @@ stays-routed routes n empty h = refl
 after-part : (e : Event) (g : Config) (c : Connection) → Stays (c .part) (recordAfter e g c .part)
 after-part e g c = go (empties e) (after-leaves e g c .part)
   where
-    go : (b : Bool) → recordAfter e g c .part ≡ cond b ready (c .part) → Stays (c .part) (recordAfter e g c .part)
+    go : (b : Bool) → recordAfter e g c .part ≡ cond b readyPart (c .part) → Stays (c .part) (recordAfter e g c .part)
     go true p = subst (Stays (c .part)) (sym p) empty
     go false p = stays-same p
 

@@ -9,7 +9,7 @@ use Rattle.connection.specs.declared.Connection.{Connection}
 use Rattle.connection.specs.declared.Config.{Config}
 use Rattle.connection.specs.declared.Remote.{Remote}
 use Rattle.connection.specs.declared.Event.{Event as Change}
-use Rattle.receive_part.specs.Part.{ready}
+use Rattle.receive_part.specs.Part.{readyPart}
 use Rattle.connection.specs.Connection.{metOf, switchedOf, closedOf, tickOf}
 use Rattle.connection.specs.Event.{recordAfter, empties, stepOf}
 use Rattle.connection.proofs.Leaves.{after-leaves}
@@ -30,7 +30,7 @@ none-less c d p u = record { received = omega arith; waiting = omega arith }
 after-less : (e : Change) (g : Config) (c : Connection) → Less (recordAfter e g c) c
 after-less e g c = go (empties e) (after-leaves e g c .part) (after-leaves e g c .used)
   where
-    go : (b : Bool) → recordAfter e g c .part ≡ cond b ready (c .part) → recordAfter e g c .used ≡ cond b 0 (c .used) → Less (recordAfter e g c) c
+    go : (b : Bool) → recordAfter e g c .part ≡ cond b readyPart (c .part) → recordAfter e g c .used ≡ cond b 0 (c .used) → Less (recordAfter e g c) c
     go true p u = none-less (recordAfter e g c) c (ap heldBy p) u
     go false p u = same-less (recordAfter e g c) c p u
 

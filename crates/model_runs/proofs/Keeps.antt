@@ -13,7 +13,7 @@ use Rattle.receive_part.specs.declared.Part.{Part}
 use Rattle.receive_part.specs.declared.Part.the-variants.{Header, Payload, Skip}
 use Rattle.connection.specs.declared.Connection.{Connection}
 use Rattle.connection.specs.declared.Config.{Config}
-use Rattle.receive_part.specs.Part.{ready}
+use Rattle.receive_part.specs.Part.{readyPart}
 use Rattle.connection.specs.declared.Event.{Event as Change}
 use Rattle.connection.specs.Connection.{isOnline}
 use Rattle.connection.specs.Event.{recordAfter, empties}
@@ -52,7 +52,7 @@ kept-after e g h q = go (empties e) refl (after-leaves e g (h .connection) .part
     d : Connection
     d = recordAfter e g (h .connection)
 
-    go : (b : Bool) → empties e ≡ b → d .part ≡ cond b ready (h .connection .part) → Kept h (follow d h)
+    go : (b : Bool) → empties e ≡ b → d .part ≡ cond b readyPart (h .connection .part) → Kept h (follow d h)
     go true n p =
         record {
           going = λ on. absurd (false≢true (sym (after-leaves e g (h .connection) .down n) ∙ on));

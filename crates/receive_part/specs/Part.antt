@@ -23,5 +23,5 @@ emptyPart (Payload route length held) = false
 emptyPart (Skip bytes) = false
 
 -- the receive part of a connection that is ready
-abbrev pub ready : Part
-ready = Header 0 0
+abbrev pub readyPart : Part
+readyPart = Header 0 0

@@ -7,7 +7,7 @@ use mathlib.Core.List.{List}
 use lib.Dec.{eqb}
 use lib.ListN.{length}
 use Rattle.frame.specs.Frame.{frame}
-use Rattle.table_layout.specs.Layout.{bodyOf}
+use Rattle.table_layout.specs.Layout.{rowBytes, bodyOf}
 use Rattle.table_layout.specs.declared.Kind.the-variants.{Destination}
 use Rattle.lists.specs.Fold.{foldFrom}
 use Rattle.switches.specs.Switches.{isOn}
@@ -23,7 +23,7 @@ use Rattle.send.specs.Verdict.{verdictOf, isStored}
 
 -- the destination rows of an image
 abbrev pub destinations : List ℕ → ℕ
-destinations image = length (bodyOf image Destination) / 16
+destinations image = length (bodyOf image Destination) / rowBytes image Destination
 
 -- the state and send memory on the way
 pub record Sending : Type 0 where

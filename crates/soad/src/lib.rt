@@ -3,7 +3,7 @@
 ghost use mathlib.Core.Path.{_≡_};
 ghost use lib.ListN.{length};
 ghost use Rattle.frame.specs.Framing.{framedNumber, framingOf, framedOut};
-ghost use Rattle.table.specs.Table.{checkTable, answerNumber, answerPlace};
+ghost use Rattle.table.specs.Table.{checkTable, tableNumber, answerPlace};
 ghost use Rattle.soad_walk.specs.declared.Numbers.{Numbers};
 ghost use Rattle.soad_walk.specs.TableWalk.{tableWalkOf, walkNumber, nextAfter, valueAfter};
 use frame::framing;
@@ -17,7 +17,7 @@ use table::check_table;
 // The table check: 0 accepted, and the place stays as it was; 1 refused, and the place is that of R1.10.
 #[no_mangle]
 pub extern "C" fn soad_table_check(image: &[u8], place: &mut usize) -> u32
-    ensures { λ r. ⌜ r ≡ answerNumber (checkTable (now (image .entry))) ⌝ }
+    ensures { λ r. ⌜ r ≡ tableNumber (checkTable (now (image .entry))) ⌝ }
     ensures { λ _. ⌜ now (place .exit) ≡ answerPlace (checkTable (now (image .entry))) (now (place .entry)) ⌝ }
 {
     let answer = check_table(image);

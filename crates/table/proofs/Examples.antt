@@ -6,6 +6,7 @@ use lib.ListN.{set, take}
 use Rattle.wire.specs.Be.{be}
 use Rattle.lists.specs.Search.{badFrom, every}
 use Rattle.table_layout.specs.Layout.{rowsOf, bodyBytes, startOf, endOf, rowAt, partOf, bodyOf, rowIn}
+use Rattle.table_rows.specs.Rows.{connectionRow, routeRow, destinationRow}
 use Rattle.table_rows.specs.Rules.{groupGood, connectionGood, routeGood, destinationGood, sizeIn, routesShare, destinationsShare}
 use Rattle.table_scan.specs.Scan.{share, clearIn, goodIn}
 use Rattle.table.specs.Table.{headGood, entryGood, rule, thenCheck, entriesPlace, headPlace, allRowsPlace, checkTable}
@@ -36,7 +37,7 @@ twice =
     ∷ 0 ∷ 1 ∷ 0 ∷ 2 ∷ 0 ∷ 0 ∷ 2 ∷ 3 ∷ 0 ∷ 9 ∷ 0 ∷ 0 ∷ 0 ∷ 0 ∷ 0 ∷ 0 ∷ []
 
 pub image-whole : checkTable exampleImage ≡ Accepted
-unfolding exampleImage be badFrom every rowsOf bodyBytes startOf endOf rowAt partOf bodyOf rowIn groupGood connectionGood routeGood destinationGood sizeIn routesShare destinationsShare share clearIn goodIn headGood entryGood rule thenCheck entriesPlace headPlace allRowsPlace checkTable
+unfolding exampleImage be badFrom every rowsOf bodyBytes startOf endOf rowAt partOf bodyOf rowIn connectionRow routeRow destinationRow groupGood connectionGood routeGood destinationGood sizeIn routesShare destinationsShare share clearIn goodIn headGood entryGood rule thenCheck entriesPlace headPlace allRowsPlace checkTable
 image-whole = refl
 
 pub places :
@@ -57,5 +58,5 @@ pub places :
     ∷ Refused 2 ∷ Refused 2
     ∷ Refused 36 ∷ Refused 38 ∷ Refused 38 ∷ Refused 54 ∷ Refused 70 ∷ Refused 70
     ∷ Refused 70 ∷ Refused 102 ∷ []
-unfolding exampleImage twice be badFrom every rowsOf bodyBytes startOf endOf rowAt partOf bodyOf rowIn groupGood connectionGood routeGood destinationGood sizeIn routesShare destinationsShare share clearIn goodIn headGood entryGood rule thenCheck entriesPlace headPlace allRowsPlace checkTable
+unfolding exampleImage twice be badFrom every rowsOf bodyBytes startOf endOf rowAt partOf bodyOf rowIn connectionRow routeRow destinationRow groupGood connectionGood routeGood destinationGood sizeIn routesShare destinationsShare share clearIn goodIn headGood entryGood rule thenCheck entriesPlace headPlace allRowsPlace checkTable
 places = refl

@@ -95,7 +95,7 @@ module _ (s : List ℕ) (e : checkTable s ≡ Accepted) where
   unfolding rule
   route-rule i h = ruled Route i h
 
-  destination-rule : (i : ℕ) → i < rowsOf s Destination → destinationGood (rowsOf s Connection) (sizeIn (bodyOf s Connection)) (rowOf s Destination i) ≡ true
+  destination-rule : (i : ℕ) → i < rowsOf s Destination → destinationGood (rowsOf s Connection) (sizeIn 16 (bodyOf s Connection)) (rowOf s Destination i) ≡ true
   unfolding rule
   destination-rule i h = ruled Destination i h
 
@@ -126,7 +126,7 @@ group-facts row e =
     record { low = leb-true _ _ (f .0); high = leb-true _ _ (f .1) }
 
 connection-facts : (groups : ℕ) (row : List ℕ) → connectionGood groups row ≡ true → ConnectionFacts groups row
-unfolding connectionGood
+unfolding connectionGood connectionRow
 connection-facts groups row e =
     let a = ltb (be 1 row 0) groups in
     let b = leb (be 1 row 1) 1 in
@@ -136,13 +136,13 @@ connection-facts groups row e =
     record { group = ltb-true _ _ (f .0); automatic = leb-true _ _ (f .1); low = leb-true _ _ (f .2); high = leb-true _ _ (f .3) }
 
 route-facts : (connections : ℕ) (row : List ℕ) → routeGood connections row ≡ true → RouteFacts connections row
-unfolding routeGood
+unfolding routeGood routeRow
 route-facts connections row e =
     let f = and4 (ltb (be 1 row 0) connections) (eqb (be 1 row 1) 0) (leb (be 2 row 2) 1464) (eqb (be 2 row 10) 0) e in
     record { connection = ltb-true _ _ (f .0); longest = leb-true _ _ (f .2) }
 
 destination-facts : (connections : ℕ) (size : ℕ → ℕ) (row : List ℕ) → destinationGood connections size row ≡ true → DestinationFacts connections size row
-unfolding destinationGood
+unfolding destinationGood destinationRow
 destination-facts connections size row e =
     let f = and4 (ltb (be 1 row 0) connections) (leb (be 1 row 1) 1) (leb (be 2 row 2) 1464) (leb (be 2 row 2 + 8) (size (be 1 row 0))) e in
     record { connection = ltb-true _ _ (f .0); trigger = leb-true _ _ (f .1); longest = leb-true _ _ (f .2); fits = leb-true _ _ (f .3) }
@@ -157,8 +157,8 @@ module _ (s : List ℕ) (e : checkTable s ≡ Accepted) (i : ℕ) where
   routes-keep : i < rowsOf s Route → RouteFacts (rowsOf s Connection) (rowOf s Route i)
   routes-keep h = route-facts (rowsOf s Connection) (rowOf s Route i) (route-rule s e i h)
 
-  destinations-keep : i < rowsOf s Destination → DestinationFacts (rowsOf s Connection) (sizeIn (bodyOf s Connection)) (rowOf s Destination i)
-  destinations-keep h = destination-facts (rowsOf s Connection) (sizeIn (bodyOf s Connection)) (rowOf s Destination i) (destination-rule s e i h)
+  destinations-keep : i < rowsOf s Destination → DestinationFacts (rowsOf s Connection) (sizeIn 16 (bodyOf s Connection)) (rowOf s Destination i)
+  destinations-keep h = destination-facts (rowsOf s Connection) (sizeIn 16 (bodyOf s Connection)) (rowOf s Destination i) (destination-rule s e i h)
 
 -- a test of sharing that fails
 apart-of : (share : Bool) → share ≡ false → share ≡ true → ⊥

@@ -61,14 +61,14 @@ module _ (s : List ℕ) (l : Laid s) (r : TableAnswer) (bad : ℕ) where
       f
 
   pub destinations-place : (body connections : List ℕ) → body ≡ bodyOf s Destination → connections ≡ bodyOf s Connection
-      → bad ≡ firstBad (goodIn (destinationGood (length connections / 16) (sizeIn connections)) (share Destination) 16 body) (length body / 16)
+      → bad ≡ firstBad (goodIn (destinationGood (length connections / 16) (sizeIn 16 connections)) (share Destination) 16 body) (length body / 16)
       → r ≡ demand (leb (rowsOf s Destination) bad) (rowAt s Destination bad) → r ≡ rowsPlace s Destination
   unfolding rule
   destinations-place body connections b c e f =
       place Destination
-      (e ∙ ap (λ (x : List ℕ). firstBad (goodIn (destinationGood (length connections / 16) (sizeIn connections)) (share Destination) 16 x) (length x / 16)) b
-      ∙ ap (λ (x : List ℕ). firstBad (goodIn (destinationGood (length x / 16) (sizeIn x)) (share Destination) 16 (bodyOf s Destination)) (length (bodyOf s Destination) / 16)) c
-      ∙ ap (λ (n : ℕ). firstBad (goodIn (destinationGood n (sizeIn (bodyOf s Connection))) (share Destination) 16 (bodyOf s Destination)) (length (bodyOf s Destination) / 16)) (body-rows s l Connection))
+      (e ∙ ap (λ (x : List ℕ). firstBad (goodIn (destinationGood (length connections / 16) (sizeIn 16 connections)) (share Destination) 16 x) (length x / 16)) b
+      ∙ ap (λ (x : List ℕ). firstBad (goodIn (destinationGood (length x / 16) (sizeIn 16 x)) (share Destination) 16 (bodyOf s Destination)) (length (bodyOf s Destination) / 16)) c
+      ∙ ap (λ (n : ℕ). firstBad (goodIn (destinationGood n (sizeIn 16 (bodyOf s Connection))) (share Destination) 16 (bodyOf s Destination)) (length (bodyOf s Destination) / 16)) (body-rows s l Connection))
       f
 
 -- the last two kinds, by what one search gives

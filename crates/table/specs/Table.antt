@@ -30,7 +30,7 @@ unfoldable pub rule : List ℕ → Kind → List ℕ → Bool
 rule s Group row = groupGood row
 rule s Connection row = connectionGood (rowsOf s Group) row
 rule s Route row = routeGood (rowsOf s Connection) row
-rule s Destination row = destinationGood (rowsOf s Connection) (sizeIn (bodyOf s Connection)) row
+rule s Destination row = destinationGood (rowsOf s Connection) (sizeIn (rowBytes s Connection) (bodyOf s Connection)) row
 
 -- row i of a kind is good
 abbrev pub rowGood : List ℕ → Kind → ℕ → Bool
@@ -84,9 +84,9 @@ checkTable s =
     (allRowsPlace s)))
 
 -- R4.1, the answer's number: 0 done, 1 table refused
-abbrev pub answerNumber : TableAnswer → ℕ
-answerNumber Accepted = 0
-answerNumber (Refused p) = 1
+abbrev pub tableNumber : TableAnswer → ℕ
+tableNumber Accepted = 0
+tableNumber (Refused p) = 1
 
 -- the place that goes with it; an accepted table has none, and what stood there stays
 abbrev pub answerPlace : TableAnswer → ℕ → ℕ

@@ -12,6 +12,7 @@ use Rattle.lists.proofs.Both.{impossible, and-both}
 use Rattle.table_layout.specs.Layout.{number, mostRows, entryAt, rowsOf, startOf, endOf, bodyOf, rowOf}
 use Rattle.table_layout.specs.declared.Kind.{Kind}
 use Rattle.table_layout.specs.declared.Kind.the-variants.{Group, Connection, Route, Destination}
+use Rattle.table_rows.specs.Rows.{connectionRow, routeRow, destinationRow}
 use Rattle.table_rows.specs.Rules.{groupGood, connectionGood, routeGood, destinationGood, sizeIn}
 use Rattle.table_scan.specs.Scan.{goodIn}
 use Rattle.table_scan.proofs.Rows.{free, groups-free, connections-free}
@@ -133,20 +134,20 @@ module _ (s : List ℕ) where
   group-tells row = test Protocol (be 1 row 0) 2 _ _ (last Zero (be 1 row 1) 1)
 
   connection-tells : (groups : ℕ) (row : List ℕ) → Tells (connectionGood groups row) (connectionFault groups row)
-  unfolding connectionGood connectionFault passesTest
+  unfolding connectionGood connectionRow connectionFault passesTest
   connection-tells groups row =
       same _ (sized (ltb (be 1 row 0) groups) (leb (be 1 row 1) 1) (leb 8 (be 2 row 8)) (leb (be 2 row 8) 1472) (eqb (be 2 row 10) 0))
       (test NoGroup (be 1 row 0) groups _ _ (test Automatic (be 1 row 1) 1 _ _ (test SendSize (be 2 row 8) 1472 _ _ (last Zero (be 2 row 10) 10))))
 
   route-tells : (connections : ℕ) (row : List ℕ) (b : Bool) (shared : Told) → Tells b shared → Tells (routeGood connections row && b) (routeFault connections shared row)
-  unfolding routeGood routeFault passesTest
+  unfolding routeGood routeRow routeFault passesTest
   route-tells connections row b shared h =
       same _ (five (ltb (be 1 row 0) connections) (eqb (be 1 row 1) 0) (leb (be 2 row 2) 1464) (eqb (be 2 row 10) 0) _)
       (test NoConnection (be 1 row 0) connections _ _ (test Zero (be 1 row 1) 1 _ _ (test Longest (be 2 row 2) 1464 _ _ (test Zero (be 2 row 10) 10 _ _ h))))
 
   destination-tells : (connections : ℕ) (size : ℕ → ℕ) (row : List ℕ) (b : Bool) (shared : Told) → Tells b shared
       → Tells (destinationGood connections size row && b) (destinationFault connections (size (be 1 row 0)) shared row)
-  unfolding destinationGood destinationFault passesTest
+  unfolding destinationGood destinationRow destinationFault passesTest
   destination-tells connections size row b shared h =
       same _ (five (ltb (be 1 row 0) connections) (leb (be 1 row 1) 1) (leb (be 2 row 2) 1464) _ _)
       (test NoConnection (be 1 row 0) connections _ _ (test Trigger (be 1 row 1) 1 _ _ (test Longest (be 2 row 2) 1464 _ _ (test Room (be 2 row 2) (size (be 1 row 0)) _ _ h))))
@@ -156,7 +157,7 @@ module _ (s : List ℕ) where
   row-tells Group i = same _ (with-true _ _ (free Group 2 (bodyOf s Group) i groups-free)) (group-tells (rowOf s Group i))
   row-tells Connection i = same _ (with-true _ _ (free Connection 16 (bodyOf s Connection) i connections-free)) (connection-tells (rowsOf s Group) (rowOf s Connection i))
   row-tells Route i = route-tells (rowsOf s Connection) (rowOf s Route i) _ _ (shared-tells Route i)
-  row-tells Destination i = destination-tells (rowsOf s Connection) (sizeIn (bodyOf s Connection)) (rowOf s Destination i) _ _ (shared-tells Destination i)
+  row-tells Destination i = destination-tells (rowsOf s Connection) (sizeIn 16 (bodyOf s Connection)) (rowOf s Destination i) _ _ (shared-tells Destination i)
 
   pub told-fails : (at : Spot) → Tells (goodAt s at) (faultAt s at)
   unfolding goodAt faultAt

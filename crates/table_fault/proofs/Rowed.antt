@@ -25,7 +25,7 @@ module _ (s : List ℕ) (k : Kind) (i : ℕ) {r : Told} {row : List ℕ} where
   route-told e p f n q = q ∙ rw (p, e, f, n)
 
   pub destination-told : {shared : Told} {connections c size : ℕ} {body : List ℕ} → k ≡ Destination → row ≡ rowOf s k i → shared ≡ sharedFault s Destination i
-      → body ≡ bodyOf s Connection → c ≡ be 1 row 0 → size ≡ sizeIn body c → connections ≡ rowsOf s Connection
+      → body ≡ bodyOf s Connection → c ≡ be 1 row 0 → size ≡ sizeIn 16 body c → connections ≡ rowsOf s Connection
       → r ≡ destinationFault connections size shared row → r ≡ rowFault s k i
   unfolding rowFault
   destination-told e p f b c z n q = q ∙ rw (z, c, b, p, e, f, n)

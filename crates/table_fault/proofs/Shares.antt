@@ -120,4 +120,4 @@ module _ (s : List ℕ) where
   told-shares Connection i e = never _ (connection-through (rowsOf s Group) (rowOf s Connection i) e) e
   told-shares Route i e = shared Route i _ (route-through (rowsOf s Connection) (sharedFault s Route i) (rowOf s Route i) e) e
   told-shares Destination i e =
-      shared Destination i _ (destination-through (rowsOf s Connection) (sizeIn (bodyOf s Connection) (be 1 (rowOf s Destination i) 0)) (sharedFault s Destination i) (rowOf s Destination i) e) e
+      shared Destination i _ (destination-through (rowsOf s Connection) (sizeIn 16 (bodyOf s Connection) (be 1 (rowOf s Destination i) 0)) (sharedFault s Destination i) (rowOf s Destination i) e) e

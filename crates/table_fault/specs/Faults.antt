@@ -129,7 +129,7 @@ rowFault s Group i = groupFault (rowOf s Group i)
 rowFault s Connection i = connectionFault (rowsOf s Group) (rowOf s Connection i)
 rowFault s Route i = routeFault (rowsOf s Connection) (sharedFault s Route i) (rowOf s Route i)
 rowFault s Destination i =
-    destinationFault (rowsOf s Connection) (sizeIn (bodyOf s Connection) (be 1 (rowOf s Destination i) 0))
+    destinationFault (rowsOf s Connection) (sizeIn (rowBytes s Connection) (bodyOf s Connection) (be 1 (rowOf s Destination i) 0))
     (sharedFault s Destination i) (rowOf s Destination i)
 
 unfoldable pub faultAt : List ℕ → Spot → Told

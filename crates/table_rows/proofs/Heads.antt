@@ -13,6 +13,7 @@ use Rattle.wire.specs.Be.{be, byteAt, Number}
 use Rattle.wire.proofs.Join.{be-add}
 use Rattle.table_layout.specs.Layout.{rowIn}
 use Rattle.table_rows.specs.Rules.{routeGood, destinationGood, sizeIn}
+use Rattle.table_rows.specs.Rows.{connectionRow, routeRow, destinationRow}
 
 module _ (s : List ℕ) (bytes : (i : ℕ) → byteAt s i < 256) where
   -- w bytes stay below 256 ^ w
@@ -69,21 +70,21 @@ module _ (s : List ℕ) (bytes : (i : ℕ) → byteAt s i < 256) (h : ℕ) (is :
       record { is = e; small = rw e (be-small s bytes 1 0) }
 
   pub route-by-head : (n z : ℕ) → z ≡ be 4 s 8 → ltb (h / 16777216) n && leb (h % 16777216) 1464 && eqb (z % 65536) 0 ≡ routeGood n s
-  unfolding routeGood
+  unfolding routeGood routeRow
   route-by-head n z ez =
       rw (is, ez, first-byte s bytes 0, low-bytes s bytes 0, last-bytes s bytes 8, zero-and-longest (be 1 s 1) (be 2 s 2))
       (grouped (ltb (be 1 s 0) n) (eqb (be 1 s 1) 0) (leb (be 2 s 2) 1464) (eqb (be 2 s 10) 0))
 
   module _ (connections : List ℕ) (n : ℕ) where
-    pub destination-without : n ≤ h / 16777216 → false ≡ destinationGood n (sizeIn connections) s
-    unfolding destinationGood
+    pub destination-without : n ≤ h / 16777216 → false ≡ destinationGood n (sizeIn 16 connections) s
+    unfolding destinationGood destinationRow
     destination-without l =
         let g : n ≤ be 1 s 0 = rw (is, first-byte s bytes 0) at l in
         rw (le-ltb (be 1 s 0) n g)
 
     pub destination-by-head : (owner : List ℕ) (size : ℕ) → h / 16777216 < n → owner ≡ rowIn 16 connections (h / 16777216) → size ≡ be 2 owner 8
-        → (leb (h % 16777216) 1464 || (leb 65536 (h % 16777216) && leb (h % 16777216) 67000)) && leb (h % 65536 + 8) size ≡ destinationGood n (sizeIn connections) s
-    unfolding destinationGood sizeIn
+        → (leb (h % 16777216) 1464 || (leb 65536 (h % 16777216) && leb (h % 16777216) 67000)) && leb (h % 65536 + 8) size ≡ destinationGood n (sizeIn 16 connections) s
+    unfolding destinationGood destinationRow sizeIn connectionRow
     destination-by-head owner size l o z =
         let g : be 1 s 0 < n = rw (is, first-byte s bytes 0) at l in
         let w : size ≡ be 2 (rowIn 16 connections (be 1 s 0)) 8 =

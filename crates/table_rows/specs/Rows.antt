@@ -3,7 +3,7 @@ use Prim.Native.Nat.{ℕ}
 use mathlib.Core.List.{List}
 use lib.Dec.{eqb}
 use Rattle.wire.specs.Be.{be}
-use Rattle.table_layout.specs.Layout.{rowIn, rowOf, bodyOf}
+use Rattle.table_layout.specs.Layout.{rowIn, rowOf}
 use Rattle.table_layout.specs.declared.Kind.the-variants.{Group, Connection, Route, Destination}
 use Rattle.table_rows.specs.declared.GroupRow.{GroupRow}
 use Rattle.table_rows.specs.declared.ConnectionRow.{ConnectionRow}
@@ -79,11 +79,11 @@ abbrev pub routeIn : List ℕ → ℕ → RouteRow
 routeIn body i = routeRow (rowIn 16 body i)
 
 abbrev pub routeOf : List ℕ → ℕ → RouteRow
-routeOf s i = routeIn (bodyOf s Route) i
+routeOf s i = routeRow (rowOf s Route i)
 
 -- row i of a body of destinations, and of an image
 abbrev pub destinationIn : List ℕ → ℕ → DestinationRow
 destinationIn body i = destinationRow (rowIn 16 body i)
 
 abbrev pub destinationOf : List ℕ → ℕ → DestinationRow
-destinationOf s i = destinationIn (bodyOf s Destination) i
+destinationOf s i = destinationRow (rowOf s Destination i)

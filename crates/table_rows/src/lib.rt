@@ -254,14 +254,14 @@ pub fn route_good(row: &[u8], connections: usize) -> bool
 
 // The send size of connection c, out of the body of connections.
 pub fn size_in(connections: &[u8], c: usize) -> usize
-    ensures { λ r. ⌜ r ≡ sizeIn (now (connections .entry)) c ⌝ }
+    ensures { λ r. ⌜ r ≡ sizeIn 16 (now (connections .entry)) c ⌝ }
 {
     be16(row_in(connections, 16, c), 8)
 }
 
 // The same, with the trigger (65,536) in the place of the zero byte.
 pub fn destination_good(row: &[u8], connections: &[u8]) -> bool
-    ensures { λ r. ⌜ r ≡ destinationGood (length (now (connections .entry)) / 16) (sizeIn (now (connections .entry))) (now (row .entry)) ⌝ }
+    ensures { λ r. ⌜ r ≡ destinationGood (length (now (connections .entry)) / 16) (sizeIn 16 (now (connections .entry))) (now (row .entry)) ⌝ }
 {
     let head = be32(row, 0);
     let connection = head / 16777216;

@@ -15,6 +15,7 @@ use Rattle.lists.proofs.Both.{and-left, and-right, impossible}
 use Rattle.lists.proofs.Search.{every-all, search-start, search-ended}
 use Rattle.table_layout.specs.Layout.{rowIn}
 use Rattle.table_layout.specs.declared.Kind.the-variants.{Route, Destination}
+use Rattle.table_rows.specs.Rows.{routeRow, destinationRow}
 use Rattle.table_rows.specs.Rules.{routesShare, destinationsShare}
 use Rattle.table_scan.specs.Scan.{share, clearIn, goodIn}
 use Rattle.table_scan.specs.Marks.{routeMark, destinationMark, Come, Struck}
@@ -24,14 +25,14 @@ pub mark-small : (x : ℕ) → x % 4294967296 / 2097152 < 2048
 mark-small x = omega arith
 
 pub routes-marked : (a b : List ℕ) → share Route a b ≡ true → routeMark a ≡ routeMark b
-unfolding share routesShare routeMark
+unfolding share routesShare routeMark routeRow
 routes-marked a b e =
     let one : be 1 a 0 ≡ be 1 b 0 = eqb-true _ _ (and-left (eqb (be 1 a 0) (be 1 b 0)) (eqb (be 4 a 4) (be 4 b 4)) e) in
     let four : be 4 a 4 ≡ be 4 b 4 = eqb-true _ _ (and-right (eqb (be 1 a 0) (be 1 b 0)) (eqb (be 4 a 4) (be 4 b 4)) e) in
     rw (one, four)
 
 pub destinations-marked : (a b : List ℕ) → share Destination a b ≡ true → destinationMark a ≡ destinationMark b
-unfolding share destinationsShare destinationMark
+unfolding share destinationsShare destinationMark destinationRow
 destinations-marked a b e =
     let two : be 2 a 8 ≡ be 2 b 8 = eqb-true _ _ (and-left (eqb (be 2 a 8) (be 2 b 8)) (eqb (be 1 a 0) (be 1 b 0)) e) in
     let one : be 1 a 0 ≡ be 1 b 0 = eqb-true _ _ (and-right (eqb (be 2 a 8) (be 2 b 8)) (eqb (be 1 a 0) (be 1 b 0)) e) in

@@ -6,9 +6,9 @@ use mathlib.Core.Path.{_≡_}
 use mathlib.Core.Bool.{Bool, true}
 use mathlib.Core.List.{List}
 use lib.ListN.{length, getD}
-use Rattle.wire.specs.Be.{be}
 use Rattle.lists.specs.Search.{badFrom, firstBad}
 use Rattle.table_layout.specs.Layout.{rowIn}
+use Rattle.table_rows.specs.Rows.{routeRow, destinationRow}
 use Rattle.table_scan.specs.Scan.{goodIn}
 
 -- of a connection and the key beside it
@@ -16,10 +16,10 @@ unfoldable pub markOf : ℕ → ℕ → ℕ
 markOf connection key = (key + connection * 268435456) % 4294967296 * 2654435769 % 4294967296 / 2097152
 
 unfoldable pub routeMark : List ℕ → ℕ
-routeMark row = markOf (be 1 row 0) (be 4 row 4)
+routeMark row = markOf (routeRow row .connection) (routeRow row .id)
 
 unfoldable pub destinationMark : List ℕ → ℕ
-destinationMark row = markOf (be 1 row 0) (be 2 row 8)
+destinationMark row = markOf (destinationRow row .connection) (destinationRow row .pdu)
 
 module _ (good : List ℕ → Bool) (shares : List ℕ → List ℕ → Bool) (mark : List ℕ → ℕ) (tag : ℕ) (body seen : List ℕ) (i : ℕ) where
   -- a search that has come to row i: what is left of it has the whole one's answer, and the rows before i have left the tag at their marks

@@ -27,7 +27,7 @@ goodIn good shares n body i = good (rowIn n body i) && every (clearIn shares n b
 
 -- a destination by itself, under a body of connections
 abbrev pub destinationRule : List ℕ → List ℕ → Bool
-destinationRule connections = destinationGood (length connections / 16) (sizeIn connections)
+destinationRule connections = destinationGood (length connections / 16) (sizeIn 16 connections)
 
 -- the first bad route under so many connections, and the first bad destination under a body of connections
 abbrev pub badRoute : ℕ → List ℕ → ℕ

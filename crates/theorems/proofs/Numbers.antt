@@ -44,7 +44,7 @@ use Rattle.select.specs.Choose.{arrivalNumber, meet, arrivalRefused as notMet, 
 use Rattle.entry_arrivals.specs.Arrivals.{arrivalOf}
 use Rattle.entry_receive.specs.declared.Answer.{Answer}
 use Rattle.entry_receive.specs.declared.Answer.the-variants as Receive
-use Rattle.entry_receive.specs.Answer.{answerNumber as receiveNumber, isDone, judgedOf, judgedAnswer}
+use Rattle.entry_receive.specs.Answer.{receiveNumber, isDone, judgedOf, judgedAnswer}
 use Rattle.entry_receive.specs.Segment.{takeOn, noneTaken, segmentOf, segmentAnswer}
 use Rattle.entry_receive.specs.Walk.{walkOn, noneWalked, walkAnswer, walkAllowed, walkOf}
 use Rattle.send_destination.specs.Destination.{refusalOf, lookOf}

@@ -33,7 +33,7 @@ use Rattle.select.specs.declared.Chosen.{Chosen}
 use Rattle.select.specs.declared.Chosen.the-variants.{Nobody, At}
 use Rattle.select.specs.Choose.{arrivalNumber, meet, arrivalRefused as notMet, deniedOf, chosenIn, arriveOf}
 use Rattle.entry_arrivals.specs.Arrivals.{arrivalOf}
-use Rattle.entry_receive.specs.Answer.{answerNumber as receiveNumber, isDone}
+use Rattle.entry_receive.specs.Answer.{receiveNumber, isDone}
 use Rattle.entry_receive.specs.Segment.{takeOn, segmentAnswer, segmentOf}
 use Rattle.entry_receive.specs.Walk.{walkOn, noneWalked, walkAnswer, walkOf}
 use Rattle.send.specs.declared.Transmission.{Transmission}

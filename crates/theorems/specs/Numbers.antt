@@ -12,7 +12,7 @@ use Rattle.entry_events.specs.Count.{countNumber, readOf, clearOf}
 use Rattle.entry_ticks.specs.Tick.{tickEvent}
 use Rattle.select.specs.Choose.{arrivalNumber}
 use Rattle.entry_arrivals.specs.Arrivals.{arrivalOf}
-use Rattle.entry_receive.specs.Answer.{answerNumber as receiveNumber}
+use Rattle.entry_receive.specs.Answer.{receiveNumber}
 use Rattle.entry_receive.specs.Walk.{walkOf}
 use Rattle.send.specs.Verdict.{transmissionNumber}
 use Rattle.send_waiting.specs.Waiting.{takingNumber}

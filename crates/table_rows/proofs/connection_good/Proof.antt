@@ -1,5 +1,6 @@
 -- `table_rows::connection_good` meets its contract.
 use Rattle.table_rows.specs.Rules.{connectionGood}
+use Rattle.table_rows.specs.Rows.{connectionRow}
 use borrow.Author.Needs.{needs}
 use Rattle.table_rows.proofs.connection_good.Statement.{statement}
 use Rattle.table_rows.proofs.connection_good.Tie as tie
@@ -17,7 +18,7 @@ be16-requires-2 : tie.Need-be16-requires-2
 be16-requires-2 c κs = search needs
 
 returns : tie.Need-returns
-unfolding connectionGood
+unfolding connectionGood connectionRow
 returns c = cc
 
 pub connection-good-spec : {M : Type 1} → statement M

@@ -1,5 +1,6 @@
 -- `table_rows::destinations_share` meets its contract.
 use Rattle.table_rows.specs.Rules.{destinationsShare}
+use Rattle.table_rows.specs.Rows.{destinationRow}
 use borrow.Author.Needs.{needs}
 use Rattle.table_rows.proofs.destinations_share.Statement.{statement}
 use Rattle.table_rows.proofs.destinations_share.Tie as tie
@@ -17,7 +18,7 @@ be8-requires-2 : tie.Need-be8-requires-2
 be8-requires-2 c κs = search needs
 
 returns : tie.Need-returns
-unfolding destinationsShare
+unfolding destinationsShare destinationRow
 returns c = cc
 
 pub destinations-share-spec : {M : Type 1} → statement M

@@ -1,5 +1,6 @@
 -- `table_rows::routes_share` meets its contract.
 use Rattle.table_rows.specs.Rules.{routesShare}
+use Rattle.table_rows.specs.Rows.{routeRow}
 use borrow.Author.Needs.{needs}
 use Rattle.table_rows.proofs.routes_share.Statement.{statement}
 use Rattle.table_rows.proofs.routes_share.Tie as tie
@@ -17,7 +18,7 @@ be32-requires-2 : tie.Need-be32-requires-2
 be32-requires-2 c κs = search needs
 
 returns : tie.Need-returns
-unfolding routesShare
+unfolding routesShare routeRow
 returns c = cc
 
 pub routes-share-spec : {M : Type 1} → statement M

@@ -1,5 +1,6 @@
 -- `table_rows::size_in` meets its contract.
 use Rattle.table_rows.specs.Rules.{sizeIn}
+use Rattle.table_rows.specs.Rows.{connectionRow}
 use borrow.Author.Needs.{needs}
 use Rattle.table_rows.proofs.size_in.Statement.{statement}
 use Rattle.table_rows.proofs.size_in.Tie as tie
@@ -11,7 +12,7 @@ be16-requires : tie.Need-be16-requires
 be16-requires c κs = search needs
 
 returns : tie.Need-returns
-unfolding sizeIn
+unfolding sizeIn connectionRow
 returns c = cc
 
 pub size-in-spec : {M : Type 1} → statement M

@@ -1,5 +1,6 @@
 -- `table_scan::destination_mark` meets its contract.
 use Rattle.table_scan.specs.Marks.{destinationMark}
+use Rattle.table_rows.specs.Rows.{destinationRow}
 use borrow.Author.Needs.{needs}
 use Rattle.table_scan.proofs.destination_mark.Statement.{statement}
 use Rattle.table_scan.proofs.destination_mark.Tie as tie
@@ -14,7 +15,7 @@ mark-of-requires : tie.Need-mark-of-requires
 mark-of-requires c κs = search needs
 
 returns : tie.Need-returns
-unfolding destinationMark
+unfolding destinationMark destinationRow
 returns c = (cc, c .mark-of .ensures .1)
 
 pub destination-mark-spec : {M : Type 1} → statement M

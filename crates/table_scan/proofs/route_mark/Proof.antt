@@ -1,5 +1,6 @@
 -- `table_scan::route_mark` meets its contract.
 use Rattle.table_scan.specs.Marks.{routeMark}
+use Rattle.table_rows.specs.Rows.{routeRow}
 use borrow.Author.Needs.{needs}
 use Rattle.table_scan.proofs.route_mark.Statement.{statement}
 use Rattle.table_scan.proofs.route_mark.Tie as tie
@@ -14,7 +15,7 @@ mark-of-requires : tie.Need-mark-of-requires
 mark-of-requires c κs = search needs
 
 returns : tie.Need-returns
-unfolding routeMark
+unfolding routeMark routeRow
 returns c = (cc, c .mark-of .ensures .1)
 
 pub route-mark-spec : {M : Type 1} → statement M
