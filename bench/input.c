@@ -3,8 +3,9 @@
  *   input WHAT QUARTERS LENGTH TIMES     a table with QUARTERS/4 of the most rows, a payload of LENGTH bytes, TIMES calls of WHAT
  *
  * WHAT: nothing, gate, take, cut, walk, transmit, waiting, tick, datagram; segment: an event of LENGTH PDUs of 10 bytes in all;
- * ticks: an event of LENGTH ticks; emptied, holding: what transmit and waiting do besides the call. With a `+` before it: under a
- * state in which each connection holds bytes to send.
+ * ticks: an event of LENGTH ticks; emptied, holding: what transmit and waiting do besides the call; first, middle, last: a take under
+ * a table whose groups are all TCP, with the first, the middle or the last row for its route; none: the same with an id that no row
+ * has, and no payload; empty: a take of no bytes there. With a `+` before it: under a state in which each connection holds bytes to send.
  */
 #include "image.h"
 #include "system.h"
@@ -12,10 +13,12 @@
 extern int atoi(const char *text);
 extern int strcmp(const char *one, const char *other);
 
-static const char *const names[] = {"nothing", "gate",     "take",    "cut",   "walk",    "transmit", "waiting",
-                                    "tick",    "datagram", "segment", "ticks", "emptied", "holding"};
-enum { NOTHING, GATE, TAKE, CUT, WALK, TRANSMIT, WAITING, TICK, DATAGRAM, SEGMENT, TICKS, EMPTIED, HOLDING, WHATS };
-static const uint8_t numbers[] = {0, 1, 2, 3, 4, 5, 6, 7, 8, 9, 9, 69, 70};
+static const char *const names[] = {"nothing", "gate",    "take",  "cut",     "walk",    "transmit", "waiting", "tick", "datagram",
+                                    "segment", "ticks",   "first", "middle",  "last",    "none",     "empty",   "emptied", "holding"};
+enum {
+    NOTHING, GATE, TAKE, CUT, WALK, TRANSMIT, WAITING, TICK, DATAGRAM, SEGMENT, TICKS, FIRST, MIDDLE, LAST, NONE, EMPTY, EMPTIED, HOLDING, WHATS
+};
+static const uint8_t numbers[] = {0, 1, 2, 3, 4, 5, 6, 7, 8, 9, 9, 2, 2, 2, 10, 11, 69, 70};
 enum { EVENT_TICKS = 0, EVENT_SEGMENT = 7, PDU_BYTES = 10, BUSY = 128 };
 
 static uint8_t head[16], bytes[2944];
@@ -24,6 +27,24 @@ static void set(uint8_t *at, uint64_t value, unsigned width)
 {
     for (unsigned i = width; i-- > 0; value >>= 8)
         at[i] = (uint8_t)value;
+}
+
+/* The row whose id the bytes carry: for a lookup the one that it names, or the one past the last; else the last that has a connection
+ * of the protocol asked for. */
+static unsigned route_of(unsigned what, unsigned rows)
+{
+    switch (what) {
+    case FIRST:
+        return 0;
+    case MIDDLE:
+        return rows / 2;
+    case LAST:
+        return rows - 1;
+    case NONE:
+        return rows;
+    default:
+        return rows - (what == TAKE || what == CUT || what == SEGMENT ? 1 : 2);
+    }
 }
 
 int main(int count, char **words)
@@ -38,9 +59,11 @@ int main(int count, char **words)
         die("input: there is no such call");
     unsigned quarters = (unsigned)atoi(words[2]), length = (unsigned)atoi(words[3]);
     make_image(quarters, 1);
-    /* the last connection of the protocol asked for, its last route, and the last PDU */
-    int tcp = what == TAKE || what == CUT || what == SEGMENT, framed = tcp || what == WALK;
-    unsigned connection = 4 * quarters - (tcp ? 1 : 2), route = 16 * quarters - (tcp ? 1 : 2);
+    for (unsigned i = 0; what >= FIRST && what <= EMPTY && i < 2 * quarters; i++)
+        image[36 + 2 * i] = 2; /* TCP */
+    /* a row's connection is its number, counted round the connections */
+    unsigned route = route_of(what, 16 * quarters), connection = quarters == 0 ? 0 : route % (4 * quarters);
+    int framed = what == TAKE || what == CUT || what == SEGMENT || what == WALK || (what >= FIRST && what <= NONE);
     unsigned pdus = what == SEGMENT ? length : 1, size = what == SEGMENT ? 2 : length;
     unsigned front = what == SEGMENT ? 6 : 0, given = what == TRANSMIT ? length : 0;
     if (framed)

@@ -15,10 +15,10 @@ static size_t number(size_t at, unsigned width)
     return value;
 }
 
-static bool take(uint8_t connection, const uint8_t *segment, size_t n)
+static bool take(uint8_t connection, const uint8_t *segment, size_t n, enum kind kind)
 {
     struct outcome outcome;
-    return twin_take(&lent, connection, segment, n, &outcome) == 0 && outcome.kind == PDU;
+    return twin_take(&lent, connection, segment, n, &outcome) == 0 && outcome.kind == kind;
 }
 
 static bool walk(uint8_t connection)
@@ -82,9 +82,9 @@ static bool once(size_t what, uint8_t connection, uint16_t pdu, uint16_t used)
     case 1:
         return twin_read_count(&lent, 1, &value) == 0;
     case 2:
-        return take(connection, bytes, length);
+        return take(connection, bytes, length, PDU);
     case 3:
-        return !take(connection, bytes, length / 2) && take(connection, bytes + length / 2, length - length / 2);
+        return take(connection, bytes, length / 2, MORE) && take(connection, bytes + length / 2, length - length / 2, PDU);
     case 4:
         return walk(connection);
     case 5:
@@ -97,6 +97,10 @@ static bool once(size_t what, uint8_t connection, uint16_t pdu, uint16_t used)
         return arrive(connection);
     case 9:
         return dispatched(pdu);
+    case 10:
+        return take(connection, bytes, length, DROP);
+    case 11:
+        return take(connection, bytes, 0, MORE);
     case 69:
         hold(connection, 0);
         hold(connection + 1u, 0);

@@ -37,20 +37,26 @@ fn gate_alone(image: &[u8], state: State, rx: &[u8], tx: &[u8]) -> Turn {
     }
 }
 
-fn is_pdu(outcome: Outcome) -> bool {
-    if let Outcome::Pdu {
-        route: _,
-        id: _,
-        in_segment: _,
-        at: _,
-        length: _,
-    } = outcome {
-        true
-    } else {
-        false
+// What a take met: 0 more wanted, 1 a PDU, 2 a drop.
+fn kind_of(outcome: Outcome) -> u8 {
+    match outcome {
+        Outcome::More => 0,
+        Outcome::Pdu {
+            route: _,
+            id: _,
+            in_segment: _,
+            at: _,
+            length: _,
+        } => 1,
+        Outcome::Drop {
+            reason: _,
+            id: _,
+            length: _,
+        } => 2,
     }
 }
 
+// A take that is to meet something of this kind.
 fn take(
     image: &[u8],
     state: State,
@@ -58,12 +64,19 @@ fn take(
     tx: &[u8],
     connection: u8,
     segment: &[u8],
+    kind: u8,
 ) -> Turn {
     let taken = segment_take(image, state, rx, tx, connection, segment);
+    let answer = taken.answer;
     let outcome = taken.outcome;
     let after = taken.state;
+    let done = if let entry_receive::Answer::Done = answer {
+        kind_of(outcome) == kind
+    } else {
+        false
+    };
     Turn {
-        done: is_pdu(outcome),
+        done: done,
         state: after,
     }
 }
@@ -77,7 +90,7 @@ fn take_cut(
     bytes: &[u8],
 ) -> Turn {
     let middle = bytes.len() / 2;
-    let first = take(image, state, rx, tx, connection, front(bytes, middle));
+    let first = take(image, state, rx, tx, connection, front(bytes, middle), 0);
     let between = first.state;
     let second = take(
         image,
@@ -86,10 +99,11 @@ fn take_cut(
         tx,
         connection,
         bytes_from(bytes, middle),
+        1,
     );
     let after = second.state;
     Turn {
-        done: !first.done & second.done,
+        done: first.done & second.done,
         state: after,
     }
 }
@@ -273,7 +287,7 @@ pub fn once(
             state: state,
         },
         1 => gate_alone(image, state, rx, tx),
-        2 => take(image, state, rx, tx, connection, bytes),
+        2 => take(image, state, rx, tx, connection, bytes, 1),
         3 => take_cut(image, state, rx, tx, connection, bytes),
         4 => walk(image, state, rx, tx, connection, bytes),
         5 => transmit(image, state, rx, tx, connection, pdu, bytes),
@@ -281,6 +295,8 @@ pub fn once(
         7 => tick(image, state, rx, tx),
         8 => arrive(image, state, rx, tx, connection),
         9 => dispatched(image, state, rx, tx, out, pdu, bytes),
+        10 => take(image, state, rx, tx, connection, bytes, 2),
+        11 => take(image, state, rx, tx, connection, front(bytes, 0), 0),
         69 => Turn {
             done: true,
             state: emptied(state, connection as usize),
