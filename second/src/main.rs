@@ -1,6 +1,7 @@
 //! The second program: the rules (docs/RULES.md) written down once more, independently, and compared with the C functions of libsoad.a and
 //! with the program `run`.
 
+mod answers;
 mod bytes;
 mod compare;
 mod connection;
@@ -35,7 +36,8 @@ use std::process::ExitCode;
 
 const USAGE: &str = "second compare PART [--seed N] [--count N] [--store FOLDER] -- PROGRAM ..
     random cases: the program answers as this one expects. PART is table, walk or frame (PROGRAM is the C driver), runs,
-    streams or selections (PROGRAM is run), takes (PROGRAM is takes); or, for a fixed list, changes (of the 86-byte image) or cuts (of a datagram)
+    streams or selections (PROGRAM is run), takes (PROGRAM is takes), answers (PROGRAM is the bench's twins by answers.c); or, for a
+    fixed list, changes (of the 86-byte image) or cuts (of a datagram)
 second replay PART FOLDER -- PROGRAM ..
     the same for the cases stored in a folder
 second faults PART [--seed N] [--count N] -- PROGRAM ..
@@ -82,6 +84,7 @@ fn obey(words: &Words) -> Result<(), String> {
     let plain: Vec<&str> = words.plain.iter().map(String::as_str).collect();
     match plain[..] {
         ["compare", "takes"] => verbs::compare_takes(words),
+        ["compare", "answers"] => verbs::compare_answers(words),
         ["faults", "takes"] => verbs::fault_takes(words),
         ["compare", part] if verbs::is_script(part) => verbs::compare_scripts(part, words),
         ["compare", part] => verbs::compare_requests(part, words),

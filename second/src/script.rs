@@ -40,7 +40,7 @@ pub fn entry(number: u16, zero: u16, body: &[u8]) -> Vec<u8> {
 
 /// "An address is family (1), which is 4; sixteen bytes (16), of which the first twelve are 0 and the last four the IPv4
 /// address; port (2)."
-fn address(body: Writer, remote: Remote) -> Writer {
+pub fn address(body: Writer, remote: Remote) -> Writer {
     body.number(4u8, 1).bytes(&[0; 12]).number(remote.address, 4).number(remote.port, 2)
 }
 
@@ -257,6 +257,15 @@ pub fn image_end(input: &[u8]) -> usize {
     let counts = [0, 1, 2, 3].map(|kind| crate::bytes::number(input, 6 + 8 * kind, 2) as usize);
     let (start, rows) = crate::table::layout(counts)[3];
     (start + rows * crate::table::ROW_BYTES[3]).min(input.len())
+}
+
+/// Where the entry that stands at a place ends; nothing where none is taken there.
+pub fn entry_end(input: &[u8], at: usize, first: bool) -> Option<usize> {
+    let mut head = Reader::new(&input[at..], 0);
+    let (event, zero, length) = (head.number(2) as u16, head.number(2) as u16, head.number(4) as usize);
+    let end = at + 8 + length;
+    let whole = at + 8 <= input.len() && read_head(event, zero, length).is_ok() && end <= input.len();
+    (whole && read_body(event, head.bytes(length), first).is_ok()).then_some(end)
 }
 
 #[cfg(test)]
