@@ -5,7 +5,9 @@
  * WHAT: nothing, gate, take, cut, walk, transmit, waiting, tick, datagram; segment: an event of LENGTH PDUs of 10 bytes in all;
  * ticks: an event of LENGTH ticks; emptied, holding: what transmit and waiting do besides the call; first, middle, last: a take under
  * a table whose groups are all TCP, with the first, the middle or the last row for its route; none: the same with an id that no row
- * has, and no payload; empty: a take of no bytes there. With a `+` before it: under a state in which each connection holds bytes to send.
+ * has, and no payload; empty: a take of no bytes there; switch, all, clear, lost, accept, remote, close: events through the dispatcher,
+ * which leave the state as they find it (lost and connected; lost and accept; lost, set remote and connected; close, tick, open,
+ * tick); idle: none of them. With a `+` before it: under a state in which each connection holds bytes to send.
  */
 #include "image.h"
 #include "system.h"
@@ -14,11 +16,13 @@ extern int atoi(const char *text);
 extern int strcmp(const char *one, const char *other);
 
 static const char *const names[] = {"nothing", "gate",    "take",  "cut",     "walk",    "transmit", "waiting", "tick", "datagram",
-                                    "segment", "ticks",   "first", "middle",  "last",    "none",     "empty",   "emptied", "holding"};
+                                    "segment", "ticks",   "first", "middle",  "last",    "none",     "empty",   "emptied", "holding",
+                                    "switch",  "all",     "clear", "lost",    "accept",  "remote",   "close",   "idle"};
 enum {
-    NOTHING, GATE, TAKE, CUT, WALK, TRANSMIT, WAITING, TICK, DATAGRAM, SEGMENT, TICKS, FIRST, MIDDLE, LAST, NONE, EMPTY, EMPTIED, HOLDING, WHATS
+    NOTHING, GATE, TAKE, CUT, WALK, TRANSMIT, WAITING, TICK, DATAGRAM, SEGMENT, TICKS, FIRST, MIDDLE, LAST, NONE, EMPTY, EMPTIED, HOLDING,
+    SWITCH, ALL, CLEAR, LOST, ACCEPT, REMOTE, CLOSE, IDLE, WHATS
 };
-static const uint8_t numbers[] = {0, 1, 2, 3, 4, 5, 6, 7, 8, 9, 9, 2, 2, 2, 10, 11, 69, 70};
+static const uint8_t numbers[] = {0, 1, 2, 3, 4, 5, 6, 7, 8, 9, 9, 2, 2, 2, 10, 11, 69, 70, 12, 12, 12, 12, 12, 12, 12, 12};
 enum { EVENT_TICKS = 0, EVENT_SEGMENT = 7, PDU_BYTES = 10, BUSY = 128 };
 
 static uint8_t head[16], bytes[2944];
@@ -43,7 +47,57 @@ static unsigned route_of(unsigned what, unsigned rows)
     case NONE:
         return rows;
     default:
-        return rows - (what == TAKE || what == CUT || what == SEGMENT ? 1 : 2);
+        return rows - (what == TAKE || what == CUT || what == SEGMENT || what == LOST || what == ACCEPT || what == REMOTE ? 1 : 2);
+    }
+}
+
+/* Adds an event of so many bytes of body behind the party, which is 0: what it names, then its other bytes. */
+static unsigned add_event(unsigned at, unsigned event, unsigned named, const uint8_t *more, unsigned extra)
+{
+    set(bytes + at, event, 2);
+    set(bytes + at + 2, 2 + extra, 2);
+    set(bytes + at + 5, named, 1);
+    for (unsigned i = 0; i < extra; i++)
+        bytes[at + 6 + i] = more[i];
+    return at + 6 + extra;
+}
+
+/* One tick: its body has no party. */
+static unsigned add_tick(unsigned at)
+{
+    set(bytes + at, 0, 2);
+    set(bytes + at + 2, 4, 2);
+    set(bytes + at + 4, 1, 4);
+    return at + 8;
+}
+
+/* The events of a call, on a connection of a group; how many bytes they are. */
+static unsigned add_events(unsigned what, unsigned connection, unsigned group)
+{
+    static const uint8_t on[] = {0, 1};
+    uint8_t address[19] = {4};
+    unsigned at = 0;
+    set(address + 13, 0x0A000001 + connection, 4);
+    set(address + 17, 30490, 2);
+    switch (what) {
+    case SWITCH:
+        return add_event(at, 6, connection, on, 2);
+    case ALL:
+        return add_event(at, 13, 0, on + 1, 1);
+    case CLEAR:
+        return add_event(at, 15, 1, on, 0);
+    case LOST:
+        return add_event(add_event(at, 4, connection, on, 0), 3, connection, on, 0);
+    case ACCEPT:
+        return add_event(add_event(at, 4, connection, on, 0), 11, group, address, 19);
+    case REMOTE:
+        at = add_event(add_event(at, 4, connection, on, 0), 5, connection, address, 19);
+        return add_event(at, 3, connection, on, 0);
+    case CLOSE:
+        at = add_tick(add_event(at, 2, connection, on, 0));
+        return add_tick(add_event(at, 1, connection, on, 0));
+    default:
+        return 0;
     }
 }
 
@@ -80,6 +134,8 @@ int main(int count, char **words)
     }
     if (what == TICKS)
         set(bytes, length, given = 4);
+    if (what >= SWITCH)
+        given = add_events(what, connection, connection % (2 * quarters));
     set(head, numbers[what] + (name != words[1] ? BUSY : 0), 1);
     set(head + 1, connection, 1);
     set(head + 2, what == SEGMENT ? EVENT_SEGMENT : what == TICKS ? EVENT_TICKS : 8 * quarters - 1, 2);

@@ -268,6 +268,63 @@ fn dispatched(
     }
 }
 
+// The next event of some, each a number 2, a length 2 and a body, through the dispatcher; where none is left, nothing.
+fn next_event(
+    image: &[u8],
+    turn: Turn,
+    rx: &mut [u8],
+    tx: &mut [u8],
+    out: &mut [u8],
+    events: &[u8],
+) -> Turn {
+    if events.len() < 4 {
+        return turn;
+    }
+    let before = turn.state;
+    let body = front(bytes_from(events, 4), be16(events, 2));
+    let met = dispatched(image, before, rx, tx, out, be16(events, 0) as u16, body);
+    let after = met.state;
+    Turn {
+        done: turn.done & met.done,
+        state: after,
+    }
+}
+
+// What stands behind the first of some events.
+fn later(events: &[u8]) -> &[u8] {
+    bytes_from(events, 4 + be16(events, 2))
+}
+
+// Two of them at most.
+fn two_events(
+    image: &[u8],
+    turn: Turn,
+    rx: &mut [u8],
+    tx: &mut [u8],
+    out: &mut [u8],
+    events: &[u8],
+) -> Turn {
+    let one = next_event(image, turn, rx, tx, out, events);
+    next_event(image, one, rx, tx, out, later(events))
+}
+
+// Four of them at most.
+fn some_events(
+    image: &[u8],
+    state: State,
+    rx: &mut [u8],
+    tx: &mut [u8],
+    out: &mut [u8],
+    events: &[u8],
+) -> Turn {
+    let start = Turn {
+        done: true,
+        state: state,
+    };
+    let two = two_events(image, start, rx, tx, out, events);
+    two_events(image, two, rx, tx, out, later(later(events)))
+}
+
 // The call that a number names; an unknown one does nothing, and says so.
 pub fn once(
     what: u8,
@@ -297,6 +354,7 @@ pub fn once(
         9 => dispatched(image, state, rx, tx, out, pdu, bytes),
         10 => take(image, state, rx, tx, connection, bytes, 2),
         11 => take(image, state, rx, tx, connection, front(bytes, 0), 0),
+        12 => some_events(image, state, rx, tx, out, bytes),
         69 => Turn {
             done: true,
             state: emptied(state, connection as usize),
