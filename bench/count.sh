@@ -23,7 +23,7 @@ ready_ours() {
         compile "$work/input" "${includes[@]}" "$root/bench/input.c"
 }
 
-ready_twins() { compile_cross "$work/twins" "${includes[@]}" "$root/bench/repeat.c" "$root/bench/events.c" "$root/bench/table.c"; }
+ready_twins() { compile_cross "$work/twins" "${includes[@]}" "$root"/bench/{repeat,dispatch,events,table}.c; }
 
 # count PROGRAM WORD ..: instructions of one run. A program that does not say OK ends the shell.
 count() {
@@ -48,6 +48,11 @@ per_event() {
     local program=$repeat busy='' besides
     [ "$1" = ours ] || program=$work/twins
     case $2 in +*) busy=+ ;; esac
-    case $2 in *transmit) besides=emptied ;; *waiting) besides=holding ;; *) besides=nothing ;; esac
+    case ${2#+} in
+    transmit) besides=emptied ;;
+    waiting) besides=holding ;;
+    switch | all | clear | lost | accept | remote | close) besides=idle ;;
+    *) besides=nothing ;;
+    esac
     echo $(($(repeated "$program" "${@:2}") - $(repeated "$program" "$busy$besides" "$3" "$4")))
 }

@@ -130,6 +130,112 @@ uint32_t twin_read_count(const struct lent *lent, uint8_t protocol, uint32_t *va
     return 0;
 }
 
+uint32_t twin_read_and_clear(const struct lent *lent, uint8_t protocol, uint32_t *value)
+{
+    uint32_t answer = twin_read_count(lent, protocol, value);
+    if (answer == 0)
+        lent->state->drops[protocol - 1] = 0;
+    return answer;
+}
+
+uint32_t twin_open(const struct lent *lent, uint8_t connection)
+{
+    struct layout table;
+    uint32_t answer = ask_at(lent, connection, &table);
+    if (answer != 0)
+        return answer;
+    struct record *c = &lent->state->connections[connection];
+    if (config_of(&table, connection).automatic || c->mode != OFFLINE || c->close_wanted)
+        return 3;
+    c->open_wanted = true;
+    return 0;
+}
+
+uint32_t twin_close(const struct lent *lent, uint8_t connection)
+{
+    struct layout table;
+    uint32_t answer = ask_at(lent, connection, &table);
+    if (answer != 0)
+        return answer;
+    struct record *c = &lent->state->connections[connection];
+    if (config_of(&table, connection).automatic || !(c->open_wanted || c->mode != OFFLINE))
+        return 3;
+    c->close_wanted = true;
+    c->open_wanted = false;
+    return 0;
+}
+
+uint32_t twin_connected(const struct lent *lent, uint8_t connection)
+{
+    struct layout table;
+    uint32_t answer = ask_at(lent, connection, &table);
+    if (answer != 0)
+        return answer;
+    struct record *c = &lent->state->connections[connection];
+    if (!config_of(&table, connection).tcp || c->mode != RECONNECT || c->close_wanted || is_wild(c->remote))
+        return 3;
+    c->mode = ONLINE;
+    return 0;
+}
+
+uint32_t twin_lost(const struct lent *lent, uint8_t connection)
+{
+    struct layout table;
+    uint32_t answer = ask_at(lent, connection, &table);
+    if (answer != 0)
+        return answer;
+    struct record *c = &lent->state->connections[connection];
+    struct config config = config_of(&table, connection);
+    if (!config.tcp || c->mode != ONLINE)
+        return 3;
+    *c = (struct record){.mode = RECONNECT, .close_wanted = c->close_wanted, .remote = config.remote, .switches = c->switches};
+    return 0;
+}
+
+uint32_t twin_set_remote(const struct lent *lent, uint8_t connection, struct remote remote)
+{
+    struct layout table;
+    uint32_t answer = ask_at(lent, connection, &table);
+    if (answer != 0)
+        return answer;
+    struct record *c = &lent->state->connections[connection];
+    if (c->mode == ONLINE)
+        return 3;
+    c->remote = remote;
+    return 0;
+}
+
+static void set_switch(struct record *c, uint8_t number, bool on)
+{
+    uint32_t bit = (uint32_t)1 << number;
+    c->switches = on ? c->switches | bit : c->switches & ~bit;
+}
+
+uint32_t twin_switch(const struct lent *lent, uint8_t connection, uint8_t number, bool on)
+{
+    struct layout table;
+    uint32_t answer = ask_at(lent, connection, &table);
+    if (answer != 0)
+        return answer;
+    if (number >= 32)
+        return 2;
+    set_switch(&lent->state->connections[connection], number, on);
+    return 0;
+}
+
+uint32_t twin_switch_all(const struct lent *lent, uint8_t number, bool on)
+{
+    struct layout table;
+    uint32_t answer = ask(lent, &table);
+    if (answer != 0)
+        return answer;
+    if (number >= 32)
+        return 2;
+    for (size_t i = 0; i < table.rows[CONNECTION]; i++)
+        set_switch(&lent->state->connections[i], number, on);
+    return 0;
+}
+
 /* Header bytes of the segment from its front; the number of them. */
 static size_t take_header(struct record *c, const uint8_t *segment, size_t length)
 {
@@ -195,8 +301,11 @@ static void take(const struct lent *lent, const struct layout *table, uint8_t co
     if (c->part == SKIP_BYTES) {
         at = c->value < length ? c->value : length;
         c->value -= at;
-        if (c->value == 0)
-            c->part = HEADER_BYTES;
+        if (c->value != 0) {
+            *outcome = (struct outcome){.kind = MORE, .read = length};
+            return;
+        }
+        c->part = HEADER_BYTES;
     }
     if (c->part == HEADER_BYTES) {
         at += take_header(c, segment + at, length - at);
@@ -457,7 +566,8 @@ size_t twin_ticks(const struct lent *lent, uint32_t count, uint8_t *out)
     return (size_t)(put(out, 0, 4) - out);
 }
 
-uint32_t twin_datagram(const struct lent *lent, uint8_t group, struct remote source, uint8_t *met)
+/* The best member of a group of this protocol; one that is online counts or does not. */
+static uint32_t select_member(const struct lent *lent, uint8_t group, struct remote source, uint8_t protocol, bool online, uint8_t *met)
 {
     struct layout table;
     uint32_t answer = ask(lent, &table);
@@ -466,11 +576,11 @@ uint32_t twin_datagram(const struct lent *lent, uint8_t group, struct remote sou
         return answer;
     if (group >= table.rows[GROUP])
         return 2;
-    if (table.body[GROUP][group * 2] != 1 || is_wild(source))
+    if (table.body[GROUP][group * 2] != protocol || is_wild(source))
         return 3;
     for (size_t i = 0; i < table.rows[CONNECTION]; i++) {
         const struct record *c = &lent->state->connections[i];
-        if (table.body[CONNECTION][i * ROW] != group || c->mode == OFFLINE || c->close_wanted)
+        if (table.body[CONNECTION][i * ROW] != group || c->mode == OFFLINE || (c->mode == ONLINE && !online) || c->close_wanted)
             continue;
         bool address = c->remote.address == source.address, port = c->remote.port == source.port;
         if ((!address && c->remote.address != 0) || (!port && c->remote.port != 0))
@@ -486,4 +596,14 @@ uint32_t twin_datagram(const struct lent *lent, uint8_t group, struct remote sou
     lent->state->connections[*met].mode = ONLINE;
     lent->state->connections[*met].remote = source;
     return 0;
+}
+
+uint32_t twin_datagram(const struct lent *lent, uint8_t group, struct remote source, uint8_t *met)
+{
+    return select_member(lent, group, source, 1, true, met);
+}
+
+uint32_t twin_accept(const struct lent *lent, uint8_t group, struct remote source, uint8_t *met)
+{
+    return select_member(lent, group, source, 2, false, met);
 }

@@ -55,6 +55,14 @@ struct outcome {
 
 void twin_fresh(const uint8_t *image, size_t image_length, struct state *state);
 uint32_t twin_read_count(const struct lent *lent, uint8_t protocol, uint32_t *value);
+uint32_t twin_read_and_clear(const struct lent *lent, uint8_t protocol, uint32_t *value);
+uint32_t twin_open(const struct lent *lent, uint8_t connection);
+uint32_t twin_close(const struct lent *lent, uint8_t connection);
+uint32_t twin_connected(const struct lent *lent, uint8_t connection);
+uint32_t twin_lost(const struct lent *lent, uint8_t connection);
+uint32_t twin_set_remote(const struct lent *lent, uint8_t connection, struct remote remote);
+uint32_t twin_switch(const struct lent *lent, uint8_t connection, uint8_t number, bool on);
+uint32_t twin_switch_all(const struct lent *lent, uint8_t number, bool on);
 uint32_t twin_take(const struct lent *lent, uint8_t connection, const uint8_t *segment, size_t length, struct outcome *outcome);
 uint32_t twin_walk_event(const struct lent *lent, uint8_t connection, const uint8_t *datagram, size_t length, size_t place,
                          struct outcome *outcome);
@@ -66,5 +74,8 @@ uint32_t twin_tick(const struct lent *lent);
 size_t twin_segment(const struct lent *lent, uint8_t connection, const uint8_t *segment, size_t length, uint8_t *out);
 size_t twin_ticks(const struct lent *lent, uint32_t count, uint8_t *out);
 uint32_t twin_datagram(const struct lent *lent, uint8_t group, struct remote source, uint8_t *met);
+uint32_t twin_accept(const struct lent *lent, uint8_t group, struct remote source, uint8_t *met);
+/* An event by its number, with a body that fits it (docs/EVENTS.md); its answer and that answer's length, the same way. */
+size_t twin_event(const struct lent *lent, unsigned number, const uint8_t *body, uint8_t *out);
 
 #endif

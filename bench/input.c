@@ -3,8 +3,11 @@
  *   input WHAT QUARTERS LENGTH TIMES     a table with QUARTERS/4 of the most rows, a payload of LENGTH bytes, TIMES calls of WHAT
  *
  * WHAT: nothing, gate, take, cut, walk, transmit, waiting, tick, datagram; segment: an event of LENGTH PDUs of 10 bytes in all;
- * ticks: an event of LENGTH ticks; emptied, holding: what transmit and waiting do besides the call. With a `+` before it: under a
- * state in which each connection holds bytes to send.
+ * ticks: an event of LENGTH ticks; emptied, holding: what transmit and waiting do besides the call; first, middle, last: a take under
+ * a table whose groups are all TCP, with the first, the middle or the last row for its route; none: the same with an id that no row
+ * has, and no payload; empty: a take of no bytes there; switch, all, clear, lost, accept, remote, close: events through the dispatcher,
+ * which leave the state as they find it (lost and connected; lost and accept; lost, set remote and connected; close, tick, open,
+ * tick); idle: none of them. With a `+` before it: under a state in which each connection holds bytes to send.
  */
 #include "image.h"
 #include "system.h"
@@ -12,10 +15,14 @@
 extern int atoi(const char *text);
 extern int strcmp(const char *one, const char *other);
 
-static const char *const names[] = {"nothing", "gate",     "take",    "cut",   "walk",    "transmit", "waiting",
-                                    "tick",    "datagram", "segment", "ticks", "emptied", "holding"};
-enum { NOTHING, GATE, TAKE, CUT, WALK, TRANSMIT, WAITING, TICK, DATAGRAM, SEGMENT, TICKS, EMPTIED, HOLDING, WHATS };
-static const uint8_t numbers[] = {0, 1, 2, 3, 4, 5, 6, 7, 8, 9, 9, 69, 70};
+static const char *const names[] = {"nothing", "gate",    "take",  "cut",     "walk",    "transmit", "waiting", "tick", "datagram",
+                                    "segment", "ticks",   "first", "middle",  "last",    "none",     "empty",   "emptied", "holding",
+                                    "switch",  "all",     "clear", "lost",    "accept",  "remote",   "close",   "idle"};
+enum {
+    NOTHING, GATE, TAKE, CUT, WALK, TRANSMIT, WAITING, TICK, DATAGRAM, SEGMENT, TICKS, FIRST, MIDDLE, LAST, NONE, EMPTY, EMPTIED, HOLDING,
+    SWITCH, ALL, CLEAR, LOST, ACCEPT, REMOTE, CLOSE, IDLE, WHATS
+};
+static const uint8_t numbers[] = {0, 1, 2, 3, 4, 5, 6, 7, 8, 9, 9, 2, 2, 2, 10, 11, 69, 70, 12, 12, 12, 12, 12, 12, 12, 12};
 enum { EVENT_TICKS = 0, EVENT_SEGMENT = 7, PDU_BYTES = 10, BUSY = 128 };
 
 static uint8_t head[16], bytes[2944];
@@ -24,6 +31,74 @@ static void set(uint8_t *at, uint64_t value, unsigned width)
 {
     for (unsigned i = width; i-- > 0; value >>= 8)
         at[i] = (uint8_t)value;
+}
+
+/* The row whose id the bytes carry: for a lookup the one that it names, or the one past the last; else the last that has a connection
+ * of the protocol asked for. */
+static unsigned route_of(unsigned what, unsigned rows)
+{
+    switch (what) {
+    case FIRST:
+        return 0;
+    case MIDDLE:
+        return rows / 2;
+    case LAST:
+        return rows - 1;
+    case NONE:
+        return rows;
+    default:
+        return rows - (what == TAKE || what == CUT || what == SEGMENT || what == LOST || what == ACCEPT || what == REMOTE ? 1 : 2);
+    }
+}
+
+/* Adds an event of so many bytes of body behind the party, which is 0: what it names, then its other bytes. */
+static unsigned add_event(unsigned at, unsigned event, unsigned named, const uint8_t *more, unsigned extra)
+{
+    set(bytes + at, event, 2);
+    set(bytes + at + 2, 2 + extra, 2);
+    set(bytes + at + 5, named, 1);
+    for (unsigned i = 0; i < extra; i++)
+        bytes[at + 6 + i] = more[i];
+    return at + 6 + extra;
+}
+
+/* One tick: its body has no party. */
+static unsigned add_tick(unsigned at)
+{
+    set(bytes + at, 0, 2);
+    set(bytes + at + 2, 4, 2);
+    set(bytes + at + 4, 1, 4);
+    return at + 8;
+}
+
+/* The events of a call, on a connection of a group; how many bytes they are. */
+static unsigned add_events(unsigned what, unsigned connection, unsigned group)
+{
+    static const uint8_t on[] = {0, 1};
+    uint8_t address[19] = {4};
+    unsigned at = 0;
+    set(address + 13, 0x0A000001 + connection, 4);
+    set(address + 17, 30490, 2);
+    switch (what) {
+    case SWITCH:
+        return add_event(at, 6, connection, on, 2);
+    case ALL:
+        return add_event(at, 13, 0, on + 1, 1);
+    case CLEAR:
+        return add_event(at, 15, 1, on, 0);
+    case LOST:
+        return add_event(add_event(at, 4, connection, on, 0), 3, connection, on, 0);
+    case ACCEPT:
+        return add_event(add_event(at, 4, connection, on, 0), 11, group, address, 19);
+    case REMOTE:
+        at = add_event(add_event(at, 4, connection, on, 0), 5, connection, address, 19);
+        return add_event(at, 3, connection, on, 0);
+    case CLOSE:
+        at = add_tick(add_event(at, 2, connection, on, 0));
+        return add_tick(add_event(at, 1, connection, on, 0));
+    default:
+        return 0;
+    }
 }
 
 int main(int count, char **words)
@@ -38,9 +113,11 @@ int main(int count, char **words)
         die("input: there is no such call");
     unsigned quarters = (unsigned)atoi(words[2]), length = (unsigned)atoi(words[3]);
     make_image(quarters, 1);
-    /* the last connection of the protocol asked for, its last route, and the last PDU */
-    int tcp = what == TAKE || what == CUT || what == SEGMENT, framed = tcp || what == WALK;
-    unsigned connection = 4 * quarters - (tcp ? 1 : 2), route = 16 * quarters - (tcp ? 1 : 2);
+    for (unsigned i = 0; what >= FIRST && what <= EMPTY && i < 2 * quarters; i++)
+        image[36 + 2 * i] = 2; /* TCP */
+    /* a row's connection is its number, counted round the connections */
+    unsigned route = route_of(what, 16 * quarters), connection = quarters == 0 ? 0 : route % (4 * quarters);
+    int framed = what == TAKE || what == CUT || what == SEGMENT || what == WALK || (what >= FIRST && what <= NONE);
     unsigned pdus = what == SEGMENT ? length : 1, size = what == SEGMENT ? 2 : length;
     unsigned front = what == SEGMENT ? 6 : 0, given = what == TRANSMIT ? length : 0;
     if (framed)
@@ -57,6 +134,8 @@ int main(int count, char **words)
     }
     if (what == TICKS)
         set(bytes, length, given = 4);
+    if (what >= SWITCH)
+        given = add_events(what, connection, connection % (2 * quarters));
     set(head, numbers[what] + (name != words[1] ? BUSY : 0), 1);
     set(head + 1, connection, 1);
     set(head + 2, what == SEGMENT ? EVENT_SEGMENT : what == TICKS ? EVENT_TICKS : 8 * quarters - 1, 2);

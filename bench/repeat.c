@@ -15,10 +15,10 @@ static size_t number(size_t at, unsigned width)
     return value;
 }
 
-static bool take(uint8_t connection, const uint8_t *segment, size_t n)
+static bool take(uint8_t connection, const uint8_t *segment, size_t n, enum kind kind)
 {
     struct outcome outcome;
-    return twin_take(&lent, connection, segment, n, &outcome) == 0 && outcome.kind == PDU;
+    return twin_take(&lent, connection, segment, n, &outcome) == 0 && outcome.kind == kind;
 }
 
 static bool walk(uint8_t connection)
@@ -61,15 +61,18 @@ static bool arrive(uint8_t connection)
     return twin_datagram(&lent, row[0], source, &met) == 0 && met == connection;
 }
 
-/* An event by its number, with its body in the bytes: a segment, or many ticks. */
-static bool dispatched(uint16_t event)
+static bool dispatched(size_t event, const uint8_t *body)
 {
-    size_t n = length < 6 ? 0 : (size_t)bytes[2] << 24 | (size_t)bytes[3] << 16 | (size_t)bytes[4] << 8 | bytes[5];
-    if (event == 7 && length >= 6 && bytes[0] == 0 && n == length - 6)
-        return twin_segment(&lent, bytes[1], bytes + 6, n, out) > 4 && out[0] == 0 && out[1] == 0;
-    if (event == 0 && length == 4)
-        return twin_ticks(&lent, (uint32_t)bytes[0] << 24 | (uint32_t)bytes[1] << 16 | (uint32_t)bytes[2] << 8 | bytes[3], out) == 4;
-    return false;
+    return twin_event(&lent, (unsigned)event, body, out) > 1 && out[0] == 0 && out[1] == 0;
+}
+
+/* Up to four events, each a number 2, a length 2 and a body. */
+static bool some_events(void)
+{
+    bool done = true;
+    for (size_t at = 0, i = 0; i < 4 && length - at >= 4; i++, at += 4 + (size_t)(bytes[at + 2] << 8 | bytes[at + 3]))
+        done &= dispatched((size_t)(bytes[at] << 8 | bytes[at + 1]), bytes + at + 4);
+    return done;
 }
 
 /* The call that a number names. */
@@ -82,9 +85,9 @@ static bool once(size_t what, uint8_t connection, uint16_t pdu, uint16_t used)
     case 1:
         return twin_read_count(&lent, 1, &value) == 0;
     case 2:
-        return take(connection, bytes, length);
+        return take(connection, bytes, length, PDU);
     case 3:
-        return !take(connection, bytes, length / 2) && take(connection, bytes + length / 2, length - length / 2);
+        return take(connection, bytes, length / 2, MORE) && take(connection, bytes + length / 2, length - length / 2, PDU);
     case 4:
         return walk(connection);
     case 5:
@@ -96,7 +99,13 @@ static bool once(size_t what, uint8_t connection, uint16_t pdu, uint16_t used)
     case 8:
         return arrive(connection);
     case 9:
-        return dispatched(pdu);
+        return dispatched(pdu, bytes);
+    case 10:
+        return take(connection, bytes, length, DROP);
+    case 11:
+        return take(connection, bytes, 0, MORE);
+    case 12:
+        return some_events();
     case 69:
         hold(connection, 0);
         hold(connection + 1u, 0);

@@ -114,20 +114,29 @@ bool check(const uint8_t *image, size_t image_length, struct layout *table, size
     return *place == 0;
 }
 
+/* The row of a connection and an id, or the end of the rows. The id is compared as it stands, and before the connection: ids differ more
+ * often. */
+static const uint8_t *find(const uint8_t *row, const uint8_t *end, size_t connection, uint32_t id)
+{
+    uint32_t key = __builtin_bswap32(id);
+    for (; row != end; row += ROW)
+        if (word(row + 4) == key && row[0] == connection)
+            return row;
+    return end;
+}
+
 uint32_t look_up(const struct layout *table, size_t connection, uint32_t switches, uint32_t id, uint32_t length, bool *dropped)
 {
-    const uint8_t *row = table->body[ROUTE];
+    const uint8_t *rows = table->body[ROUTE], *end = rows + table->rows[ROUTE] * ROW;
+    const uint8_t *row = find(rows, end, connection, id);
     *dropped = true;
-    for (uint32_t i = 0; i < table->rows[ROUTE]; i++, row += ROW) {
-        if (row[0] != connection || be32(row + 4) != id)
-            continue;
-        uint32_t groups = be32(row + 12);
-        if (groups != 0 && (groups & switches) == 0)
-            return 21;
-        if (length > be16(row + 2))
-            return 22;
-        *dropped = false;
-        return i;
-    }
-    return 20;
+    if (row == end)
+        return 20;
+    uint32_t groups = be32(row + 12);
+    if (groups != 0 && (groups & switches) == 0)
+        return 21;
+    if (length > be16(row + 2))
+        return 22;
+    *dropped = false;
+    return (uint32_t)((row - rows) / ROW);
 }

@@ -32,11 +32,16 @@ static inline uint16_t be16(const uint8_t *p)
     return __builtin_bswap16(value);
 }
 
-static inline uint32_t be32(const uint8_t *p)
+static inline uint32_t word(const uint8_t *p)
 {
     uint32_t value;
     __builtin_memcpy(&value, p, sizeof value);
-    return __builtin_bswap32(value);
+    return value;
+}
+
+static inline uint32_t be32(const uint8_t *p)
+{
+    return __builtin_bswap32(word(p));
 }
 
 static inline void put_be32(uint8_t *p, uint32_t value)

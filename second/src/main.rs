@@ -2,6 +2,7 @@
 //! with the programs `run` and `replay`.
 
 mod answer;
+mod answers;
 mod bytes;
 mod compare;
 mod connection;
@@ -39,8 +40,9 @@ use std::process::ExitCode;
 
 const USAGE: &str = "second compare PART [--seed N] [--count N] [--store FOLDER] -- PROGRAM ..
     random cases: the program answers as this one expects. PART is table, walk or frame (PROGRAM is the C driver), runs,
-    streams or selections (PROGRAM is run), takes (PROGRAM is takes), recordings (PROGRAM is replay); or, for a fixed list, changes (of the
-    86-byte image), cuts (of a datagram) or recording-edges (limits of recordings, and a small one cut at every byte)
+    streams or selections (PROGRAM is run), takes (PROGRAM is takes), recordings (PROGRAM is replay), answers (PROGRAM is the bench's
+    twins by answers.c); or, for a fixed list, changes (of the 86-byte image), cuts (of a datagram) or recording-edges (limits of
+    recordings, and a small one cut at every byte)
 second replay PART FOLDER -- PROGRAM ..
     the same for the cases stored in a folder
 second faults PART [--seed N] [--count N] -- PROGRAM ..
@@ -92,6 +94,7 @@ fn obey(words: &Words) -> Result<(), String> {
         ["replay", "recordings", folder] => verbs::replay_recordings(Path::new(folder), words),
         ["faults", "recordings"] => verbs::fault_recordings(words),
         ["simulate", "replay"] => verbs::simulate(replay::lines),
+        ["compare", "answers"] => verbs::compare_answers(words),
         ["faults", "takes"] => verbs::fault_takes(words),
         ["compare", part] if verbs::is_script(part) => verbs::compare_scripts(part, words),
         ["compare", part] => verbs::compare_requests(part, words),

@@ -271,6 +271,15 @@ pub fn image_end(input: &[u8]) -> usize {
     (start + rows * crate::table::ROW_BYTES[3]).min(input.len())
 }
 
+/// Where the entry that stands at a place ends; nothing where none is taken there.
+pub fn entry_end(input: &[u8], at: usize, first: bool) -> Option<usize> {
+    let mut head = Reader::new(&input[at..], 0);
+    let (event, zero, length) = (head.number(2) as u16, head.number(2) as u16, head.number(4) as usize);
+    let end = at + 8 + length;
+    let whole = at + 8 <= input.len() && read_head(event, zero, length).is_ok() && end <= input.len();
+    (whole && read_body(event, head.bytes(length), first).is_ok()).then_some(end)
+}
+
 #[cfg(test)]
 mod tests {
     use super::*;

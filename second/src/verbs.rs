@@ -12,7 +12,7 @@ use crate::lines::lines;
 use crate::random::Random;
 use crate::shrink::{shrink, Bound};
 use crate::vectors::Vector;
-use crate::{exchange, recordings, replay, runs, stored, table, takes, tell, vectors as lists, Words, USAGE};
+use crate::{answers, exchange, recordings, replay, runs, stored, table, takes, tell, vectors as lists, Words, USAGE};
 use std::io::Read;
 use std::path::Path;
 
@@ -161,6 +161,24 @@ pub fn compare_scripts(part: &str, words: &Words) -> Outcome {
         "selections" => runs::HALVES_TO_MEET.iter().try_for_each(|&(kind, least)| often_enough(&[kind], least, times)),
         _ => Ok(()),
     }
+}
+
+/// The answers as bytes, and what is left, of scripts of each part; the name of each that differs.
+pub fn compare_answers(words: &Words) -> Outcome {
+    let scripts = ["runs", "streams", "selections"].iter().flat_map(|part| scripts(part, words));
+    let taken: Vec<_> = scripts.map(|(name, input)| (name, answers::taken(&input))).collect();
+    let (mut lines, mut different) = (0, 0);
+    for (name, input) in taken {
+        let want = answers::lines(&input);
+        let got = if want.is_empty() { vec![] } else { runs::printed(&words.program, &input)? };
+        if let Some(at) = (0..want.len().max(got.len())).find(|&at| want.get(at) != got.get(at)) {
+            println!("{}: line {}\n< {:?}\n> {:?}", name, at + 1, got.get(at), want.get(at));
+            different += 1;
+        }
+        lines += want.len();
+    }
+    println!("answers-{}: {} lines, {} scripts different", words.seed, lines, different);
+    none_different(different)
 }
 
 pub fn replay_scripts(folder: &Path, words: &Words) -> Outcome {

@@ -37,20 +37,26 @@ fn gate_alone(image: &[u8], state: State, rx: &[u8], tx: &[u8]) -> Turn {
     }
 }
 
-fn is_pdu(outcome: Outcome) -> bool {
-    if let Outcome::Pdu {
-        route: _,
-        id: _,
-        in_segment: _,
-        at: _,
-        length: _,
-    } = outcome {
-        true
-    } else {
-        false
+// What a take met: 0 more wanted, 1 a PDU, 2 a drop.
+fn kind_of(outcome: Outcome) -> u8 {
+    match outcome {
+        Outcome::More => 0,
+        Outcome::Pdu {
+            route: _,
+            id: _,
+            in_segment: _,
+            at: _,
+            length: _,
+        } => 1,
+        Outcome::Drop {
+            reason: _,
+            id: _,
+            length: _,
+        } => 2,
     }
 }
 
+// A take that is to meet something of this kind.
 fn take(
     image: &[u8],
     state: State,
@@ -58,12 +64,19 @@ fn take(
     tx: &[u8],
     connection: u8,
     segment: &[u8],
+    kind: u8,
 ) -> Turn {
     let taken = segment_take(image, state, rx, tx, connection, segment);
+    let answer = taken.answer;
     let outcome = taken.outcome;
     let after = taken.state;
+    let done = if let entry_receive::Answer::Done = answer {
+        kind_of(outcome) == kind
+    } else {
+        false
+    };
     Turn {
-        done: is_pdu(outcome),
+        done: done,
         state: after,
     }
 }
@@ -77,7 +90,7 @@ fn take_cut(
     bytes: &[u8],
 ) -> Turn {
     let middle = bytes.len() / 2;
-    let first = take(image, state, rx, tx, connection, front(bytes, middle));
+    let first = take(image, state, rx, tx, connection, front(bytes, middle), 0);
     let between = first.state;
     let second = take(
         image,
@@ -86,10 +99,11 @@ fn take_cut(
         tx,
         connection,
         bytes_from(bytes, middle),
+        1,
     );
     let after = second.state;
     Turn {
-        done: !first.done & second.done,
+        done: first.done & second.done,
         state: after,
     }
 }
@@ -254,6 +268,63 @@ fn dispatched(
     }
 }
 
+// The next event of some, each a number 2, a length 2 and a body, through the dispatcher; where none is left, nothing.
+fn next_event(
+    image: &[u8],
+    turn: Turn,
+    rx: &mut [u8],
+    tx: &mut [u8],
+    out: &mut [u8],
+    events: &[u8],
+) -> Turn {
+    if events.len() < 4 {
+        return turn;
+    }
+    let before = turn.state;
+    let body = front(bytes_from(events, 4), be16(events, 2));
+    let met = dispatched(image, before, rx, tx, out, be16(events, 0) as u16, body);
+    let after = met.state;
+    Turn {
+        done: turn.done & met.done,
+        state: after,
+    }
+}
+
+// What stands behind the first of some events.
+fn later(events: &[u8]) -> &[u8] {
+    bytes_from(events, 4 + be16(events, 2))
+}
+
+// Two of them at most.
+fn two_events(
+    image: &[u8],
+    turn: Turn,
+    rx: &mut [u8],
+    tx: &mut [u8],
+    out: &mut [u8],
+    events: &[u8],
+) -> Turn {
+    let one = next_event(image, turn, rx, tx, out, events);
+    next_event(image, one, rx, tx, out, later(events))
+}
+
+// Four of them at most.
+fn some_events(
+    image: &[u8],
+    state: State,
+    rx: &mut [u8],
+    tx: &mut [u8],
+    out: &mut [u8],
+    events: &[u8],
+) -> Turn {
+    let start = Turn {
+        done: true,
+        state: state,
+    };
+    let two = two_events(image, start, rx, tx, out, events);
+    two_events(image, two, rx, tx, out, later(later(events)))
+}
+
 // The call that a number names; an unknown one does nothing, and says so.
 pub fn once(
     what: u8,
@@ -273,7 +344,7 @@ pub fn once(
             state: state,
         },
         1 => gate_alone(image, state, rx, tx),
-        2 => take(image, state, rx, tx, connection, bytes),
+        2 => take(image, state, rx, tx, connection, bytes, 1),
         3 => take_cut(image, state, rx, tx, connection, bytes),
         4 => walk(image, state, rx, tx, connection, bytes),
         5 => transmit(image, state, rx, tx, connection, pdu, bytes),
@@ -281,6 +352,9 @@ pub fn once(
         7 => tick(image, state, rx, tx),
         8 => arrive(image, state, rx, tx, connection),
         9 => dispatched(image, state, rx, tx, out, pdu, bytes),
+        10 => take(image, state, rx, tx, connection, bytes, 2),
+        11 => take(image, state, rx, tx, connection, front(bytes, 0), 0),
+        12 => some_events(image, state, rx, tx, out, bytes),
         69 => Turn {
             done: true,
             state: emptied(state, connection as usize),

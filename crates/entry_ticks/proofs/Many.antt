@@ -67,7 +67,8 @@ nearer n t h = go (eqb t 0) refl h
         rw (eq-eqb (t - 1) 0 (omega arith)) (omega arith)
     go false e l = rw (ne-eqb (t - 1) 0 (λ (q : t - 1 ≡ 0). omega arith)) (omega arith)
 
-quiet-runs : (g : Config) (n : ℕ) (c : Connection) → turnsNext g c ≡ false → n ≤ beforeEnd (c .timer) → manyOf g n c ≡ agedBy n c
+-- a record that does not turn: up to its timer's end
+pub quiet-runs : (g : Config) (n : ℕ) (c : Connection) → turnsNext g c ≡ false → n ≤ beforeEnd (c .timer) → manyOf g n c ≡ agedBy n c
 unfolding manyOf
 quiet-runs g zero c p h = timed c (omega arith)
 quiet-runs g (suc n) c p h =

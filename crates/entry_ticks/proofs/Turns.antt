@@ -1,11 +1,11 @@
--- Ticks of a connection that rests, and one turn of the loop over the records.
+-- Ticks of a connection that rests or coasts, and one turn of the loop over the records.
 use Prim.Native.Nat.{ℕ, zero, suc, _+_, _<_}
 use mathlib.Core.Path.{_≡_, refl, sym, ap, _∙_, subst}
 use mathlib.Core.Bool.{true, false, not, _&&_, _||_}
 use mathlib.Core.List.{List}
 use lib.Dec.{eqb}
 use native.Mathlib.Omega.{arith}
-use borrow.Author.Tests.{not-true}
+use borrow.Author.Tests.{not-true, leb-true}
 use lib.ListN.{length}
 use Rattle.connection.specs.declared.Config.{Config}
 use Rattle.connection.specs.declared.Connection.{Connection}
@@ -18,9 +18,9 @@ use Rattle.state.specs.State.{recordAt, withRecord}
 use Rattle.state.specs.Fresh.{configOf}
 use Rattle.state.proofs.Records.{put-back}
 use Rattle.state.proofs.Upto.{Upto, still, turn}
-use Rattle.entry_ticks.specs.Many.{manyOf, turnsNext}
-use Rattle.entry_ticks.specs.Tick.{restsOf}
-use Rattle.entry_ticks.proofs.Many.{manyAt, only-runs}
+use Rattle.entry_ticks.specs.Many.{manyOf, turnsNext, agedBy}
+use Rattle.entry_ticks.specs.Tick.{restsOf, coastsOf}
+use Rattle.entry_ticks.proofs.Many.{manyAt, only-runs, quiet-runs}
 
 module _ (g : Config) (c : Connection) where
   -- an online connection that is not to be closed has nothing to start and nothing to reach
@@ -33,12 +33,15 @@ module _ (g : Config) (c : Connection) where
   unfolding runOf
   run-stays p = rw p
 
+  up-quiet : (not (c .«close_wanted») && isOnline (c .mode)) ≡ true → turnsNext g c ≡ false
+  up-quiet q =
+      online-quiet (c .mode) refl (and-right (not (c .«close_wanted»)) _ q)
+      (not-true (c .«close_wanted») (and-left (not (c .«close_wanted»)) _ q))
+
   rests-tick : restsOf c ≡ true → tickOf g c ≡ c
   rests-tick p =
       let up = not (c .«close_wanted») && isOnline (c .mode) in
-      let q : up ≡ true = and-left up _ p in
-      let k : c .«close_wanted» ≡ false = not-true (c .«close_wanted») (and-left (not (c .«close_wanted»)) _ q) in
-      only-runs g c (online-quiet (c .mode) refl (and-right (not (c .«close_wanted»)) _ q) k) ∙ run-stays (and-right up _ p)
+      only-runs g c (up-quiet (and-left up _ p)) ∙ run-stays (and-right up _ p)
 
   -- no number of ticks changes a connection that rests
   pub rests-many : (n : ℕ) → restsOf c ≡ true → c ≡ manyOf g n c
@@ -46,7 +49,13 @@ module _ (g : Config) (c : Connection) where
   rests-many zero p = refl
   rests-many (suc n) p = rests-many n p ∙ ap (manyOf g n) (sym (rests-tick p))
 
--- one turn of the loop over the records: of one that has ticked, and of one that rests
+  -- so many ticks lower the timer of one that coasts
+  pub coasts-many : (n : ℕ) → coastsOf n c ≡ true → agedBy n c ≡ manyOf g n c
+  coasts-many n p =
+      let up = not (c .«close_wanted») && isOnline (c .mode) in
+      sym (quiet-runs g n c (up-quiet (and-left up _ p)) (leb-true _ _ (and-right up _ p)))
+
+-- one turn of the loop over the records: of one that has ticked, of one that rests, and of one that coasts
 module _ (image : List ℕ) (count : ℕ) (s n : State) (i : ℕ) (there : i < length (s .connections)) (upto : Upto (manyAt image count) s n i) where
   pub many-turn : (g : Config) (d : Connection) → g ≡ configOf image i → d ≡ manyOf g count (recordAt n i)
       → Upto (manyAt image count) s (withRecord i d n) (i + 1)
@@ -60,3 +69,7 @@ module _ (image : List ℕ) (count : ℕ) (s n : State) (i : ℕ) (there : i < l
   rest-turn p =
       subst (λ (m : State). Upto (manyAt image count) s m (i + 1)) (put-back n i)
       (many-turn (configOf image i) (recordAt n i) refl (rests-many (configOf image i) (recordAt n i) count p))
+
+  pub coast-turn : (d : Connection) → d ≡ agedBy count (recordAt n i) → coastsOf count (recordAt n i) ≡ true
+      → Upto (manyAt image count) s (withRecord i d n) (i + 1)
+  coast-turn d e p = many-turn (configOf image i) d refl (e ∙ coasts-many (configOf image i) (recordAt n i) count p)

@@ -2,7 +2,7 @@
 use Prim.Native.Nat.{ℕ}
 use mathlib.Core.Bool.{Bool, not, _&&_}
 use mathlib.Core.List.{List}
-use lib.Dec.{eqb}
+use lib.Dec.{eqb, leb}
 use Rattle.table_layout.specs.Layout.{rowsOf}
 use Rattle.table_layout.specs.declared.Kind.the-variants.{Connection as Connections}
 use Rattle.connection.specs.declared.Connection.{Connection}
@@ -17,6 +17,7 @@ use Rattle.state.specs.Fresh.{configOf}
 use Rattle.gate.specs.Lent.{Lent}
 use Rattle.gate.specs.Gate.{gateOf, through}
 use Rattle.entry_ticks.specs.declared.Ticked.{Ticked}
+use Rattle.entry_ticks.specs.Many.{beforeEnd}
 
 -- what a tick makes of connection i
 abbrev pub tickAt : List ℕ → ℕ → Connection → Connection
@@ -25,6 +26,10 @@ tickAt image i c = tickOf (configOf image i) c
 -- an online connection, not to be closed, whose timer does not run: a tick finds nothing to do
 abbrev pub restsOf : Connection → Bool
 restsOf c = not (c .«close_wanted») && isOnline (c .mode) && eqb (c .timer) 0
+
+-- an online connection, not to be closed, whose timer does not end within n ticks: they lower it, and find nothing else to do
+abbrev pub coastsOf : ℕ → Connection → Bool
+coastsOf n c = not (c .«close_wanted») && isOnline (c .mode) && leb n (beforeEnd (c .timer))
 
 -- R9.1: each connection in order, of the first `rows` records; the records past them stay
 unfoldable pub tickedTo : List ℕ → ℕ → State → State

@@ -3,7 +3,7 @@ ghost use mathlib.Core.Path.{_≡_};
 ghost use Prim.Native.Nat.{_-_, _≤_};
 ghost use Rattle.gate.specs.Lent.{lentBy};
 ghost use Rattle.entry_ticks.specs.Many.{manyOf, beforeEnd, quietFor, smallerOf, agedBy};
-ghost use Rattle.entry_ticks.specs.Tick.{restsOf, ticksTo, tickEvent, ticksEvent};
+ghost use Rattle.entry_ticks.specs.Tick.{restsOf, coastsOf, ticksTo, tickEvent, ticksEvent};
 use connection::Answer;
 use connection::Config;
 use connection::Connection;
@@ -41,6 +41,14 @@ fn before_end(timer: u16) -> u32
         return 4294967295;
     }
     timer as u32 - 1
+}
+
+// Whether `count` ticks do no more than lower the timer, whatever the row says.
+fn coasts(c: Connection, count: u32) -> bool
+    ensures { λ r. ⌜ r ≡ coastsOf count c ⌝ }
+{
+    let mode = c.mode;
+    !c.close_wanted & is_online(mode) & (count <= before_end(c.timer))
 }
 
 // The time to the next change: so many ticks from now on do no more than lower the timer.
@@ -101,7 +109,7 @@ fn tick_many(config: Config, c: Connection, count: u32) -> Connection
     }
 }
 
-// `count` ticks of the first `rows` connections, in order; the rows of one that rests are not asked for.
+// `count` ticks of the first `rows` connections, in order; the row of one that rests or coasts is not asked for.
 fn tick_rows(image: &[u8], rows: usize, state: State, count: u32) -> State
     requires { ⌜ rows ≤ 16 ⌝ }
     ensures { λ r. ⌜ r ≡ ticksTo (now (image .entry)) rows count state ⌝ }
@@ -113,6 +121,12 @@ fn tick_rows(image: &[u8], rows: usize, state: State, count: u32) -> State
     while i < rows {
         let connection = after.connections[i];
         if rests(connection) {
+            i += 1;
+            continue;
+        }
+        if coasts(connection, count) {
+            let later = aged(connection, count);
+            after.connections[i] = later;
             i += 1;
             continue;
         }

@@ -1,7 +1,7 @@
 -- The laws of the lookup: the search for a row, the reason, and the decision at it.
-use Prim.Native.Nat.{ℕ, zero, suc, _+_, _-_, _*_, _/_, _<_, _≤_}
+use Prim.Native.Nat.{ℕ, zero, suc, _+_, _-_, _*_, _/_, _%_, _<_, _≤_}
 use mathlib.Core.Path.{_≡_, refl, sym, ap, ap₂, subst, _∙_}
-use mathlib.Core.Bool.{Bool, true, false, cond, not, _&&_}
+use mathlib.Core.Bool.{Bool, true, false, cond, not, _&&_, and-comm}
 use mathlib.Core.List.{List}
 use native.Mathlib.Omega.{arith}
 use borrow.Author.Tests.{lt-ltb, le-ltb}
@@ -9,41 +9,65 @@ use lib.Dec.{ltb, eqb}
 use lib.ListN.{length, take, drop}
 use Rattle.reading.specs.declared.Decision.the-variants.{Accept, Refuse}
 use Rattle.lists.specs.Search.{firstBad}
-use Rattle.lists.proofs.Search.{Searched, search-on, search-found, search-ended}
+use Rattle.lists.proofs.Search.{Searched, search-start, search-on, search-found, search-ended}
 use Rattle.table_rows.specs.declared.RouteRow.{RouteRow}
 use Rattle.table_layout.proofs.Parts.{row-range}
 use Rattle.table_rows.specs.Rows.{routeRow, routeIn}
-use Rattle.wire.specs.Be.{be}
+use Rattle.wire.specs.Be.{be, Little}
 use Rattle.switches.specs.Switches.{isOn}
-use Rattle.receive_route.specs.Route.{rowsIn, counts, passed, rowFor, reasonIn, reasonOf, decisionOf, lookupOf}
+use Rattle.receive_route.proofs.Keys.{key-tells}
+use Rattle.receive_route.specs.Route.{Key, rowsIn, counts, passed, rowFor, reasonIn, reasonOf, decisionOf, lookupOf}
 
--- the row that is read as a part of the body is the body's row
-pub row-at : (routes : List ℕ) (i : ℕ) → i < length routes / 16 → routeRow (take (i * 16 + 16 - i * 16) (drop (i * 16) routes)) ≡ routeIn routes i
-row-at routes i h = ap routeRow (row-range 16 routes i h)
+-- the row that is read as a part of the body, from the byte where it starts
+pub row-at : (routes : List ℕ) (at : ℕ) → at % 16 ≡ 0 → at / 16 < length routes / 16
+    → routeRow (take (at + 16 - at) (drop at routes)) ≡ routeIn routes (at / 16)
+row-at routes at m h =
+    let e : at ≡ at / 16 * 16 = omega arith in
+    ap (λ (k : ℕ). routeRow (take (k + 16 - k) (drop k routes))) e ∙ ap routeRow (row-range 16 routes (at / 16) h)
 
 -- the two numbers of a row that are compared with the header's
-pub read-row : (row : List ℕ) (connection id a b : ℕ) → a ≡ be 1 row 0 → b ≡ be 4 row 4 → (eqb a connection && eqb b id) ≡ counts (routeRow row) connection id
+pub read-row : (row : List ℕ) (connection id a x key : ℕ) → Little row 4 x → Key id key → a ≡ be 1 row 0
+    → (eqb x key && eqb a connection) ≡ counts (routeRow row) connection id
 unfolding counts routeRow
-read-row row connection id a b ea eb = ap₂ (λ (x y : ℕ). eqb x connection && eqb y id) ea eb
+read-row row connection id a x key p k ea =
+    and-comm (eqb x key) (eqb a connection) ∙ ap₂ (λ (i c : Bool). i && c) (ap (λ (n : ℕ). eqb n connection) ea) (key-tells row id x key p k)
 
 -- the search for a row: at a row that is passed, at one that counts, and at the end
 module _ (routes : List ℕ) (connection id : ℕ) where
   row-says : (i : ℕ) (row : RouteRow) (b : Bool) → row ≡ routeIn routes i → b ≡ counts row connection id → passed routes connection id i ≡ not b
   row-says i row b er eb = ap (λ (r : RouteRow). not (counts r connection id)) (sym er) ∙ ap not (sym eb)
 
-  pub find-on : (n i : ℕ) (row : RouteRow) (b : Bool) → Searched (passed routes connection id) n i → i < n
-      → row ≡ routeIn routes i → b ≡ counts row connection id → b ≡ false → Searched (passed routes connection id) n (i + 1)
-  find-on n i row b inv h er eb e = search-on (passed routes connection id) n i inv h (row-says i row b er eb ∙ ap not e)
+  -- the loop counts bytes: it stands at row at / 16
+  abbrev pub At : ℕ → ℕ → Type 0
+  At n at = Searched (passed routes connection id) n (at / 16) × (at % 16 ≡ 0)
 
-  pub find-hit : (n i : ℕ) (row : RouteRow) (b : Bool) → Searched (passed routes connection id) n i → i < n → n ≡ rowsIn routes
-      → row ≡ routeIn routes i → b ≡ counts row connection id → b ≡ true → i ≡ rowFor routes connection id
-  unfolding rowFor
-  find-hit n i row b inv h en er eb e =
-      search-found (passed routes connection id) n i inv h (row-says i row b er eb ∙ ap not e) ∙ ap (firstBad (passed routes connection id)) en
+  pub find-start : (n : ℕ) → At n 0
+  find-start n = (search-start (passed routes connection id) n, refl)
 
-  pub find-end : (n i : ℕ) → Searched (passed routes connection id) n i → n ≤ i → n ≡ rowsIn routes → i ≡ rowFor routes connection id
+  pub find-on : (n at : ℕ) (row : RouteRow) (b : Bool) → At n at → at < n * 16
+      → row ≡ routeIn routes (at / 16) → b ≡ counts row connection id → b ≡ false → At n (at + 16)
+  find-on n at row b inv h er eb e =
+      let next : at / 16 + 1 ≡ (at + 16) / 16 = omega arith in
+      let l : at / 16 < n = omega arith in
+      let good : passed routes connection id (at / 16) ≡ true = row-says (at / 16) row b er eb ∙ ap not e in (
+        subst (Searched (passed routes connection id) n) next (search-on (passed routes connection id) n (at / 16) (inv .0) l good),
+        omega (arith, inv .1),
+      )
+
+  pub find-hit : (n at : ℕ) (row : RouteRow) (b : Bool) → At n at → at < n * 16 → n ≡ rowsIn routes
+      → row ≡ routeIn routes (at / 16) → b ≡ counts row connection id → b ≡ true → at / 16 ≡ rowFor routes connection id
   unfolding rowFor
-  find-end n i inv h en = search-ended (passed routes connection id) n i inv h ∙ ap (firstBad (passed routes connection id)) en
+  find-hit n at row b inv h en er eb e =
+      let l : at / 16 < n = omega arith in
+      let bad : passed routes connection id (at / 16) ≡ false = row-says (at / 16) row b er eb ∙ ap not e in
+      search-found (passed routes connection id) n (at / 16) (inv .0) l bad ∙ ap (firstBad (passed routes connection id)) en
+
+  pub find-end : (n at : ℕ) → At n at → n * 16 ≤ at → n ≡ rowsIn routes → n ≡ rowFor routes connection id
+  unfolding rowFor
+  find-end n at inv h en =
+      let l : n ≤ at / 16 = omega arith in
+      let e : n ≡ at / 16 = omega (arith, inv .0 .0) in
+      e ∙ search-ended (passed routes connection id) n (at / 16) (inv .0) l ∙ ap (firstBad (passed routes connection id)) en
 
 -- the reason: no row, or what the row says
 pub reason-row : (routes : List ℕ) (i n switches length : ℕ) (row : RouteRow) (k : ℕ) → i < n → n ≡ rowsIn routes → row ≡ routeIn routes i

@@ -12,6 +12,7 @@ use Rattle.switches.specs.Switches.{isOn}
 use Rattle.lists.specs.Search.{firstBad}
 use Rattle.table_rows.specs.declared.RouteRow.{RouteRow}
 use Rattle.table_rows.specs.Rows.{routeIn}
+use Rattle.wire.specs.Be.{be, Little}
 
 -- how many rows a body of routes has: 64 at most
 unfoldable pub rowsIn : List ℕ → ℕ
@@ -22,6 +23,12 @@ pub record RowsCounted (routes : List ℕ) (n : ℕ) : Type 0 where
   pub is : n ≡ rowsIn routes
   pub most : n ≤ 64
   pub within : n ≤ length routes / 16
+
+-- key is an id whose four bytes were read the other way round, the last the highest
+pub record Key (id key : ℕ) : Type 0 where
+  pub row : List ℕ
+  pub read : Little row 4 key
+  pub is : be 4 row 4 ≡ id
 
 -- R5.2: a route counts for a header by connection and id
 unfoldable pub counts : RouteRow → ℕ → ℕ → Bool

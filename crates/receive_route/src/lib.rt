@@ -1,14 +1,15 @@
 // The lookup: what the receive routes of a connection say to a header's id and length.
 ghost use mathlib.Core.Path.{_≡_};
 ghost use Prim.Native.Nat.{_≤_};
+ghost use Rattle.wire.specs.Be.{Little};
 ghost use Rattle.table_rows.specs.Rows.{routeRow};
 ghost use Rattle.switches.specs.Switches.{isOn};
-ghost use Rattle.receive_route.specs.Route.{RowsCounted, counts, rowFor, reasonIn, reasonOf, lookupOf};
+ghost use Rattle.receive_route.specs.Route.{RowsCounted, Key, counts, rowFor, reasonIn, reasonOf, lookupOf};
 use reading::Decision;
 use table_rows::RouteRow;
 use table_rows::route_in;
 use wire::be8;
-use wire::be32;
+use wire::put32;
 
 // A route or a destination of these groups is on at these switches.
 pub fn is_on(groups: u32, switches: u32) -> bool
@@ -25,11 +26,27 @@ fn rows_in(routes: &[u8]) -> usize
     if n <= 64 { n } else { 64 }
 }
 
-// A row counts for a header: its connection and its id are the header's.
+// A row's id as one load reads its bytes, the last the highest: whether two ids are the same, their order does not matter.
+fn loaded(row: &[u8]) -> usize
+    ensures { λ r. ⌜ Little (now (row .entry)) 4 r ⌝ }
+{
+    be8(row, 4) + be8(row, 5) * 256 + be8(row, 6) * 65536 + be8(row, 7) * 16777216
+}
+
+// A header's id, written as a row has it and read so.
+fn key_of(id: u32) -> usize
+    ensures { λ r. ⌜ Key id r ⌝ }
+{
+    let mut row = [0u8; 8];
+    put32(&mut row, 4, id);
+    loaded(&row)
+}
+
+// A row counts for a header: its id and its connection are the header's. The id is read first: it differs more often.
 fn row_counts(row: &[u8], connection: u8, id: u32) -> bool
     ensures { λ r. ⌜ r ≡ counts (routeRow (now (row .entry))) connection id ⌝ }
 {
-    (be8(row, 0) == connection as usize) & (be32(row, 4) == id as usize)
+    (loaded(row) == key_of(id)) & (be8(row, 0) == connection as usize)
 }
 
 // The first row that counts, or the number of rows where there is none: it stops at a hit.
@@ -37,16 +54,16 @@ fn find(routes: &[u8], connection: u8, id: u32) -> usize
     ensures { λ r. ⌜ (r ≡ rowFor (now (routes .entry)) connection id) × (r ≤ 64) ⌝ }
 {
     let n = rows_in(routes);
-    let mut i = 0;
-    while i < n {
-        let at = i * 16;
+    let end = n * 16;
+    let mut at = 0;
+    while at < end {
         let row = &routes[at..at + 16];
         if row_counts(row, connection, id) {
-            return i;
+            return at / 16;
         }
-        i += 1;
+        at += 16;
     }
-    i
+    n
 }
 
 // Why a row drops a payload: 21 switched off, 22 longer than allowed; 0 where it takes it.

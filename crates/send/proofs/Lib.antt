@@ -1,4 +1,5 @@
 -- Laws of the crate.
+pub mod Pdu
 pub mod Scan
 pub mod Store
 pub mod Room

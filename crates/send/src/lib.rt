@@ -1,8 +1,10 @@
 // Transmit: the check of all destinations, then the store at all of them.
 // Assumes of the table what specs/Send.antt names in `Ready`, and send memory of its length: the gate has shown both.
 ghost use mathlib.Core.Path.{_≡_};
-ghost use Prim.Native.Nat.{_+_, _≤_};
+ghost use Prim.Native.Nat.{_+_, _/_, _<_, _≤_};
+ghost use lib.Dec.{eqb};
 ghost use lib.ListN.{length};
+ghost use Rattle.table_rows.specs.Rows.{destinationIn};
 ghost use Rattle.send.specs.Verdict as Is;
 ghost use Rattle.send.specs.Send.{
   checkOf,
@@ -15,6 +17,7 @@ ghost use Rattle.send.specs.Send.{
 use connection::Refusal;
 use state::State;
 use table_layout::Kind;
+use wire::be8;
 
 // What a transmit is answered: header and payload stored at each destination, or why they are stored at none.
 pub enum Transmission {
@@ -52,6 +55,16 @@ fn outcome(seen: u8) -> Transmission
     }
 }
 
+// Whether row i is for a PDU. Of the number's two bytes the last differs more often: it is read first.
+fn is_for(body: &[u8], i: usize, pdu: u16) -> bool
+    requires { ⌜ i < length (now body) / 16 ⌝ }
+    ensures { λ r. ⌜ r ≡ eqb (destinationIn (now (body .entry)) i .pdu) pdu ⌝ }
+{
+    let at = i * 16;
+    let row = &body[at..at + 16];
+    (be8(row, 9) == (pdu % 256) as usize) & (be8(row, 8) == (pdu / 256) as usize)
+}
+
 // The first pass: it stops at the first refusal.
 fn check_all(image: &[u8], s: State, pdu: u16, len: usize) -> Transmission
     requires { ⌜ Ready (now image) ⌝ }
@@ -62,11 +75,11 @@ fn check_all(image: &[u8], s: State, pdu: u16, len: usize) -> Transmission
     let mut seen: u8 = 5;
     let mut i: usize = 0;
     while i < n {
-        let d = table_rows::destination_in(body, i);
-        if d.pdu != pdu {
+        if !is_for(body, i, pdu) {
             i += 1;
             continue;
         }
+        let d = table_rows::destination_in(body, i);
         let k = d.connection as usize;
         let c = s.connections[k];
         let row = table_rows::connection_row(image, k);
@@ -95,11 +108,11 @@ fn store_all(image: &[u8], s: State, tx: &mut [u8], pdu: u16, payload: &[u8]) ->
     let mut next = s;
     let mut i: usize = 0;
     while i < n {
-        let d = table_rows::destination_in(body, i);
-        if d.pdu != pdu {
+        if !is_for(body, i, pdu) {
             i += 1;
             continue;
         }
+        let d = table_rows::destination_in(body, i);
         let k = d.connection as usize;
         let c = next.connections[k];
         let on = receive_route::is_on(d.groups, c.switches);

@@ -8,7 +8,7 @@ use Rattle.lists.proofs.Each.{long}
 use Rattle.state.proofs.Config.{config-bodies}
 use Rattle.state.proofs.Upto.{Upto}
 use Rattle.entry_ticks.proofs.Many.{manyAt, ticks-each}
-use Rattle.entry_ticks.proofs.Turns.{many-turn, rest-turn}
+use Rattle.entry_ticks.proofs.Turns.{many-turn, rest-turn, coast-turn}
 use Rattle.entry_ticks.proofs.tick_rows.Statement.{statement}
 use Rattle.entry_ticks.proofs.tick_rows.Tie as tie
 
@@ -50,6 +50,36 @@ loop-again c =
     let h : b .loop .i < length (a .state .connections) = omega arith in
     (omega arith, b .loop .inv .1, b .loop .inv .2, rest-turn _ _ _ _ _ h (b .loop .inv .3) (sym (c .before .rests .ensures) ∙ c .if1 .taken))
 
+coasts-requires : tie.Need-coasts-requires Inv-loop μ-loop
+coasts-requires c κs = search needs
+
+aged-requires : tie.Need-aged-requires Inv-loop μ-loop
+aged-requires c κs = search needs
+
+mul-later : tie.Need-mul-later Inv-loop μ-loop
+mul-later c = search needs
+
+element-set-from-later : tie.Need-element-set-from-later Inv-loop μ-loop
+element-set-from-later c = search needs
+
+add-i-2 : tie.Need-add-i-2 Inv-loop μ-loop
+add-i-2 c = search needs
+
+loop-less-2 : tie.Need-loop-less-2 Inv-loop μ-loop
+loop-less-2 c = search needs
+
+loop-again-2 : tie.Need-loop-again-2 Inv-loop μ-loop
+loop-again-2 c =
+    let t = c .before .before in
+    let b = t .before .before .before .before .before in
+    let a = b .before .before .before .before .args in
+    let h : b .loop .i < length (a .state .connections) = omega arith in (
+      omega arith,
+      b .loop .inv .1,
+      b .loop .inv .2,
+      coast-turn _ _ _ _ _ h (b .loop .inv .3) _ (c .aged .ensures) (sym (t .coasts .ensures) ∙ c .before .if2 .taken),
+    )
+
 config-in-requires : tie.Need-config-in-requires Inv-loop μ-loop
 config-in-requires c κs = search needs
 
@@ -62,19 +92,20 @@ mul-next c = search needs
 element-set-from-next : tie.Need-element-set-from-next Inv-loop μ-loop
 element-set-from-next c = search needs
 
-add-i-2 : tie.Need-add-i-2 Inv-loop μ-loop
-add-i-2 c = search needs
+add-i-3 : tie.Need-add-i-3 Inv-loop μ-loop
+add-i-3 c = search needs
 
-loop-less-2 : tie.Need-loop-less-2 Inv-loop μ-loop
-loop-less-2 c = search needs
+loop-less-3 : tie.Need-loop-less-3 Inv-loop μ-loop
+loop-less-3 c = search needs
 
-loop-again-2 : tie.Need-loop-again-2 Inv-loop μ-loop
-loop-again-2 c =
-    let b = c .before .before .before .before .before .before in
+loop-again-3 : tie.Need-loop-again-3 Inv-loop μ-loop
+loop-again-3 c =
+    let t = c .before .before .before .before .before .before .before in
+    let b = t .before in
     let r = b .before in
     let a = r .before .before .before .args in
-    let h : b .loop .i < length (a .state .connections) = omega arith in (
-      omega arith,
+    let h : b .loop .i < length (a .state .connections) = omega (arith, t .loop-test .taken) in (
+      omega (arith, t .loop-test .taken),
       b .loop .inv .1,
       b .loop .inv .2,
       many-turn _ _ _ _ _ h (b .loop .inv .3) _ _
@@ -103,11 +134,18 @@ tick-rows-spec =
     add-i
     loop-less
     loop-again
+    coasts-requires
+    aged-requires
+    mul-later
+    element-set-from-later
+    add-i-2
+    loop-less-2
+    loop-again-2
     config-in-requires
     tick-many-requires
     mul-next
     element-set-from-next
-    add-i-2
-    loop-less-2
-    loop-again-2
+    add-i-3
+    loop-less-3
+    loop-again-3
     returns)

@@ -2,26 +2,24 @@
 use Prim.Native.Nat.{_-_}
 use native.Mathlib.Omega.{arith}
 use borrow.Author.Needs.{needs}
-use Rattle.receive_route.proofs.Laws.{row-at, find-on, find-hit, find-end}
-use Rattle.lists.proofs.Search.{Searched, search-start}
-use Rattle.receive_route.specs.Route.{passed}
+use Rattle.receive_route.proofs.Laws.{At, row-at, find-start, find-on, find-hit, find-end}
 use Rattle.receive_route.proofs.find.Statement.{statement}
 use Rattle.receive_route.proofs.find.Tie as tie
 
 abbrev Inv-loop : tie.InvT-loop
-Inv-loop routes connection id n i₀ i = Searched (passed routes connection id) n i
+Inv-loop routes connection id n end at₀ at = At routes connection id n at
 
 abbrev μ-loop : tie.MeasureT-loop
-μ-loop routes connection id n i₀ i = n - i
+μ-loop routes connection id n end at₀ at = end - at
 
 rows-in-requires : tie.Need-rows-in-requires Inv-loop μ-loop
 rows-in-requires c κs = search needs
 
-loop-holds : tie.Need-loop-holds Inv-loop μ-loop
-loop-holds c = search-start _ _
+mul-end : tie.Need-mul-end Inv-loop μ-loop
+mul-end c = omega (arith, c .rows-in .ensures .most)
 
-mul-at : tie.Need-mul-at Inv-loop μ-loop
-mul-at c = search needs
+loop-holds : tie.Need-loop-holds Inv-loop μ-loop
+loop-holds c = find-start _ _ _ _
 
 add-row : tie.Need-add-row Inv-loop μ-loop
 add-row c = search needs
@@ -43,12 +41,12 @@ returns c =
     let l = c .before .before .before .before in
     let n = l .before in (
       find-hit _ _ _ _ _ _ _ (l .loop .inv) (search needs) (n .rows-in .ensures .is)
-          (row-at (n .before .before .args .routes .now) (l .loop .i) (omega (arith, n .rows-in .ensures .within))) (c .before .row-counts .ensures) (c .if1 .taken),
+          (row-at _ _ (l .loop .inv .1) (omega (arith, n .rows-in .ensures .within))) (c .before .row-counts .ensures) (c .if1 .taken),
       omega (arith, n .rows-in .ensures .most),
     )
 
-add-i : tie.Need-add-i Inv-loop μ-loop
-add-i c = search needs
+add-at : tie.Need-add-at Inv-loop μ-loop
+add-at c = search needs
 
 loop-less : tie.Need-loop-less Inv-loop μ-loop
 loop-less c = search needs
@@ -58,7 +56,7 @@ loop-again c =
     let l = c .before .before .before .before in
     let n = l .before in
     find-on _ _ _ _ _ _ _ (l .loop .inv) (search needs)
-    (row-at (n .before .before .args .routes .now) (l .loop .i) (omega (arith, n .rows-in .ensures .within))) (c .before .row-counts .ensures) (c .if1 .left)
+    (row-at _ _ (l .loop .inv .1) (omega (arith, n .rows-in .ensures .within))) (c .before .row-counts .ensures) (c .if1 .left)
 
 returns-2 : tie.Need-returns-2 Inv-loop μ-loop
 returns-2 c =
@@ -72,15 +70,15 @@ find-spec =
     Inv-loop
     μ-loop
     rows-in-requires
+    mul-end
     loop-holds
-    mul-at
     add-row
     sub-row
     part-row-start
     part-row-end
     row-counts-requires
     returns
-    add-i
+    add-at
     loop-less
     loop-again
     returns-2)

@@ -7,10 +7,12 @@ use denote.Ref.{now}
 use lib.ListN.{length}
 use borrow.Author.Needs.{needs}
 use borrow.Author.Tests.{not-true, not-false}
+use Rattle.table_rows.specs.declared.DestinationRow.{DestinationRow}
 use Rattle.table_rows.specs.Rows.{destinationIn, destinationOf}
 use Rattle.send.specs.declared.Transmission.the-variants.{RefusedAt}
 use Rattle.send.specs.Verdict.{passes, joinOf}
 use Rattle.send.specs.Send.{destinations, lookAt, checkOf}
+use Rattle.send.proofs.Pdu.{for-other, for-own}
 use Rattle.send.proofs.Scan.{Scanned, scan-start, scan-skip, scan-on, scan-refused, scan-ended, look-other, look-own}
 use Rattle.send.proofs.check_all.Statement.{statement}
 use Rattle.send.proofs.check_all.Tie as tie
@@ -27,8 +29,8 @@ body-of-requires c κs = search needs
 loop-holds : tie.Need-loop-holds Inv-loop μ-loop
 loop-holds c = scan-start _ _
 
-destination-in-requires : tie.Need-destination-in-requires Inv-loop μ-loop
-destination-in-requires c κs = search needs
+is-for-requires : tie.Need-is-for-requires Inv-loop μ-loop
+is-for-requires c κs = search needs
 
 add-i : tie.Need-add-i Inv-loop μ-loop
 add-i c = omega arith
@@ -37,25 +39,40 @@ loop-less : tie.Need-loop-less Inv-loop μ-loop
 loop-less c = omega arith
 
 -- the loop, and the function's start
-abbrev L : tie.After-destination-in Inv-loop μ-loop → tie.At-loop Inv-loop μ-loop
-L c = c .before .before
+abbrev L : tie.In-loop Inv-loop μ-loop → tie.At-loop Inv-loop μ-loop
+L c = c .before
 
-abbrev S : tie.After-destination-in Inv-loop μ-loop → tie.Start Inv-loop μ-loop
+abbrev S : tie.In-loop Inv-loop μ-loop → tie.Start Inv-loop μ-loop
 S c = L c .before .before .before
 
--- row i of the image
-row : (c : tie.After-destination-in Inv-loop μ-loop) → c .destination-in .result ≡ destinationOf (now (S c .args .image)) (L c .loop .i)
-row c = c .destination-in .ensures ∙ ap (λ (b : List ℕ). destinationIn b (L c .loop .i)) (L c .before .body-of .ensures .0)
+-- row i of the body is the image's
+there : (c : tie.In-loop Inv-loop μ-loop)
+    → destinationIn (now (L c .before .body-of .result)) (L c .loop .i) ≡ destinationOf (now (S c .args .image)) (L c .loop .i)
+there c = ap (λ (b : List ℕ). destinationIn b (L c .loop .i)) (L c .before .body-of .ensures .0)
 
-inside : (c : tie.After-destination-in Inv-loop μ-loop) → L c .loop .i < destinations (now (S c .args .image))
+inside : (c : tie.In-loop Inv-loop μ-loop) → L c .loop .i < destinations (now (S c .args .image))
 inside c =
     let e = ap (λ (b : List ℕ). length b / 16) (L c .before .body-of .ensures .0) in
-    rw e at (c .before .loop-test .taken)
+    rw e at (c .loop-test .taken)
 
 loop-again : tie.Need-loop-again Inv-loop μ-loop
 loop-again c =
-    let k = c .before .before in
-    scan-skip _ _ (L k .loop .i) _ (L k .loop .inv) (inside k) (look-other _ _ _ _ (L k .loop .i) _ (row k) (c .if1 .taken))
+    let t = c .before .before in
+    scan-skip _ _ (L t .loop .i) _ (L t .loop .inv) (inside t)
+    (look-other _ _ _ _ (L t .loop .i) _ (there t) (for-other (c .before .is-for .ensures) (not-true _ (c .if1 .taken))))
+
+destination-in-requires : tie.Need-destination-in-requires Inv-loop μ-loop
+destination-in-requires c κs = search needs
+
+-- the turn of a row that is for the PDU
+abbrev T : tie.After-destination-in Inv-loop μ-loop → tie.In-loop Inv-loop μ-loop
+T k = k .before .before .before
+
+row : (k : tie.After-destination-in Inv-loop μ-loop) → k .destination-in .result ≡ destinationOf (now (S (T k) .args .image)) (L (T k) .loop .i)
+row k = k .destination-in .ensures ∙ there (T k)
+
+own : (k : tie.After-destination-in Inv-loop μ-loop) → k .destination-in .result .pdu ≡ S (T k) .args .pdu
+own k = ap (λ (d : DestinationRow). d .pdu) (k .destination-in .ensures) ∙ for-own (k .before .before .is-for .ensures) (not-false _ (k .before .if1 .left))
 
 cast-k : tie.Need-cast-k Inv-loop μ-loop
 cast-k c = search needs
@@ -65,8 +82,8 @@ mul-c c = search needs
 
 element-copy-out-c : tie.Need-element-copy-out-c Inv-loop μ-loop
 element-copy-out-c c =
-    let k = c .before .before .before in
-    rw (row k) (S k .pre .there (L k .loop .i) (inside k))
+    let k = c .before in
+    rw (row k) (S (T k) .pre .there (L (T k) .loop .i) (inside (T k)))
 
 connection-row-requires : tie.Need-connection-row-requires Inv-loop μ-loop
 connection-row-requires c κs = search needs
@@ -75,18 +92,18 @@ look-requires : tie.Need-look-requires Inv-loop μ-loop
 look-requires c κs = search needs
 
 -- what row i says, as the definition has it
-said : (c : tie.After-look Inv-loop μ-loop) → let k = c .before .before .before .before .before .before in c .look .result ≡ lookAt (now (S k .args .image)) (S k .args .t2) (S k .args .pdu) (S k .args .len) (L k .loop .i)
+said : (c : tie.After-look Inv-loop μ-loop) → let k = c .before .before .before .before in c .look .result ≡ lookAt (now (S (T k) .args .image)) (S (T k) .args .t2) (S (T k) .args .pdu) (S (T k) .args .len) (L (T k) .loop .i)
 said c =
-    let k = c .before .before .before .before .before .before in
-    look-own _ _ _ _ (L k .loop .i) _ (row k) (c .before .before .before .before .if1 .left) _ _ (c .before .connection-row .ensures) (c .look .ensures)
+    let k = c .before .before .before .before in
+    look-own _ _ _ _ (L (T k) .loop .i) _ (row k) (own k) _ _ (c .before .connection-row .ensures) (c .look .ensures)
 
 returns : tie.Need-returns Inv-loop μ-loop
 unfolding checkOf
 returns c =
-    let k = c .before .before .before .before .before .before .before in
+    let k = c .before .before .before .before .before in
     let e = said (c .before) in
-    ap (λ (a : ℕ). RefusedAt a (L k .loop .i)) e
-    ∙ scan-refused _ _ (L k .loop .i) _ (L k .loop .inv) (inside k) (sym (ap passes e) ∙ not-true (passes (c .before .look .result)) (c .if2 .taken))
+    ap (λ (a : ℕ). RefusedAt a (L (T k) .loop .i)) e
+    ∙ scan-refused _ _ (L (T k) .loop .i) _ (L (T k) .loop .inv) (inside (T k)) (sym (ap passes e) ∙ not-true (passes (c .before .look .result)) (c .if2 .taken))
 
 join-requires : tie.Need-join-requires Inv-loop μ-loop
 join-requires c κs = search needs
@@ -99,9 +116,9 @@ loop-less-2 c = omega arith
 
 loop-again-2 : tie.Need-loop-again-2 Inv-loop μ-loop
 loop-again-2 c =
-    let k = c .before .before .before .before .before .before .before .before in
+    let k = c .before .before .before .before .before .before in
     let e = said (c .before .before) in
-    scan-on _ _ (L k .loop .i) _ (L k .loop .inv) _ (inside k) (sym (ap passes e) ∙ not-false (passes (c .before .before .look .result)) (c .before .if2 .left)) (c .join .ensures ∙ ap (joinOf (L k .loop .seen)) e)
+    scan-on _ _ (L (T k) .loop .i) _ (L (T k) .loop .inv) _ (inside (T k)) (sym (ap passes e) ∙ not-false (passes (c .before .before .look .result)) (c .before .if2 .left)) (c .join .ensures ∙ ap (joinOf (L (T k) .loop .seen)) e)
 
 outcome-requires : tie.Need-outcome-requires Inv-loop μ-loop
 outcome-requires c κs = search needs
@@ -121,10 +138,11 @@ check-all-spec =
     μ-loop
     body-of-requires
     loop-holds
-    destination-in-requires
+    is-for-requires
     add-i
     loop-less
     loop-again
+    destination-in-requires
     cast-k
     mul-c
     element-copy-out-c

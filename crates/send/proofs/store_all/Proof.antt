@@ -15,6 +15,7 @@ use Rattle.table_rows.specs.declared.DestinationRow.{DestinationRow}
 use Rattle.table_rows.specs.Rows.{destinationIn, destinationOf}
 use Rattle.state.specs.State.{recordAt}
 use Rattle.send.specs.Send.{destinations, Sending, wantedAt, storeAll}
+use Rattle.send.proofs.Pdu.{for-other, for-own}
 use Rattle.send.proofs.Store.{Storing, store-start, store-skip, store-on, store-end, wanted-other, wanted-own}
 use Rattle.send.proofs.store_all.Statement.{statement}
 use Rattle.send.proofs.store_all.Tie as tie
@@ -31,8 +32,8 @@ body-of-requires c κs = search needs
 loop-holds : tie.Need-loop-holds Inv-loop μ-loop
 loop-holds c = store-start _ _ _ _ _
 
-destination-in-requires : tie.Need-destination-in-requires Inv-loop μ-loop
-destination-in-requires c κs = search needs
+is-for-requires : tie.Need-is-for-requires Inv-loop μ-loop
+is-for-requires c κs = search needs
 
 -- row numbers stay within their type
 fits-more : (c : tie.In-loop Inv-loop μ-loop) → Fits w64 (c .before .loop .i + 1)
@@ -45,28 +46,43 @@ loop-less : tie.Need-loop-less Inv-loop μ-loop
 loop-less c = omega arith
 
 -- the loop, and the function's start
-abbrev L : tie.After-destination-in Inv-loop μ-loop → tie.At-loop Inv-loop μ-loop
-L c = c .before .before
+abbrev L : tie.In-loop Inv-loop μ-loop → tie.At-loop Inv-loop μ-loop
+L c = c .before
 
-abbrev S : tie.After-destination-in Inv-loop μ-loop → tie.Start Inv-loop μ-loop
+abbrev S : tie.In-loop Inv-loop μ-loop → tie.Start Inv-loop μ-loop
 S c = L c .before .before .before .before .before
 
--- row i of the image
-row : (c : tie.After-destination-in Inv-loop μ-loop) → c .destination-in .result ≡ destinationOf (now (S c .args .image)) (L c .loop .i)
-row c = c .destination-in .ensures ∙ ap (λ (b : List ℕ). destinationIn b (L c .loop .i)) (L c .before .body-of .ensures .0)
+-- row i of the body is the image's
+there : (c : tie.In-loop Inv-loop μ-loop)
+    → destinationIn (now (L c .before .body-of .result)) (L c .loop .i) ≡ destinationOf (now (S c .args .image)) (L c .loop .i)
+there c = ap (λ (b : List ℕ). destinationIn b (L c .loop .i)) (L c .before .body-of .ensures .0)
 
-inside : (c : tie.After-destination-in Inv-loop μ-loop) → L c .loop .i < destinations (now (S c .args .image))
+inside : (c : tie.In-loop Inv-loop μ-loop) → L c .loop .i < destinations (now (S c .args .image))
 inside c =
     let e = ap (λ (b : List ℕ). length b / 16) (L c .before .body-of .ensures .0) in
-    rw e at (c .before .loop-test .taken)
-
-small : (c : tie.After-destination-in Inv-loop μ-loop) → c .destination-in .result .connection < 16
-small c = rw (row c) (S c .pre .0 .there (L c .loop .i) (inside c))
+    rw e at (c .loop-test .taken)
 
 loop-again : tie.Need-loop-again Inv-loop μ-loop
 loop-again c =
-    let k = c .before .before in
-    store-skip _ _ _ _ _ _ _ (L k .loop .i) (L k .loop .inv) (inside k) (wanted-other _ _ _ _ (L k .loop .i) _ (row k) (c .if1 .taken))
+    let t = c .before .before in
+    store-skip _ _ _ _ _ _ _ (L t .loop .i) (L t .loop .inv) (inside t)
+    (wanted-other _ _ _ _ (L t .loop .i) _ (there t) (for-other (c .before .is-for .ensures) (not-true _ (c .if1 .taken))))
+
+destination-in-requires : tie.Need-destination-in-requires Inv-loop μ-loop
+destination-in-requires c κs = search needs
+
+-- the turn of a row that is for the PDU
+abbrev T : tie.After-destination-in Inv-loop μ-loop → tie.In-loop Inv-loop μ-loop
+T k = k .before .before .before
+
+row : (k : tie.After-destination-in Inv-loop μ-loop) → k .destination-in .result ≡ destinationOf (now (S (T k) .args .image)) (L (T k) .loop .i)
+row k = k .destination-in .ensures ∙ there (T k)
+
+own : (k : tie.After-destination-in Inv-loop μ-loop) → k .destination-in .result .pdu ≡ S (T k) .args .pdu
+own k = ap (λ (d : DestinationRow). d .pdu) (k .destination-in .ensures) ∙ for-own (k .before .before .is-for .ensures) (not-false _ (k .before .if1 .left))
+
+small : (k : tie.After-destination-in Inv-loop μ-loop) → k .destination-in .result .connection < 16
+small k = rw (row k) (S (T k) .pre .0 .there (L (T k) .loop .i) (inside (T k)))
 
 cast-k : tie.Need-cast-k Inv-loop μ-loop
 cast-k c = search needs
@@ -75,17 +91,17 @@ mul-c : tie.Need-mul-c Inv-loop μ-loop
 mul-c c = search needs
 
 element-copy-out-c : tie.Need-element-copy-out-c Inv-loop μ-loop
-element-copy-out-c c = small (c .before .before .before)
+element-copy-out-c c = small (c .before)
 
 is-on-requires : tie.Need-is-on-requires Inv-loop μ-loop
 is-on-requires c κs = search needs
 
 -- whether row i is wanted, as the definition has it
 abbrev K : tie.After-is-on Inv-loop μ-loop → tie.After-destination-in Inv-loop μ-loop
-K c = c .before .before .before .before .before
+K c = c .before .before .before
 
-asked : (c : tie.After-is-on Inv-loop μ-loop) → wantedAt (now (S (K c) .args .image)) (S (K c) .args .s) (S (K c) .args .pdu) (now (S (K c) .args .payload)) (L (K c) .loop .i) ≡ c .is-on .result
-asked c = wanted-own _ _ _ _ (L (K c) .loop .i) _ (row (K c)) (c .before .before .before .if1 .left) _ _ (c .is-on .ensures) (L (K c) .loop .inv .switched (K c .destination-in .result .connection))
+asked : (c : tie.After-is-on Inv-loop μ-loop) → wantedAt (now (S (T (K c)) .args .image)) (S (T (K c)) .args .s) (S (T (K c)) .args .pdu) (now (S (T (K c)) .args .payload)) (L (T (K c)) .loop .i) ≡ c .is-on .result
+asked c = wanted-own _ _ _ _ (L (T (K c)) .loop .i) _ (row (K c)) (own (K c)) _ _ (c .is-on .ensures) (L (T (K c)) .loop .inv .switched (K c .destination-in .result .connection))
 
 add-i-2 : tie.Need-add-i-2 Inv-loop μ-loop
 add-i-2 c = omega arith
@@ -96,27 +112,27 @@ loop-less-2 c = omega arith
 loop-again-2 : tie.Need-loop-again-2 Inv-loop μ-loop
 loop-again-2 c =
     let k = K (c .before) in
-    store-skip _ _ _ _ _ _ _ (L k .loop .i) (L k .loop .inv) (inside k) (asked (c .before) ∙ not-true _ (c .if2 .taken))
+    store-skip _ _ _ _ _ _ _ (L (T k) .loop .i) (L (T k) .loop .inv) (inside (T k)) (asked (c .before) ∙ not-true _ (c .if2 .taken))
 
-wants : (c : tie.Else2 Inv-loop μ-loop) → let k = K (c .before) in wantedAt (now (S k .args .image)) (S k .args .s) (S k .args .pdu) (now (S k .args .payload)) (L k .loop .i) ≡ true
+wants : (c : tie.Else2 Inv-loop μ-loop) → let k = K (c .before) in wantedAt (now (S (T k) .args .image)) (S (T k) .args .s) (S (T k) .args .pdu) (now (S (T k) .args .payload)) (L (T k) .loop .i) ≡ true
 wants c = asked (c .before) ∙ not-false _ (c .if2 .left)
 
 -- the room that the check found is still there
-roomy : (c : tie.Else2 Inv-loop μ-loop) → let k = K (c .before) in recordAt (L k .loop .next) (k .destination-in .result .connection) .used + 8 + length (now (S k .args .payload)) ≤ 1472
+roomy : (c : tie.Else2 Inv-loop μ-loop) → let k = K (c .before) in recordAt (L (T k) .loop .next) (k .destination-in .result .connection) .used + 8 + length (now (S (T k) .args .payload)) ≤ 1472
 roomy c =
     let k = K (c .before) in
-    let e : recordAt (L k .loop .next) (k .destination-in .result .connection) ≡ recordAt (S k .args .s) (destinationOf (now (S k .args .image)) (L k .loop .i) .connection) =
-    ap (λ (d : DestinationRow). recordAt (L k .loop .next) (d .connection)) (row k) ∙ L k .loop .inv .same (L k .loop .i) (omega arith) (inside k) (wants c) in
-    rw e (S k .pre .2 (L k .loop .i) (inside k) (wants c))
+    let e : recordAt (L (T k) .loop .next) (k .destination-in .result .connection) ≡ recordAt (S (T k) .args .s) (destinationOf (now (S (T k) .args .image)) (L (T k) .loop .i) .connection) =
+    ap (λ (d : DestinationRow). recordAt (L (T k) .loop .next) (d .connection)) (row k) ∙ L (T k) .loop .inv .same (L (T k) .loop .i) (omega arith) (inside (T k)) (wants c) in
+    rw e (S (T k) .pre .2 (L (T k) .loop .i) (inside (T k)) (wants c))
 
 cast-used : tie.Need-cast-used Inv-loop μ-loop
 cast-used c = search needs
 
 mul-append : tie.Need-mul-append Inv-loop μ-loop
-mul-append c = omega (arith, small (c .before .before .before .before .before .before .before .before))
+mul-append c = omega (arith, small (c .before .before .before .before .before .before))
 
 add-append : tie.Need-add-append Inv-loop μ-loop
-add-append c = omega (arith, small (c .before .before .before .before .before .before .before .before), roomy (c .before .before))
+add-append c = omega (arith, small (c .before .before .before .before .before .before), roomy (c .before .before))
 
 append-requires : tie.Need-append-requires Inv-loop μ-loop
 append-requires c κs = search needs
@@ -134,10 +150,10 @@ sent-requires : tie.Need-sent-requires Inv-loop μ-loop
 sent-requires c κs = search needs
 
 mul-after : tie.Need-mul-after Inv-loop μ-loop
-mul-after c = omega (arith, small (c .before .before .before .before .before .before .before .before .before .before .before .before))
+mul-after c = omega (arith, small (c .before .before .before .before .before .before .before .before .before .before))
 
 element-set-from-after : tie.Need-element-set-from-after Inv-loop μ-loop
-element-set-from-after c = small (c .before .before .before .before .before .before .before .before .before .before .before .before)
+element-set-from-after c = small (c .before .before .before .before .before .before .before .before .before .before)
 
 add-i-3 : tie.Need-add-i-3 Inv-loop μ-loop
 add-i-3 c = fits-more (c .before .before .before .before .before .before .before .before .before .before .before .before .before)
@@ -147,9 +163,9 @@ loop-less-3 c = omega (arith, c .before .before .before .before .before .before 
 
 loop-again-3 : tie.Need-loop-again-3 Inv-loop μ-loop
 loop-again-3 c =
-    let k = c .before .before .before .before .before .before .before .before .before .before .before .before in
+    let k = c .before .before .before .before .before .before .before .before .before .before in
     let r = roomy (c .before .before .before .before .before .before) in
-    store-on _ _ _ _ _ _ _ (L k .loop .i) (L k .loop .inv) (S k .pre .0) _ _ _ (inside k) (row k) (wants (c .before .before .before .before .before .before)) (omega (arith, r)) (c .sent .ensures) (c .before .before .before .append .ensures) (c .before .before .before .append .kept .0)
+    store-on _ _ _ _ _ _ _ (L (T k) .loop .i) (L (T k) .loop .inv) (S (T k) .pre .0) _ _ _ (inside (T k)) (row k) (wants (c .before .before .before .before .before .before)) (omega (arith, r)) (c .sent .ensures) (c .before .before .before .append .ensures) (c .before .before .before .append .kept .0)
 
 same-length : tie.Need-same-length Inv-loop μ-loop
 same-length c = c .before .loop .inv .long
@@ -169,10 +185,11 @@ store-all-spec =
     μ-loop
     body-of-requires
     loop-holds
-    destination-in-requires
+    is-for-requires
     add-i
     loop-less
     loop-again
+    destination-in-requires
     cast-k
     mul-c
     element-copy-out-c
