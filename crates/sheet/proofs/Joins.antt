@@ -5,9 +5,10 @@ use mathlib.Core.Path.{_≡_, refl, sym, ap, subst, _∙_}
 use mathlib.Core.Bool.{Bool, true, false, cond}
 use mathlib.Core.List.{List, [], _∷_, _++_}
 use native.Mathlib.Omega.{arith}
+use lib.Dec.{ltb}
 use native.Mathlib.Decide.{ℕ-discrete, decLt}
 use lib.ListN.{length, getD, set, length-set, getD-replicate, List·getD-eq-default}
-use lib.Seq.{ext-getD, getD-set-same, getD-set-other}
+use lib.Seq.{ext-getD, getD-set-same, getD-set-other, set-set, set-comm}
 use Rattle.lists.specs.Each.{each, allFrom}
 use Rattle.lists.proofs.Each.{all-at, each-length, each-all, one-at}
 use Rattle.lists.proofs.Both.{and-both}
@@ -15,9 +16,17 @@ use Rattle.sheet.specs.declared.Pair.{Pair}
 use Rattle.sheet.specs.declared.Words.{Words}
 use Rattle.sheet.specs.declared.Switching.{Switching}
 use Rattle.sheet.specs.Force.{forceThen, forceNone, forceOne, noWords, pairAt, withPair, joinAt, joinWords, neverTwice, agreeing}
-use Rattle.sheet.specs.Sheet.{switchThere, addSwitch, sheetFrom, sheetWords}
-use Rattle.sheet.proofs.Pairs.{Apart, apart-from, apart-to, then-assoc, then-none, none-then, then-apart, none-apart, one-apart, then-width, one-width}
+use Rattle.sheet.specs.declared.SheetFit.the-variants.{Fits, Unfit}
+use Rattle.sheet.specs.Sheet.{switching, sheetSwitches, fitFrom, switchThere, addSwitch, sheetFrom, sheetWords}
+use Rattle.sheet.proofs.Pairs.{Apart, apart-from, apart-to, then-assoc, then-none, none-then, then-apart, none-apart, one-apart, then-width, one-width, one-twice, one-swap}
 use Rattle.sheet.proofs.Turns.{there-row, there-below}
+
+-- a switch by its parts
+abbrev pub at : ℕ → ℕ → Bool → Switching
+at c n on = record { connection = c; number = n; on = on }
+
+unfit : {P : Type 0} {k : ℕ} → Unfit k ≡ Fits → P
+unfit e = absurd (let z : _≡_ {A = ℕ} 0 1 = cc in omega arith)
 
 -- sixteen pairs
 abbrev pub Full : Words → Type 0
@@ -128,22 +137,22 @@ module _ (rows : ℕ) where
       one : Pair
       one = forceOne (s .number) (s .on)
 
-      at : switchThere rows s ≡ true → (i : ℕ) → Dec (i ≡ s .connection) → i < 16
+      own : switchThere rows s ≡ true → (i : ℕ) → Dec (i ≡ s .connection) → i < 16
           → pairAt (withPair (s .connection) (forceThen (pairAt ws (s .connection)) one) ws) i ≡ forceThen (pairAt ws i) (pairAt (withPair (s .connection) (forceThen (pairAt noWords (s .connection)) one) noWords) i)
-      at e i (yes q) h =
+      own e i (yes q) h =
           let c = there-below rows s e in
           ap (λ (k : ℕ). pairAt (withPair (s .connection) (forceThen (pairAt ws (s .connection)) one) ws) k) q
           ∙ getD-set-same (ws .pairs) (s .connection) _ forceNone (omega arith)
           ∙ ap (forceThen (pairAt ws (s .connection))) (sym (ap (λ (p : Pair). forceThen p one) (no-at (s .connection)) ∙ none-then one (one-apart (s .number) (s .on))) ∙ sym (getD-set-same (noWords .pairs) (s .connection) _ forceNone c))
           ∙ ap (λ (k : ℕ). forceThen (pairAt ws k) (pairAt (withPair (s .connection) (forceThen (pairAt noWords (s .connection)) one) noWords) k)) (sym q)
-      at e i (no ne) h =
+      own e i (no ne) h =
           getD-set-other (ws .pairs) (s .connection) i _ forceNone ne
           ∙ sym (ap (forceThen (pairAt ws i)) (getD-set-other (noWords .pairs) (s .connection) i _ forceNone ne ∙ no-at i) ∙ then-none (pairAt ws i))
 
       go : (b : Bool) → switchThere rows s ≡ b → addSwitch rows ws s ≡ joinWords ws (addSwitch rows noWords s)
       go true e =
           same-words _ _ (add-full ws s f) (join-full ws _ f)
-          (λ i h. ap (λ (w : Words). pairAt w i) (add-there ws s e) ∙ at e i (ℕ-discrete i (s .connection)) h
+          (λ i h. ap (λ (w : Words). pairAt w i) (add-there ws s e) ∙ own e i (ℕ-discrete i (s .connection)) h
           ∙ sym (join-at ws _ i f h ∙ ap (λ (w : Words). forceThen (pairAt ws i) (pairAt w i)) (add-there noWords s e)))
       go false e = add-missing ws s e ∙ sym (ap (joinWords ws) (add-missing noWords s e) ∙ join-none ws f)
 
@@ -205,3 +214,75 @@ module _ (rows : ℕ) where
 
   pub words-append : (ss ts : List Switching) → sheetWords rows (ss ++ ts) ≡ joinWords (sheetWords rows ss) (sheetWords rows ts)
   words-append ss ts = from-append noWords ss ts ∙ from-join (sheetWords rows ss) ts (words-full ss)
+
+  -- R18.8: the same switch twice is the last one
+  pub add-twice : (ws : Words) (c n : ℕ) (a b : Bool) → Full ws → addSwitch rows (addSwitch rows ws (at c n a)) (at c n b) ≡ addSwitch rows ws (at c n b)
+  add-twice ws c n a b f = go (switchThere rows (at c n b)) refl
+    where
+      go : (x : Bool) → switchThere rows (at c n b) ≡ x → addSwitch rows (addSwitch rows ws (at c n a)) (at c n b) ≡ addSwitch rows ws (at c n b)
+      go true e =
+          let h = there-below rows (at c n b) e in
+          let first = forceThen (pairAt ws c) (forceOne n a) in
+          ap (λ (w : Words). addSwitch rows w (at c n b)) (add-there ws (at c n a) e) ∙ add-there (withPair c first ws) (at c n b) e
+          ∙ ap (λ (p : Pair). withPair c (forceThen p (forceOne n b)) (withPair c first ws)) (getD-set-same (ws .pairs) c first forceNone (omega arith))
+          ∙ ap (λ (l : List Pair). record { pairs = l }) (set-set (ws .pairs) c first _)
+          ∙ ap (λ (p : Pair). withPair c p ws) (then-assoc (pairAt ws c) (forceOne n a) (forceOne n b) ∙ ap (forceThen (pairAt ws c)) (one-twice n a b))
+          ∙ sym (add-there ws (at c n b) e)
+      go false e = ap (λ (w : Words). addSwitch rows w (at c n b)) (add-missing ws (at c n a) e)
+
+  -- R18.8: different switches, or the same of different connections, may change places
+  pub add-swap : (ws : Words) (s t : Switching) → (s .connection ≡ t .connection → s .number ≡ t .number → ⊥) → Full ws → addSwitch rows (addSwitch rows ws s) t ≡ addSwitch rows (addSwitch rows ws t) s
+  add-swap ws s t ne f = go (switchThere rows s) refl (switchThere rows t) refl
+    where
+      c : ℕ
+      c = s .connection
+
+      k : ℕ
+      k = t .connection
+
+      p : Pair
+      p = forceOne (s .number) (s .on)
+
+      q : Pair
+      q = forceOne (t .number) (t .on)
+
+      twice : (w : Words) (s t : Switching) → switchThere rows s ≡ true → switchThere rows t ≡ true
+          → addSwitch rows (addSwitch rows w s) t ≡ withPair (t .connection) (forceThen (pairAt (withPair (s .connection) (forceThen (pairAt w (s .connection)) (forceOne (s .number) (s .on))) w) (t .connection)) (forceOne (t .number) (t .on))) (withPair (s .connection) (forceThen (pairAt w (s .connection)) (forceOne (s .number) (s .on))) w)
+      twice w s t e g = ap (λ (w : Words). addSwitch rows w t) (add-there w s e) ∙ add-there _ t g
+
+      apart : (c k : ℕ) (p q : Pair) → (k ≡ c → ⊥) → withPair k (forceThen (pairAt (withPair c (forceThen (pairAt ws c) p) ws) k) q) (withPair c (forceThen (pairAt ws c) p) ws) ≡ withPair k (forceThen (pairAt ws k) q) (withPair c (forceThen (pairAt ws c) p) ws)
+      apart c k p q d = ap (λ (x : Pair). withPair k (forceThen x q) (withPair c (forceThen (pairAt ws c) p) ws)) (getD-set-other (ws .pairs) c k _ forceNone d)
+
+      one : (c : ℕ) (p q : Pair) → c < 16 → withPair c (forceThen (pairAt (withPair c (forceThen (pairAt ws c) p) ws) c) q) (withPair c (forceThen (pairAt ws c) p) ws) ≡ withPair c (forceThen (pairAt ws c) (forceThen p q)) ws
+      one c p q h =
+          ap (λ (x : Pair). withPair c (forceThen x q) (withPair c (forceThen (pairAt ws c) p) ws)) (getD-set-same (ws .pairs) c _ forceNone (omega arith))
+          ∙ ap (λ (l : List Pair). record { pairs = l }) (set-set (ws .pairs) c _ _) ∙ ap (λ (x : Pair). withPair c x ws) (then-assoc (pairAt ws c) p q)
+
+      same : Dec (c ≡ k) → switchThere rows s ≡ true → switchThere rows t ≡ true → addSwitch rows (addSwitch rows ws s) t ≡ addSwitch rows (addSwitch rows ws t) s
+      same (no d) e g =
+          twice ws s t e g ∙ apart c k p q (λ x. d (sym x)) ∙ ap (λ (l : List Pair). record { pairs = l }) (set-comm (ws .pairs) c k _ _ d)
+          ∙ sym (twice ws t s g e ∙ apart k c q p d)
+      same (yes d) e g =
+          let h = there-below rows s e in
+          twice ws s t e g
+          ∙ ap (λ (i : ℕ). withPair i (forceThen (pairAt (withPair c (forceThen (pairAt ws c) p) ws) i) q) (withPair c (forceThen (pairAt ws c) p) ws)) (sym d)
+          ∙ one c p q h ∙ ap (λ (x : Pair). withPair c (forceThen (pairAt ws c) x) ws) (one-swap (s .number) (t .number) (s .on) (t .on) (ne d)) ∙ sym (one c q p h)
+          ∙ ap (λ (i : ℕ). withPair c (forceThen (pairAt (withPair i (forceThen (pairAt ws i) q) ws) c) p) (withPair i (forceThen (pairAt ws i) q) ws)) d
+          ∙ sym (twice ws t s g e)
+
+      go : (x : Bool) → switchThere rows s ≡ x → (y : Bool) → switchThere rows t ≡ y → addSwitch rows (addSwitch rows ws s) t ≡ addSwitch rows (addSwitch rows ws t) s
+      go true e true g = same (ℕ-discrete c k) e g
+      go true e false g = add-missing _ t g ∙ sym (ap (λ (w : Words). addSwitch rows w s) (add-missing ws t g))
+      go false e y g = ap (λ (w : Words). addSwitch rows w t) (add-missing ws s e) ∙ sym (add-missing _ s e)
+
+-- R18.4: the switches of two sheets, one behind the other in bytes
+pub switches-append : (k : ℕ) (s t : List ℕ) → fitFrom k s ≡ Fits → sheetSwitches (s ++ t) ≡ sheetSwitches s ++ sheetSwitches t
+unfolding fitFrom sheetSwitches
+switches-append k [] t e = refl
+switches-append k (c ∷ []) t e = unfit e
+switches-append k (c ∷ n ∷ []) t e = unfit e
+switches-append k (c ∷ n ∷ p ∷ s) t e = ap (λ (l : List Switching). switching c n p ∷ l) (switches-append (k + 3) s t (go (ltb p 2) e))
+  where
+    go : (b : Bool) → cond b (fitFrom (k + 3) s) (Unfit (k + 2)) ≡ Fits → fitFrom (k + 3) s ≡ Fits
+    go true q = q
+    go false q = unfit q

@@ -3,3 +3,4 @@ pub mod Lit
 pub mod Pairs
 pub mod Joins
 pub mod Turns
+pub mod Kept

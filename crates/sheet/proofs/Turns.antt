@@ -25,7 +25,7 @@ use Rattle.sheet.specs.Force.{forceThen, forceNone, noWords, pairAt, wit
 use Rattle.sheet.specs.Sheet.{switchThere, switchingAt, alike, sheetSwitches, fitFrom, addSwitch, sheetFrom, sheetWords, wordsWhere, shortenOf, lastAlike, fateOf}
 
 -- three bytes of a sheet, and the rest of it
-three : (s : List ℕ) (at : ℕ) → at + 3 ≤ length s → drop at s ≡ byteAt s at ∷ byteAt s (at + 1) ∷ byteAt s (at + 2) ∷ drop (at + 3) s
+pub three : (s : List ℕ) (at : ℕ) → at + 3 ≤ length s → drop at s ≡ byteAt s at ∷ byteAt s (at + 1) ∷ byteAt s (at + 2) ∷ drop (at + 3) s
 three s at h =
     let one : at + 1 ≡ suc at = omega arith in
     let two : at + 2 ≡ suc (suc at) = omega arith in
@@ -42,7 +42,7 @@ short-unfit at (c ∷ []) p q = refl
 short-unfit at (c ∷ n ∷ []) p q = refl
 short-unfit at (c ∷ n ∷ k ∷ l) p q = absurd (omega arith)
 
-short-none : (l : List ℕ) → length l < 3 → sheetSwitches l ≡ []
+pub short-none : (l : List ℕ) → length l < 3 → sheetSwitches l ≡ []
 unfolding sheetSwitches
 short-none [] q = refl
 short-none (c ∷ []) q = refl
@@ -108,9 +108,11 @@ module _ (s : List ℕ) where
     add-on left ws next inv h e =
         let l = inv .0 in
         let one : sheetFrom rows (addSwitch rows ws (switchingAt s (place left))) (sheetSwitches (drop (place left + 3) s)) ≡ sheetWords rows (sheetSwitches s) =
-            sym (ap (λ (x : List ℕ). sheetFrom rows ws (sheetSwitches x)) (three s (place left) (omega arith))) ∙ inv .1 in
-        (omega arith, ap (λ (w : Words). sheetFrom rows w (sheetSwitches (drop (place (left - 3)) s))) e
-        ∙ ap (λ (k : ℕ). sheetFrom rows (addSwitch rows ws (switchingAt s (place left))) (sheetSwitches (drop k s))) (sym (next-place left h l)) ∙ one)
+        sym (ap (λ (x : List ℕ). sheetFrom rows ws (sheetSwitches x)) (three s (place left) (omega arith))) ∙ inv .1 in (
+          omega arith,
+          ap (λ (w : Words). sheetFrom rows w (sheetSwitches (drop (place (left - 3)) s))) e
+              ∙ ap (λ (k : ℕ). sheetFrom rows (addSwitch rows ws (switchingAt s (place left))) (sheetSwitches (drop k s))) (sym (next-place left h l)) ∙ one,
+        )
 
     pub add-ended : (left : ℕ) (ws : Words) → Adding left ws → left ≤ 2 → ws ≡ sheetWords rows (sheetSwitches s)
     unfolding sheetFrom

@@ -1,6 +1,6 @@
 -- A COMMISSIONING SHEET (R18.1, R18.2): single switches, three bytes each, and the words that they come to.
-use Prim.Native.Nat.{ℕ, _+_, _*_, _/_}
-use mathlib.Core.Bool.{Bool, cond, _&&_}
+use Prim.Native.Nat.{ℕ, zero, suc, _+_, _*_, _/_}
+use mathlib.Core.Bool.{Bool, true, false, cond, _&&_}
 use mathlib.Core.List.{List, [], _∷_}
 use lib.Dec.{eqb, ltb}
 use lib.ListN.{length}
@@ -82,3 +82,17 @@ fateOf rows sheet k =
     cond (ltb k (length sheet / 3) && switchThere rows (switchingAt sheet (k * 3)))
     (cond (eqb (lastAlike sheet k) k) Counts (Overridden (lastAlike sheet k)))
     Missing
+
+-- R18.7: the shortened sheet: the switches that count, in their order
+abbrev pub countsFor : Fate → Bool
+countsFor Counts = true
+countsFor (Overridden k) = false
+countsFor Missing = false
+
+unfoldable pub keptFrom : ℕ → List ℕ → ℕ → ℕ → List Switching
+keptFrom rows sheet zero k = []
+keptFrom rows sheet (suc n) k =
+    cond (countsFor (fateOf rows sheet k)) (switchingAt sheet (k * 3) ∷ keptFrom rows sheet n (suc k)) (keptFrom rows sheet n (suc k))
+
+abbrev pub keptOf : ℕ → List ℕ → List Switching
+keptOf rows sheet = keptFrom rows sheet (length sheet / 3) 0
