@@ -138,6 +138,11 @@ faults! {
         OldTie: "more equal fields win, and the two kinds of half match tie",
         PortFirst: "any address with the port beats the address with any port",
     }
+    sheets {
+        FirstSwitchWins: "the first switch of a group wins, not the last",
+        OnAndOff: "a bit forced on and later off is kept in both words",
+        RefusedToZero: "a refused switch is applied to connection 0",
+    }
     frame {
         FrameOneMore: "a payload of 1,465 bytes may be framed",
         RoomForPayloadOnly: "an out buffer as long as the payload is long enough",

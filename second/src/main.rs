@@ -15,6 +15,8 @@ mod random;
 mod runs;
 mod script;
 mod select;
+mod sheet;
+mod sheets;
 mod shrink;
 mod sound;
 mod state;
@@ -35,7 +37,7 @@ use std::process::ExitCode;
 
 const USAGE: &str = "second compare PART [--seed N] [--count N] [--store FOLDER] -- PROGRAM ..
     random cases: the program answers as this one expects. PART is table, walk or frame (PROGRAM is the C driver), runs,
-    streams or selections (PROGRAM is run), takes (PROGRAM is takes); or, for a fixed list, changes (of the 86-byte image) or cuts (of a datagram)
+    streams or selections (PROGRAM is run), takes (PROGRAM is takes), sheets (PROGRAM is shorten); or, for a fixed list, changes (of the 86-byte image) or cuts (of a datagram)
 second replay PART FOLDER -- PROGRAM ..
     the same for the cases stored in a folder
 second faults PART [--seed N] [--count N] -- PROGRAM ..
@@ -49,7 +51,7 @@ second edges
     prints what tests/edges.c is to print
 second files FOLDER OUT
     writes the images stored in a folder as files of bytes, and prints what tests/edges.c is to print of them
-second simulate run|takes|driver
+second simulate run|takes|sheets|driver
     gives what this program is to give for its input
 With --fault NAME a seeded fault is on in any of these.";
 
@@ -83,6 +85,8 @@ fn obey(words: &Words) -> Result<(), String> {
     match plain[..] {
         ["compare", "takes"] => verbs::compare_takes(words),
         ["faults", "takes"] => verbs::fault_takes(words),
+        ["compare", "sheets"] => verbs::compare_sheets(words),
+        ["faults", "sheets"] => verbs::fault_sheets(words),
         ["compare", part] if verbs::is_script(part) => verbs::compare_scripts(part, words),
         ["compare", part] => verbs::compare_requests(part, words),
         ["replay", "takes", folder] => verbs::replay_takes(Path::new(folder), words),
@@ -97,6 +101,7 @@ fn obey(words: &Words) -> Result<(), String> {
         ["files", folder, out] => verbs::files(Path::new(folder), Path::new(out)),
         ["simulate", "run"] => verbs::simulate(|input| lines::lines(input, |_| ())),
         ["simulate", "driver"] => verbs::simulate_driver(),
+        ["simulate", "sheets"] => verbs::simulate(sheet::lines),
         ["simulate", "takes"] => verbs::simulate(|input| takes::lines(&takes::read(input))),
         _ => Err(USAGE.into()),
     }

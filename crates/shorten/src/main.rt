@@ -129,11 +129,22 @@ fn short(rows: usize, sheet: &[u8]) {
 
 // ---- the whole
 
+// The first of two patterns for one, the second for another number.
+fn counted(patterns: &[u8], n: usize) {
+    say(phrase(patterns, if n == 1 { 0 } else { 1 }), n, b"");
+}
+
 fn told(rows: usize, sheet: &[u8], words: Words) {
-    say(b"sheet: @ line^\n", sheet.len() / 3, b"");
+    counted(
+        b"sheet of @ switch\n/sheet of @ switches\n/",
+        sheet.len() / 3,
+    );
     pairs(rows, words);
     fates(rows, sheet);
-    say(b"short sheet: @ line^\n", how_many(rows, sheet), b"");
+    counted(
+        b"short sheet of @ switch\n/short sheet of @ switches\n/",
+        how_many(rows, sheet),
+    );
     short(rows, sheet);
     say(b"OK\n", 0, b"");
 }

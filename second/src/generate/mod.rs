@@ -5,5 +5,6 @@ pub mod framing;
 pub mod image;
 pub mod script;
 pub mod selection;
+pub mod sheet;
 pub mod state;
 pub mod table;
