@@ -123,7 +123,8 @@ fn fate(rows: usize, switches: &[Switch], k: usize) -> Option<String> {
 
 fn told(rows: usize, switches: &[Switch]) -> Vec<String> {
     let words = shorten(rows, switches);
-    let pair = |(i, pair): (usize, &Pair)| format!("connection {}: forced on 0x{:08x}, forced off 0x{:08x}", i, pair.on, pair.off);
+    let pair =
+        |(i, pair): (usize, &Pair)| format!("connection {}: forced on 0x{:08x}, forced off 0x{:08x}", i, pair.on, pair.off);
     let mut lines = vec![counted("sheet", switches.len())];
     lines.extend(words.iter().enumerate().take(rows).map(pair));
     lines.extend((0..switches.len()).filter_map(|k| fate(rows, switches, k)));
@@ -147,7 +148,9 @@ pub fn lines(input: &[u8]) -> Vec<String> {
     match read(sheet) {
         _ if sheet.len() > MOST => refused("sheet refused: it is longer than 12288 bytes (4096 switches)".into()),
         Ok(switches) => told(rows, &switches),
-        Err(at) if at % 3 == 2 => refused(format!("sheet refused at byte {}: the position is {}, neither 0 (off) nor 1 (on)", at, sheet[at])),
+        Err(at) if at % 3 == 2 => {
+            refused(format!("sheet refused at byte {}: the position is {}, neither 0 (off) nor 1 (on)", at, sheet[at]))
+        }
         Err(at) => refused(format!("sheet refused at byte {}: cut off inside a switch of 3 bytes", at)),
     }
 }

@@ -96,11 +96,12 @@ pub fn compare(program: &[String], seed: u64, count: usize) -> Result<(usize, Me
     Ok((different, met))
 }
 
-/// In how many cases each fault shows, and in how many of them by the state alone.
+/// In how many cases each fault shows, in the lines and in a state that is left.
 pub fn try_faults(program: &[String], seed: u64, count: usize, faults: &[(Fault, &str)]) -> Result<Vec<usize>, String> {
     let cases = cases(seed, count);
     let got: Vec<Vec<String>> = cases.iter().map(|case| printed(program, &case.input())).collect::<Result<_, _>>()?;
-    let shows = |fault, case: &Case, got: &Vec<String>| fault::with(fault, || lines(&case.input()) != *got && !states_agree(case, got));
+    let shows =
+        |fault, case: &Case, got: &Vec<String>| fault::with(fault, || lines(&case.input()) != *got && !states_agree(case, got));
     let noticed = |&(fault, _): &(Fault, &str)| cases.iter().zip(&got).filter(|(case, got)| shows(fault, case, got)).count();
     Ok(faults.iter().map(noticed).collect())
 }
