@@ -6,7 +6,7 @@ import sys
 import tempfile
 
 SEED = int(os.environ.get("SEED", random.SystemRandom().randrange(2 ** 32)))
-SHEETS = 12
+SHEETS = 5
 TABLE, EXAMPLE = "examples/debarker.txt", "examples/sheet.txt"
 rand = random.Random(SEED)
 passed = failed = 0
@@ -56,8 +56,14 @@ def by_hand(switches):
     return [(f"connection {c}", f": forced on 0x{on:08x}, forced off 0x{off:08x}") for c, (on, off) in words.items()]
 
 
+def converted(direction, data):
+    return subprocess.run(["text/convert", "sheet", direction], input=data, stdout=subprocess.PIPE, stderr=subprocess.PIPE).stdout
+
+
 def random_sheet(number):
     switches = some_switches()
+    data = bytes(b for switch in switches for b in switch)
+    tried(f"sheet {number} both ways", converted("bytes", text_of(switches)) == data and converted("text", data) == text_of(switches), data)
     long = file("long.txt", text_of(switches))
     status, said, _ = soad("sheet", TABLE, long)
     lines = said.splitlines()
@@ -67,7 +73,7 @@ def random_sheet(number):
     short = file("short.txt", kept.encode())
     tried(f"the shortened sheet {number} leaves the records of the long one", status == 0 and records(short) == records(long), kept)
     tried(f"the shortened sheet {number} is as short as can be", soad("sheet", "--short", TABLE, short)[1] == kept, kept)
-    told = soad("sheet", "--short", TABLE, file("long.bin", bytes(b for switch in switches for b in switch)))
+    told = soad("sheet", "--short", TABLE, file("long.bin", data))
     tried(f"sheet {number} as bytes", told[:2] == (0, kept), told)
 
 
