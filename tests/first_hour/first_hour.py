@@ -148,7 +148,7 @@ def statuses():
     long, bad = "examples/debarker-too-long.table", file("bad.txt", b"group 0 udp\n")
     for words, status, last in ((("check", TABLE), 0, "OK"), (("run", TABLE, SHIFT), 0, "OK"), (("check", long), 1, "REFUSED"),
                                 (("run", TABLE, cut), 1, "CUT"), (("run", TABLE, wrong), 1, "REFUSED"), (("run", long, SHIFT), 1, "REFUSED"),
-                                (("sheet", TABLE, SHEET), 0, "OK"), (("sheet", TABLE, cut), 1, "REFUSED"), (("sheet", long, SHEET), 1, "REFUSED"),
+                                (("sheet", TABLE, SHEET), 0, "OK"), (("sheet", TABLE, wrong), 1, "REFUSED"), (("sheet", long, SHEET), 1, "REFUSED"),
                                 ((BENCH[0], long, *BENCH[2:]), 1, "REFUSED")):
         got = soad(*words)
         same((got[0], got[1].split("\n")[-2:]), (status, [last, ""]), f"./soad {words}: status and last line")

@@ -7,7 +7,7 @@ use mathlib.Core.List.{List, [], _∷_, _++_}
 use native.Mathlib.Omega.{arith}
 use lib.Dec.{ltb}
 use native.Mathlib.Decide.{ℕ-discrete, decLt}
-use lib.ListN.{length, getD, set, length-set, getD-replicate, List·getD-eq-default}
+use lib.ListN.{length, getD, length-set, getD-replicate, List·getD-eq-default}
 use lib.Seq.{ext-getD, getD-set-same, getD-set-other, set-set, set-comm}
 use Rattle.lists.specs.Each.{each, allFrom}
 use Rattle.lists.proofs.Each.{all-at, each-length, each-all, one-at}
@@ -18,7 +18,8 @@ use Rattle.sheet.specs.declared.Switching.{Switching}
 use Rattle.sheet.specs.Force.{forceThen, forceNone, forceOne, noWords, pairAt, withPair, joinAt, joinWords, neverTwice, agreeing}
 use Rattle.sheet.specs.declared.SheetFit.the-variants.{Fits, Unfit}
 use Rattle.sheet.specs.Sheet.{switching, sheetSwitches, fitFrom, switchThere, addSwitch, sheetFrom, sheetWords}
-use Rattle.sheet.proofs.Pairs.{Apart, apart-from, apart-to, then-assoc, then-none, none-then, then-apart, none-apart, one-apart, then-width, one-width, one-twice, one-swap}
+use Rattle.sheet.proofs.Pairs.{Apart, apart-from, apart-to, then-assoc, then-none, none-then}
+use Rattle.sheet.proofs.Pairs.{then-apart, none-apart, one-apart, then-width, one-width, one-twice, one-swap}
 use Rattle.sheet.proofs.Turns.{there-row, there-below}
 
 -- a switch by its parts
@@ -104,7 +105,8 @@ join-assoc a b c f g =
 module _ (rows : ℕ) where
   -- one switch more: its own pair, or none
   module _ (ws : Words) (s : Switching) where
-    pub add-there : switchThere rows s ≡ true → addSwitch rows ws s ≡ withPair (s .connection) (forceThen (pairAt ws (s .connection)) (forceOne (s .number) (s .on))) ws
+    pub add-there : switchThere rows s ≡ true → addSwitch rows ws s
+        ≡ withPair (s .connection) (forceThen (pairAt ws (s .connection)) (forceOne (s .number) (s .on))) ws
     unfolding addSwitch
     add-there e = rw e
 
@@ -120,14 +122,16 @@ module _ (rows : ℕ) where
         go false e = ap (λ (w : Words). length (w .pairs)) (add-missing e) ∙ f
 
     -- what every pair has that the switches leave it
-    pub add-each : (P : Pair → Type 0) (i : ℕ) → (switchThere rows s ≡ true → s .connection ≡ i → P (pairAt ws i) → P (forceThen (pairAt ws i) (forceOne (s .number) (s .on))))
+    pub add-each : (P : Pair → Type 0) (i : ℕ) → (switchThere rows s ≡ true → s .connection ≡ i → P (pairAt ws i)
+        → P (forceThen (pairAt ws i) (forceOne (s .number) (s .on))))
         → P (pairAt ws i) → P (pairAt (addSwitch rows ws s) i)
     add-each P i step p = go (switchThere rows s) refl
       where
         go : (b : Bool) → switchThere rows s ≡ b → P (pairAt (addSwitch rows ws s) i)
         go true e =
             subst (λ (w : Words). P (pairAt w i)) (sym (add-there e))
-            (one-at forceNone (ws .pairs) (s .connection) i _ P (λ q. subst (λ (k : ℕ). P (forceThen (pairAt ws k) (forceOne (s .number) (s .on)))) (sym q) (step e q p)) p)
+            (one-at forceNone (ws .pairs) (s .connection) i _ P
+            (λ q. subst (λ (k : ℕ). P (forceThen (pairAt ws k) (forceOne (s .number) (s .on)))) (sym q) (step e q p)) p)
         go false e = subst (λ (w : Words). P (pairAt w i)) (sym (add-missing e)) p
 
   -- one switch more is its own words joined behind
@@ -138,12 +142,15 @@ module _ (rows : ℕ) where
       one = forceOne (s .number) (s .on)
 
       own : switchThere rows s ≡ true → (i : ℕ) → Dec (i ≡ s .connection) → i < 16
-          → pairAt (withPair (s .connection) (forceThen (pairAt ws (s .connection)) one) ws) i ≡ forceThen (pairAt ws i) (pairAt (withPair (s .connection) (forceThen (pairAt noWords (s .connection)) one) noWords) i)
+          → pairAt (withPair (s .connection) (forceThen (pairAt ws (s .connection)) one) ws) i
+          ≡ forceThen (pairAt ws i) (pairAt (withPair (s .connection) (forceThen (pairAt noWords (s .connection)) one) noWords) i)
       own e i (yes q) h =
           let c = there-below rows s e in
           ap (λ (k : ℕ). pairAt (withPair (s .connection) (forceThen (pairAt ws (s .connection)) one) ws) k) q
           ∙ getD-set-same (ws .pairs) (s .connection) _ forceNone (omega arith)
-          ∙ ap (forceThen (pairAt ws (s .connection))) (sym (ap (λ (p : Pair). forceThen p one) (no-at (s .connection)) ∙ none-then one (one-apart (s .number) (s .on))) ∙ sym (getD-set-same (noWords .pairs) (s .connection) _ forceNone c))
+          ∙ ap (forceThen (pairAt ws (s .connection)))
+          (sym (ap (λ (p : Pair). forceThen p one) (no-at (s .connection)) ∙ none-then one (one-apart (s .number) (s .on)))
+          ∙ sym (getD-set-same (noWords .pairs) (s .connection) _ forceNone c))
           ∙ ap (λ (k : ℕ). forceThen (pairAt ws k) (pairAt (withPair (s .connection) (forceThen (pairAt noWords (s .connection)) one) noWords) k)) (sym q)
       own e i (no ne) h =
           getD-set-other (ws .pairs) (s .connection) i _ forceNone ne
@@ -165,12 +172,14 @@ module _ (rows : ℕ) where
   words-full ss = from-full noWords ss no-full
 
   -- what the switches leave to every pair that has it
-  pub from-each : (P : Pair → Type 0) → ((p : Pair) (n : ℕ) (b : Bool) → P p → P (forceThen p (forceOne n b))) → (ws : Words) (ss : List Switching) (i : ℕ) → P (pairAt ws i) → P (pairAt (sheetFrom rows ws ss) i)
+  pub from-each : (P : Pair → Type 0) → ((p : Pair) (n : ℕ) (b : Bool) → P p → P (forceThen p (forceOne n b))) → (ws : Words) (ss : List Switching) (i : ℕ)
+      → P (pairAt ws i) → P (pairAt (sheetFrom rows ws ss) i)
   unfolding sheetFrom
   from-each P step ws [] i p = p
   from-each P step ws (s ∷ ss) i p = from-each P step (addSwitch rows ws s) ss i (add-each ws s P i (λ _ _ q. step (pairAt ws i) (s .number) (s .on) q) p)
 
-  pub words-each : (P : Pair → Type 0) → P forceNone → ((p : Pair) (n : ℕ) (b : Bool) → P p → P (forceThen p (forceOne n b))) → (ss : List Switching) (i : ℕ) → P (pairAt (sheetWords rows ss) i)
+  pub words-each : (P : Pair → Type 0) → P forceNone → ((p : Pair) (n : ℕ) (b : Bool) → P p → P (forceThen p (forceOne n b))) → (ss : List Switching) (i : ℕ)
+      → P (pairAt (sheetWords rows ss) i)
   words-each P none step ss i = from-each P step noWords ss i (subst P (sym (no-at i)) none)
 
   -- R18.5: the words of a sheet have no bit in both
@@ -231,7 +240,8 @@ module _ (rows : ℕ) where
       go false e = ap (λ (w : Words). addSwitch rows w (at c n b)) (add-missing ws (at c n a) e)
 
   -- R18.8: different switches, or the same of different connections, may change places
-  pub add-swap : (ws : Words) (s t : Switching) → (s .connection ≡ t .connection → s .number ≡ t .number → ⊥) → Full ws → addSwitch rows (addSwitch rows ws s) t ≡ addSwitch rows (addSwitch rows ws t) s
+  pub add-swap : (ws : Words) (s t : Switching) → (s .connection ≡ t .connection → s .number ≡ t .number → ⊥) → Full ws
+      → addSwitch rows (addSwitch rows ws s) t ≡ addSwitch rows (addSwitch rows ws t) s
   add-swap ws s t ne f = go (switchThere rows s) refl (switchThere rows t) refl
     where
       c : ℕ
@@ -247,18 +257,24 @@ module _ (rows : ℕ) where
       q = forceOne (t .number) (t .on)
 
       twice : (w : Words) (s t : Switching) → switchThere rows s ≡ true → switchThere rows t ≡ true
-          → addSwitch rows (addSwitch rows w s) t ≡ withPair (t .connection) (forceThen (pairAt (withPair (s .connection) (forceThen (pairAt w (s .connection)) (forceOne (s .number) (s .on))) w) (t .connection)) (forceOne (t .number) (t .on))) (withPair (s .connection) (forceThen (pairAt w (s .connection)) (forceOne (s .number) (s .on))) w)
+          → addSwitch rows (addSwitch rows w s) t ≡ withPair (t .connection)
+          (forceThen (pairAt (withPair (s .connection) (forceThen (pairAt w (s .connection)) (forceOne (s .number) (s .on))) w) (t .connection))
+          (forceOne (t .number) (t .on))) (withPair (s .connection) (forceThen (pairAt w (s .connection)) (forceOne (s .number) (s .on))) w)
       twice w s t e g = ap (λ (w : Words). addSwitch rows w t) (add-there w s e) ∙ add-there _ t g
 
-      apart : (c k : ℕ) (p q : Pair) → (k ≡ c → ⊥) → withPair k (forceThen (pairAt (withPair c (forceThen (pairAt ws c) p) ws) k) q) (withPair c (forceThen (pairAt ws c) p) ws) ≡ withPair k (forceThen (pairAt ws k) q) (withPair c (forceThen (pairAt ws c) p) ws)
+      apart : (c k : ℕ) (p q : Pair) → (k ≡ c → ⊥)
+          → withPair k (forceThen (pairAt (withPair c (forceThen (pairAt ws c) p) ws) k) q) (withPair c (forceThen (pairAt ws c) p) ws)
+          ≡ withPair k (forceThen (pairAt ws k) q) (withPair c (forceThen (pairAt ws c) p) ws)
       apart c k p q d = ap (λ (x : Pair). withPair k (forceThen x q) (withPair c (forceThen (pairAt ws c) p) ws)) (getD-set-other (ws .pairs) c k _ forceNone d)
 
-      one : (c : ℕ) (p q : Pair) → c < 16 → withPair c (forceThen (pairAt (withPair c (forceThen (pairAt ws c) p) ws) c) q) (withPair c (forceThen (pairAt ws c) p) ws) ≡ withPair c (forceThen (pairAt ws c) (forceThen p q)) ws
+      one : (c : ℕ) (p q : Pair) → c < 16 → withPair c (forceThen (pairAt (withPair c (forceThen (pairAt ws c) p) ws) c) q)
+          (withPair c (forceThen (pairAt ws c) p) ws) ≡ withPair c (forceThen (pairAt ws c) (forceThen p q)) ws
       one c p q h =
           ap (λ (x : Pair). withPair c (forceThen x q) (withPair c (forceThen (pairAt ws c) p) ws)) (getD-set-same (ws .pairs) c _ forceNone (omega arith))
           ∙ ap (λ (l : List Pair). record { pairs = l }) (set-set (ws .pairs) c _ _) ∙ ap (λ (x : Pair). withPair c x ws) (then-assoc (pairAt ws c) p q)
 
-      same : Dec (c ≡ k) → switchThere rows s ≡ true → switchThere rows t ≡ true → addSwitch rows (addSwitch rows ws s) t ≡ addSwitch rows (addSwitch rows ws t) s
+      same : Dec (c ≡ k) → switchThere rows s ≡ true → switchThere rows t ≡ true
+          → addSwitch rows (addSwitch rows ws s) t ≡ addSwitch rows (addSwitch rows ws t) s
       same (no d) e g =
           twice ws s t e g ∙ apart c k p q (λ x. d (sym x)) ∙ ap (λ (l : List Pair). record { pairs = l }) (set-comm (ws .pairs) c k _ _ d)
           ∙ sym (twice ws t s g e ∙ apart k c q p d)
@@ -266,11 +282,13 @@ module _ (rows : ℕ) where
           let h = there-below rows s e in
           twice ws s t e g
           ∙ ap (λ (i : ℕ). withPair i (forceThen (pairAt (withPair c (forceThen (pairAt ws c) p) ws) i) q) (withPair c (forceThen (pairAt ws c) p) ws)) (sym d)
-          ∙ one c p q h ∙ ap (λ (x : Pair). withPair c (forceThen (pairAt ws c) x) ws) (one-swap (s .number) (t .number) (s .on) (t .on) (ne d)) ∙ sym (one c q p h)
+          ∙ one c p q h ∙ ap (λ (x : Pair). withPair c (forceThen (pairAt ws c) x) ws) (one-swap (s .number) (t .number) (s .on) (t .on) (ne d))
+          ∙ sym (one c q p h)
           ∙ ap (λ (i : ℕ). withPair c (forceThen (pairAt (withPair i (forceThen (pairAt ws i) q) ws) c) p) (withPair i (forceThen (pairAt ws i) q) ws)) d
           ∙ sym (twice ws t s g e)
 
-      go : (x : Bool) → switchThere rows s ≡ x → (y : Bool) → switchThere rows t ≡ y → addSwitch rows (addSwitch rows ws s) t ≡ addSwitch rows (addSwitch rows ws t) s
+      go : (x : Bool) → switchThere rows s ≡ x → (y : Bool) → switchThere rows t ≡ y
+          → addSwitch rows (addSwitch rows ws s) t ≡ addSwitch rows (addSwitch rows ws t) s
       go true e true g = same (ℕ-discrete c k) e g
       go true e false g = add-missing _ t g ∙ sym (ap (λ (w : Words). addSwitch rows w s) (add-missing ws t g))
       go false e y g = ap (λ (w : Words). addSwitch rows w t) (add-missing ws s e) ∙ sym (add-missing _ s e)

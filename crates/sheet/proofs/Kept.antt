@@ -15,7 +15,8 @@ use Rattle.sheet.specs.declared.Switching.{Switching}
 use Rattle.sheet.specs.declared.Fate.{Fate}
 use Rattle.sheet.specs.declared.Fate.the-variants.{Counts, Overridden, Missing}
 use Rattle.sheet.specs.Force.{noWords}
-use Rattle.sheet.specs.Sheet.{switchingAt, sheetSwitches, switchThere, addSwitch, sheetFrom, sheetWords, alike, pickAlike, lastAlike, fateOf, countsFor, keptFrom, keptOf}
+use Rattle.sheet.specs.Sheet.{switchingAt, sheetSwitches, switchThere, addSwitch, sheetFrom, sheetWords}
+use Rattle.sheet.specs.Sheet.{alike, pickAlike, lastAlike, fateOf, countsFor, keptFrom, keptOf}
 use Rattle.sheet.proofs.Turns.{three, short-none}
 use Rattle.sheet.proofs.Joins.{at, Full, no-full, add-full, add-missing, add-twice, add-swap}
 
@@ -27,7 +28,8 @@ add-alike : (rows : ℕ) (ws : Words) (t u : Switching) → Full ws → alike t 
 add-alike rows ws t u f e =
     let c = eqb-true _ _ (and-left (eqb (t .connection) (u .connection)) _ e) in
     let n = eqb-true _ _ (and-right (eqb (t .connection) (u .connection)) _ e) in
-    ap (λ (x : Switching). addSwitch rows (addSwitch rows ws x) u) (ap₂ (λ (c n : ℕ). at c n (t .on)) c n) ∙ add-twice rows ws (u .connection) (u .number) (t .on) (u .on) f
+    ap (λ (x : Switching). addSwitch rows (addSwitch rows ws x) u) (ap₂ (λ (c n : ℕ). at c n (t .on)) c n)
+    ∙ add-twice rows ws (u .connection) (u .number) (t .on) (u .on) f
 
 module _ (rows : ℕ) (s : List ℕ) where
   abbrev count : ℕ
@@ -47,10 +49,12 @@ module _ (rows : ℕ) (s : List ℕ) where
       ∙ ap (λ (l : List Switching). switchingAt s (k * 3) ∷ l) (ap (λ (m : ℕ). sheetSwitches (drop m s)) z ∙ switches-from n (suc k) (omega arith))
 
   -- the last switch like switch k is one of the sheet's, and no earlier
-  pub last-later : (k : ℕ) → k < count → (alike (switchingAt s (k * 3)) (switchingAt s (lastAlike s k * 3)) ≡ true) × (lastAlike s k < count) × (k ≤ lastAlike s k)
+  pub last-later : (k : ℕ) → k < count → (alike (switchingAt s (k * 3)) (switchingAt s (lastAlike s k * 3)) ≡ true) × (lastAlike s k < count) ×
+      (k ≤ lastAlike s k)
   unfolding lastAlike
   last-later k h =
-      let r = fold-goes (pickAlike s k) Holds count 0 k (λ i c l u p. go i c (omega arith) (alike (switchingAt s (k * 3)) (switchingAt s (i * 3))) refl p) (alike-self (switchingAt s (k * 3)), h, λ l. absurd (omega arith)) in
+      let r = fold-goes (pickAlike s k) Holds count 0 k (λ i c l u p. go i c (omega arith) (alike (switchingAt s (k * 3)) (switchingAt s (i * 3))) refl p)
+      (alike-self (switchingAt s (k * 3)), h, λ l. absurd (omega arith)) in
       (r .0, r .1, r .2 (omega arith))
     where
       Holds : ℕ → ℕ → Type 0
@@ -61,15 +65,18 @@ module _ (rows : ℕ) (s : List ℕ) where
       go i c l false e p = (p .0, p .1, λ q. past q (ℕ-discrete k i))
         where
           past : k < suc i → Dec (k ≡ i) → k ≤ c
-          past q (yes d) = impossible (sym e ∙ ap (λ (m : ℕ). alike (switchingAt s (k * 3)) (switchingAt s (m * 3))) (sym d) ∙ alike-self (switchingAt s (k * 3)))
+          past q (yes d) = impossible (sym e ∙ ap (λ (m : ℕ). alike (switchingAt s (k * 3)) (switchingAt s (m * 3))) (sym d)
+              ∙ alike-self (switchingAt s (k * 3)))
           past q (no d) = p .2 (omega arith)
 
   -- a switch that a later one overrides changes nothing
-  overriding : (t : Switching) (n k j : ℕ) → k ≤ j → j < k + n → alike t (switchingAt s (j * 3)) ≡ true → (ws : Words) → Full ws → sheetFrom rows (addSwitch rows ws t) (numbered n k) ≡ sheetFrom rows ws (numbered n k)
+  overriding : (t : Switching) (n k j : ℕ) → k ≤ j → j < k + n → alike t (switchingAt s (j * 3)) ≡ true → (ws : Words) → Full ws
+      → sheetFrom rows (addSwitch rows ws t) (numbered n k) ≡ sheetFrom rows ws (numbered n k)
   unfolding sheetFrom
   overriding t zero k j l u e ws f = absurd (omega arith)
   overriding t (suc n) k j l u e ws f =
-      go (λ h. overriding t n (suc k) j h (omega arith) e (addSwitch rows ws (switchingAt s (k * 3))) (add-full rows ws (switchingAt s (k * 3)) f)) (alike t (switchingAt s (k * 3))) refl
+      go (λ h. overriding t n (suc k) j h (omega arith) e (addSwitch rows ws (switchingAt s (k * 3))) (add-full rows ws (switchingAt s (k * 3)) f))
+      (alike t (switchingAt s (k * 3))) refl
     where
       ne : alike t (switchingAt s (k * 3)) ≡ false → t .connection ≡ switchingAt s (k * 3) .connection → t .number ≡ switchingAt s (k * 3) .number → ⊥
       ne q c m = impossible (sym q ∙ and-both (eq-eqb _ _ c) (eq-eqb _ _ m))
@@ -78,9 +85,11 @@ module _ (rows : ℕ) (s : List ℕ) where
       later q (yes d) = impossible (sym q ∙ ap (λ (m : ℕ). alike t (switchingAt s (m * 3))) d ∙ e)
       later q (no d) = omega arith
 
-      go : (suc k ≤ j → sheetFrom rows (addSwitch rows (addSwitch rows ws (switchingAt s (k * 3))) t) (numbered n (suc k)) ≡ sheetFrom rows (addSwitch rows ws (switchingAt s (k * 3))) (numbered n (suc k)))
+      go : (suc k ≤ j → sheetFrom rows (addSwitch rows (addSwitch rows ws (switchingAt s (k * 3))) t) (numbered n (suc k))
+          ≡ sheetFrom rows (addSwitch rows ws (switchingAt s (k * 3))) (numbered n (suc k)))
           → (b : Bool) → alike t (switchingAt s (k * 3)) ≡ b
-          → sheetFrom rows (addSwitch rows (addSwitch rows ws t) (switchingAt s (k * 3))) (numbered n (suc k)) ≡ sheetFrom rows (addSwitch rows ws (switchingAt s (k * 3))) (numbered n (suc k))
+          → sheetFrom rows (addSwitch rows (addSwitch rows ws t) (switchingAt s (k * 3))) (numbered n (suc k))
+          ≡ sheetFrom rows (addSwitch rows ws (switchingAt s (k * 3))) (numbered n (suc k))
       go more true q = ap (λ (w : Words). sheetFrom rows w (numbered n (suc k))) (add-alike rows ws t (switchingAt s (k * 3)) f q)
       go more false q =
           ap (λ (w : Words). sheetFrom rows w (numbered n (suc k))) (add-swap rows ws t (switchingAt s (k * 3)) (ne q) f)
@@ -91,7 +100,8 @@ module _ (rows : ℕ) (s : List ℕ) where
   unfolding fateOf
   fate-is-missing k h e = go (switchThere rows (switchingAt s (k * 3))) refl (eqb (lastAlike s k) k) (rw (lt-ltb k count h) at e)
     where
-      go : (b : Bool) → switchThere rows (switchingAt s (k * 3)) ≡ b → (c : Bool) → cond b (cond c Counts (Overridden (lastAlike s k))) Missing ≡ Missing → switchThere rows (switchingAt s (k * 3)) ≡ false
+      go : (b : Bool) → switchThere rows (switchingAt s (k * 3)) ≡ b → (c : Bool) → cond b (cond c Counts (Overridden (lastAlike s k))) Missing ≡ Missing
+          → switchThere rows (switchingAt s (k * 3)) ≡ false
       go false q c p = q
       go true q true p = absurd (let z : _≡_ {A = ℕ} 0 1 = cc in omega arith)
       go true q false p = absurd (let z : _≡_ {A = ℕ} 0 1 = cc in omega arith)
@@ -113,7 +123,8 @@ module _ (rows : ℕ) (s : List ℕ) where
       u = switchingAt s (k * 3)
 
       go : ((w : Words) → Full w → sheetFrom rows w (keptFrom rows s n (suc k)) ≡ sheetFrom rows w (numbered n (suc k))) → (x : Fate) → fateOf rows s k ≡ x
-          → sheetFrom rows ws (cond (countsFor x) (u ∷ keptFrom rows s n (suc k)) (keptFrom rows s n (suc k))) ≡ sheetFrom rows (addSwitch rows ws u) (numbered n (suc k))
+          → sheetFrom rows ws (cond (countsFor x) (u ∷ keptFrom rows s n (suc k)) (keptFrom rows s n (suc k)))
+          ≡ sheetFrom rows (addSwitch rows ws u) (numbered n (suc k))
       go rest Counts q = rest (addSwitch rows ws u) (add-full rows ws u f)
       go rest (Overridden j) q =
           let r = last-later k (omega arith) in

@@ -1,6 +1,6 @@
 -- The bits of a word as truth values, for words of any width: a word is told by its bits, and what is made of words bit by bit has the bits so made.
 use Prim.Native.Nat.{ℕ, zero, suc, _+_, _*_, _/_, _%_, _^_, _<_, min, max}
-use mathlib.Core.Path.{_≡_, refl, sym, ap, ap₂, _∙_}
+use mathlib.Core.Path.{_≡_, refl, sym, ap, _∙_}
 use mathlib.Core.Bool.{Bool, true, false, cond, not, _&&_, _||_}
 use native.Mathlib.Omega.{arith}
 use native.Mathlib.Nat.{div-eq-of-lt}
@@ -9,7 +9,6 @@ use lib.Arith.{bin-ind}
 use lib.Bits.{bitAnd, bitOr, bitXor, differ, and-step, or-step, xor-step, and-shr, or-shr, xor-shr, or-zero-l}
 use lib.Dec.{eqb}
 use lib.Pow.{pow-pos, shr-shr}
-use borrow.Author.Tests.{eq-eqb, le-ltb}
 use Rattle.wire.specs.Bits.{bitAt}
 use Rattle.connection.specs.Connection.{worth, switchOf}
 use Rattle.connection.proofs.Bits.{switch-other, worth-none}

@@ -3,8 +3,8 @@
 use Prim.Native.Nat.{ℕ, _<_, _^_}
 use mathlib.Core.Path.{_≡_, refl, sym, ap, ap₂, _∙_}
 use mathlib.Core.Bool.{Bool, true, false, cond, _&&_, _||_}
-use lib.Bits.{bitAnd, bitOr, bitXor, or-zero-r, xor-zero-r, or-lt, xor-lt}
-use lib.Dec.{eqb, ltb}
+use lib.Bits.{bitOr, bitXor, or-zero-r, xor-zero-r, or-lt, xor-lt}
+use lib.Dec.{ltb}
 use lib.Pow.{pow-lt}
 use native.Mathlib.Omega.{arith}
 use borrow.Author.Tests.{eqb-true, eq-eqb, ltb-true}
@@ -44,7 +44,8 @@ same-pair p q on off = ap₂ (λ (x y : ℕ). record { on = x; off = y }) (same-
 
 -- R18.4: one pair after another does what one does after the other
 pub then-force : (p q : Pair) (w : ℕ) → forceOf (forceThen p q) w ≡ forceOf q (forceOf p w)
-then-force p q w = same-word _ _ (λ k. lit-force k (forceThen p q) w ∙ ap₂ (λ (x y : Bool). forced x y (lit k w)) (lit-off k p q) (lit-on k p q) ∙ go (lit k (q .off)) (lit k (q .on)) _ _ _ ∙ sym (lit-force k q (forceOf p w) ∙ ap (forced (lit k (q .off)) (lit k (q .on))) (lit-force k p w)))
+then-force p q w = same-word _ _ (λ k. lit-force k (forceThen p q) w ∙ ap₂ (λ (x y : Bool). forced x y (lit k w)) (lit-off k p q) (lit-on k p q)
+    ∙ go (lit k (q .off)) (lit k (q .on)) _ _ _ ∙ sym (lit-force k q (forceOf p w) ∙ ap (forced (lit k (q .off)) (lit k (q .on))) (lit-force k p w)))
   where
     go : (d c b a w : Bool) → forced (cond d true (cond c false b)) (forced d c a) w ≡ forced d c (forced b a w)
     go true c b a w = refl
@@ -57,7 +58,8 @@ then-assoc p q r =
     same-pair _ _
     (λ k. lit-on k (forceThen p q) r ∙ ap (forced (lit k (r .off)) (lit k (r .on))) (lit-on k p q) ∙ on (lit k (r .off)) (lit k (r .on)) _ _ _
     ∙ sym (lit-on k p (forceThen q r) ∙ ap₂ (λ (x y : Bool). forced x y (lit k (p .on))) (lit-off k q r) (lit-on k q r)))
-    (λ k. lit-off k (forceThen p q) r ∙ ap (λ (x : Bool). cond (lit k (r .off)) true (cond (lit k (r .on)) false x)) (lit-off k p q) ∙ off (lit k (r .off)) (lit k (r .on)) _ _ _
+    (λ k. lit-off k (forceThen p q) r ∙ ap (λ (x : Bool). cond (lit k (r .off)) true (cond (lit k (r .on)) false x)) (lit-off k p q)
+    ∙ off (lit k (r .off)) (lit k (r .on)) _ _ _
     ∙ sym (lit-off k p (forceThen q r) ∙ ap₂ (λ (x y : Bool). cond x true (cond y false (lit k (p .off)))) (lit-off k q r) (lit-on k q r)))
   where
     on : (f e d c a : Bool) → forced f e (forced d c a) ≡ forced (cond f true (cond e false d)) (forced f e c) a
@@ -65,7 +67,8 @@ then-assoc p q r =
     on false true d c a = refl
     on false false d c a = refl
 
-    off : (f e d c b : Bool) → cond f true (cond e false (cond d true (cond c false b))) ≡ cond (cond f true (cond e false d)) true (cond (forced f e c) false b)
+    off : (f e d c b : Bool) → cond f true (cond e false (cond d true (cond c false b)))
+        ≡ cond (cond f true (cond e false d)) true (cond (forced f e c) false b)
     off true e d c b = refl
     off false true d c b = refl
     off false false d c b = refl
@@ -110,7 +113,8 @@ then-none p =
 pub none-then : (p : Pair) → Apart p → forceThen forceNone p ≡ p
 none-then p h =
     same-pair _ _ (λ k. lit-on k forceNone p ∙ ap (forced (lit k (p .off)) (lit k (p .on))) (lit-zero k) ∙ bare (lit k (p .off)) (lit k (p .on)) (h k))
-    (λ k. lit-off k forceNone p ∙ ap (λ (x : Bool). cond (lit k (p .off)) true (cond (lit k (p .on)) false x)) (lit-zero k) ∙ off (lit k (p .off)) (lit k (p .on)))
+    (λ k. lit-off k forceNone p ∙ ap (λ (x : Bool). cond (lit k (p .off)) true (cond (lit k (p .on)) false x)) (lit-zero k)
+    ∙ off (lit k (p .off)) (lit k (p .on)))
   where
     off : (b a : Bool) → cond b true (cond a false false) ≡ b
     off true a = refl
@@ -157,8 +161,10 @@ one-twice n a b =
     same-pair _ _
     (λ k. lit-on k (forceOne n a) (forceOne n b) ∙ ap (λ (x : Bool). forced x (lit k (forceOne n b .on)) (lit k (forceOne n a .on))) (one-off k n b)
     ∙ ap₂ (λ (x y : Bool). forced (cond b false (lit k (worth n))) x y) (one-on k n b) (one-on k n a) ∙ on a b (lit k (worth n)) ∙ sym (one-on k n b))
-    (λ k. lit-off k (forceOne n a) (forceOne n b) ∙ ap (λ (x : Bool). cond x true (cond (lit k (forceOne n b .on)) false (lit k (forceOne n a .off)))) (one-off k n b)
-    ∙ ap₂ (λ (x y : Bool). cond (cond b false (lit k (worth n))) true (cond x false y)) (one-on k n b) (one-off k n a) ∙ off a b (lit k (worth n)) ∙ sym (one-off k n b))
+    (λ k. lit-off k (forceOne n a) (forceOne n b) ∙ ap (λ (x : Bool). cond x true (cond (lit k (forceOne n b .on)) false (lit k (forceOne n a .off))))
+    (one-off k n b)
+    ∙ ap₂ (λ (x y : Bool). cond (cond b false (lit k (worth n))) true (cond x false y)) (one-on k n b) (one-off k n a) ∙ off a b (lit k (worth n))
+    ∙ sym (one-off k n b))
   where
     on : (a b e : Bool) → forced (cond b false e) (cond b e false) (cond a e false) ≡ cond b e false
     on a true true = refl
@@ -179,17 +185,21 @@ one-twice n a b =
 -- R18.8: different switches may change places
 pub one-swap : (n m : ℕ) (a b : Bool) → (n ≡ m → ⊥) → forceThen (forceOne n a) (forceOne m b) ≡ forceThen (forceOne m b) (forceOne n a)
 one-swap n m a b ne =
-    same-pair _ _ (λ k. on-is k n m a b ∙ on a b (lit k (worth n)) (lit k (worth m)) (never k (lit k (worth n)) (lit k (worth m)) refl refl) ∙ sym (on-is k m n b a))
+    same-pair _ _ (λ k. on-is k n m a b ∙ on a b (lit k (worth n)) (lit k (worth m)) (never k (lit k (worth n)) (lit k (worth m)) refl refl)
+    ∙ sym (on-is k m n b a))
     (λ k. off-is k n m a b ∙ off a b (lit k (worth n)) (lit k (worth m)) (never k (lit k (worth n)) (lit k (worth m)) refl refl) ∙ sym (off-is k m n b a))
   where
-    on-is : (k n m : ℕ) (a b : Bool) → lit k (forceThen (forceOne n a) (forceOne m b) .on) ≡ forced (cond b false (lit k (worth m))) (cond b (lit k (worth m)) false) (cond a (lit k (worth n)) false)
+    on-is : (k n m : ℕ) (a b : Bool) → lit k (forceThen (forceOne n a) (forceOne m b) .on)
+        ≡ forced (cond b false (lit k (worth m))) (cond b (lit k (worth m)) false) (cond a (lit k (worth n)) false)
     on-is k n m a b =
         lit-on k (forceOne n a) (forceOne m b) ∙ ap (λ (x : Bool). forced x (lit k (forceOne m b .on)) (lit k (forceOne n a .on))) (one-off k m b)
         ∙ ap₂ (λ (x y : Bool). forced (cond b false (lit k (worth m))) x y) (one-on k m b) (one-on k n a)
 
-    off-is : (k n m : ℕ) (a b : Bool) → lit k (forceThen (forceOne n a) (forceOne m b) .off) ≡ cond (cond b false (lit k (worth m))) true (cond (cond b (lit k (worth m)) false) false (cond a false (lit k (worth n))))
+    off-is : (k n m : ℕ) (a b : Bool) → lit k (forceThen (forceOne n a) (forceOne m b) .off)
+        ≡ cond (cond b false (lit k (worth m))) true (cond (cond b (lit k (worth m)) false) false (cond a false (lit k (worth n))))
     off-is k n m a b =
-        lit-off k (forceOne n a) (forceOne m b) ∙ ap (λ (x : Bool). cond x true (cond (lit k (forceOne m b .on)) false (lit k (forceOne n a .off)))) (one-off k m b)
+        lit-off k (forceOne n a) (forceOne m b) ∙ ap (λ (x : Bool). cond x true (cond (lit k (forceOne m b .on)) false (lit k (forceOne n a .off))))
+        (one-off k m b)
         ∙ ap₂ (λ (x y : Bool). cond (cond b false (lit k (worth m))) true (cond x false y)) (one-on k m b) (one-off k n a)
 
     never : (k : ℕ) (x y : Bool) → lit k (worth n) ≡ x → lit k (worth m) ≡ y → (x && y) ≡ false
@@ -197,7 +207,8 @@ one-swap n m a b ne =
     never k true false p q = refl
     never k false y p q = refl
 
-    on : (a b x y : Bool) → (x && y) ≡ false → forced (cond b false y) (cond b y false) (cond a x false) ≡ forced (cond a false x) (cond a x false) (cond b y false)
+    on : (a b x y : Bool) → (x && y) ≡ false → forced (cond b false y) (cond b y false) (cond a x false)
+        ≡ forced (cond a false x) (cond a x false) (cond b y false)
     on a b true true e = impossible (sym e)
     on true true true false e = refl
     on true false true false e = refl
@@ -229,7 +240,8 @@ one-swap n m a b ne =
     off false false false false e = refl
 
 -- R18.9: what a pair does from no switches, and from the other's bits forced off, tells it
-pub only-pair : (p q : Pair) → Apart p → Apart q → forceOf p 0 ≡ forceOf q 0 → forceOf p (p .off) ≡ forceOf q (p .off) → forceOf p (q .off) ≡ forceOf q (q .off) → p ≡ q
+pub only-pair : (p q : Pair) → Apart p → Apart q → forceOf p 0 ≡ forceOf q 0 → forceOf p (p .off) ≡ forceOf q (p .off)
+    → forceOf p (q .off) ≡ forceOf q (q .off) → p ≡ q
 only-pair p q g h zero own other = same-pair p q ons (λ k. off _ _ _ _ (g k) (h k) (ons k) (seen (p .off) own k) (seen (q .off) other k))
   where
     seen : (w : ℕ) → forceOf p w ≡ forceOf q w → (k : ℕ) → forced (lit k (p .off)) (lit k (p .on)) (lit k w) ≡ forced (lit k (q .off)) (lit k (q .on)) (lit k w)
@@ -252,7 +264,8 @@ only-pair p q g h zero own other = same-pair p q ons (λ k. off _ _ _ _ (g k) (h
     off false false false true g h e s t = sym t
 
 -- the words of a pair stay within the width of those it is made of, whatever that is
-pub then-width : (k : ℕ) (p q : Pair) → p .on < 2 ^ k → p .off < 2 ^ k → q .on < 2 ^ k → q .off < 2 ^ k → (forceThen p q .on < 2 ^ k) × (forceThen p q .off < 2 ^ k)
+pub then-width : (k : ℕ) (p q : Pair) → p .on < 2 ^ k → p .off < 2 ^ k → q .on < 2 ^ k → q .off < 2 ^ k
+    → (forceThen p q .on < 2 ^ k) × (forceThen p q .off < 2 ^ k)
 unfolding forceThen forceOf
 then-width k p q a b c d =
     (xor-lt k _ _ (or-lt k _ _ (or-lt k _ _ a c) d) d, or-lt k _ _ (xor-lt k _ _ (or-lt k _ _ b c) c) d)

@@ -1,28 +1,27 @@
 -- The loops over a sheet and over the sixteen pairs, at the places where they stand.
 use Prim.Native.Nat.{ℕ, suc, _+_, _-_, _*_, _/_, _<_, _≤_}
 use mathlib.Core.Path.{_≡_, refl, sym, ap, ap₂, _∙_}
-use mathlib.Core.Bool.{Bool, true, false, cond, _&&_}
+use mathlib.Core.Bool.{Bool, true, false, cond}
 use mathlib.Core.List.{List, [], _∷_}
 use native.Mathlib.Omega.{arith}
 use native.Mathlib.Numerals.{add-one}
-use lib.Dec.{eqb, ltb}
+use lib.Dec.{ltb}
 use lib.ListN.{length, getD, set, drop, length-drop}
 use lib.Seq.{drop-cons, drop-length}
 use borrow.Author.Tests.{lt-ltb, le-ltb, ltb-true, eq-eqb, ne-eqb}
 use Rattle.lists.proofs.Both.{and3}
 use Rattle.wire.specs.Be.{byteAt}
-use Rattle.lists.specs.Each.{each, eachTo}
+use Rattle.lists.specs.Each.{eachTo}
 use Rattle.lists.proofs.Each.{each-get, each-set, each-all}
 use Rattle.sheet.specs.declared.Pair.{Pair}
 use Rattle.sheet.specs.declared.Words.{Words}
 use Rattle.sheet.specs.declared.Switching.{Switching}
 use Rattle.sheet.specs.declared.SheetFit.{SheetFit}
 use Rattle.sheet.specs.declared.SheetFit.the-variants.{Fits, Unfit}
-use Rattle.sheet.specs.declared.Shortened.{Shortened}
-use Rattle.sheet.specs.declared.Fate.{Fate}
 use Rattle.sheet.specs.declared.Fate.the-variants.{Counts, Overridden, Missing}
 use Rattle.sheet.specs.Force.{forceThen, forceNone, noWords, pairAt, withPair, joinAt, joinWords}
-use Rattle.sheet.specs.Sheet.{switchThere, switchingAt, alike, sheetSwitches, fitFrom, addSwitch, sheetFrom, sheetWords, wordsWhere, shortenOf, lastAlike, fateOf}
+use Rattle.sheet.specs.Sheet.{switchThere, switchingAt, alike, sheetSwitches, fitFrom, addSwitch}
+use Rattle.sheet.specs.Sheet.{sheetFrom, sheetWords, wordsWhere, shortenOf, lastAlike, fateOf}
 
 -- three bytes of a sheet, and the rest of it
 pub three : (s : List ℕ) (at : ℕ) → at + 3 ≤ length s → drop at s ≡ byteAt s at ∷ byteAt s (at + 1) ∷ byteAt s (at + 2) ∷ drop (at + 3) s
@@ -33,7 +32,8 @@ three s at h =
     let k : at < length s = omega arith in
     let l : suc at < length s = omega arith in
     let m : suc (suc at) < length s = omega arith in
-    rw (one, two, all) (drop-cons s at 0 k ∙ ap (λ (x : List ℕ). byteAt s at ∷ x) (drop-cons s (suc at) 0 l ∙ ap (λ (x : List ℕ). byteAt s (suc at) ∷ x) (drop-cons s (suc (suc at)) 0 m)))
+    rw (one, two, all) (drop-cons s at 0 k ∙ ap (λ (x : List ℕ). byteAt s at ∷ x) (drop-cons s (suc at) 0 l
+    ∙ ap (λ (x : List ℕ). byteAt s (suc at) ∷ x) (drop-cons s (suc (suc at)) 0 m)))
 
 short-unfit : (at : ℕ) (l : List ℕ) → 0 < length l → length l < 3 → fitFrom at l ≡ Unfit at
 unfolding fitFrom
@@ -86,8 +86,11 @@ module _ (s : List ℕ) where
 
   pub fit-on : (left : ℕ) → Fitting left → 3 ≤ left → byteAt s (place left + 2) ≤ 1 → Fitting (left - 3)
   fit-on left inv h p =
-      let l = inv .0 in
-      (omega arith, ap (λ (k : ℕ). fitFrom k (drop k s)) (sym (next-place left h l)) ∙ (rw (lt-ltb (byteAt s (place left + 2)) 2 (omega arith)) at (fit-one left inv h)))
+      let l = inv .0 in (
+        omega arith,
+        ap (λ (k : ℕ). fitFrom k (drop k s)) (sym (next-place left h l))
+            ∙ (rw (lt-ltb (byteAt s (place left + 2)) 2 (omega arith)) at (fit-one left inv h)),
+      )
 
   pub fit-ended : (left : ℕ) → Fitting left → left ≤ 0 → Fits ≡ fitFrom 0 s
   unfolding fitFrom
@@ -101,13 +104,18 @@ module _ (s : List ℕ) where
     Adding left ws = (left ≤ length s) × (sheetFrom rows ws (sheetSwitches (drop (place left) s)) ≡ sheetWords rows (sheetSwitches s))
 
     pub add-start : (ws : Words) → ws ≡ noWords → Adding (length s) ws
-    add-start ws e = (omega arith, ap (λ (w : Words). sheetFrom rows w (sheetSwitches (drop (place (length s)) s))) e ∙ ap (λ (l : List ℕ). sheetWords rows (sheetSwitches l)) all-left)
+    add-start ws e = (
+      omega arith,
+      ap (λ (w : Words). sheetFrom rows w (sheetSwitches (drop (place (length s)) s))) e
+          ∙ ap (λ (l : List ℕ). sheetWords rows (sheetSwitches l)) all-left,
+    )
 
     pub add-on : (left : ℕ) (ws next : Words) → Adding left ws → 3 ≤ left → next ≡ addSwitch rows ws (switchingAt s (place left)) → Adding (left - 3) next
     unfolding sheetFrom sheetSwitches
     add-on left ws next inv h e =
         let l = inv .0 in
-        let one : sheetFrom rows (addSwitch rows ws (switchingAt s (place left))) (sheetSwitches (drop (place left + 3) s)) ≡ sheetWords rows (sheetSwitches s) =
+        let one : sheetFrom rows (addSwitch rows ws (switchingAt s (place left))) (sheetSwitches (drop (place left + 3) s))
+        ≡ sheetWords rows (sheetSwitches s) =
         sym (ap (λ (x : List ℕ). sheetFrom rows ws (sheetSwitches x)) (three s (place left) (omega arith))) ∙ inv .1 in (
           omega arith,
           ap (λ (w : Words). sheetFrom rows w (sheetSwitches (drop (place (left - 3)) s))) e
@@ -125,12 +133,14 @@ module _ (earlier later : Words) where
   abbrev pub Joining : Words → ℕ → Type 0
   Joining after i = after ≡ record { pairs = eachTo (joinAt later) 0 i (earlier .pairs) }
 
-  pub join-on : (after : Words) (i : ℕ) (d : Pair) → i < length (earlier .pairs) → Joining after i → d ≡ forceThen (pairAt after i) (pairAt later i) → Joining (withPair i d after) (i + 1)
+  pub join-on : (after : Words) (i : ℕ) (d : Pair) → i < length (earlier .pairs) → Joining after i → d ≡ forceThen (pairAt after i) (pairAt later i)
+      → Joining (withPair i d after) (i + 1)
   join-on after i d h e p =
       let x = earlier .pairs in
       let z : i ≡ 0 + i = omega arith in
       let still : pairAt after i ≡ getD x i forceNone = ap (λ (w : Words). pairAt w i) e ∙ each-get (joinAt later) 0 i x forceNone in
-      let q : d ≡ joinAt later (0 + i) (getD x i forceNone) = p ∙ ap (λ (c : Pair). joinAt later i c) still ∙ ap (λ (k : ℕ). joinAt later k (getD x i forceNone)) z in
+      let q : d ≡ joinAt later (0 + i) (getD x i forceNone) = p ∙ ap (λ (c : Pair). joinAt later i c) still
+      ∙ ap (λ (k : ℕ). joinAt later k (getD x i forceNone)) z in
       ap (withPair i d) e
       ∙ ap (λ (c : Pair). record { pairs = set (eachTo (joinAt later) 0 i x) i c }) q
       ∙ ap (λ (l : List Pair). record { pairs = l }) (each-set (joinAt later) 0 i x forceNone h)
@@ -139,7 +149,8 @@ module _ (earlier later : Words) where
   pub join-ended : (after : Words) (i : ℕ) → length (earlier .pairs) ≡ i → Joining after i → after ≡ joinWords earlier later
   unfolding joinWords
   join-ended after i l e =
-      e ∙ ap (λ (k : ℕ). record { pairs = eachTo (joinAt later) 0 k (earlier .pairs) }) (sym l) ∙ ap (λ (l : List Pair). record { pairs = l }) (each-all (joinAt later) 0 (earlier .pairs))
+      e ∙ ap (λ (k : ℕ). record { pairs = eachTo (joinAt later) 0 k (earlier .pairs) }) (sym l)
+      ∙ ap (λ (l : List Pair). record { pairs = l }) (each-all (joinAt later) 0 (earlier .pairs))
 
 -- the connection of a switch that is there is one of the rows, and of the sixteen
 pub there-row : (rows : ℕ) (s : Switching) → switchThere rows s ≡ true → s .connection < rows
@@ -152,11 +163,13 @@ there-below rows s p = ltb-true (s .connection) 16 (and3 (ltb (s .connection) ro
 module _ (rows : ℕ) (s : List ℕ) (f : SheetFit) (is : f ≡ fitFrom 0 s) where
   pub shorten-fits : (ws : Words) → f ≡ Fits → ws ≡ sheetWords rows (sheetSwitches s) → record { fit = Fits; words = ws } ≡ shortenOf rows s
   unfolding shortenOf
-  shorten-fits ws e w = ap (λ (x : Words). record { fit = Fits; words = x }) w ∙ ap (λ (x : SheetFit). record { fit = x; words = wordsWhere x rows s }) (sym e ∙ is)
+  shorten-fits ws e w = ap (λ (x : Words). record { fit = Fits; words = x }) w
+      ∙ ap (λ (x : SheetFit). record { fit = x; words = wordsWhere x rows s }) (sym e ∙ is)
 
   pub shorten-unfit : (ws : Words) (at : ℕ) → f ≡ Unfit at → ws ≡ noWords → record { fit = Unfit at; words = ws } ≡ shortenOf rows s
   unfolding shortenOf
-  shorten-unfit ws at e w = ap (λ (x : Words). record { fit = Unfit at; words = x }) w ∙ ap (λ (x : SheetFit). record { fit = x; words = wordsWhere x rows s }) (sym e ∙ is)
+  shorten-unfit ws at e w = ap (λ (x : Words). record { fit = Unfit at; words = x }) w
+      ∙ ap (λ (x : SheetFit). record { fit = x; words = wordsWhere x rows s }) (sym e ∙ is)
 
 -- which of two numbers, by the switches that two reads give
 pub picks : (i last : ℕ) {s t s' t' : Switching} {b : Bool} → s ≡ s' → t ≡ t' → alike s t ≡ b → cond b i last ≡ cond (alike s' t') i last

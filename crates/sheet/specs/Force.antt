@@ -2,7 +2,6 @@
 -- speaks of how many bits a word has.
 use Prim.Native.Nat.{ℕ}
 use mathlib.Core.Bool.{Bool, cond}
-use mathlib.Core.List.{List}
 use lib.Bits.{bitAnd, bitOr, bitXor}
 use lib.Dec.{eqb}
 use lib.ListN.{getD, set, replicate}

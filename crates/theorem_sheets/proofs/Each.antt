@@ -36,7 +36,8 @@ module _ {A : Type 0} where
       each-own f d (suc k) n i xs (omega arith) (omega arith) ∙ ap (λ (m : ℕ). f m (getD xs i d)) e
 
   -- each changed, and then one of them once more
-  pub each-more : (f g : ℕ → A → A) (h : A → A) (d : A) (k n c : ℕ) (xs : List A) → c < n → ((x : A) → h (f (k + c) x) ≡ g (k + c) x) → ((i : ℕ) → (i ≡ k + c → ⊥) → (x : A) → f i x ≡ g i x)
+  pub each-more : (f g : ℕ → A → A) (h : A → A) (d : A) (k n c : ℕ) (xs : List A) → c < n → ((x : A) → h (f (k + c) x) ≡ g (k + c) x)
+      → ((i : ℕ) → (i ≡ k + c → ⊥) → (x : A) → f i x ≡ g i x)
       → set (eachTo f k n xs) c (h (getD (eachTo f k n xs) c d)) ≡ eachTo g k n xs
   each-more f g h d k zero c xs l own other = absurd (omega arith)
   each-more f g h d k (suc n) c [] l own other = refl
@@ -47,4 +48,5 @@ module _ {A : Type 0} where
   each-more f g h d k (suc n) (suc c) (x ∷ xs) l own other =
       let z : suc k + c ≡ k + suc c = omega arith in
       ap₂ (λ (y : A) (r : List A). y ∷ r) (other k (λ e. omega arith) x)
-      (each-more f g h d (suc k) n c xs (omega arith) (λ y. ap (λ (m : ℕ). h (f m y)) z ∙ own y ∙ ap (λ (m : ℕ). g m y) (sym z)) (λ i ne y. other i (λ e. ne (e ∙ sym z)) y))
+      (each-more f g h d (suc k) n c xs (omega arith) (λ y. ap (λ (m : ℕ). h (f m y)) z ∙ own y
+      ∙ ap (λ (m : ℕ). g m y) (sym z)) (λ i ne y. other i (λ e. ne (e ∙ sym z)) y))

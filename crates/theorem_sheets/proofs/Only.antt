@@ -1,10 +1,10 @@
 -- THE WORDS ARE THE ONLY ONES (R18.9): words that leave the same state from every start are the same, and so are the words of two sheets that do.
 use Prim.Native.Nat.{ℕ, _+_, _<_, _≤_, _^_}
-use mathlib.Core.Path.{_≡_, refl, sym, ap, _∙_}
+use mathlib.Core.Path.{_≡_, sym, ap, _∙_}
 use mathlib.Core.List.{List}
 use native.Mathlib.Omega.{arith}
 use native.Mathlib.Decide.{decLt}
-use lib.ListN.{length, getD, set, length-set}
+use lib.ListN.{length, length-set}
 use lib.Seq.{getD-set-same}
 use Rattle.connection.specs.declared.Connection.{Connection}
 use Rattle.connection.specs.declared.Answer.the-variants.{Done}
@@ -16,7 +16,6 @@ use Rattle.gate.specs.Lent.{Lent, next}
 use Rattle.gate.proofs.Pass.{passed-next}
 use Rattle.gate.proofs.Records.{record-at, record-set}
 use Rattle.entry_events.specs.declared.Told.{Told}
-use Rattle.sheet.specs.declared.Pair.{Pair}
 use Rattle.sheet.specs.declared.Words.{Words}
 use Rattle.sheet.specs.declared.Switching.{Switching}
 use Rattle.sheet.specs.Force.{forceOf, pairAt}
@@ -30,7 +29,8 @@ use Rattle.theorem_sheets.proofs.Steps.{word-sound}
 use Rattle.theorem_sheets.proofs.Sheets.{applied, sheet-words}
 
 -- a row's switches after words are applied
-forced-at : (rows : ℕ) (ws : Words) (s : State) (i : ℕ) → i < rows → i < length (s .connections) → recordAt (forcedRows rows ws s) i .switches ≡ forceOf (pairAt ws i) (recordAt s i .switches)
+forced-at : (rows : ℕ) (ws : Words) (s : State) (i : ℕ) → i < rows → i < length (s .connections)
+    → recordAt (forcedRows rows ws s) i .switches ≡ forceOf (pairAt ws i) (recordAt s i .switches)
 unfolding forcedRows
 forced-at rows ws s i h k =
     let z : 0 + i ≡ i = omega arith in
@@ -65,7 +65,8 @@ module _ (l : Lent) (start : Start l) where
         let m = begin .sixteen in
         let is : recordAt (with i w) i ≡ withSwitches w (recordAt (l .state) i) = getD-set-same (l .state .connections) i _ zeroRecord (omega arith) in
         let e : forcedRows (tableRows l) a (with i w) ≡ forcedRows (tableRows l) b (with i w) =
-        ap (λ (t : Told). t .state) (sym (applied (next l (with i w)) (begin .passed) a (proper .agree)) ∙ same (with i w) begin ∙ applied (next l (with i w)) (begin .passed) b (other .agree)) in
+        ap (λ (t : Told). t .state) (sym (applied (next l (with i w)) (begin .passed) a (proper .agree)) ∙ same (with i w) begin
+        ∙ applied (next l (with i w)) (begin .passed) b (other .agree)) in
         sym (forced-at (tableRows l) a (with i w) i h (omega arith) ∙ ap (λ (c : Connection). forceOf (pairAt a i) (c .switches)) is)
         ∙ ap (λ (t : State). recordAt t i .switches) e
         ∙ forced-at (tableRows l) b (with i w) i h (omega arith) ∙ ap (λ (c : Connection). forceOf (pairAt b i) (c .switches)) is
@@ -90,7 +91,9 @@ module _ (l : Lent) (start : Start l) where
       }
 
   -- R18.9: TWO SHEETS THAT LEAVE THE SAME STATE FROM EVERY START HAVE THE SAME WORDS
-  pub only-sheets : (ss ts : List Switching) → ((s : State) → Start (next l s) → afterSwitches (next l s) ss ≡ afterSwitches (next l s) ts) → sheetWords (tableRows l) ss ≡ sheetWords (tableRows l) ts
+  pub only-sheets : (ss ts : List Switching) → ((s : State) → Start (next l s) → afterSwitches (next l s) ss ≡ afterSwitches (next l s) ts)
+      → sheetWords (tableRows l) ss ≡ sheetWords (tableRows l) ts
   only-sheets ss ts same =
       only-words _ _ (sheet-proper ss) (sheet-proper ts)
-      (λ s begin. sheet-words (next l s) (begin .passed) ss ∙ ap (λ (t : State). record { answer = Done; state = t }) (same s begin) ∙ sym (sheet-words (next l s) (begin .passed) ts))
+      (λ s begin. sheet-words (next l s) (begin .passed) ss ∙ ap (λ (t : State). record { answer = Done; state = t }) (same s begin)
+      ∙ sym (sheet-words (next l s) (begin .passed) ts))

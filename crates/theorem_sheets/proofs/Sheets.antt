@@ -1,23 +1,28 @@
--- A SHEET IS TWO WORDS FOR EACH CONNECTION (R18.8): from an accepted table, a sound state and memory of the right lengths, its words applied leave the state that its
--- switches leave, called one by one, refused ones left out. What two sheets leave is then a matter of their words.
-use Prim.Native.Nat.{ℕ, _≤_}
-use mathlib.Core.Path.{_≡_, refl, sym, ap, _∙_}
+-- A SHEET IS TWO WORDS FOR EACH CONNECTION (R18.8): from an accepted table, a sound state and memory of the right lengths, its words applied leave
+-- the state that its switches leave, called one by one, refused ones left out. What two sheets leave is then a matter of their words.
+use Prim.Native.Nat.{ℕ}
+use mathlib.Core.Path.{_≡_, refl, sym, ap, subst, _∙_}
 use mathlib.Core.Bool.{Bool, true, false, cond}
+use native.Mathlib.Omega.{arith}
 use mathlib.Core.List.{List, [], _∷_, _++_}
-use Rattle.connection.specs.declared.Answer.the-variants.{Done}
+use Rattle.connection.specs.declared.Refusal.{Refusal}
+use Rattle.connection.specs.declared.Refusal.the-variants.{Denied}
+use Rattle.connection.specs.declared.Answer.the-variants.{Done, Refused}
 use Rattle.state.specs.declared.State.{State}
 use Rattle.gate.specs.Lent.{Lent, next}
-use Rattle.gate.specs.Gate.{gateOf, Passed}
-use Rattle.gate.proofs.Pass.{passed-gate}
+use Rattle.gate.specs.declared.Gate.{Gate}
+use Rattle.gate.specs.declared.Gate.the-variants as Gates
+use Rattle.gate.specs.Gate.{gateOf, through, Passed}
 use Rattle.entry_events.specs.declared.Told.{Told}
+use Rattle.entry_events.specs.Change.{refusedTold}
+use Rattle.gate.proofs.Pass.{passed-gate}
 use Rattle.sheet.specs.declared.Words.{Words}
 use Rattle.sheet.specs.declared.Switching.{Switching}
 use Rattle.sheet.specs.Force.{noWords, joinWords, agreeing}
 use Rattle.sheet.specs.declared.SheetFit.{SheetFit}
 use Rattle.sheet.specs.declared.SheetFit.the-variants.{Fits}
-use Rattle.sheet.specs.declared.Shortened.{Shortened}
 use Rattle.sheet.specs.Sheet.{sheetSwitches, fitFrom, switchThere, addSwitch, sheetFrom, sheetWords, wordsWhere, shortenOf, keptOf}
-use Rattle.sheet.proofs.Joins.{at, Full, no-full, add-full, add-missing, add-twice, add-swap, words-agree, words-full}
+use Rattle.sheet.proofs.Joins.{at, Full, no-full, add-full, add-missing, add-twice, add-swap, words-agree}
 use Rattle.sheet.proofs.Kept.{kept-words}
 use Rattle.entry_sheet.specs.Apply.{forcedRows, applyOf}
 use Rattle.theorem_sheets.specs.Switched.{tableRows, afterSwitch, afterSwitches}
@@ -25,15 +30,19 @@ use Rattle.theorem_sheets.proofs.Steps.{few, forced-passed, forced-none
 
 module _ (l : Lent) (passed : Passed l) where
   -- one switch more, behind words
-  one-more : (ws : Words) (s : Switching) → Full ws → afterSwitch (next l (forcedRows (tableRows l) ws (l .state))) s ≡ forcedRows (tableRows l) (addSwitch (tableRows l) ws s) (l .state)
+  one-more : (ws : Words) (s : Switching) → Full ws
+      → afterSwitch (next l (forcedRows (tableRows l) ws (l .state))) s ≡ forcedRows (tableRows l) (addSwitch (tableRows l) ws s) (l .state)
   one-more ws s f = go (switchThere (tableRows l) s) refl
     where
-      go : (b : Bool) → switchThere (tableRows l) s ≡ b → afterSwitch (next l (forcedRows (tableRows l) ws (l .state))) s ≡ forcedRows (tableRows l) (addSwitch (tableRows l) ws s) (l .state)
+      go : (b : Bool) → switchThere (tableRows l) s ≡ b
+          → afterSwitch (next l (forcedRows (tableRows l) ws (l .state))) s ≡ forcedRows (tableRows l) (addSwitch (tableRows l) ws s) (l .state)
       go true e = switch-done _ (forced-passed l passed ws) s e ∙ forced-add (tableRows l) ws s f e (l .state)
-      go false e = switch-left _ (forced-passed l passed ws) s e ∙ sym (ap (λ (w : Words). forcedRows (tableRows l) w (l .state)) (add-missing (tableRows l) ws s e))
+      go false e = switch-left _ (forced-passed l passed ws) s e
+          ∙ sym (ap (λ (w : Words). forcedRows (tableRows l) w (l .state)) (add-missing (tableRows l) ws s e))
 
   -- switches behind words
-  more : (ws : Words) (ss : List Switching) → Full ws → afterSwitches (next l (forcedRows (tableRows l) ws (l .state))) ss ≡ forcedRows (tableRows l) (sheetFrom (tableRows l) ws ss) (l .state)
+  more : (ws : Words) (ss : List Switching) → Full ws
+      → afterSwitches (next l (forcedRows (tableRows l) ws (l .state))) ss ≡ forcedRows (tableRows l) (sheetFrom (tableRows l) ws ss) (l .state)
   unfolding afterSwitches sheetFrom
   more ws [] f = refl
   more ws (s ∷ ss) f =
@@ -49,6 +58,19 @@ module _ (l : Lent) (passed : Passed l) where
   unfolding applyOf
   applied ws e = rw (passed-gate l passed, e)
 
+  -- words with a bit in both get 3
+  pub both-refused : (ws : Words) → agreeing ws ≡ false → applyOf l ws ≡ refusedTold (l .state) Denied
+  unfolding applyOf
+  both-refused ws e = rw (passed-gate l passed, e)
+
+  -- what passes the gate passes it again, whatever words are applied
+  pub apply-passed : (ws : Words) → Passed (next l (applyOf l ws .state))
+  apply-passed ws = go (agreeing ws) refl
+    where
+      go : (b : Bool) → agreeing ws ≡ b → Passed (next l (applyOf l ws .state))
+      go true e = subst (λ (t : Told). Passed (next l (t .state))) (sym (applied ws e)) (forced-passed l passed ws)
+      go false e = subst (λ (t : Told). Passed (next l (t .state))) (sym (both-refused ws e)) passed
+
   -- R18.8: ANY SHEET EQUALS ITS WORDS: applied, they are answered 0 and leave the state that the switches leave, called one by one
   pub sheet-words : (ss : List Switching) → applyOf l (sheetWords (tableRows l) ss) ≡ record { answer = Done; state = afterSwitches l ss }
   sheet-words ss =
@@ -60,7 +82,8 @@ module _ (l : Lent) (passed : Passed l) where
   same-words-same-state ss ts e = switches-forced ss ∙ ap (λ (w : Words). forcedRows (tableRows l) w (l .state)) e ∙ sym (switches-forced ts)
 
   -- R18.6: a sheet that fits, shortened and applied
-  pub shortened-applied : (sheet : List ℕ) → fitFrom 0 sheet ≡ Fits → applyOf l (shortenOf (tableRows l) sheet .words) ≡ record { answer = Done; state = afterSwitches l (sheetSwitches sheet) }
+  pub shortened-applied : (sheet : List ℕ) → fitFrom 0 sheet ≡ Fits
+      → applyOf l (shortenOf (tableRows l) sheet .words) ≡ record { answer = Done; state = afterSwitches l (sheetSwitches sheet) }
   unfolding shortenOf
   shortened-applied sheet e = ap (λ (f : SheetFit). applyOf l (wordsWhere f (tableRows l) sheet)) e ∙ sheet-words (sheetSwitches sheet)
 
@@ -74,7 +97,8 @@ module _ (l : Lent) (passed : Passed l) where
   last-wins c n a b rest = same-words-same-state _ _ (ap (λ (w : Words). sheetFrom (tableRows l) w rest) (add-twice (tableRows l) noWords c n a b no-full))
 
   -- R18.8: switches of different numbers or different connections may change places
-  pub swapped : (s t : Switching) (rest : List Switching) → (s .connection ≡ t .connection → s .number ≡ t .number → ⊥) → afterSwitches l (s ∷ t ∷ rest) ≡ afterSwitches l (t ∷ s ∷ rest)
+  pub swapped : (s t : Switching) (rest : List Switching) → (s .connection ≡ t .connection → s .number ≡ t .number → ⊥)
+      → afterSwitches l (s ∷ t ∷ rest) ≡ afterSwitches l (t ∷ s ∷ rest)
   unfolding sheetFrom
   swapped s t rest ne = same-words-same-state _ _ (ap (λ (w : Words). sheetFrom (tableRows l) w rest) (add-swap (tableRows l) noWords s t ne no-full))
 
@@ -88,8 +112,23 @@ module _ (l : Lent) (passed : Passed l) where
   empty-words = sheet-words [] ∙ ap (λ (t : State). record { answer = Done; state = t }) empty-switches
 
   -- R18.8: words applied one after the other are the words joined
-  pub join-applied : (a b : Words) → Full a → forcedRows (tableRows l) (joinWords a b) (l .state) ≡ forcedRows (tableRows l) b (forcedRows (tableRows l) a (l .state))
+  pub join-applied : (a b : Words) → Full a → forcedRows (tableRows l) (joinWords a b) (l .state)
+      ≡ forcedRows (tableRows l) b (forcedRows (tableRows l) a (l .state))
   join-applied a b f = forced-join (tableRows l) a b (l .state) (few l passed) f
+
+-- R18.6: a refusal changes nothing, from any table, state and memory
+pub apply-stays : (l : Lent) (ws : Words) (r : Refusal) → applyOf l ws .answer ≡ Refused r → applyOf l ws .state ≡ l .state
+unfolding applyOf
+apply-stays l ws r e = go (gateOf l) (agreeing ws) e
+  where
+    done : Told
+    done = record { answer = Done; state = forcedRows (tableRows l) ws (l .state) }
+
+    go : (g : Gate) (b : Bool) → through g (refusedTold (l .state)) (cond b done (refusedTold (l .state) Denied)) .answer ≡ Refused r
+        → through g (refusedTold (l .state)) (cond b done (refusedTold (l .state) Denied)) .state ≡ l .state
+    go (Gates.Refused q) b p = refl
+    go Gates.Pass false p = refl
+    go Gates.Pass true p = absurd (let z : _≡_ {A = ℕ} 0 1 = cc in omega arith)
 
 -- sheets one after the other, in calls
 pub after-append : (l : Lent) (ss ts : List Switching) → afterSwitches l (ss ++ ts) ≡ afterSwitches (next l (afterSwitches l ss)) ts

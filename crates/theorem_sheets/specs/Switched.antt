@@ -1,5 +1,5 @@
--- THE SWITCHES OF A SHEET, CALLED ONE BY ONE through the entry point (R8.8), each lent what the last one left (R18.8, R18.9). A switch that is refused leaves the
--- state as it was, so refused ones are left out.
+-- THE SWITCHES OF A SHEET, CALLED ONE BY ONE through the entry point (R8.8), each lent what the last one left (R18.8, R18.9). A switch that
+-- is refused leaves the state as it was, so refused ones are left out.
 use Prim.Native.Nat.{ℕ, _<_, _≤_, _^_}
 use mathlib.Core.Path.{_≡_}
 use mathlib.Core.Bool.{true}

@@ -30,7 +30,14 @@ returns : tie.Need-returns
 unfolding applyOf
 returns c =
     let t = c .before .before .before .before in
-    rw (← t .before .before .ask .ensures, t .enum-told .given .1, sym (c .before .before .before .agrees .ensures) ∙ c .before .before .if1 .taken, ← c .before .rows-of .ensures .0, c .force-rows .ensures)
+    rw (
+      ← t .before .before .ask .ensures,
+      t .enum-told .given .1,
+      sym (c .before .before .before .agrees .ensures)
+          ∙ c .before .before .if1 .taken,
+      ← c .before .rows-of .ensures .0,
+      c .force-rows .ensures,
+    )
 
 returns-2 : tie.Need-returns-2
 unfolding applyOf

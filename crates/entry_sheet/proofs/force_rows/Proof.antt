@@ -1,6 +1,6 @@
 -- `entry_sheet::force_rows` meets its contract. The invariant: the records below i are forced.
 use Prim.Native.Nat.{_<_, _≤_, _-_}
-use mathlib.Core.Path.{_≡_, refl, sym, ap, _∙_}
+use mathlib.Core.Path.{_≡_, refl, ap, _∙_}
 use lib.ListN.{length}
 use native.Mathlib.Omega.{arith}
 use borrow.Author.Needs.{needs}

@@ -1,6 +1,6 @@
 -- `sheet::add` meets its contract.
 use borrow.Author.Needs.{needs}
-use mathlib.Core.Path.{_≡_, refl, sym, ap, _∙_}
+use mathlib.Core.Path.{sym, _∙_}
 use borrow.Author.Tests.{not-true, not-false}
 use Rattle.sheet.proofs.Turns.{there-below}
 use Rattle.sheet.specs.Sheet.{addSwitch}
@@ -21,7 +21,8 @@ mul-pair : tie.Need-mul-pair
 mul-pair c = search needs
 
 element-copy-out-pair : tie.Need-element-copy-out-pair
-element-copy-out-pair c = there-below _ (c .before .before .before .args .switching) (sym (c .before .before .is-there .ensures) ∙ not-false _ (c .before .if1 .left))
+element-copy-out-pair c = there-below _ (c .before .before .before .args .switching) (sym (c .before .before .is-there .ensures)
+    ∙ not-false _ (c .before .if1 .left))
 
 one-requires : tie.Need-one-requires
 one-requires c κs = search needs
@@ -33,11 +34,17 @@ mul-next : tie.Need-mul-next
 mul-next c = search needs
 
 element-set-from-next : tie.Need-element-set-from-next
-element-set-from-next c = there-below _ (c .before .before .before .before .before .before .args .switching) (sym (c .before .before .before .before .before .is-there .ensures) ∙ not-false _ (c .before .before .before .before .if1 .left))
+element-set-from-next c = there-below _ (c .before .before .before .before .before .before .args .switching)
+    (sym (c .before .before .before .before .before .is-there .ensures) ∙ not-false _ (c .before .before .before .before .if1 .left))
 
 returns-2 : tie.Need-returns-2
 unfolding addSwitch
-returns-2 c = rw (sym (c .before .before .before .before .before .is-there .ensures) ∙ not-false _ (c .before .before .before .before .if1 .left), c .then .ensures, c .before .one .ensures)
+returns-2 c = rw (
+  sym (c .before .before .before .before .before .is-there .ensures)
+      ∙ not-false _ (c .before .before .before .before .if1 .left),
+  c .then .ensures,
+  c .before .one .ensures,
+)
 
 pub add-spec : {M : Type 1} → statement M
 add-spec =

@@ -29,12 +29,14 @@ last-alike-requires c κs = search needs
 returns-3 : tie.Need-returns-3
 returns-3 c =
     let t = c .before .before .before in
-    fate-counts _ _ _ (search needs) _ (t .before .switching-at .ensures) (sym (t .is-there .ensures) ∙ not-false _ (c .before .before .if2 .left)) _ (c .before .last-alike .ensures) (c .if3 .taken)
+    fate-counts _ _ _ (search needs) _ (t .before .switching-at .ensures) (sym (t .is-there .ensures) ∙ not-false _ (c .before .before .if2 .left)) _
+    (c .before .last-alike .ensures) (c .if3 .taken)
 
 returns-4 : tie.Need-returns-4
 returns-4 c =
     let t = c .before .before .before in
-    fate-overridden _ _ _ (search needs) _ (t .before .switching-at .ensures) (sym (t .is-there .ensures) ∙ not-false _ (c .before .before .if2 .left)) _ (c .before .last-alike .ensures) (c .if3 .left)
+    fate-overridden _ _ _ (search needs) _ (t .before .switching-at .ensures) (sym (t .is-there .ensures) ∙ not-false _ (c .before .before .if2 .left)) _
+    (c .before .last-alike .ensures) (c .if3 .left)
 
 pub fate-of-spec : {M : Type 1} → statement M
 fate-of-spec =

@@ -1,7 +1,4 @@
 -- `sheet::fit_of` meets its contract. The invariant: what is left of the sheet fits as the whole does.
-use Prim.Native.Nat.{_<_, _≤_}
-use mathlib.Core.Path.{_≡_, refl, sym, ap, _∙_}
-use native.Mathlib.Omega.{arith}
 use borrow.Author.Needs.{needs}
 use Rattle.sheet.proofs.Turns.{Fitting, fit-start, fit-short, fit-bad, fit-on, fit-ended}
 use Rattle.sheet.proofs.fit_of.Statement.{statement}

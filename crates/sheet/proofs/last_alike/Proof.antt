@@ -1,7 +1,6 @@
 -- `sheet::last_alike` meets its contract. The invariant: the rest of the switches leads to the last one.
-use Prim.Native.Nat.{_<_, _≤_, _-_, _/_, _*_, _+_}
-use mathlib.Core.Path.{_≡_, refl, sym, ap, _∙_}
-use native.Mathlib.Omega.{arith}
+use Prim.Native.Nat.{_≤_, _-_, _/_, _*_, _+_}
+use mathlib.Core.Path.{_≡_, refl}
 use borrow.Author.Needs.{needs}
 use lib.ListN.{length}
 use Rattle.lists.proofs.Fold.{Folded, fold-start, fold-on, fold-ended}
@@ -36,7 +35,6 @@ returns : tie.Need-returns Inv-loop μ-loop
 unfolding lastAlike
 returns c =
     let l = c .before in
-    let a = l .before .before .args in
     fold-ended _ _ _ _ _ (l .loop .inv .2) (search needs)
 
 pub last-alike-spec : {M : Type 1} → statement M

@@ -17,10 +17,12 @@ switching-at-requires-2 : tie.Need-switching-at-requires-2
 switching-at-requires-2 c κs = search needs
 
 returns : tie.Need-returns
-returns c = picks _ _ (c .before .before .before .before .before .before .switching-at .ensures) (c .before .before .before .before .before .switching-at2 .ensures) (c .if1 .taken)
+returns c = picks _ _ (c .before .before .before .before .before .before .switching-at .ensures)
+    (c .before .before .before .before .before .switching-at2 .ensures) (c .if1 .taken)
 
 returns-2 : tie.Need-returns-2
-returns-2 c = picks _ _ (c .before .before .before .before .before .before .switching-at .ensures) (c .before .before .before .before .before .switching-at2 .ensures) (c .if1 .left)
+returns-2 c = picks _ _ (c .before .before .before .before .before .before .switching-at .ensures)
+    (c .before .before .before .before .before .switching-at2 .ensures) (c .if1 .left)
 
 pub pick-spec : {M : Type 1} → statement M
 pick-spec =

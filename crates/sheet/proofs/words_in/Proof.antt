@@ -1,7 +1,5 @@
 -- `sheet::words_in` meets its contract. The invariant: what is left of the sheet leads to the whole's words.
-use Prim.Native.Nat.{_<_, _≤_}
-use mathlib.Core.Path.{_≡_, refl, sym, ap, _∙_}
-use native.Mathlib.Omega.{arith}
+use mathlib.Core.Path.{ap, _∙_}
 use borrow.Author.Needs.{needs}
 use Rattle.sheet.specs.Sheet.{addSwitch}
 use Rattle.sheet.proofs.Turns.{Adding, add-start, add-on, add-ended}
