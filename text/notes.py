@@ -1,4 +1,4 @@
-"""What the texts of a table and a script say and their bytes do not: names and units of rows, and the lines where rows and entries stand.
+"""What the texts of a table and a script (or a sheet) say and their bytes do not: names and units of rows, and the lines where rows and entries stand.
 text/convert writes them down, text/dress puts them into what the programs print."""
 import json
 import struct

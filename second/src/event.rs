@@ -95,7 +95,7 @@ pub fn run(world: &mut World, event: &Event) -> Answer {
 }
 
 /// "11: lent receive or send memory has another length", "12: state or table not sound".
-fn gate(world: &World) -> Result<Rc<Table>, u8> {
+pub fn gate(world: &World) -> Result<Rc<Table>, u8> {
     if world.receive.len() != RECEIVE || world.send.len() != SEND {
         return Err(11);
     }

@@ -164,6 +164,11 @@ faults! {
         DifferenceEnds: "nothing is run after a difference",
         RestRefused: "bytes after the last body are refused",
     }
+    sheets {
+        FirstSwitchWins: "the first switch of a group wins, not the last",
+        OnAndOff: "a bit forced on and later off is kept in both words",
+        RefusedToZero: "a refused switch is applied to connection 0",
+    }
     frame {
         FrameOneMore: "a payload of 1,465 bytes may be framed",
         RoomForPayloadOnly: "an out buffer as long as the payload is long enough",

@@ -20,6 +20,8 @@ mod replay;
 mod runs;
 mod script;
 mod select;
+mod sheet;
+mod sheets;
 mod shrink;
 mod sound;
 mod state;
@@ -40,9 +42,9 @@ use std::process::ExitCode;
 
 const USAGE: &str = "second compare PART [--seed N] [--count N] [--store FOLDER] -- PROGRAM ..
     random cases: the program answers as this one expects. PART is table, walk or frame (PROGRAM is the C driver), runs,
-    streams or selections (PROGRAM is run), takes (PROGRAM is takes), recordings (PROGRAM is replay), answers (PROGRAM is the bench's
-    twins by answers.c); or, for a fixed list, changes (of the 86-byte image), cuts (of a datagram) or recording-edges (limits of
-    recordings, and a small one cut at every byte)
+    streams or selections (PROGRAM is run), takes (PROGRAM is takes), recordings (PROGRAM is replay), sheets (PROGRAM is shorten), answers
+    (PROGRAM is the bench's twins by answers.c); or, for a fixed list, changes (of the 86-byte image), cuts (of a datagram) or
+    recording-edges (limits of recordings, and a small one cut at every byte)
 second replay PART FOLDER -- PROGRAM ..
     the same for the cases stored in a folder
 second faults PART [--seed N] [--count N] -- PROGRAM ..
@@ -56,7 +58,7 @@ second edges
     prints what tests/edges.c is to print
 second files FOLDER OUT
     writes the images stored in a folder as files of bytes, and prints what tests/edges.c is to print of them
-second simulate run|takes|replay|driver
+second simulate run|takes|replay|sheets|driver
     gives what this program is to give for its input
 With --fault NAME a seeded fault is on in any of these.";
 
@@ -96,6 +98,8 @@ fn obey(words: &Words) -> Result<(), String> {
         ["simulate", "replay"] => verbs::simulate(replay::lines),
         ["compare", "answers"] => verbs::compare_answers(words),
         ["faults", "takes"] => verbs::fault_takes(words),
+        ["compare", "sheets"] => verbs::compare_sheets(words),
+        ["faults", "sheets"] => verbs::fault_sheets(words),
         ["compare", part] if verbs::is_script(part) => verbs::compare_scripts(part, words),
         ["compare", part] => verbs::compare_requests(part, words),
         ["replay", "takes", folder] => verbs::replay_takes(Path::new(folder), words),
@@ -110,6 +114,7 @@ fn obey(words: &Words) -> Result<(), String> {
         ["files", folder, out] => verbs::files(Path::new(folder), Path::new(out)),
         ["simulate", "run"] => verbs::simulate(|input| lines::lines(input, |_| ())),
         ["simulate", "driver"] => verbs::simulate_driver(),
+        ["simulate", "sheets"] => verbs::simulate(sheet::lines),
         ["simulate", "takes"] => verbs::simulate(|input| takes::lines(&takes::read(input))),
         _ => Err(USAGE.into()),
     }

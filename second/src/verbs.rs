@@ -12,7 +12,7 @@ use crate::lines::lines;
 use crate::random::Random;
 use crate::shrink::{shrink, Bound};
 use crate::vectors::Vector;
-use crate::{answers, exchange, recordings, replay, runs, stored, table, takes, tell, vectors as lists, Words, USAGE};
+use crate::{answers, exchange, recordings, replay, runs, sheets, stored, table, takes, tell, vectors as lists, Words, USAGE};
 use std::io::Read;
 use std::path::Path;
 
@@ -309,6 +309,20 @@ pub fn fault_takes(words: &Words) -> Outcome {
     let cases = |fault| all.iter().filter(|(case, _, got)| fault::with(fault, || takes::lines(case)) != *got).count();
     let noticed: Vec<usize> = faults.iter().map(|&(fault, _)| cases(fault)).collect();
     tell_faults(faults, &noticed, &format!("{} cases", all.len()))
+}
+
+pub fn compare_sheets(words: &Words) -> Outcome {
+    let (different, met) = sheets::compare(&words.program, words.seed, words.count)?;
+    let kinds: Vec<String> = met.iter().map(|(kind, count)| format!("{} {}", kind, count)).collect();
+    println!("sheets-{}: {} cases, {} different ({})", words.seed, words.count, different, kinds.join(", "));
+    none_different(different)?;
+    often_enough(sheets::TO_MEET, words.count / 40, |kind| met.get(kind).copied().unwrap_or(0))
+}
+
+pub fn fault_sheets(words: &Words) -> Outcome {
+    let faults = fault::of("sheets").ok_or(USAGE)?;
+    let noticed = sheets::try_faults(&words.program, words.seed, words.count, faults)?;
+    tell_faults(faults, &noticed, &format!("{} sheets", words.count))
 }
 
 /// A line of tests/edges.c.

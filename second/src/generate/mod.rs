@@ -6,5 +6,6 @@ pub mod image;
 pub mod recording;
 pub mod script;
 pub mod selection;
+pub mod sheet;
 pub mod state;
 pub mod table;
