@@ -121,12 +121,20 @@ fn fate(rows: usize, switches: &[Switch], k: usize) -> Option<String> {
     Some(format!("entry {}: {}: changed nothing: {}", k + 1, what, why))
 }
 
-fn told(rows: usize, switches: &[Switch]) -> Vec<String> {
+/// The line of a connection: its words, and what they make of its switches in a fresh state.
+fn pair_line(i: usize, pair: &Pair, fresh: u32, after: u32) -> String {
+    let words = format!("forced on 0x{:08x}, forced off 0x{:08x}", pair.on, pair.off);
+    format!("connection {}: {}, fresh switches 0x{:08x} become 0x{:08x}", i, words, fresh, after)
+}
+
+fn told(image: &[u8], rows: usize, switches: &[Switch]) -> Vec<String> {
     let words = shorten(rows, switches);
-    let pair =
-        |(i, pair): (usize, &Pair)| format!("connection {}: forced on 0x{:08x}, forced off 0x{:08x}", i, pair.on, pair.off);
+    let fresh = World::new(image);
+    let mut after = fresh.clone();
+    apply(&mut after, &words);
+    let line = |i: usize| pair_line(i, &words[i], fresh.state.records[i].switches, after.state.records[i].switches);
     let mut lines = vec![counted("sheet", switches.len())];
-    lines.extend(words.iter().enumerate().take(rows).map(pair));
+    lines.extend((0..rows).map(line));
     lines.extend((0..switches.len()).filter_map(|k| fate(rows, switches, k)));
     lines.push(counted("short sheet", kept(rows, switches).count()));
     lines.extend(kept(rows, switches).map(|s| format!("  switch {} {} {}", s.connection, s.number, position(s.on))));
@@ -147,7 +155,7 @@ pub fn lines(input: &[u8]) -> Vec<String> {
     };
     match read(sheet) {
         _ if sheet.len() > MOST => refused("sheet refused: it is longer than 12288 bytes (4096 switches)".into()),
-        Ok(switches) => told(rows, &switches),
+        Ok(switches) => told(image, rows, &switches),
         Err(at) if at % 3 == 2 => {
             refused(format!("sheet refused at byte {}: the position is {}, neither 0 (off) nor 1 (on)", at, sheet[at]))
         }

@@ -316,7 +316,7 @@ pub fn compare_sheets(words: &Words) -> Outcome {
     let kinds: Vec<String> = met.iter().map(|(kind, count)| format!("{} {}", kind, count)).collect();
     println!("sheets-{}: {} cases, {} different ({})", words.seed, words.count, different, kinds.join(", "));
     none_different(different)?;
-    often_enough(sheets::TO_MEET, words.count / 40, |kind| met.get(kind).copied().unwrap_or(0))
+    often_enough(sheets::TO_MEET, words.count / 200, |kind| met.get(kind).copied().unwrap_or(0))
 }
 
 pub fn fault_sheets(words: &Words) -> Outcome {

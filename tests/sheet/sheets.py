@@ -47,13 +47,17 @@ def records(path):
     return status, [line for line in said.splitlines() if line.startswith(("connection ", "drops: "))]
 
 
+FRESH = (3, 3, 0, 3)  # the start switches of the table
+
+
 def by_hand(switches):
     """The lines of the words, by the rules alone."""
     words = {c: [0, 0] for c in range(4)}
     for c, n, p in switches:
         if c < 4 and n < 32:
             words[c] = [word | 1 << n if on == p else word & ~(1 << n) for word, on in zip(words[c], (1, 0))]
-    return [(f"connection {c}", f": forced on 0x{on:08x}, forced off 0x{off:08x}") for c, (on, off) in words.items()]
+    return [(f"connection {c}", f": forced on 0x{on:08x}, forced off 0x{off:08x}, fresh switches 0x{FRESH[c]:08x} become 0x{(FRESH[c] | on) & ~off:08x}")
+            for c, (on, off) in words.items()]
 
 
 def converted(direction, data):

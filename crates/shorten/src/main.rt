@@ -1,6 +1,8 @@
 // shorten: a table image and a commissioning sheet on standard input; what the sheet comes to, which of its switches change nothing and why, and a
 // shortened sheet, on standard output (docs/EVENTS.md). Words and fates are those of the proved crate sheet; the wording is tried by stored output.
 ghost use Prim.Native.Nat.{_≤_};
+use entry_events::Told;
+use entry_sheet::apply;
 use input::read_image;
 use input::read_part;
 use pieces::front;
@@ -10,6 +12,8 @@ use sheet::SheetFit;
 use sheet::Words;
 use sheet::fate_of;
 use sheet::shorten;
+use state::State;
+use state::fresh_state;
 use table::TableAnswer;
 use table::check_table;
 use table_layout::Kind;
@@ -30,23 +34,36 @@ fn say(pattern: &[u8], n: usize, row: &[u8]) {
 
 // ---- the words
 
-fn pair_line(i: usize, pair: Pair) {
-    let mut row = [0u8; 8];
+fn pair_line(i: usize, pair: Pair, fresh: u32, after: u32) {
+    let mut row = [0u8; 16];
     put32(&mut row, 0, pair.on);
     put32(&mut row, 4, pair.off);
+    put32(&mut row, 8, fresh);
+    put32(&mut row, 12, after);
     say(
-        b"connection @: forced on 0x%i00, forced off 0x%i04\n",
+        b"connection @: forced on 0x%i00, forced off 0x%i04, fresh switches 0x%i08 become 0x%i12\n",
         i,
         &row,
     );
 }
 
-fn pairs(rows: usize, words: Words) {
+// The state after the words are applied.
+fn applied(image: &[u8], state: State, words: Words) -> State {
+    let rx = [0u8; 23424];
+    let tx = [0u8; 23552];
+    let told: Told = apply(image, state, &rx, &tx, words);
+    let after = told.state;
+    after
+}
+
+fn pairs(rows: usize, words: Words, fresh: State, after: State) {
     let mut i: usize = 0;
     while i < 16 {
         if i < rows {
             let pair = words.pairs[i];
-            pair_line(i, pair);
+            let before = fresh.connections[i];
+            let forced = after.connections[i];
+            pair_line(i, pair, before.switches, forced.switches);
         }
         i += 1;
     }
@@ -134,12 +151,13 @@ fn counted(patterns: &[u8], n: usize) {
     say(phrase(patterns, if n == 1 { 0 } else { 1 }), n, b"");
 }
 
-fn told(rows: usize, sheet: &[u8], words: Words) {
+fn told(image: &[u8], rows: usize, sheet: &[u8], words: Words) {
+    let fresh = fresh_state(image);
     counted(
         b"sheet of @ switch\n/sheet of @ switches\n/",
         sheet.len() / 3,
     );
-    pairs(rows, words);
+    pairs(rows, words, fresh, applied(image, fresh, words));
     fates(rows, sheet);
     counted(
         b"short sheet of @ switch\n/short sheet of @ switches\n/",
@@ -161,18 +179,18 @@ fn unfit(sheet: &[u8], at: usize) {
     say(b"REFUSED\n", 0, b"");
 }
 
-fn report(rows: usize, sheet: &[u8]) {
+fn report(image: &[u8], rows: usize, sheet: &[u8]) {
     let shortened = shorten(rows, sheet);
     let fit = shortened.fit;
     let words = shortened.words;
     match fit {
-        SheetFit::Fits => told(rows, sheet, words),
+        SheetFit::Fits => told(image, rows, sheet, words),
         SheetFit::Unfit(at) => unfit(sheet, at),
     }
 }
 
 // A sheet of at most 4,096 switches.
-fn read_sheet(rows: usize) {
+fn read_sheet(image: &[u8], rows: usize) {
     let mut sheet = [0u8; 12289];
     let n = read_part(&mut sheet, 0, 12289);
     if 12288 < n {
@@ -183,7 +201,7 @@ fn read_sheet(rows: usize) {
         );
         return;
     }
-    report(rows, front(&sheet, n));
+    report(image, rows, front(&sheet, n));
 }
 
 fn refuse(image: &[u8], place: usize) {
@@ -198,7 +216,7 @@ fn main() {
     let n = read_image(&mut image);
     let table = front(&image, n);
     match check_table(table) {
-        TableAnswer::Accepted => read_sheet(rows_of(table, Kind::Connection)),
+        TableAnswer::Accepted => read_sheet(table, rows_of(table, Kind::Connection)),
         TableAnswer::Refused(place) => refuse(table, place),
     }
 }

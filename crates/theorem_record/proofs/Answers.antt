@@ -56,7 +56,7 @@ use Rattle.event_answer.proofs.Chain.{length-found, length-waiting}
 use Rattle.dispatch_events.specs.Events.{toldBytes, lossBytes, countBytes}
 use Rattle.dispatch_receive.specs.Long.{longestBody}
 use Rattle.dispatch_receive.specs.Walk.{orRefused, walkBytes}
-use Rattle.dispatch_receive.specs.Segment.{hereBytes, heldBytes, takeBytes, lends, Progress, begun, oneTake, allTakes}
+use Rattle.dispatch_receive.specs.Segment.{hereBytes, heldBytes, takeBytes, lentNext, Progress, begun, oneTake, allTakes}
 use Rattle.dispatch_receive.proofs.Written.{length-step, length-pdu, length-here, length-held}
 use Rattle.dispatch_receive.proofs.Run.{read-within, count-fits}
 use Rattle.dispatch_send.specs.Send.{arrivalBytes, transmissionBytes, takingBytes, roomOf}
@@ -274,11 +274,11 @@ module _ (l : Loan) (k : ℕ) (seg : List ℕ) (bytes : Bytes seg) (short : leng
   takes-fit : (n : ℕ) (r : Progress) → r .at ≤ length seg → AllFit (takesFrom l k seg n r)
   unfolding takesFrom oneTake takesFit bytesIn
   takes-fit zero r within =
-      more-fit (isDone (next r .answer)) false (nextTake l k seg r) [] (take-fits l k seg bytes short (lends l k seg r) (r .at) within) refl
+      more-fit (isDone (next r .answer)) false (nextTake l k seg r) [] (take-fits l k seg bytes short (lentNext l k seg r) (r .at) within) refl
   takes-fit (suc n) r within =
       more-fit (isDone (next r .answer)) (ltb (next r .at) (length seg)) (nextTake l k seg r) (takesFrom l k seg n (next r))
-      (take-fits l k seg bytes short (lends l k seg r) (r .at) within)
-      (takes-fit n (next r) (omega (arith, within, read-within (lends l k seg r) k (drop (r .at) seg), length-drop (r .at) seg)))
+      (take-fits l k seg bytes short (lentNext l k seg r) (r .at) within)
+      (takes-fit n (next r) (omega (arith, within, read-within (lentNext l k seg r) k (drop (r .at) seg), length-drop (r .at) seg)))
 
   segment-done : (ts : List Take) → length ts < 256 ^ 2 → AllFit ts → answerFits 7 (doneWith 2 (length ts) ++ bytesIn ts) ≡ true
   unfolding doneFits segmentFits
