@@ -1,7 +1,5 @@
 // run: a table image and a script on standard input; what each entry is and answers, and the records at the end, on standard output
 // (docs/EVENTS.md).
-mod end;
-
 use event_answer::Verdict;
 use event_decode::Call;
 use event_decode::call_of;
@@ -21,6 +19,7 @@ use words::lay;
 use words::phrase;
 use words_event::answer;
 use words_event::event;
+use words_record::records;
 use words_refusal::refusal;
 
 // How an entry leaves the run: it goes on; the input ended; an entry was refused; an entry was cut off.
@@ -318,7 +317,8 @@ fn run_script(table: &[u8]) {
     let left = entries(table, &mut rx, &mut tx, &mut body, &mut text, &mut out);
     let last = left.last;
     let state = left.state;
-    end::records(table, state, &rx, &tx, &mut text);
+    let end = records(&mut text, table, state, &rx, &tx);
+    io::write_all(1, front(&text, end));
     last_word(last);
 }
 

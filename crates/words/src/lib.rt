@@ -61,8 +61,17 @@ fn first_word(letter: u8) -> usize
     }
 }
 
+// Which word of the list a byte picks; a drop reason that there is not picks the last.
+fn word_number(letter: u8, v: u8) -> usize {
+    let reason = (20 <= v) & (v <= 23);
+    if (letter == b'd') & !reason {
+        return 32;
+    }
+    first_word(letter) + v as usize
+}
+
 // off and on (o); no and yes (y); the modes (m); the meanings of the answers 0 to 12 (n); the drop reasons 20 to 23 (d); the kinds of rows 1 to 4 (k);
-// the protocols 1 and 2 (u); how a connection is opened (f).
+// the protocols 1 and 2 (u); how a connection is opened (f); what a recording may name and there is not.
 fn word(letter: u8, v: u8, text: &mut [u8], at: usize) -> usize {
     let list = b"\
         off/\
@@ -96,8 +105,9 @@ fn word(letter: u8, v: u8, text: &mut [u8], at: usize) -> usize {
         UDP/\
         TCP/\
         opened on request/\
-        automatic/";
-    put_piece(text, at, phrase(list, first_word(letter) + v as usize))
+        automatic/\
+        unknown/";
+    put_piece(text, at, phrase(list, word_number(letter, v)))
 }
 
 fn part(text: &mut [u8], at: usize, v: usize, after: &[u8]) -> usize {

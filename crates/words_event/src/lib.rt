@@ -160,10 +160,23 @@ fn value(text: &mut [u8], at: usize, event: u16, number: usize, answer: &[u8]) -
     )
 }
 
+// The number's meaning: 1 where it has none, as only a recorded answer may have it.
+fn meaning_shape(number: usize) -> usize {
+    if number <= 12 { 0 } else { 1 }
+}
+
 // The answer: its number, the meaning, and what comes with it.
 pub fn answer(text: &mut [u8], at: usize, event: u16, answer: &[u8], body: &[u8]) -> usize {
     let number = be16(answer, 0);
-    let meant = lay(text, at, b"%h00 %n01", 0, answer, answer);
+    let meanings = b"%h00 %n01/%h00 unknown/";
+    let meant = lay(
+        text,
+        at,
+        phrase(meanings, meaning_shape(number)),
+        0,
+        answer,
+        answer,
+    );
     if (number == 0) & (event == 7) {
         return takes(text, meant, answer, bytes_from(body, 6));
     }

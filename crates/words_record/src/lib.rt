@@ -1,10 +1,14 @@
-// A record and both drop counts as lines of text (docs/EVENTS.md, "What `./soad run` prints"; the patterns are those of crate words). A record is spelt
-// first as a start state spells it. Proved to be safe and to return; the words are tried by stored output.
+// Every record that a table has a row for, and both drop counts, as lines of text: the end of what programs print (docs/EVENTS.md, "What `./soad
+// run` prints"; the patterns are those of crate words). A record is spelt first as a start state spells it. Proved to be safe and to return; the words are tried by stored output.
 use connection::Connection;
 use connection::Mode;
+use event_decode::bytes_from;
 use pieces::front;
 use receive_part::Part;
+use state::State;
+use table_layout::Kind;
 use table_layout::part_of;
+use table_layout::rows_of;
 use wire::be8;
 use wire::be16;
 use wire::put8;
@@ -120,10 +124,10 @@ fn timed(text: &mut [u8], at: usize, row: &[u8]) -> usize {
     lay(text, at, phrase(patterns, timer_shape(row)), 0, row, row)
 }
 
-fn line(text: &mut [u8], number: u64, row: &[u8], rx: &[u8], tx: &[u8]) -> usize {
+fn line(text: &mut [u8], at: usize, number: u64, row: &[u8], rx: &[u8], tx: &[u8]) -> usize {
     let pattern =
         b"connection @: %m00, open wanted %y01, close wanted %y02, remote %q16 port %r20, switches 0x%i22, receive part ";
-    let named = lay(text, 0, pattern, number, row, row);
+    let named = lay(text, at, pattern, number, row, row);
     let told = received(text, named, row, rx);
     let sent = lay(
         text,
@@ -137,15 +141,53 @@ fn line(text: &mut [u8], number: u64, row: &[u8], rx: &[u8], tx: &[u8]) -> usize
 }
 
 // The record number so many, with its stretches of receive and send memory.
-pub fn record(text: &mut [u8], number: u64, c: Connection, rx: &[u8], tx: &[u8]) -> usize {
+fn record(text: &mut [u8], at: usize, number: u64, c: Connection, rx: &[u8], tx: &[u8]) -> usize {
     let mut row = [0u8; 43];
     spell(&mut row, c);
-    line(text, number, &row, rx, tx)
+    line(text, at, number, &row, rx, tx)
 }
 
-pub fn counts(text: &mut [u8], udp: u32, tcp: u32) -> usize {
+fn counts(text: &mut [u8], at: usize, udp: u32, tcp: u32) -> usize {
     let mut row = [0u8; 8];
     put32(&mut row, 0, udp);
     put32(&mut row, 4, tcp);
-    lay(text, 0, b"drops: UDP %w00, TCP %w04\n", 0, &row, &row)
+    lay(text, at, b"drops: UDP %w00, TCP %w04\n", 0, &row, &row)
+}
+
+// ---- all of them
+
+// One line for the record k, where the table has a row for it.
+fn record_of(
+    text: &mut [u8],
+    at: usize,
+    table: &[u8],
+    k: u8,
+    c: Connection,
+    rx: &[u8],
+    tx: &[u8],
+) -> usize {
+    let i = k as usize;
+    if rows_of(table, Kind::Connection) <= i {
+        return at;
+    }
+    record(
+        text,
+        at,
+        k as u64,
+        c,
+        bytes_from(rx, i * 1464),
+        bytes_from(tx, i * 1472),
+    )
+}
+
+// Sixteen records have some 98,000 characters at most.
+pub fn records(text: &mut [u8], table: &[u8], state: State, rx: &[u8], tx: &[u8]) -> usize {
+    let mut next: usize = 0;
+    let mut k: u8 = 0;
+    while k < 16 {
+        let c = state.connections[k as usize];
+        next = record_of(text, next, table, k, c, rx, tx);
+        k += 1;
+    }
+    counts(text, next, state.udp_drops, state.tcp_drops)
 }

@@ -1,17 +1,17 @@
--- `run::end::records` meets its contract.
+-- `words_record::records` meets its contract.
 use Prim.Native.Nat.{_≤_, _-_}
 use mathlib.Core.Path.{_≡_, refl}
 use lib.ListN.{length}
 use native.Mathlib.Omega.{arith}
 use borrow.Author.Needs.{needs}
-use Rattle.run.proofs.end.records.Statement.{statement}
-use Rattle.run.proofs.end.records.Tie as tie
+use Rattle.words_record.proofs.records.Statement.{statement}
+use Rattle.words_record.proofs.records.Tie as tie
 
 abbrev Inv-loop : tie.InvT-loop
-Inv-loop table rx tx text₀ state k₀ text k = (k ≤ 16) × (length text ≡ length text₀)
+Inv-loop text₀ table rx tx state next₀ k₀ text next k = (k ≤ 16) × (length text ≡ length text₀)
 
 abbrev μ-loop : tie.MeasureT-loop
-μ-loop table rx tx text₀ state k₀ text k = 16 - k
+μ-loop text₀ table rx tx state next₀ k₀ text next k = 16 - k
 
 loop-holds : tie.Need-loop-holds Inv-loop μ-loop
 loop-holds c = (omega arith, refl)
@@ -25,8 +25,8 @@ mul-c c = search needs
 element-copy-out-c : tie.Need-element-copy-out-c Inv-loop μ-loop
 element-copy-out-c c = search needs
 
-tell-record-requires : tie.Need-tell-record-requires Inv-loop μ-loop
-tell-record-requires c κs = search needs
+record-of-requires : tie.Need-record-of-requires Inv-loop μ-loop
+record-of-requires c κs = search needs
 
 add-k : tie.Need-add-k Inv-loop μ-loop
 add-k c = omega arith
@@ -39,12 +39,6 @@ loop-again c = (omega arith, omega arith)
 
 counts-requires : tie.Need-counts-requires Inv-loop μ-loop
 counts-requires c κs = search needs
-
-front-requires : tie.Need-front-requires Inv-loop μ-loop
-front-requires c κs = search needs
-
-write-all-requires : tie.Need-write-all-requires Inv-loop μ-loop
-write-all-requires c κs = search needs
 
 same-length : tie.Need-same-length Inv-loop μ-loop
 same-length c = omega arith
@@ -62,12 +56,10 @@ records-spec =
     cast-c
     mul-c
     element-copy-out-c
-    tell-record-requires
+    record-of-requires
     add-k
     loop-less
     loop-again
     counts-requires
-    front-requires
-    write-all-requires
     same-length
     returns)
