@@ -66,5 +66,7 @@ uint32_t twin_tick(const struct lent *lent);
 size_t twin_segment(const struct lent *lent, uint8_t connection, const uint8_t *segment, size_t length, uint8_t *out);
 size_t twin_ticks(const struct lent *lent, uint32_t count, uint8_t *out);
 uint32_t twin_datagram(const struct lent *lent, uint8_t group, struct remote source, uint8_t *met);
+/* Replays a recording (replay.c); whether every answer is the recorded one. */
+bool twin_replay(const struct lent *lent, const uint8_t *recording, size_t length, uint8_t *out);
 
 #endif

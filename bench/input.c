@@ -3,19 +3,20 @@
  *   input WHAT QUARTERS LENGTH TIMES     a table with QUARTERS/4 of the most rows, a payload of LENGTH bytes, TIMES calls of WHAT
  *
  * WHAT: nothing, gate, take, cut, walk, transmit, waiting, tick, datagram; segment: an event of LENGTH PDUs of 10 bytes in all;
- * ticks: an event of LENGTH ticks; emptied, holding: what transmit and waiting do besides the call. With a `+` before it: under a
+ * ticks: an event of LENGTH ticks; replay: the recording of ten events, answers and all (shift.h); emptied, holding: what transmit and waiting do besides the call. With a `+` before it: under a
  * state in which each connection holds bytes to send.
  */
 #include "image.h"
+#include "shift.h"
 #include "system.h"
 
 extern int atoi(const char *text);
 extern int strcmp(const char *one, const char *other);
 
 static const char *const names[] = {"nothing", "gate",     "take",    "cut",   "walk",    "transmit", "waiting",
-                                    "tick",    "datagram", "segment", "ticks", "emptied", "holding"};
-enum { NOTHING, GATE, TAKE, CUT, WALK, TRANSMIT, WAITING, TICK, DATAGRAM, SEGMENT, TICKS, EMPTIED, HOLDING, WHATS };
-static const uint8_t numbers[] = {0, 1, 2, 3, 4, 5, 6, 7, 8, 9, 9, 69, 70};
+                                    "tick",    "datagram", "segment", "ticks", "replay",  "emptied",  "holding"};
+enum { NOTHING, GATE, TAKE, CUT, WALK, TRANSMIT, WAITING, TICK, DATAGRAM, SEGMENT, TICKS, REPLAY, EMPTIED, HOLDING, WHATS };
+static const uint8_t numbers[] = {0, 1, 2, 3, 4, 5, 6, 7, 8, 9, 9, 10, 69, 70};
 enum { EVENT_TICKS = 0, EVENT_SEGMENT = 7, PDU_BYTES = 10, BUSY = 128 };
 
 static uint8_t head[16], bytes[2944];
@@ -57,6 +58,8 @@ int main(int count, char **words)
     }
     if (what == TICKS)
         set(bytes, length, given = 4);
+    if (what == REPLAY)
+        given = make_shift(bytes, quarters);
     set(head, numbers[what] + (name != words[1] ? BUSY : 0), 1);
     set(head + 1, connection, 1);
     set(head + 2, what == SEGMENT ? EVENT_SEGMENT : what == TICKS ? EVENT_TICKS : 8 * quarters - 1, 2);

@@ -97,6 +97,8 @@ static bool once(size_t what, uint8_t connection, uint16_t pdu, uint16_t used)
         return arrive(connection);
     case 9:
         return dispatched(pdu);
+    case 10:
+        return twin_replay(&lent, bytes, length, out);
     case 69:
         hold(connection, 0);
         hold(connection + 1u, 0);
