@@ -23,7 +23,7 @@ ready_ours() {
         compile "$work/input" "${includes[@]}" "$root/bench/input.c"
 }
 
-ready_twins() { compile_cross "$work/twins" "${includes[@]}" "$root"/bench/{repeat,dispatch,events,table}.c; }
+ready_twins() { compile_cross "$work/twins" "${includes[@]}" "$root"/bench/{repeat,replay,dispatch,events,table}.c; }
 
 # count PROGRAM WORD ..: instructions of one run. A program that does not say OK ends the shell.
 count() {
@@ -35,10 +35,14 @@ count() {
 
 per_call() { echo $((($(count "$work/bench" "$@" 70 </dev/null) - $(count "$work/bench" "$@" 20 </dev/null)) / 50)); }
 
-# repeated PROGRAM WHAT QUARTERS LENGTH: the calls of a short run, 20, and of a long one, 70; 1 and 3 of what is long by itself.
+# repeated PROGRAM WHAT QUARTERS LENGTH: the calls of a short run, 20, and of a long one, 70; 1 and 3 of what is long by itself; of a replay of 10
+# entries 1 and 401, which are 4,000 entries more.
 repeated() {
     local short=20 long=70 less more
-    case $2 in *segment | *ticks) short=1 long=3 ;; esac
+    case $2 in
+    *segment | *ticks) short=1 long=3 ;;
+    *replay) short=1 long=401 ;;
+    esac
     less=$("${start[@]}" "$work/input" "${@:2}" "$short" | count "$1") || return
     more=$("${start[@]}" "$work/input" "${@:2}" "$long" | count "$1") || return
     echo $(((more - less) / (long - short)))

@@ -77,5 +77,7 @@ uint32_t twin_datagram(const struct lent *lent, uint8_t group, struct remote sou
 uint32_t twin_accept(const struct lent *lent, uint8_t group, struct remote source, uint8_t *met);
 /* An event by its number, with a body that fits it (docs/EVENTS.md); its answer and that answer's length, the same way. */
 size_t twin_event(const struct lent *lent, unsigned number, const uint8_t *body, uint8_t *out);
+/* Replays a recording (replay.c); whether every answer is the recorded one. */
+bool twin_replay(const struct lent *lent, const uint8_t *recording, size_t length, uint8_t *out);
 
 #endif

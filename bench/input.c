@@ -7,9 +7,10 @@
  * a table whose groups are all TCP, with the first, the middle or the last row for its route; none: the same with an id that no row
  * has, and no payload; empty: a take of no bytes there; switch, all, clear, lost, accept, remote, close: events through the dispatcher,
  * which leave the state as they find it (lost and connected; lost and accept; lost, set remote and connected; close, tick, open,
- * tick); idle: none of them. With a `+` before it: under a state in which each connection holds bytes to send.
+ * tick); idle: none of them; replay: the recording of ten events, answers and all (shift.h). With a `+` before it: under a state in which each connection holds bytes to send.
  */
 #include "image.h"
+#include "shift.h"
 #include "system.h"
 
 extern int atoi(const char *text);
@@ -17,12 +18,13 @@ extern int strcmp(const char *one, const char *other);
 
 static const char *const names[] = {"nothing", "gate",    "take",  "cut",     "walk",    "transmit", "waiting", "tick", "datagram",
                                     "segment", "ticks",   "first", "middle",  "last",    "none",     "empty",   "emptied", "holding",
-                                    "switch",  "all",     "clear", "lost",    "accept",  "remote",   "close",   "idle"};
+                                    "switch",  "all",     "clear", "lost",    "accept",  "remote",   "close",   "idle",
+                                    "replay"};
 enum {
     NOTHING, GATE, TAKE, CUT, WALK, TRANSMIT, WAITING, TICK, DATAGRAM, SEGMENT, TICKS, FIRST, MIDDLE, LAST, NONE, EMPTY, EMPTIED, HOLDING,
-    SWITCH, ALL, CLEAR, LOST, ACCEPT, REMOTE, CLOSE, IDLE, WHATS
+    SWITCH, ALL, CLEAR, LOST, ACCEPT, REMOTE, CLOSE, IDLE, REPLAY, WHATS
 };
-static const uint8_t numbers[] = {0, 1, 2, 3, 4, 5, 6, 7, 8, 9, 9, 2, 2, 2, 10, 11, 69, 70, 12, 12, 12, 12, 12, 12, 12, 12};
+static const uint8_t numbers[] = {0, 1, 2, 3, 4, 5, 6, 7, 8, 9, 9, 2, 2, 2, 10, 11, 69, 70, 12, 12, 12, 12, 12, 12, 12, 12, 13};
 enum { EVENT_TICKS = 0, EVENT_SEGMENT = 7, PDU_BYTES = 10, BUSY = 128 };
 
 static uint8_t head[16], bytes[2944];
@@ -134,8 +136,10 @@ int main(int count, char **words)
     }
     if (what == TICKS)
         set(bytes, length, given = 4);
-    if (what >= SWITCH)
+    if (what >= SWITCH && what <= IDLE)
         given = add_events(what, connection, connection % (2 * quarters));
+    if (what == REPLAY)
+        given = make_shift(bytes, quarters);
     set(head, numbers[what] + (name != words[1] ? BUSY : 0), 1);
     set(head + 1, connection, 1);
     set(head + 2, what == SEGMENT ? EVENT_SEGMENT : what == TICKS ? EVENT_TICKS : 8 * quarters - 1, 2);

@@ -106,6 +106,8 @@ static bool once(size_t what, uint8_t connection, uint16_t pdu, uint16_t used)
         return take(connection, bytes, 0, MORE);
     case 12:
         return some_events();
+    case 13:
+        return twin_replay(&lent, bytes, length, out);
     case 69:
         hold(connection, 0);
         hold(connection + 1u, 0);

@@ -6,8 +6,17 @@ use entry_receive::segment_take;
 use entry_receive::walk_datagram;
 use event_answer::Verdict;
 use event_decode::bytes_from;
+use pieces::after;
 use pieces::front;
 use receive_stream::Outcome;
+use recording::Front;
+use recording::body_long;
+use recording::entries_in;
+use recording::entry_row;
+use recording::front_of;
+use recording::stamp_in;
+use replay_step::Played;
+use replay_step::replay_step;
 use select::Arrival;
 use send::Transmission;
 use send_waiting::Taking;
@@ -325,6 +334,80 @@ fn some_events(
     two_events(image, two, rx, tx, out, later(later(events)))
 }
 
+// ---- a replay
+
+fn is_same(played: Played) -> bool {
+    if let Played::Same(_) = played {
+        true
+    } else {
+        false
+    }
+}
+
+// Entry i, from 0, whose body begins at a place, three ticks after the one before.
+fn replayed_entry(
+    image: &[u8],
+    state: State,
+    rx: &mut [u8],
+    tx: &mut [u8],
+    out: &mut [u8],
+    recording: &[u8],
+    i: u16,
+    at: usize,
+) -> Turn {
+    let row = entry_row(recording, i);
+    let rest = bytes_from(recording, at);
+    let before = std::num::wrapping_sub_u32(stamp_in(row), 3);
+    let step = replay_step(image, state, rx, tx, before, row, rest, out);
+    let played = step.played;
+    let now = step.state;
+    Turn {
+        done: is_same(played),
+        state: now,
+    }
+}
+
+fn is_sized(recording: &[u8]) -> bool {
+    if let Front::Sized = front_of(recording) {
+        true
+    } else {
+        false
+    }
+}
+
+// Where the body behind that of an entry begins.
+fn body_after(recording: &[u8], i: u16, at: usize) -> usize {
+    after(recording.len(), at, body_long(entry_row(recording, i)))
+}
+
+// The entries of a recording; whether each answer is the recorded one.
+fn replayed(
+    image: &[u8],
+    state: State,
+    rx: &mut [u8],
+    tx: &mut [u8],
+    out: &mut [u8],
+    recording: &[u8],
+) -> Turn {
+    let count = entries_in(recording);
+    let mut now = state;
+    let mut all = is_sized(recording);
+    let mut at = 4 + count as usize * 12;
+    let mut i: u16 = 0;
+    while i < count {
+        let this = i;
+        i += 1;
+        let turn = replayed_entry(image, now, rx, tx, out, recording, this, at);
+        now = turn.state;
+        all = all & turn.done;
+        at = body_after(recording, this, at);
+    }
+    Turn {
+        done: all,
+        state: now,
+    }
+}
+
 // The call that a number names; an unknown one does nothing, and says so.
 pub fn once(
     what: u8,
@@ -355,6 +438,7 @@ pub fn once(
         10 => take(image, state, rx, tx, connection, bytes, 2),
         11 => take(image, state, rx, tx, connection, front(bytes, 0), 0),
         12 => some_events(image, state, rx, tx, out, bytes),
+        13 => replayed(image, state, rx, tx, out, bytes),
         69 => Turn {
             done: true,
             state: emptied(state, connection as usize),

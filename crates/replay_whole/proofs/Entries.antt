@@ -135,7 +135,7 @@ module _ (image recording rx₀ tx₀ out₀ : List ℕ) (start : State) where
     entry-stops ran e q t f =
         let w = stops (sym (ap isRun played) ∙ sym q ∙ not-true ran t) in
         let z : record { end = e; run = i; ticks = g .ticks; differs = g .differs; state = s .state } ≡ stopped image recording i g now-at .replayed =
-            ap₂ (λ (x : End) (y : State). record { end = x; run = i; ticks = g .ticks; differs = g .differs; state = y }) (f ∙ ap (endAt i) played) state in (
+        ap₂ (λ (x : End) (y : State). record { end = x; run = i; ticks = g .ticks; differs = g .differs; state = y }) (f ∙ ap (endAt i) played) state in (
           z ∙ ap (λ (x : Left). x .replayed) w,
           (leaves .1 .0 ∙ ap (λ (x : Left). x .rx) w, (leaves .1 .1 .0 ∙ ap (λ (x : Left). x .tx) w, leaves .1 .1 .1 ∙ ap (λ (x : Left). x .out) w)),
         )
@@ -144,8 +144,8 @@ module _ (image recording rx₀ tx₀ out₀ : List ℕ) (start : State) where
     pub entry-placed : (ran : Bool) (long : ℕ) → ran ≡ isRun (s .played) → not ran ≡ false → long ≡ bodyLong row → Placed (g .at + long)
     entry-placed ran long q t b =
         let w : bodyLong (entryRow recording i) ≤ length (drop (g .at) recording) =
-            run-there (loan image (g .state) (g .rx) (g .tx)) (g .out) (g .before) (entryRow recording i) (drop (g .at) recording)
-            (sym (ap isRun played) ∙ sym q ∙ not-false ran t) in
+        run-there (loan image (g .state) (g .rx) (g .tx)) (g .out) (g .before) (entryRow recording i) (drop (g .at) recording)
+        (sym (ap isRun played) ∙ sym q ∙ not-false ran t) in
         let v : long ≡ bodyLong (entryRow recording i) = b ∙ ap bodyLong r in
         ⊎-elim
         (λ (p : g .at ≤ 786424). within-either (g .at) long (length recording) (length (drop (g .at) recording)) (length-drop (g .at) recording) (omega (arith, w, v)) p)
@@ -169,11 +169,11 @@ module _ (image recording rx₀ tx₀ out₀ : List ℕ) (start : State) where
             ap₂ (λ (x : State) (y : List ℕ). goingOf x y tx out (g .at + long) later (g .ticks + distance) differs) state (leaves .1 .0)
             ∙ ap₂ (λ (x y : List ℕ). goingOf (now-at .state) (now-at .rx) x y (g .at + long) later (g .ticks + distance) differs) (leaves .1 .1 .0) (leaves .1 .1 .1)
             ∙ ap₂ (λ (x y : ℕ). goingOf (now-at .state) (now-at .rx) (now-at .tx) (now-at .out) (g .at + x) y (g .ticks + distance) differs)
-              (lo ∙ ap bodyLong r) (la ∙ ap stampIn r)
+            (lo ∙ ap bodyLong r) (la ∙ ap stampIn r)
             ∙ ap₂
-              (λ (x y : ℕ).
-                goingOf (now-at .state) (now-at .rx) (now-at .tx) (now-at .out) (g .at + bodyLong (entryRow recording i)) (stampIn (entryRow recording i)) (g .ticks + x) y)
-              (di ∙ ap (distanceIn stamps (g .before)) (st ∙ ap stampIn r)) (df ∙ ap (firstOther (g .differs) i) (ot ∙ ap isOther played))
+            (λ (x y : ℕ).
+            goingOf (now-at .state) (now-at .rx) (now-at .tx) (now-at .out) (g .at + bodyLong (entryRow recording i)) (stampIn (entryRow recording i)) (g .ticks + x) y)
+            (di ∙ ap (distanceIn stamps (g .before)) (st ∙ ap stampIn r)) (df ∙ ap (firstOther (g .differs) i) (ot ∙ ap isOther played))
 
 -- nothing is run, from a state that is this one
 pub unrun-so : (e : End) (r : Replayed) (s t : State) → r ≡ record { end = e; run = 0; ticks = 0; differs = 0; state = s } → s ≡ t

@@ -126,12 +126,11 @@ loop-again c =
     let f = r .before .before in
     let e = f .before .before .before in
     let l = e .before .before in
-    let p = r .replay-step .ensures in
-    (
+    let p = r .replay-step .ensures in (
       entry-on _ _ _ _ _ _ _ _ _ (l .loop .inv .0) (e .before .loop-test .taken) _ _ _ _ _ _ (e .entry-row2 .ensures) (f .bytes-from .ensures .0)
-    (p .0, (p .1 .0, (p .1 .1 .0, p .1 .1 .1))) _ _ _ _ _ _ _
-      (c .before .before .before .before .before .before .before .is-run .ensures) (c .before .before .before .before .before .before .if1 .left) (c .before .before .before .before .before .stamp-in2 .ensures) (c .before .before .before .before .distance .ensures) (omega (arith, c .before .before .before .before .distance .ok)) (c .before .before .before .body-long .ensures)
-      (c .before .before .stamp-in3 .ensures) (c .before .is-other .ensures) (c .first-other .ensures),
+          (p .0, (p .1 .0, (p .1 .1 .0, p .1 .1 .1))) _ _ _ _ _ _ _
+          (c .before .before .before .before .before .before .before .is-run .ensures) (c .before .before .before .before .before .before .if1 .left) (c .before .before .before .before .before .stamp-in2 .ensures) (c .before .before .before .before .distance .ensures) (omega (arith, c .before .before .before .before .distance .ok)) (c .before .before .before .body-long .ensures)
+          (c .before .before .stamp-in3 .ensures) (c .before .is-other .ensures) (c .first-other .ensures),
       (
         omega (arith, r .replay-step .kept, l .loop .inv .1),
         (omega (arith, r .replay-step .kept, l .loop .inv .1), omega (arith, r .replay-step .kept, l .loop .inv .1)),
