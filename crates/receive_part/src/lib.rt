@@ -1,13 +1,14 @@
-// What a connection has received and not yet handed out: part of a header, part of a payload, or bytes still to skip.
-// Its shape, and whether it is empty.
+// What a connection has received and not yet handed out: part of a header, part of a payload, bytes still to skip, or a running
+// transfer, of which nothing is held. Its shape, whether it is empty, and whether it is a transfer.
 ghost use mathlib.Core.Path.{_≡_};
-ghost use Rattle.receive_part.specs.Part.{shaped, emptyPart, roomFor};
+ghost use Rattle.receive_part.specs.Part.{shaped, emptyPart, transferring, roomFor};
 
 // `Header { held: 0, value: 0 }` is a connection that is ready and at a header's first byte.
 pub enum Part {
     Header { held: u8, value: u64 },
     Payload { route: u8, length: u16, held: u16 },
     Skip(u32),
+    Transfer { route: u8, left: u32 },
 }
 
 // What `held` header bytes stay below as a number; 0 where so many cannot be held.
@@ -39,6 +40,7 @@ pub fn is_shaped(part: Part) -> bool
             held,
         } => held < length,
         Part::Skip(bytes) => 0 < bytes,
+        Part::Transfer { route: _, left } => 0 < left,
     }
 }
 
@@ -54,5 +56,22 @@ pub fn is_empty(part: Part) -> bool
             held: _,
         } => false,
         Part::Skip(_) => false,
+        Part::Transfer { route: _, left: _ } => false,
+    }
+}
+
+// Whether a transfer runs.
+pub fn is_transfer(part: Part) -> bool
+    ensures { λ r. ⌜ r ≡ transferring part ⌝ }
+{
+    match part {
+        Part::Header { held: _, value: _ } => false,
+        Part::Payload {
+            route: _,
+            length: _,
+            held: _,
+        } => false,
+        Part::Skip(_) => false,
+        Part::Transfer { route: _, left: _ } => true,
     }
 }

@@ -16,6 +16,9 @@ enum-known-part-2 c = search needs
 enum-known-part-3 : tie.Need-enum-known-part-3
 enum-known-part-3 c = search needs
 
+enum-known-part-4 : tie.Need-enum-known-part-4
+enum-known-part-4 c = search needs
+
 returns : tie.Need-returns
 returns c = rw (c .before .before .part .given .1, c .room-for .ensures) (below-room _ _)
 
@@ -25,6 +28,9 @@ returns-2 c = rw (c .before .part2 .given .1)
 returns-3 : tie.Need-returns-3
 returns-3 c = rw (c .before .part3 .given .1)
 
+returns-4 : tie.Need-returns-4
+returns-4 c = rw (c .before .part4 .given .1)
+
 pub is-shaped-spec : {M : Type 1} → statement M
 is-shaped-spec =
     tie.close
@@ -33,6 +39,8 @@ is-shaped-spec =
     room-for-requires
     enum-known-part-2
     enum-known-part-3
+    enum-known-part-4
     returns
     returns-2
-    returns-3)
+    returns-3
+    returns-4)
