@@ -19,7 +19,8 @@ use table_rows::route_in;
 use wire::be32;
 use wire::copy_in;
 
-// What a take finds: more is wanted; a PDU, with the place of its payload in the segment or in receive memory; a drop.
+// What a take finds: more is wanted; a PDU, with the place of its payload in the segment or in receive memory; a drop;
+// a transfer's start, the last of it when its length is 0; a piece of it, at its place in the segment, the last or not.
 pub enum Outcome {
     More,
     Pdu {
@@ -33,6 +34,19 @@ pub enum Outcome {
         reason: u8,
         id: u32,
         length: u32,
+    },
+    Start {
+        route: u8,
+        id: u32,
+        length: u32,
+        last: bool,
+    },
+    Piece {
+        route: u8,
+        id: u32,
+        at: usize,
+        length: usize,
+        last: bool,
     },
 }
 
