@@ -2,17 +2,19 @@
 -- 4,294,967,295 and beyond). These are the laws that code which works by stretches is proved with.
 use Prim.Native.Nat.{ℕ, zero, suc, _+_, _-_, _*_, _/_, _%_, _^_, _≤_, _<_}
 use mathlib.Core.Path.{_≡_, refl, sym, ap, ap₂, _∙_}
+use mathlib.Core.Bool.{Bool, true, false}
 use mathlib.Core.List.{List, [], _∷_, _++_, append-assoc, append-nil}
 use native.Mathlib.Omega.{arith}
 use native.Mathlib.Nat.{le-of-eq, lt-of-lt-of-le, pow-le-pow-right, pow-suc, add-mul, mul-assoc, add-assoc, zero-add}
+use borrow.Author.Tests.{lt-ltb, le-ltb}
 use lib.Arith.{digits-div, digits-mod, digits-lt}
 use lib.Pow.{pow-add}
 use lib.ListN.{length, take, drop, getD}
 use lib.Seq.{take-suc}
 use Rattle.wire.specs.Be.{be}
 use Rattle.reading.specs.declared.Decision.{Decision}
-use Rattle.reading.specs.declared.Decision.the-variants.{Accept, Refuse}
-use Rattle.reading.specs.Feed.{Routes, PieceKind, header, payload, skip, Cell, cell, nothing, pdu, dropped, ready, decided, withByte, pieceDone, spelt, feed, took, takeB, resume}
+use Rattle.reading.specs.declared.Decision.the-variants.{Accept, Refuse, Transfer}
+use Rattle.reading.specs.Feed.{Routes, PieceKind, header, payload, skip, Cell, cell, transfer, nothing, pdu, dropped, start, piece, ready, decided, withByte, pieceDone, spelt, feed, took, pieceBy, takeB, resume}
 
 -- A STRETCH WITH MANY BYTES MORE
 abbrev pub addAll : PieceKind → List ℕ → PieceKind
@@ -105,6 +107,31 @@ skipCell (suc n) = cell (suc n) skip
 pub refused-skips : (R : Routes) (k i n : ℕ) (bs : List ℕ) → resume R (decided (Refuse k) i n) bs ≡ took (skipCell n) (dropped k i n) bs
 refused-skips R k i zero bs = refl
 refused-skips R k i (suc n) bs = refl
+
+-- A TRANSFER: its start, which may be all of it; a piece that the segment cuts off, and the last one
+abbrev pub moveCell : ℕ → ℕ → Cell
+moveCell zero r = ready
+moveCell (suc n) r = transfer (suc n) r
+
+abbrev pub empty : ℕ → Bool
+empty zero = true
+empty (suc n) = false
+
+pub started : (R : Routes) (i r n : ℕ) (bs : List ℕ) → resume R (decided (Transfer r) i n) bs ≡ took (moveCell n r) (start r i n (empty n)) bs
+started R i r zero bs = refl
+started R i r (suc n) bs = refl
+
+pub piece-short : (R : Routes) (n r : ℕ) (bs : List ℕ) → 0 < length bs → length bs < n → takeB R (transfer n r) bs ≡ took (transfer (n - length bs) r) (piece r bs false) []
+unfolding takeB
+piece-short R n r [] p lt = absurd (omega arith)
+piece-short R zero r (b ∷ bs) p lt = absurd (omega arith)
+piece-short R (suc n) r (b ∷ bs) p lt = ap (λ (t : Bool). pieceBy t (suc n) r (b ∷ bs)) (lt-ltb (length (b ∷ bs)) (suc n) lt)
+
+pub piece-whole : (R : Routes) (n r : ℕ) (bs : List ℕ) → 0 < n → n ≤ length bs → takeB R (transfer n r) bs ≡ took ready (piece r (take n bs) true) (drop n bs)
+unfolding takeB
+piece-whole R zero r bs p le = absurd (omega arith)
+piece-whole R (suc n) r [] p le = absurd (omega arith)
+piece-whole R (suc n) r (b ∷ bs) p le = ap (λ (t : Bool). pieceBy t (suc n) r (b ∷ bs)) (le-ltb (length (b ∷ bs)) (suc n) le)
 
 -- THE NUMBER THAT BYTES STAND FOR: of two lists, and with one byte more
 pub spelt-append : (v : ℕ) (a b : List ℕ) → spelt v (a ++ b) ≡ spelt (spelt v a) b

@@ -1,5 +1,7 @@
 -- The laws of reading a stream.
 pub mod Laws
 pub mod Cut
+pub mod Compared
+pub mod Pieces
 pub mod Long
 pub mod Trip
