@@ -55,6 +55,7 @@ per_event() {
     case ${2#+} in
     transmit) besides=emptied ;;
     waiting) besides=holding ;;
+    piece) besides=begun ;;
     switch | all | clear | lost | accept | remote | close) besides=idle ;;
     *) besides=nothing ;;
     esac

@@ -70,6 +70,7 @@ size_t twin_event(const struct lent *lent, unsigned number, const uint8_t *body,
 {
     uint32_t answer, value = 0;
     uint8_t met = 0;
+    bool failed = false;
     switch (number) {
     case 0:
         return twin_ticks(lent, be32(body), out);
@@ -80,7 +81,8 @@ size_t twin_event(const struct lent *lent, unsigned number, const uint8_t *body,
     case 3:
         return plain(out, twin_connected(lent, body[1]));
     case 4:
-        return answered(out, twin_lost(lent, body[1]), 0, 0, 1);
+        answer = twin_lost(lent, body[1], &failed);
+        return answered(out, answer, 0, failed, 1);
     case 5:
         return plain(out, twin_set_remote(lent, body[1], address(body + 2)));
     case 6:
@@ -107,6 +109,8 @@ size_t twin_event(const struct lent *lent, unsigned number, const uint8_t *body,
     case 15:
         answer = twin_read_and_clear(lent, body[1], &value);
         return answered(out, answer, 0, value, 4);
+    case 16:
+        return plain(out, twin_cancel(lent, body[1]));
     default:
         die("twin_event: there is no such event");
     }

@@ -25,7 +25,7 @@ static struct config config_of(const struct layout *table, size_t n)
 {
     const uint8_t *row = table->body[CONNECTION] + n * ROW;
     return (struct config){
-        .tcp = table->body[GROUP][row[0] * 2] == 2,
+        .tcp = is_tcp(table, n),
         .automatic = row[1] == 1,
         .remote = {.address = be32(row + 2), .port = be16(row + 6)},
         .size = be16(row + 8),
@@ -50,7 +50,11 @@ static bool is_shaped(const struct layout *table, size_t n, const struct record 
     if (c->part == SKIP_BYTES)
         return c->value != 0;
     const uint8_t *row = table->body[ROUTE] + c->route * ROW;
-    return c->held < c->length && c->route < table->rows[ROUTE] && row[0] == n && c->length <= be16(row + 2);
+    if (c->route >= table->rows[ROUTE] || row[0] != n)
+        return false;
+    if (c->part == TRANSFER_BYTES)
+        return c->value != 0 && row[1] == 1;
+    return c->held < c->length && row[1] == 0 && c->length <= be16(row + 2);
 }
 
 static bool is_sound(const struct layout *table, size_t n, const struct record *c)
@@ -178,7 +182,21 @@ uint32_t twin_connected(const struct lent *lent, uint8_t connection)
     return 0;
 }
 
-uint32_t twin_lost(const struct lent *lent, uint8_t connection)
+/* A transfer runs, and the receiver wants no more of it. */
+uint32_t twin_cancel(const struct lent *lent, uint8_t connection)
+{
+    struct layout table;
+    uint32_t answer = ask_at(lent, connection, &table);
+    if (answer != 0)
+        return answer;
+    struct record *c = &lent->state->connections[connection];
+    if (c->part != TRANSFER_BYTES)
+        return 3;
+    c->close_wanted = true;
+    return 0;
+}
+
+uint32_t twin_lost(const struct lent *lent, uint8_t connection, bool *failed)
 {
     struct layout table;
     uint32_t answer = ask_at(lent, connection, &table);
@@ -188,6 +206,7 @@ uint32_t twin_lost(const struct lent *lent, uint8_t connection)
     struct config config = config_of(&table, connection);
     if (!config.tcp || c->mode != ONLINE)
         return 3;
+    *failed = c->part == TRANSFER_BYTES;
     *c = (struct record){.mode = RECONNECT, .close_wanted = c->close_wanted, .remote = config.remote, .switches = c->switches};
     return 0;
 }
@@ -280,6 +299,26 @@ static void take_payload(const struct layout *table, struct record *c, uint8_t *
     ready(c);
 }
 
+/* A piece of a running transfer: all of its bytes that stand in the segment. */
+static void take_piece(const struct layout *table, struct record *c, const uint8_t *segment, size_t length, struct outcome *outcome)
+{
+    size_t here = c->value < length ? c->value : length;
+    *outcome = (struct outcome){.kind = MORE};
+    if (length == 0)
+        return;
+    *outcome = (struct outcome){
+        .kind = here == c->value ? LAST_PIECE : PIECE,
+        .number = c->route,
+        .id = be32(table->body[ROUTE] + c->route * ROW + 4),
+        .length = (uint32_t)here,
+        .read = here,
+        .payload = segment,
+    };
+    c->value -= here;
+    if (c->value == 0)
+        ready(c);
+}
+
 /* 11, 12, 2, 3, 4. */
 static uint32_t ask_take(const struct lent *lent, uint8_t connection, struct layout *table)
 {
@@ -298,6 +337,10 @@ static void take(const struct lent *lent, const struct layout *table, uint8_t co
 {
     struct record *c = &lent->state->connections[connection];
     size_t at = 0;
+    if (c->part == TRANSFER_BYTES) {
+        take_piece(table, c, segment, length, outcome);
+        return;
+    }
     if (c->part == SKIP_BYTES) {
         at = c->value < length ? c->value : length;
         c->value -= at;
@@ -322,6 +365,13 @@ static void take(const struct lent *lent, const struct layout *table, uint8_t co
             c->value = size;
             count_drop(lent->state, true);
             *outcome = (struct outcome){.kind = DROP, .number = number, .id = id, .length = size, .read = at};
+            return;
+        }
+        if (is_marked(table, number)) {
+            c->part = size == 0 ? HEADER_BYTES : TRANSFER_BYTES;
+            c->route = size == 0 ? 0 : (uint8_t)number;
+            c->value = size;
+            *outcome = (struct outcome){.kind = START, .number = number, .id = id, .length = size, .read = at};
             return;
         }
         c->part = PAYLOAD_BYTES;
@@ -352,7 +402,7 @@ static size_t put_refusal(uint8_t *out, uint32_t answer)
     return (size_t)(put(put(out, answer, 2), 0, 4) - out);
 }
 
-/* One take: what it read and met, and a PDU's place in the segment, or its bytes. */
+/* One take: what it read and met; a piece's place in the segment; a PDU's place there, or its bytes. */
 static uint8_t *put_take(uint8_t *to, const struct outcome *met, const uint8_t *segment, size_t length)
 {
     to = put(to, (uint32_t)met->read, 4);
@@ -361,9 +411,11 @@ static uint8_t *put_take(uint8_t *to, const struct outcome *met, const uint8_t *
     put_be32(to, met->id);
     put_be32(to + 4, met->length);
     to += 8;
+    size_t place = (size_t)(met->payload - segment);
+    if (met->kind == PIECE || met->kind == LAST_PIECE)
+        return put(to, (uint32_t)place, 4);
     if (met->kind != PDU)
         return to;
-    size_t place = (size_t)(met->payload - segment);
     *to++ = place > length;
     if (place <= length)
         return put(to, (uint32_t)place, 4);
@@ -533,14 +585,24 @@ static void tick_record(struct record *c, struct config config)
         c->due = true;
 }
 
-uint32_t twin_tick(const struct lent *lent)
+/* The bit of connection i where its next tick ends a transfer. */
+static uint16_t fails(const struct record *c, size_t i)
+{
+    return (uint16_t)((c->close_wanted && c->part == TRANSFER_BYTES) << i);
+}
+
+uint32_t twin_tick(const struct lent *lent, uint16_t *failed)
 {
     struct layout table;
     uint32_t answer = ask(lent, &table);
+    *failed = 0;
     if (answer != 0)
         return answer;
-    for (size_t i = 0; i < table.rows[CONNECTION]; i++)
-        tick_record(&lent->state->connections[i], config_of(&table, i));
+    for (size_t i = 0; i < table.rows[CONNECTION]; i++) {
+        struct record *c = &lent->state->connections[i];
+        *failed |= fails(c, i);
+        tick_record(c, config_of(&table, i));
+    }
     return 0;
 }
 
@@ -559,11 +621,16 @@ size_t twin_ticks(const struct lent *lent, uint32_t count, uint8_t *out)
 {
     struct layout table;
     uint32_t answer = ask(lent, &table);
+    uint16_t failed = 0;
     if (answer != 0)
         return put_refusal(out, answer);
-    for (size_t i = 0; i < table.rows[CONNECTION]; i++)
-        tick_many(&lent->state->connections[i], config_of(&table, i), count);
-    return (size_t)(put(out, 0, 4) - out);
+    for (size_t i = 0; i < table.rows[CONNECTION]; i++) {
+        struct record *c = &lent->state->connections[i];
+        if (count > 0)
+            failed |= fails(c, i);
+        tick_many(c, config_of(&table, i), count);
+    }
+    return (size_t)(put(out, failed, 4) - out);
 }
 
 /* The best member of a group of this protocol; one that is online counts or does not. */

@@ -8,7 +8,7 @@
 #include <stdint.h>
 
 enum mode { OFFLINE, RECONNECT, ONLINE };
-enum part { HEADER_BYTES, PAYLOAD_BYTES, SKIP_BYTES };
+enum part { HEADER_BYTES, PAYLOAD_BYTES, SKIP_BYTES, TRANSFER_BYTES };
 
 struct remote {
     uint32_t address;
@@ -21,9 +21,9 @@ struct record {
     struct remote remote;
     uint32_t switches;
     enum part part;
-    uint8_t route;         /* of an unfinished payload */
+    uint8_t route;         /* of an unfinished payload or a transfer */
     uint16_t length, held; /* of an unfinished payload; held also counts header bytes */
-    uint64_t value;        /* header bytes held, as a number; bytes still to skip */
+    uint64_t value;        /* header bytes held, as a number; bytes still to skip; bytes of a transfer to come */
     uint16_t used, timer;
 };
 
@@ -43,7 +43,7 @@ struct lent {
     size_t tx_length;
 };
 
-enum kind { MORE, PDU, DROP }; /* the end of a datagram is MORE */
+enum kind { MORE, PDU, DROP, START, PIECE, LAST_PIECE }; /* the end of a datagram is MORE */
 
 struct outcome {
     enum kind kind;
@@ -59,7 +59,8 @@ uint32_t twin_read_and_clear(const struct lent *lent, uint8_t protocol, uint32_t
 uint32_t twin_open(const struct lent *lent, uint8_t connection);
 uint32_t twin_close(const struct lent *lent, uint8_t connection);
 uint32_t twin_connected(const struct lent *lent, uint8_t connection);
-uint32_t twin_lost(const struct lent *lent, uint8_t connection);
+uint32_t twin_lost(const struct lent *lent, uint8_t connection, bool *failed);
+uint32_t twin_cancel(const struct lent *lent, uint8_t connection);
 uint32_t twin_set_remote(const struct lent *lent, uint8_t connection, struct remote remote);
 uint32_t twin_switch(const struct lent *lent, uint8_t connection, uint8_t number, bool on);
 uint32_t twin_switch_all(const struct lent *lent, uint8_t number, bool on);
@@ -69,7 +70,8 @@ uint32_t twin_walk_event(const struct lent *lent, uint8_t connection, const uint
 uint32_t twin_transmit(const struct lent *lent, uint16_t pdu, const uint8_t *payload, size_t length, size_t *refused_at);
 uint32_t twin_take_waiting(const struct lent *lent, uint8_t connection, uint8_t *out, size_t room, size_t *count,
                            struct remote *remote);
-uint32_t twin_tick(const struct lent *lent);
+/* The bit worth 2 to the k: a transfer on connection k failed. */
+uint32_t twin_tick(const struct lent *lent, uint16_t *failed);
 /* Events with their answers written as docs/EVENTS.md has them; each gives the length of the answer. An out buffer has 16,384 bytes. */
 size_t twin_segment(const struct lent *lent, uint8_t connection, const uint8_t *segment, size_t length, uint8_t *out);
 size_t twin_ticks(const struct lent *lent, uint32_t count, uint8_t *out);

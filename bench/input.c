@@ -7,7 +7,7 @@
  * a table whose groups are all TCP, with the first, the middle or the last row for its route; none: the same with an id that no row
  * has, and no payload; empty: a take of no bytes there; switch, all, clear, lost, accept, remote, close: events through the dispatcher,
  * which leave the state as they find it (lost and connected; lost and accept; lost, set remote and connected; close, tick, open,
- * tick); idle: none of them; replay: the recording of ten events, answers and all (shift.h). With a `+` before it: under a state in which each connection holds bytes to send.
+ * tick); idle: none of them; piece: a take of LENGTH bytes inside a transfer; begun: what it does besides the call; replay: the recording of ten events, answers and all (shift.h). With a `+` before it: under a state in which each connection holds bytes to send.
  */
 #include "image.h"
 #include "shift.h"
@@ -19,12 +19,12 @@ extern int strcmp(const char *one, const char *other);
 static const char *const names[] = {"nothing", "gate",    "take",  "cut",     "walk",    "transmit", "waiting", "tick", "datagram",
                                     "segment", "ticks",   "first", "middle",  "last",    "none",     "empty",   "emptied", "holding",
                                     "switch",  "all",     "clear", "lost",    "accept",  "remote",   "close",   "idle",
-                                    "replay"};
+                                    "replay",  "piece",   "begun"};
 enum {
     NOTHING, GATE, TAKE, CUT, WALK, TRANSMIT, WAITING, TICK, DATAGRAM, SEGMENT, TICKS, FIRST, MIDDLE, LAST, NONE, EMPTY, EMPTIED, HOLDING,
-    SWITCH, ALL, CLEAR, LOST, ACCEPT, REMOTE, CLOSE, IDLE, REPLAY, WHATS
+    SWITCH, ALL, CLEAR, LOST, ACCEPT, REMOTE, CLOSE, IDLE, REPLAY, PIECE, BEGUN, WHATS
 };
-static const uint8_t numbers[] = {0, 1, 2, 3, 4, 5, 6, 7, 8, 9, 9, 2, 2, 2, 10, 11, 69, 70, 12, 12, 12, 12, 12, 12, 12, 12, 13};
+static const uint8_t numbers[] = {0, 1, 2, 3, 4, 5, 6, 7, 8, 9, 9, 2, 2, 2, 10, 11, 69, 70, 12, 12, 12, 12, 12, 12, 12, 12, 13, 14, 71};
 enum { EVENT_TICKS = 0, EVENT_SEGMENT = 7, PDU_BYTES = 10, BUSY = 128 };
 
 static uint8_t head[16], bytes[2944];
@@ -49,7 +49,7 @@ static unsigned route_of(unsigned what, unsigned rows)
     case NONE:
         return rows;
     default:
-        return rows - (what == TAKE || what == CUT || what == SEGMENT || what == LOST || what == ACCEPT || what == REMOTE ? 1 : 2);
+        return rows - (what == TAKE || what == CUT || what == SEGMENT || what == LOST || what == ACCEPT || what == REMOTE || what >= PIECE ? 1 : 2);
     }
 }
 
@@ -121,7 +121,7 @@ int main(int count, char **words)
     unsigned route = route_of(what, 16 * quarters), connection = quarters == 0 ? 0 : route % (4 * quarters);
     int framed = what == TAKE || what == CUT || what == SEGMENT || what == WALK || (what >= FIRST && what <= NONE);
     unsigned pdus = what == SEGMENT ? length : 1, size = what == SEGMENT ? 2 : length;
-    unsigned front = what == SEGMENT ? 6 : 0, given = what == TRANSMIT ? length : 0;
+    unsigned front = what == SEGMENT ? 6 : 0, given = what == TRANSMIT || what == PIECE ? length : 0;
     if (framed)
         given = front + pdus * (8 + size);
     if (given > sizeof bytes)
@@ -134,6 +134,8 @@ int main(int count, char **words)
         set(bytes + 1, connection, 1);
         set(bytes + 2, pdus * PDU_BYTES, 4);
     }
+    if (what >= PIECE) /* its route is marked */
+        image[36 + 2 * (2 * quarters) + 16 * (4 * quarters) + 16 * route + 1] = 1;
     if (what == TICKS)
         set(bytes, length, given = 4);
     if (what >= SWITCH && what <= IDLE)
@@ -142,7 +144,7 @@ int main(int count, char **words)
         given = make_shift(bytes, quarters);
     set(head, numbers[what] + (name != words[1] ? BUSY : 0), 1);
     set(head + 1, connection, 1);
-    set(head + 2, what == SEGMENT ? EVENT_SEGMENT : what == TICKS ? EVENT_TICKS : 8 * quarters - 1, 2);
+    set(head + 2, what == SEGMENT ? EVENT_SEGMENT : what == TICKS ? EVENT_TICKS : what >= PIECE ? route : 8 * quarters - 1, 2);
     set(head + 4, (uint64_t)atoi(words[4]), 4);
     set(head + 8, 36 + 2 * (2 * quarters) + 16 * (4 * quarters) + 9, 2); /* the first route's upper PDU */
     set(head + 10, length, 2);

@@ -21,6 +21,27 @@ static bool take(uint8_t connection, const uint8_t *segment, size_t n, enum kind
     return twin_take(&lent, connection, segment, n, &outcome) == 0 && outcome.kind == kind;
 }
 
+/* Inside a transfer that has all its bytes still to come, as many as there can be. */
+static void transfer(uint8_t connection, uint8_t route)
+{
+    struct record *c = &state.connections[connection];
+    c->part = TRANSFER_BYTES;
+    c->route = route;
+    c->value = UINT32_MAX;
+}
+
+static bool piece(uint8_t connection, uint8_t route)
+{
+    transfer(connection, route);
+    return take(connection, bytes, length, PIECE);
+}
+
+static bool tick(void)
+{
+    uint16_t failed;
+    return twin_tick(&lent, &failed) == 0;
+}
+
 static bool walk(uint8_t connection)
 {
     struct outcome outcome;
@@ -95,7 +116,7 @@ static bool once(size_t what, uint8_t connection, uint16_t pdu, uint16_t used)
     case 6:
         return take_waiting(connection, used);
     case 7:
-        return twin_tick(&lent) == 0;
+        return tick();
     case 8:
         return arrive(connection);
     case 9:
@@ -108,12 +129,17 @@ static bool once(size_t what, uint8_t connection, uint16_t pdu, uint16_t used)
         return some_events();
     case 13:
         return twin_replay(&lent, bytes, length, out);
+    case 14:
+        return piece(connection, (uint8_t)pdu);
     case 69:
         hold(connection, 0);
         hold(connection + 1u, 0);
         return true;
     case 70:
         hold(connection, used);
+        return true;
+    case 71:
+        transfer(connection, (uint8_t)pdu);
         return true;
     default:
         return false;

@@ -1,6 +1,6 @@
 /* replay.c: the replay of a recording in plain C by docs/RECORDING.md, with the tests of the proved step in their order: the front, then per
  * entry the body's length, the distance, number, zero and body; the ticks, the event, and all bytes of its answer. Every test is here for
- * all fifteen events; of the events themselves those that the bench replays. Each entry comes three ticks after the one before. */
+ * all sixteen events; of the events themselves those that the bench replays. Each entry comes three ticks after the one before. */
 #include "events.h"
 #include "system.h"
 #include "table.h"
@@ -25,7 +25,7 @@ static bool is_address(const uint8_t *s)
 /* Where the arguments end; the bytes that some of them end with have a length before them. */
 static size_t arguments_end(unsigned event, const uint8_t *body, size_t length)
 {
-    static const uint8_t plain[16] = {0, 2, 2, 2, 2, 21, 4, 6, 10, 6, 21, 21, 7, 3, 2, 2};
+    static const uint8_t plain[17] = {0, 2, 2, 2, 2, 21, 4, 6, 10, 6, 21, 21, 7, 3, 2, 2, 2};
     bool counted = event == 7 || event == 8 || event == 12;
     return plain[event] + (counted ? (size_t)number(body, length, plain[event] - 4u, 4) : 0);
 }
@@ -52,8 +52,8 @@ static bool takes_fit(const uint8_t *s, size_t length, unsigned count)
 {
     for (; count > 0; count--) {
         unsigned kind = number(s, length, 4, 1), mark = number(s, length, 14, 1);
-        size_t needs = kind != 1 ? 14 : mark == 0 ? 19 : 15 + (size_t)number(s, length, 10, 4);
-        if (kind > 2 || (kind == 1 && mark > 1) || needs > length)
+        size_t needs = kind > 3 ? 18 : kind != 1 ? 14 : mark == 0 ? 19 : 15 + (size_t)number(s, length, 10, 4);
+        if (kind > 5 || (kind == 1 && mark > 1) || needs > length)
             return false;
         s += needs;
         length -= needs;
@@ -63,7 +63,7 @@ static bool takes_fit(const uint8_t *s, size_t length, unsigned count)
 
 static bool answer_fits(unsigned event, const uint8_t *s, size_t length)
 {
-    static const uint8_t plain[16] = {0, 2, 2, 2, 3, 2, 2, 0, 0, 0, 3, 3, 2, 2, 6, 6};
+    static const uint8_t plain[17] = {0, 2, 2, 2, 3, 2, 2, 0, 0, 0, 3, 3, 2, 2, 6, 6, 2};
     if (number(s, length, 0, 2) != 0)
         return length == 6;
     switch (event) {
@@ -161,7 +161,7 @@ static bool step(const struct lent *lent, uint32_t before, const uint8_t *row, c
     size_t length = be32(row + 8);
     uint32_t distance = be32(row) - before;
     unsigned event = be16(row + 4);
-    if (left < length || distance > MOST_TICKS || event < 1 || event > 15 || be16(row + 6) != 0)
+    if (left < length || distance > MOST_TICKS || event < 1 || event > 16 || be16(row + 6) != 0)
         return false;
     size_t end = arguments_end(event, rest, length);
     if (end > length || !arguments_fit(event, rest, end) || !answer_fits(event, rest + end, length - end))

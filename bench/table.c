@@ -24,14 +24,21 @@ static bool good_connection(const uint8_t *row, size_t groups)
     return row[0] < groups && row[1] <= 1 && send_size >= 8 && send_size <= 1472 && be16(row + 10) == 0;
 }
 
-/* Connection, zero byte and longest payload as one word. */
-static bool good_route(const uint8_t *row, size_t connections)
+bool is_tcp(const struct layout *table, size_t connection)
 {
-    uint32_t head = be32(row);
-    return head >> 24 < connections && (head & 0xFFFFFF) <= LONGEST && be16(row + 10) == 0;
+    return table->body[GROUP][table->body[CONNECTION][connection * ROW] * 2] == 2;
 }
 
-/* The same with the trigger. A send size is at most 1,472, so what fits it with 8 more is at most LONGEST. */
+/* Connection, mark and longest payload as one word. A marked row's connection is TCP. */
+static bool good_route(const uint8_t *row, const struct layout *table)
+{
+    uint32_t head = be32(row), behind = head & 0xFFFFFF;
+    if (head >> 24 >= table->rows[CONNECTION] || be16(row + 10) != 0)
+        return false;
+    return behind <= LONGEST || (behind >= 0x010000 && behind <= 0x010000 + LONGEST && is_tcp(table, head >> 24));
+}
+
+/* The same with the trigger in the mark's place. A send size is at most 1,472, so what fits it with 8 more is at most LONGEST. */
 static bool good_destination(const uint8_t *row, const struct layout *table)
 {
     uint32_t head = be32(row);
@@ -81,7 +88,7 @@ static size_t bad_row(const uint8_t *image, const struct layout *table)
     memset(routes.head, 0, sizeof routes.head);
     memset(destinations.head, 0, sizeof destinations.head);
     for (size_t i = 0; i < table->rows[ROUTE]; i++, row += ROW)
-        if (!good_route(row, table->rows[CONNECTION]) || !add_route(&routes, table->body[ROUTE], i))
+        if (!good_route(row, table) || !add_route(&routes, table->body[ROUTE], i))
             return (size_t)(row - image);
     for (size_t i = 0; i < table->rows[DESTINATION]; i++, row += ROW)
         if (!good_destination(row, table) || !add_destination(&destinations, table->body[DESTINATION], i))
@@ -135,7 +142,7 @@ uint32_t look_up(const struct layout *table, size_t connection, uint32_t switche
     uint32_t groups = be32(row + 12);
     if (groups != 0 && (groups & switches) == 0)
         return 21;
-    if (length > be16(row + 2))
+    if (row[1] == 0 && length > be16(row + 2))
         return 22;
     *dropped = false;
     return (uint32_t)((row - rows) / ROW);

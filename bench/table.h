@@ -21,8 +21,17 @@ struct layout {
 /* Fills in the layout and gives true, or gives false and the place of what is wrong. */
 bool check(const uint8_t *image, size_t image_length, struct layout *table, size_t *place);
 
+/* Whether a connection of the table is TCP. */
+bool is_tcp(const struct layout *table, size_t connection);
+
 /* The row number of the route for a header, or the reason of its drop. */
 uint32_t look_up(const struct layout *table, size_t connection, uint32_t switches, uint32_t id, uint32_t length, bool *dropped);
+
+/* Whether a route hands its payload out in pieces. */
+static inline bool is_marked(const struct layout *table, size_t route)
+{
+    return table->body[ROUTE][route * ROW + 1] == 1;
+}
 
 /* One load and a swap each: the twins are for x86-64, as the library is. */
 static inline uint16_t be16(const uint8_t *p)

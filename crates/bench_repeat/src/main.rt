@@ -18,7 +18,8 @@
 //   what 10 a take of the bytes that is to drop a header; what 11 a take of no bytes
 //   what 12 up to four events through the dispatcher: the bytes are of each its number 2, the length of its body 2, and the body
 //   what 13 a replay of the bytes as a recording, each entry three ticks after the one before
-//   what 69, 70  what 5 and 6 do besides the call
+//   what 14 a take of the bytes inside a transfer of 4,294,967,295 bytes on the connection, on the route that the PDU's number names
+//   what 69, 70, 71  what 5, 6 and 14 do besides the call
 // 128 more: under a state in which each connection holds ten bytes to send, half of them due, half with a timer that runs.
 // Last word: OK when every call did what it names, REFUSED when one did not, CUT when the input is not what it says.
 mod once;

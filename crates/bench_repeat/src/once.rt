@@ -8,6 +8,7 @@ use event_answer::Verdict;
 use event_decode::bytes_from;
 use pieces::after;
 use pieces::front;
+use receive_part::Part;
 use receive_stream::Outcome;
 use recording::Front;
 use recording::body_long;
@@ -46,7 +47,7 @@ fn gate_alone(image: &[u8], state: State, rx: &[u8], tx: &[u8]) -> Turn {
     }
 }
 
-// What a take met: 0 more wanted, 1 a PDU, 2 a drop.
+// What a take met: 0 more wanted, 1 a PDU, 2 a drop, 3 a start, 4 a piece, 5 a last piece.
 fn kind_of(outcome: Outcome) -> u8 {
     match outcome {
         Outcome::More => 0,
@@ -62,6 +63,24 @@ fn kind_of(outcome: Outcome) -> u8 {
             id: _,
             length: _,
         } => 2,
+        Outcome::Start {
+            route: _,
+            id: _,
+            length: _,
+            last: _,
+        } => 3,
+        Outcome::Piece {
+            route: _,
+            id: _,
+            at: _,
+            length: _,
+            last,
+        } => {
+            if last {
+                return 5;
+            }
+            4
+        }
     }
 }
 
@@ -146,6 +165,34 @@ fn holding(state: State, n: usize, used: u16) -> State {
         return next;
     }
     state
+}
+
+// A state in which a transfer runs on connection n, with all its bytes still to come, as many as there can be.
+fn transferring(state: State, n: usize, route: u16) -> State {
+    if n < 16 {
+        let c = state.connections[n];
+        let mut next = state;
+        next.connections[n] = c.with_part(Part::Transfer {
+            route: (route % 256) as u8,
+            left: 4294967295,
+        });
+        return next;
+    }
+    state
+}
+
+// A take that is to meet a piece of a transfer.
+fn take_piece(
+    image: &[u8],
+    state: State,
+    rx: &mut [u8],
+    tx: &[u8],
+    connection: u8,
+    route: u16,
+    bytes: &[u8],
+) -> Turn {
+    let before = transferring(state, connection as usize, route);
+    take(image, before, rx, tx, connection, bytes, 4)
 }
 
 // A state in which connection n and the next one hold nothing to send.
@@ -439,6 +486,7 @@ pub fn once(
         11 => take(image, state, rx, tx, connection, front(bytes, 0), 0),
         12 => some_events(image, state, rx, tx, out, bytes),
         13 => replayed(image, state, rx, tx, out, bytes),
+        14 => take_piece(image, state, rx, tx, connection, pdu, bytes),
         69 => Turn {
             done: true,
             state: emptied(state, connection as usize),
@@ -446,6 +494,10 @@ pub fn once(
         70 => Turn {
             done: true,
             state: holding(state, connection as usize, used),
+        },
+        71 => Turn {
+            done: true,
+            state: transferring(state, connection as usize, pdu),
         },
         _ => Turn {
             done: false,
