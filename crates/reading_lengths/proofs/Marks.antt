@@ -1,13 +1,13 @@
 -- The stream read a byte at a time, each byte under its own switches: a stretch in closed form, the stream in two pieces, and
 -- segments as the stream that they make.
-use Prim.Native.Nat.{ℕ, zero, suc, _-_, _<_}
+use Prim.Native.Nat.{ℕ, zero, suc, _-_, _≤_, _<_}
 use mathlib.Core.Path.{_≡_, refl, sym, ap, ap₂, _∙_}
 use mathlib.Core.List.{List, [], _∷_, _++_, map, map-append}
 use native.Mathlib.Omega.{arith}
 use lib.ListN.{length, take, drop, getD}
-use Rattle.reading.specs.Feed.{Routes, PieceKind, Cell, cell, Fed, withByte, pieceDone, feed, after, emit, outs, Ran, ran, segmentRan}
+use Rattle.reading.specs.Feed.{Routes, PieceKind, Cell, cell, transfer, Fed, ready, withByte, pieceDone, feed, after, emit, outs, Ran, ran, segmentRan, fine, finely, finished, push, pushAll, compared}
 use Rattle.reading.proofs.Laws.{addAll}
-use Rattle.reading.proofs.Cut.{emit-append, segment-feeds}
+use Rattle.reading.proofs.Cut.{emit-append, segment-feeds, fine-append}
 use Rattle.reading_lengths.specs.Listed.{Marked, mark, bytesOf, wordsOf, readTo, readOut, Bytes, GivenSegment, segmentsGiven, stream, AllBytes}
 use Rattle.reading_lengths.proofs.Bytes.{bytes-append, bytes-mark}
 
@@ -35,6 +35,20 @@ out-whole Q j k [] h f e = absurd (omega arith)
 out-whole Q zero k (m ∷ ms) h f e = ap (λ (g : Fed). emit (g .out) (readOut Q (g .to) ms)) e
 out-whole Q (suc j) k (m ∷ ms) h f e = out-whole Q j (withByte k (m .byte)) ms (omega arith) f e
 
+-- a transfer, of which suc n bytes are to come: fewer of them, and all
+pub move-short : (Q : ℕ → Routes) (n r : ℕ) (ms : List Marked) → length ms ≤ n → compared (readOut Q (transfer (suc n) r) ms) ≡ pushAll r (bytesOf ms) []
+unfolding readOut feed compared
+move-short Q n r [] h = refl
+move-short Q zero r (m ∷ ms) h = absurd (omega arith)
+move-short Q (suc n) r (m ∷ ms) h = ap (push r (m .byte)) (move-short Q n r ms (omega arith))
+
+pub move-whole : (Q : ℕ → Routes) (n r : ℕ) (ms : List Marked) → n < length ms
+    → compared (readOut Q (transfer (suc n) r) ms) ≡ pushAll r (bytesOf (take (suc n) ms)) (finished r ∷ compared (readOut Q ready (drop (suc n) ms)))
+unfolding readOut feed compared
+move-whole Q n r [] h = absurd (omega arith)
+move-whole Q zero r (m ∷ ms) h = refl
+move-whole Q (suc n) r (m ∷ ms) h = ap (push r (m .byte)) (move-whole Q n r ms (omega arith))
+
 -- in two pieces
 pub out-append : (Q : ℕ → Routes) (c : Cell) (a b : List Marked) → readOut Q c (a ++ b) ≡ readOut Q c a ++ readOut Q (readTo Q c a) b
 unfolding readOut readTo
@@ -59,15 +73,17 @@ unfolding outs readOut
 segment-out Q w c [] = refl
 segment-out Q w c (b ∷ bs) = ap (emit (feed (Q w) c b .out)) (segment-out Q w (feed (Q w) c b .to) bs)
 
-pub segment-reads : (Q : ℕ → Routes) (w : ℕ) (c : Cell) (bs : List ℕ) → segmentRan (Q w) c bs ≡ ran (readTo Q c (map (mark w) bs)) (readOut Q c (map (mark w) bs))
+pub segment-reads : (Q : ℕ → Routes) (w : ℕ) (c : Cell) (bs : List ℕ) → finely (segmentRan (Q w) c bs) ≡ ran (readTo Q c (map (mark w) bs)) (readOut Q c (map (mark w) bs))
 segment-reads Q w c bs = segment-feeds (Q w) c bs ∙ ap₂ ran (segment-to Q w c bs) (segment-out Q w c bs)
 
-pub given-reads : (Q : ℕ → Routes) (c : Cell) (gs : List GivenSegment) → segmentsGiven Q c gs ≡ ran (readTo Q c (stream gs)) (readOut Q c (stream gs))
-unfolding segmentsGiven stream readTo readOut
+pub given-reads : (Q : ℕ → Routes) (c : Cell) (gs : List GivenSegment) → finely (segmentsGiven Q c gs) ≡ ran (readTo Q c (stream gs)) (readOut Q c (stream gs))
+unfolding segmentsGiven stream readTo readOut fine
 given-reads Q c [] = refl
 given-reads Q c (g ∷ gs) =
     let ms : List Marked = map (mark (g .switches)) (g .bytes) in
-    ap (λ (q : Ran). ran (segmentsGiven Q (q .to) gs .to) (q .list ++ segmentsGiven Q (q .to) gs .list)) (segment-reads Q (g .switches) c (g .bytes))
+    let s : Ran = segmentRan (Q (g .switches)) c (g .bytes) in
+    ap (ran (segmentsGiven Q (s .to) gs .to)) (fine-append (s .list) (segmentsGiven Q (s .to) gs .list))
+    ∙ ap (λ (q : Ran). ran (segmentsGiven Q (q .to) gs .to) (q .list ++ fine (segmentsGiven Q (q .to) gs .list))) (segment-reads Q (g .switches) c (g .bytes))
     ∙ ap (λ (q : Ran). ran (q .to) (readOut Q c ms ++ q .list)) (given-reads Q (readTo Q c ms) gs)
     ∙ sym (ap₂ ran (to-append Q c ms (stream gs)) (out-append Q c ms (stream gs)))
 

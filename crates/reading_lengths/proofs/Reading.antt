@@ -8,16 +8,18 @@ use native.Mathlib.Omega.{arith}
 use borrow.Author.Tests.{leb-true, leb-false}
 use lib.Dec.{leb}
 use lib.ListN.{length, take, drop, length-map, drop-of-length-le}
+use lib.Seq.{take-all}
 use Rattle.wire.specs.Lay.{spell}
 use Rattle.wire.proofs.Spell.{length-spell}
 use Rattle.reading.specs.declared.Decision.{Decision}
-use Rattle.reading.specs.declared.Decision.the-variants.{Accept, Refuse}
-use Rattle.reading.specs.Feed.{Routes, header, payload, skip, Cell, cell, Out, ready, decided, pieceDone, feed, Ran, Pdu, handed, pdus}
+use Rattle.reading.specs.declared.Decision.the-variants.{Accept, Refuse, Transfer}
+use Rattle.reading.specs.Feed.{Routes, header, payload, skip, Cell, cell, transfer, Out, ready, decided, pieceDone, feed, Ran, Handed, complete, finished, compared, middleOf}
 use Rattle.reading.proofs.Laws.{addAll, addAll-payload, addAll-skip, addAll-header, grow}
+use Rattle.reading.proofs.Compared.{compared-fine, push-body}
 use Rattle.reading.proofs.Trip.{spelt-spell}
 use Rattle.reading_lengths.specs.Listed.{Marked, mark, bytesOf, readTo, readOut, listed, listedFrom, Shaped, Bytes, GivenSegment, segmentsGiven, stream, AllBytes}
 use Rattle.reading_lengths.proofs.Bytes.{map-drop, bytes-drop, bytes-append, bytes-spell, bytes-mark}
-use Rattle.reading_lengths.proofs.Marks.{out-short, to-short, out-whole, out-append, given-reads, stream-bytes}
+use Rattle.reading_lengths.proofs.Marks.{out-short, to-short, out-whole, move-short, move-whole, out-append, given-reads, stream-bytes}
 use Rattle.reading_lengths.proofs.Ready.{ready-list}
 
 -- header bytes that are held are the first of the stream
@@ -33,36 +35,51 @@ held-first Q n v ms (p, le, s) =
     sym (out-append Q ready hs ms ∙ ap₂ (λ (os : List Out) (c : Cell). os ++ readOut Q c ms) (out-short Q 8 (header 0) hs (omega (arith, long))) to)
 
 -- THE THEOREM: for any routes as the switches have them, any part that a record holds and any bytes
-pub reading : (Q : ℕ → Routes) (c : Cell) (ms : List Marked) → Shaped c → Bytes (bytesOf ms) → pdus (readOut Q c ms) ≡ listedFrom Q c ms
-unfolding listedFrom pieceDone pdus
+pub reading : (Q : ℕ → Routes) (c : Cell) (ms : List Marked) → Shaped c → Bytes (bytesOf ms) → compared (readOut Q c ms) ≡ listedFrom Q c ms
+unfolding listedFrom pieceDone compared
 reading Q (cell n (header v)) ms h b =
     let hs : List Marked = map (mark 0) (spell (8 - n) v) in
-    ap pdus (held-first Q n v ms h)
+    ap compared (held-first Q n v ms h)
     ∙ ready-list Q (hs ++ ms)
     (rw (map-append (λ (m : Marked). m .byte) hs ms, bytes-mark 0 (spell (8 - n) v)) (bytes-append (spell (8 - n) v) (bytesOf ms) (bytes-spell (8 - n) v) b))
 reading Q (cell zero (payload r h)) ms p b = absurd (omega arith)
 reading Q (cell (suc n) (payload r h)) ms p b = go (leb (suc n) (length ms)) refl
   where
-    go : (t : Bool) → leb (suc n) (length ms) ≡ t → pdus (readOut Q (cell (suc n) (payload r h)) ms) ≡ cond t (handed r (h ++ bytesOf (take (suc n) ms)) ∷ listed Q (drop (suc n) ms)) []
+    go : (t : Bool) → leb (suc n) (length ms) ≡ t → compared (readOut Q (cell (suc n) (payload r h)) ms) ≡ cond t (complete r (h ++ bytesOf (take (suc n) ms)) ∷ listed Q (drop (suc n) ms)) []
     go true e =
-        ap pdus (out-whole Q n (payload r h) ms (leb-true (suc n) (length ms) e) _ (ap (pieceDone _) (addAll-payload r h (bytesOf (take (suc n) ms)))))
-        ∙ ap (λ (ps : List Pdu). handed r (h ++ bytesOf (take (suc n) ms)) ∷ ps)
+        ap compared (out-whole Q n (payload r h) ms (leb-true (suc n) (length ms) e) _ (ap (pieceDone _) (addAll-payload r h (bytesOf (take (suc n) ms)))))
+        ∙ ap (λ (ps : List Handed). complete r (h ++ bytesOf (take (suc n) ms)) ∷ ps)
         (ready-list Q (drop (suc n) ms) (rw (map-drop (λ (m : Marked). m .byte) (suc n) ms) (bytes-drop (suc n) (bytesOf ms) b)))
-    go false e = ap pdus (out-short Q (suc n) (payload r h) ms (leb-false (suc n) (length ms) e))
+    go false e = ap compared (out-short Q (suc n) (payload r h) ms (leb-false (suc n) (length ms) e))
 reading Q (cell zero skip) ms p b = absurd (omega arith)
 reading Q (cell (suc n) skip) ms p b =
     go (leb (suc n) (length ms)) refl
     ∙ ready-list Q (drop (suc n) ms) (rw (map-drop (λ (m : Marked). m .byte) (suc n) ms) (bytes-drop (suc n) (bytesOf ms) b))
   where
-    go : (t : Bool) → leb (suc n) (length ms) ≡ t → pdus (readOut Q (cell (suc n) skip) ms) ≡ pdus (readOut Q ready (drop (suc n) ms))
-    go true e = ap pdus (out-whole Q n skip ms (leb-true (suc n) (length ms) e) _ (ap (pieceDone _) (addAll-skip (bytesOf (take (suc n) ms)))))
+    go : (t : Bool) → leb (suc n) (length ms) ≡ t → compared (readOut Q (cell (suc n) skip) ms) ≡ compared (readOut Q ready (drop (suc n) ms))
+    go true e = ap compared (out-whole Q n skip ms (leb-true (suc n) (length ms) e) _ (ap (pieceDone _) (addAll-skip (bytesOf (take (suc n) ms)))))
     go false e =
-        ap pdus (out-short Q (suc n) skip ms (leb-false (suc n) (length ms) e))
-        ∙ sym (ap (λ (x : List Marked). pdus (readOut Q ready x)) (drop-of-length-le ms {i = suc n} (omega (arith, leb-false (suc n) (length ms) e))) ∙ ap pdus (out-short Q 8 (header 0) [] (omega arith)))
+        ap compared (out-short Q (suc n) skip ms (leb-false (suc n) (length ms) e))
+        ∙ sym (ap (λ (x : List Marked). compared (readOut Q ready x)) (drop-of-length-le ms {i = suc n} (omega (arith, leb-false (suc n) (length ms) e))) ∙ ap compared (out-short Q 8 (header 0) [] (omega arith)))
+reading Q (transfer zero r) ms p b = absurd (omega arith)
+reading Q (transfer (suc n) r) ms p b = go (leb (suc n) (length ms)) refl
+  where
+    go : (t : Bool) → leb (suc n) (length ms) ≡ t
+        → compared (readOut Q (transfer (suc n) r) ms) ≡ middleOf r (bytesOf (take (suc n) ms)) (cond t (finished r ∷ listed Q (drop (suc n) ms)) [])
+    go true e =
+        move-whole Q n r ms (leb-true (suc n) (length ms) e)
+        ∙ push-body r (bytesOf (take (suc n) ms)) (finished r ∷ compared (readOut Q ready (drop (suc n) ms))) refl
+        ∙ ap (λ (hs : List Handed). middleOf r (bytesOf (take (suc n) ms)) (finished r ∷ hs))
+        (ready-list Q (drop (suc n) ms) (rw (map-drop (λ (m : Marked). m .byte) (suc n) ms) (bytes-drop (suc n) (bytesOf ms) b)))
+    go false e =
+        move-short Q n r ms (omega (arith, leb-false (suc n) (length ms) e))
+        ∙ push-body r (bytesOf ms) [] refl
+        ∙ ap (λ (l : List Marked). middleOf r (bytesOf l) []) (sym (take-all (suc n) ms (omega (arith, leb-false (suc n) (length ms) e))))
 
 -- THE LIST OF SEGMENT EVENTS
-pub segments-list : (Q : ℕ → Routes) (c : Cell) (gs : List GivenSegment) → Shaped c → AllBytes gs → pdus (segmentsGiven Q c gs .list) ≡ listedFrom Q c (stream gs)
-segments-list Q c gs h b = ap (λ (q : Ran). pdus (q .list)) (given-reads Q c gs) ∙ reading Q c (stream gs) h (stream-bytes gs b)
+pub segments-list : (Q : ℕ → Routes) (c : Cell) (gs : List GivenSegment) → Shaped c → AllBytes gs → compared (segmentsGiven Q c gs .list) ≡ listedFrom Q c (stream gs)
+segments-list Q c gs h b =
+    sym (compared-fine (segmentsGiven Q c gs .list)) ∙ ap (λ (q : Ran). compared (q .list)) (given-reads Q c gs) ∙ reading Q c (stream gs) h (stream-bytes gs b)
 
 -- what a record holds stays so
 shaped-ready : Shaped ready
@@ -73,6 +90,8 @@ shaped-begin (Accept r) i zero = shaped-ready
 shaped-begin (Accept r) i (suc n) = omega arith
 shaped-begin (Refuse k) i zero = shaped-ready
 shaped-begin (Refuse k) i (suc n) = omega arith
+shaped-begin (Transfer r) i zero = shaped-ready
+shaped-begin (Transfer r) i (suc n) = omega arith
 
 pub feed-shaped : (R : Routes) (c : Cell) (b : ℕ) → Shaped c → b < 256 → Shaped (feed R c b .to)
 unfolding feed pieceDone
@@ -85,6 +104,9 @@ feed-shaped R (cell (suc (suc n)) (header v)) b (p, le, s) lt =
     (omega arith, omega arith, rw k (grow (8 - suc (suc n)) v b s lt))
 feed-shaped R (cell (suc (suc n)) (payload r p)) b h lt = omega arith
 feed-shaped R (cell (suc (suc n)) skip) b h lt = omega arith
+feed-shaped R (transfer zero r) b h lt = shaped-ready
+feed-shaped R (transfer (suc zero) r) b h lt = shaped-ready
+feed-shaped R (transfer (suc (suc n)) r) b h lt = omega arith
 
 pub shaped-stays : (Q : ℕ → Routes) (c : Cell) (ms : List Marked) → Shaped c → Bytes (bytesOf ms) → Shaped (readTo Q c ms)
 unfolding readTo

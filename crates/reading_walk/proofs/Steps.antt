@@ -9,7 +9,7 @@ use native.Mathlib.Nat.{add-assoc}
 use lib.ListN.{length, take, drop, length-drop}
 use lib.Seq.{drop-drop, length-take-le}
 use Rattle.reading.specs.declared.Decision.{Decision}
-use Rattle.reading.specs.declared.Decision.the-variants.{Accept, Refuse}
+use Rattle.reading.specs.declared.Decision.the-variants.{Accept, Refuse, Transfer}
 use Rattle.reading.specs.Feed.{Routes, Out, pdu, dropped}
 use Rattle.frame.specs.Frame.{Sent}
 use Rattle.reading_lengths.specs.Head.{Head, ended, short, beyond, whole, headOf}
@@ -26,6 +26,7 @@ whole-place d p i n le e = omega (arith, whole-fits (drop p d) i n (ap headOf (s
 whole-next : (q : Decision) (p i n : ℕ) → wholeAt q p i n .next ≡ p + 8 + n
 whole-next (Accept r) p i n = refl
 whole-next (Refuse k) p i n = refl
+whole-next (Transfer r) p i n = refl
 
 -- EVERY STEP MOVES FORWARD, and not past the end
 pub forward : (R : Routes) (d : List ℕ) (p : ℕ) → p < length d → Forward (length d) p (walkAt R d p .next)
@@ -100,6 +101,9 @@ walks-splits R (suc f) d p le h = go (λ q a b. walks-splits R f d q a b) (headO
             → outsTold d (wholeAt q p i n .found) (walks R f d (wholeAt q p i n .next))
             ≡ judge (R i (length (take n (drop 8 l)))) (sent i (take n (drop 8 l))) ∷ listBy R (splits f (drop (8 + n) l))
         by (Accept r) e size later =
+            ap₂ (λ (x : List ℕ) (y : List Out). pdu r (take n x) ∷ y) (sym (drop-drop 8 p d)) later
+            ∙ sym (ap (λ (o : Decision). judge o (sent i (take n (drop 8 l))) ∷ listBy R (splits f (drop (8 + n) l))) (ap (R i) size ∙ e))
+        by (Transfer r) e size later =
             ap₂ (λ (x : List ℕ) (y : List Out). pdu r (take n x) ∷ y) (sym (drop-drop 8 p d)) later
             ∙ sym (ap (λ (o : Decision). judge o (sent i (take n (drop 8 l))) ∷ listBy R (splits f (drop (8 + n) l))) (ap (R i) size ∙ e))
         by (Refuse k) e size later =

@@ -3,7 +3,7 @@ use Prim.Native.Nat.{ℕ, zero, suc, _+_, _≤_, _<_}
 use mathlib.Core.List.{List, [], _∷_, _++_, map}
 use lib.ListN.{length, take, drop}
 use Rattle.reading.specs.declared.Decision.{Decision}
-use Rattle.reading.specs.declared.Decision.the-variants.{Accept, Refuse}
+use Rattle.reading.specs.declared.Decision.the-variants.{Accept, Refuse, Transfer}
 use Rattle.reading.specs.Feed.{Routes, Out, pdu, dropped}
 use Rattle.frame.specs.Frame.{Sent}
 use Rattle.reading_lengths.specs.Head.{Head, ended, short, beyond, whole, headOf}
@@ -24,10 +24,12 @@ pub record Walked : Type 0 where
 abbrev pub walked : Found → ℕ → Walked
 walked f p = record { found = f; next = p }
 
--- a header with its whole payload, at place p: the routes decide, and the next place is behind the payload
+-- a header with its whole payload, at place p: the routes decide, and the next place is behind the payload (no route of a UDP
+-- connection is marked; one that were would hand out the payload whole)
 abbrev pub wholeAt : Decision → ℕ → ℕ → ℕ → Walked
 wholeAt (Accept r) p i n = walked (a-pdu r (p + 8) n i) (p + 8 + n)
 wholeAt (Refuse k) p i n = walked (a-drop k i n) (p + 8 + n)
+wholeAt (Transfer r) p i n = walked (a-pdu r (p + 8) n i) (p + 8 + n)
 
 -- R7.9: 1..7 bytes left, or a length beyond the end, is drop 23 (with id and length 0 for the former) and the place becomes the end, before
 -- 20, 21, 22: at place p of a datagram of m bytes, by what stands there
@@ -66,6 +68,7 @@ placeAfterSteps R (suc f) d p = placeAfterSteps R f d (walkAt R d p .next)
 abbrev pub judge : Decision → Sent → Out
 judge (Accept r) s = pdu r (s .body)
 judge (Refuse k) s = dropped k (s .id) (length (s .body))
+judge (Transfer r) s = pdu r (s .body)
 
 abbrev pub leftOver : Head → List Out
 leftOver ended = []
