@@ -1,12 +1,12 @@
 -- The edges of reading hold, by computation.
 use mathlib.Core.Path.{refl}
 use Rattle.wire.specs.Be.{be}
-use Rattle.reading.specs.Feed.{pieceDone, feed, takeB, takes, segmentRan, segments}
+use Rattle.reading.specs.Feed.{pieceDone, feed, takeB, takes, segmentRan, segments, compared}
 use Rattle.switches.specs.Switches.{isOn}
 use Rattle.reading_lengths.specs.Head.{headOf}
 use Rattle.reading_lengths.specs.Split.{splits, split}
 use Rattle.reading_walk.specs.Walk.{walkAt, listOf}
-use Rattle.example_readings.specs.Edges.{rows, ReadingEdges}
+use Rattle.example_readings.specs.Edges.{rows, TransferEdges, ReadingEdges}
 
 pub reading-edges : ReadingEdges
 unfolding be pieceDone feed takeB takes segmentRan segments headOf splits split isOn walkAt listOf rows
@@ -39,4 +39,28 @@ reading-edges =
       unknown-walked = refl;
       off-walked = refl;
       too-long-walked = refl;
+    }
+
+pub transfer-edges : TransferEdges
+unfolding be pieceDone feed takeB takes segmentRan segments compared isOn rows
+transfer-edges =
+    record {
+      take-start = refl;
+      take-piece = refl;
+      take-last = refl;
+      take-none = refl;
+      uncut = refl;
+      cut-3 = refl;
+      cut-8 = refl;
+      cut-9 = refl;
+      cut-10 = refl;
+      same-9 = refl;
+      same-10 = refl;
+      so-far = refl;
+      none-yet = refl;
+      length-0 = refl;
+      twice = refl;
+      one-byte = refl;
+      longest-one = refl;
+      off = refl;
     }

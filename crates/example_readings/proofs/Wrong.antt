@@ -1,20 +1,23 @@
 -- NO WRONG READING MEETS THE DEFINITION: for each, the input at which it fails.
 use Prim.Native.Nat.{ℕ, _-_, _≤_}
 use mathlib.Core.Path.{_≡_, refl, sym, ap, _∙_}
+use mathlib.Core.Bool.{true, false, true≢false}
 use mathlib.Core.List.{List, [], _∷_, _++_, map}
 use native.Mathlib.Omega.{arith}
 use lib.ListN.{length, take, drop, length-drop}
-use Rattle.reading.specs.Feed.{Routes, Cell, cell, header, Out, nothing, pdu, dropped, pieceDone, feed, ready, Took, takeB, bytesRead, Ran, takes, segmentRan, pdus}
+use Rattle.reading.specs.Feed.{Routes, Cell, cell, transfer, header, Out, nothing, pdu, dropped, start, piece, pieceDone, feed, ready, Took, takeB, bytesRead, Ran, takes, segmentRan, compared}
 use Rattle.switches.specs.Switches.{isOn}
 use Rattle.reading_lengths.specs.Listed.{mark, readOut}
-use Rattle.example_readings.specs.Edges.{rows, readingTable, frameBar, headerTwo, frameEmpty, frameUnknown}
-use Rattle.example_readings.specs.Wrong.{TakeReading, SegmentReading, StreamReading, IsTake, IsSegment, IsStream, AlwaysMore, FirstRoute, FreshHeader, ReadsAll, FirstOnly, Closing, TestedLate}
+use Rattle.example_readings.specs.Edges.{rows, readingTable, frameBar, headerTwo, frameEmpty, frameUnknown, allFirmware}
+use Rattle.example_readings.specs.Wrong.{TakeReading, SegmentReading, StreamReading, IsTake, IsSegment, IsStream, AlwaysMore, FirstRoute, FreshHeader, ReadsAll, EmptyPiece, MarkEarly, WaitingPiece, LongestApplied, FirstOnly, Closing, TestedLate}
 
--- 1 where a PDU came out
+-- 1 where a PDU or a piece came out
 abbrev came : Out → ℕ
 came nothing = 0
 came (pdu r p) = 1
 came (dropped k i n) = 0
+came (start r i n m) = 0
+came (piece r p m) = 1
 
 -- at the ten bytes of PDU 0x101, switched on
 pub no-always-more : (t : TakeReading) → IsTake t → AlwaysMore t → ⊥
@@ -52,11 +55,40 @@ no-other-count R c bs t n le e is =
     let long : length (takeB R c bs .rest) ≡ length bs - n = ap (λ (x : Took). length (x .rest)) (sym is) ∙ ap length e ∙ length-drop n bs in
     omega (arith, long)
 
+-- at an empty segment, with a transfer running: more is wanted
+pub no-empty-piece : (t : TakeReading) → IsTake t → EmptyPiece t → ⊥
+unfolding takeB
+no-empty-piece t is wrong =
+    let z : _≡_ {A = ℕ} 0 1 = ap (λ (x : Took). came (x .out)) (sym (is (readingTable 1) (transfer 1 2) [])) ∙ ap came (wrong (readingTable 1) 0 2) in
+    absurd (omega arith)
+
+-- at the first of two bytes
+pub no-mark-early : (t : TakeReading) → IsTake t → MarkEarly t → ⊥
+unfolding takeB
+no-mark-early t is wrong =
+    let e : false ≡ true = wrong (readingTable 1) 2 (7 ∷ []) (7 ∷ []) false (ap (λ (x : Took). x .out) (is (readingTable 1) (transfer 2 2) (7 ∷ []))) in
+    true≢false (sym e)
+
+-- at the first of two bytes: it comes at once
+pub no-waiting-piece : (t : TakeReading) → IsTake t → WaitingPiece t → ⊥
+unfolding takeB
+no-waiting-piece t is wrong =
+    let z : _≡_ {A = ℕ} 1 0 =
+    ap (λ (x : Took). came (x .out)) (sym (is (readingTable 1) (transfer 2 2) (7 ∷ []))) ∙ ap came (wrong (readingTable 1) 2 2 (7 ∷ []) (omega arith)) in
+    absurd (omega arith)
+
+-- at the header of the longest transfer
+pub no-longest-applied : (t : TakeReading) → IsTake t → LongestApplied t → ⊥
+unfolding takeB feed pieceDone isOn rows
+no-longest-applied t is wrong =
+    let le : 4294967295 ≤ 1464 = wrong (readingTable 1) allFirmware 2 0x104 4294967295 false (ap (λ (x : Took). x .out) (is (readingTable 1) ready allFirmware)) in
+    absurd (omega (arith, le))
+
 -- at two PDUs in one segment
 pub no-first-only : (s : SegmentReading) → IsSegment s → FirstOnly s → ⊥
-unfolding segmentRan takes takeB feed pieceDone isOn rows pdus
+unfolding segmentRan takes takeB feed pieceDone isOn rows compared
 no-first-only s is wrong =
-    let e : length (pdus (s (readingTable 1) ready (frameBar ++ frameBar) .list)) ≡ 2 = ap (λ (x : Ran). length (pdus (x .list))) (is (readingTable 1) ready (frameBar ++ frameBar)) in
+    let e : length (compared (s (readingTable 1) ready (frameBar ++ frameBar) .list)) ≡ 2 = ap (λ (x : Ran). length (compared (x .list))) (is (readingTable 1) ready (frameBar ++ frameBar)) in
     absurd (omega (arith, e, wrong (readingTable 1) ready (frameBar ++ frameBar)))
 
 -- at an unknown id with a PDU behind it
@@ -69,7 +101,7 @@ no-closing s is wrong =
 
 -- at a PDU that is switched off between its header and its payload: it is handed out
 pub no-tested-late : (f : StreamReading) → IsStream f → TestedLate f → ⊥
-unfolding readOut feed pieceDone isOn rows pdus
+unfolding readOut feed pieceDone isOn rows compared
 no-tested-late f is wrong =
     let h : List ℕ = take 8 frameBar in
     let p : List ℕ = drop 8 frameBar in

@@ -1,13 +1,13 @@
 -- THE EDGES OF READING (section 12 of the rules): each as an equation over the definitions, with a table of a few rows for the routes.
 use Prim.Native.Nat.{ℕ, suc}
 use mathlib.Core.Path.{_≡_}
-use mathlib.Core.Bool.{cond}
+use mathlib.Core.Bool.{Bool, true, false, cond}
 use mathlib.Core.List.{List, [], _∷_, _++_}
 use lib.Dec.{eqb, leb}
 use lib.ListN.{take, drop}
 use Rattle.wire.specs.Be.{be}
-use Rattle.reading.specs.declared.Decision.the-variants.{Accept, Refuse}
-use Rattle.reading.specs.Feed.{Routes, payload, skip, cell, pdu, dropped, nothing, ready, took, takeB, ran, segmentRan, segments}
+use Rattle.reading.specs.declared.Decision.the-variants.{Accept, Refuse, Transfer}
+use Rattle.reading.specs.Feed.{Routes, payload, skip, cell, transfer, pdu, dropped, nothing, start, piece, ready, took, takeB, Ran, ran, segmentRan, segments, began, middle, finished, compared}
 use Rattle.switches.specs.Switches.{isOn}
 use Rattle.reading_walk.specs.Walk.{the-end, a-pdu, a-drop, walked, walkAt, listOf}
 
@@ -16,19 +16,26 @@ pub record ReadingRow : Type 0 where
   pub id : ℕ
   pub longest : ℕ
   pub groups : ℕ
+  pub tp : Bool
 
 abbrev pub readingRow : ℕ → ℕ → ℕ → ReadingRow
-readingRow i l g = record { id = i; longest = l; groups = g }
+readingRow i l g = record { id = i; longest = l; groups = g; tp = false }
 
--- R5.5: 20 no route, 21 switched off, 22 longer than allowed: rows numbered from k, switch word w
+-- R19.1, a marked route: its longest payload is not applied, so 22 is never given for it
+abbrev pub tpRow : ℕ → ℕ → ReadingRow
+tpRow i g = record { id = i; longest = 0; groups = g; tp = true }
+
+-- R5.5, R19.1: 20 no route, 21 switched off, 22 longer than allowed on an unmarked route: rows numbered from k, switch word w
 unfoldable pub rows : ℕ → List ReadingRow → ℕ → Routes
 rows k [] w i n = Refuse 20
 rows k (r ∷ rs) w i n =
-    cond (eqb (r .id) i) (cond (isOn (r .groups) w) (cond (leb n (r .longest)) (Accept k) (Refuse 22)) (Refuse 21)) (rows (suc k) rs w i n)
+    cond (eqb (r .id) i)
+        (cond (isOn (r .groups) w) (cond (r .tp) (Transfer k) (cond (leb n (r .longest)) (Accept k) (Refuse 22))) (Refuse 21))
+        (rows (suc k) rs w i n)
 
--- two routes: 0x101 to 2 bytes under switch 0, and 0x102 to 3 bytes that no switch turns off
+-- three routes: 0x101 to 2 bytes under switch 0, 0x102 to 3 bytes that no switch turns off, and 0x104, marked, under switch 0
 abbrev pub readingTable : ℕ → Routes
-readingTable = rows 0 (readingRow 0x101 2 1 ∷ readingRow 0x102 3 0 ∷ [])
+readingTable = rows 0 (readingRow 0x101 2 1 ∷ readingRow 0x102 3 0 ∷ tpRow 0x104 1 ∷ [])
 
 -- `00 00 01 01 00 00 00 02 00 B4`
 abbrev pub frameBar : List ℕ
@@ -48,6 +55,49 @@ frameUnknown = 0 ∷ 0 ∷ 1 ∷ 3 ∷ 0 ∷ 0 ∷ 0 ∷ 2 ∷ 0 ∷ 180 ∷ []
 
 abbrev pub headerLongest : List ℕ
 headerLongest = 0 ∷ 0 ∷ 1 ∷ 3 ∷ 255 ∷ 255 ∷ 255 ∷ 255 ∷ []
+
+-- a transfer of three bytes, one of one, one of none, and the head of the longest
+abbrev pub firmware : List ℕ
+firmware = 0 ∷ 0 ∷ 1 ∷ 4 ∷ 0 ∷ 0 ∷ 0 ∷ 3 ∷ 7 ∷ 8 ∷ 9 ∷ []
+
+abbrev pub oneFirmware : List ℕ
+oneFirmware = 0 ∷ 0 ∷ 1 ∷ 4 ∷ 0 ∷ 0 ∷ 0 ∷ 1 ∷ 7 ∷ []
+
+abbrev pub noFirmware : List ℕ
+noFirmware = 0 ∷ 0 ∷ 1 ∷ 4 ∷ 0 ∷ 0 ∷ 0 ∷ 0 ∷ []
+
+abbrev pub allFirmware : List ℕ
+allFirmware = 0 ∷ 0 ∷ 1 ∷ 4 ∷ 255 ∷ 255 ∷ 255 ∷ 255 ∷ []
+
+abbrev pub cutAt : ℕ → Ran
+cutAt n = segments (readingTable 1) ready (take n firmware ∷ drop n firmware ∷ [])
+
+-- THE EDGES OF TRANSFERS (section 19 of the rules)
+pub record TransferEdges : Type 0 where
+  -- R19.2, R19.3, R19.4: a take ends after the start and after each piece, and the last piece carries the end mark
+  pub take-start : takeB (readingTable 1) ready (firmware ++ frameBar) ≡ took (transfer 3 2) (start 2 0x104 3 false) (7 ∷ 8 ∷ 9 ∷ frameBar)
+  pub take-piece : takeB (readingTable 1) (transfer 3 2) (7 ∷ 8 ∷ []) ≡ took (transfer 1 2) (piece 2 (7 ∷ 8 ∷ []) false) []
+  pub take-last : takeB (readingTable 1) (transfer 1 2) (9 ∷ frameBar) ≡ took ready (piece 2 (9 ∷ []) true) frameBar
+  pub take-none : takeB (readingTable 1) (transfer 1 2) [] ≡ took (transfer 1 2) nothing []
+  pub uncut : segmentRan (readingTable 1) ready (firmware ++ frameBar) ≡ ran ready (start 2 0x104 3 false ∷ piece 2 (7 ∷ 8 ∷ 9 ∷ []) true ∷ pdu 0 (0 ∷ 180 ∷ []) ∷ [])
+  -- cut inside the header, between the start and its first byte, in the middle, and before the last byte
+  pub cut-3 : cutAt 3 ≡ ran ready (start 2 0x104 3 false ∷ piece 2 (7 ∷ 8 ∷ 9 ∷ []) true ∷ [])
+  pub cut-8 : cutAt 8 ≡ ran ready (start 2 0x104 3 false ∷ piece 2 (7 ∷ 8 ∷ 9 ∷ []) true ∷ [])
+  pub cut-9 : cutAt 9 ≡ ran ready (start 2 0x104 3 false ∷ piece 2 (7 ∷ []) false ∷ piece 2 (8 ∷ 9 ∷ []) true ∷ [])
+  pub cut-10 : cutAt 10 ≡ ran ready (start 2 0x104 3 false ∷ piece 2 (7 ∷ 8 ∷ []) false ∷ piece 2 (9 ∷ []) true ∷ [])
+  -- R19.9: of a transfer the start, the joined bytes and the end mark are compared, not the pieces
+  pub same-9 : compared (cutAt 9 .list) ≡ began 2 0x104 3 ∷ middle 2 (7 ∷ 8 ∷ 9 ∷ []) ∷ finished 2 ∷ []
+  pub same-10 : compared (cutAt 10 .list) ≡ began 2 0x104 3 ∷ middle 2 (7 ∷ 8 ∷ 9 ∷ []) ∷ finished 2 ∷ []
+  -- R19.9: a transfer without its end counts with its bytes so far
+  pub so-far : compared (segmentRan (readingTable 1) ready (take 10 firmware) .list) ≡ began 2 0x104 3 ∷ middle 2 (7 ∷ 8 ∷ []) ∷ []
+  pub none-yet : compared (segmentRan (readingTable 1) ready (take 8 firmware) .list) ≡ began 2 0x104 3 ∷ []
+  -- R19.5: at length 0 the start carries the mark; two transfers one after the other stay two
+  pub length-0 : segmentRan (readingTable 1) ready noFirmware ≡ ran ready (start 2 0x104 0 true ∷ [])
+  pub twice : compared (segmentRan (readingTable 1) ready (noFirmware ++ firmware) .list) ≡ began 2 0x104 0 ∷ finished 2 ∷ began 2 0x104 3 ∷ middle 2 (7 ∷ 8 ∷ 9 ∷ []) ∷ finished 2 ∷ []
+  -- R19.2: a transfer of one byte, and the start of the longest; R5.5: switched off at the header it is dropped
+  pub one-byte : segmentRan (readingTable 1) ready oneFirmware ≡ ran ready (start 2 0x104 1 false ∷ piece 2 (7 ∷ []) true ∷ [])
+  pub longest-one : segmentRan (readingTable 1) ready allFirmware ≡ ran (transfer 4294967295 2) (start 2 0x104 4294967295 false ∷ [])
+  pub off : segmentRan (readingTable 2) ready firmware ≡ ran ready (dropped 21 0x104 3 ∷ [])
 
 pub record ReadingEdges : Type 0 where
   -- R12.2: PDU 0x101, payload 180
