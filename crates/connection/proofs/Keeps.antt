@@ -6,7 +6,8 @@ use mathlib.Core.Bool.{Bool, true, false, cond, not, _&&_, _||_, or-true}
 use borrow.Author.Tests.{eqb-true, eq-eqb, not-true}
 use native.Mathlib.Omega.{arith}
 use Rattle.receive_part.specs.declared.Part.{Part}
-use Rattle.receive_part.specs.Part.{shaped, emptyPart}
+use Rattle.receive_part.specs.declared.Part.the-variants.{Header, Payload, Skip, Transfer}
+use Rattle.receive_part.specs.Part.{shaped, emptyPart, transferring}
 use Rattle.lists.proofs.Both.{impossible, and-left, and-right, and3}
 use Rattle.connection.specs.declared.Mode.{Mode}
 use Rattle.connection.specs.declared.Mode.the-variants.{Offline, Reconnect, Online}
@@ -14,9 +15,9 @@ use Rattle.connection.specs.declared.Remote.{Remote}
 use Rattle.connection.specs.declared.Connection.{Connection}
 use Rattle.connection.specs.declared.Config.{Config}
 use Rattle.connection.specs.declared.Event.{Event}
-use Rattle.connection.specs.declared.Event.the-variants.{Open, Close, Connected, Lost, SetRemote, Switch}
+use Rattle.connection.specs.declared.Event.the-variants.{Open, Close, Connected, Lost, SetRemote, Switch, Cancel}
 use Rattle.connection.specs.Connection.{isOffline, isReconnect, isOnline, wildcard, withMode, withSwitches, withPart, withSend, freshOf, become, openOf, closeOf, connectedOf, lostOf, remoteOf, metOf, closedOf, startedOf, reachOf, runOf, tickOf}
-use Rattle.connection.specs.Event.{openAllowed, closeAllowed, connectedAllowed, lostAllowed, remoteAllowed, allowed, recordAfter, stepOf}
+use Rattle.connection.specs.Event.{openAllowed, closeAllowed, connectedAllowed, lostAllowed, remoteAllowed, cancelAllowed, allowed, recordAfter, stepOf}
 use Rattle.connection.specs.Sound.{Sound}
 use Rattle.connection.proofs.Ticks.{step-either, started}
 
@@ -51,6 +52,13 @@ online-too : (e o t : Bool) → (e || (o && t)) ≡ true → (e || (true && t)) 
 online-too true o t p = refl
 online-too false true t p = p
 online-too false false t p = impossible p
+
+-- a transfer is no empty part
+pub moving : (p : Part) → transferring p ≡ true → emptyPart p ≡ false
+moving (Header h v) t = impossible t
+moving (Payload r l h) t = impossible t
+moving (Skip n) t = impossible t
+moving (Transfer r n) t = refl
 
 -- a record with nothing wanted or held is sound under every row, whatever row it comes from
 pub bare-sound : (g h : Config) → Sound g (freshOf h)
@@ -92,6 +100,17 @@ module _ (g : Config) (c : Connection) (s : Sound g c) where
 
   pub close-keeps : closeAllowed g c ≡ true → Sound g (closeOf c)
   close-keeps a = wishes-keep false true refl (rw (and-left (not (g .automatic)) _ a))
+
+  -- R19.8: only an online TCP record has a transfer
+  pub moves-online : transferring (c .part) ≡ true → (isOnline (c .mode) && g .tcp) ≡ true
+  moves-online t = rw (moving (c .part) t) at (s .receiving)
+
+  -- the close that a cancel wants stands on an online TCP record, automatic or not
+  pub cancel-keeps : cancelAllowed c ≡ true → Sound g (closeOf c)
+  cancel-keeps t =
+      let up = moves-online t in
+      let off : isOffline (c .mode) ≡ false = online-not-offline (c .mode) (and-left (isOnline (c .mode)) _ up) in
+      wishes-keep false true refl (rw (and-right (isOnline (c .mode)) (g .tcp) up, off) (or-true (not (g .automatic))))
 
   -- a record that is not offline goes online: no open is wanted, and no close that was not
   up-keeps : (r : Remote) → isOffline (c .mode) ≡ false → not (c .«close_wanted») ≡ true → wildcard r ≡ false → Sound g (metOf r c)
@@ -199,6 +218,7 @@ module _ (g : Config) (c : Connection) (s : Sound g c) where
   after-keeps Lost a = lost-keeps a
   after-keeps (SetRemote r) a = remote-keeps r a
   after-keeps (Switch n on) a = switches-keep _
+  after-keeps Cancel a = cancel-keeps a
 
   -- every event, allowed or not
   pub step-keeps : (e : Event) → Sound g (stepOf e g c .connection)

@@ -6,7 +6,7 @@ use Rattle.lists.proofs.Both.{impossible}
 use Rattle.connection.specs.declared.Connection.{Connection}
 use Rattle.connection.specs.declared.Config.{Config}
 use Rattle.connection.specs.declared.Event.{Event}
-use Rattle.connection.specs.declared.Event.the-variants.{Open, Close, Connected, Lost, SetRemote, Switch}
+use Rattle.connection.specs.declared.Event.the-variants.{Open, Close, Connected, Lost, SetRemote, Switch, Cancel}
 use Rattle.connection.specs.Connection.{isOnline}
 use Rattle.connection.specs.Event.{known, allowed, recordAfter, empties, deniable}
 
@@ -24,6 +24,7 @@ after-leaves Connected g c = record { part = refl; used = refl; up = λ _ h. ref
 after-leaves Lost g c = record { part = refl; used = refl; up = λ n. impossible (sym n); there = λ _. refl; down = λ _. refl }
 after-leaves (SetRemote r) g c = record { part = refl; used = refl; up = λ _ h. h; there = λ n. impossible n; down = λ n. impossible n }
 after-leaves (Switch n on) g c = record { part = refl; used = refl; up = λ _ h. h; there = λ n. impossible n; down = λ n. impossible n }
+after-leaves Cancel g c = record { part = refl; used = refl; up = λ _ h. h; there = λ n. impossible n; down = λ n. impossible n }
 
 pub not-denied : (e : Event) (g : Config) (c : Connection) → deniable e ≡ false → allowed e g c ≡ true
 not-denied Open g c n = impossible (sym n)
@@ -32,6 +33,7 @@ not-denied Connected g c n = impossible (sym n)
 not-denied Lost g c n = impossible (sym n)
 not-denied (SetRemote r) g c n = impossible (sym n)
 not-denied (Switch n on) g c _ = refl
+not-denied Cancel g c n = impossible (sym n)
 
 pub only-loss : (e : Event) → empties e ≡ true → e ≡ Lost
 only-loss Open n = impossible n
@@ -40,3 +42,4 @@ only-loss Connected n = impossible n
 only-loss Lost n = refl
 only-loss (SetRemote r) n = impossible n
 only-loss (Switch m on) n = impossible n
+only-loss Cancel n = impossible n

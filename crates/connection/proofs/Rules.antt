@@ -4,7 +4,7 @@ use mathlib.Core.Path.{_≡_, refl}
 use mathlib.Core.Bool.{Bool, true, false, not, _&&_}
 use borrow.Author.Tests.{eqb-true, not-true}
 use Rattle.receive_part.specs.declared.Part.{Part}
-use Rattle.receive_part.specs.declared.Part.the-variants.{Header, Payload, Skip}
+use Rattle.receive_part.specs.declared.Part.the-variants.{Header, Payload, Skip, Transfer}
 use Rattle.receive_part.specs.Part.{emptyPart, readyPart}
 use Rattle.lists.proofs.Both.{impossible, and-left, and-right}
 use Rattle.connection.specs.declared.Mode.{Mode}
@@ -62,6 +62,7 @@ empty-is (Header h v) e =
     rw (a, b)
 empty-is (Payload r l h) e = impossible e
 empty-is (Skip n) e = impossible e
+empty-is (Transfer r n) e = impossible e
 
 -- a record that tests as all zero is the zero record
 pub zero-is : (c : Connection) → zeroOf c ≡ true → c ≡ zeroRecord

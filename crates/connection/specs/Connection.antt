@@ -4,7 +4,7 @@ use lib.Dec.{eqb, ltb}
 use lib.Bits.{bitOr, bitXor}
 use mathlib.Core.Bool.{Bool, true, false, cond, not, _&&_, _||_}
 use Rattle.receive_part.specs.declared.Part.{Part}
-use Rattle.receive_part.specs.Part.{readyPart}
+use Rattle.receive_part.specs.Part.{readyPart, transferring}
 use Rattle.connection.specs.declared.Mode.{Mode}
 use Rattle.connection.specs.declared.Mode.the-variants.{Offline, Reconnect, Online}
 use Rattle.connection.specs.declared.Remote.{Remote}
@@ -196,3 +196,7 @@ runOf c = cond (eqb (c .timer) 0) c (withSend (c .used) (c .timer - 1) (eqb (c .
 -- R9.1, a tick: with close wanted R9.2 and nothing more; otherwise R9.3, R9.4, R9.5
 unfoldable pub tickOf : Config → Connection → Connection
 tickOf g c = cond (c .«close_wanted») (closedOf g c) (runOf (reachOf g (startedOf g c)))
+
+-- R19.7: what a connection had before an event that takes nothing, and has after it: a transfer that ran has failed when none runs now
+abbrev pub failedOf : Connection → Connection → Bool
+failedOf before after = transferring (before .part) && not (transferring (after .part))

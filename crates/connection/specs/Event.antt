@@ -3,6 +3,7 @@
 use Prim.Native.Nat.{ℕ}
 use lib.Dec.{ltb}
 use mathlib.Core.Bool.{Bool, true, false, cond, not, _&&_, _||_}
+use Rattle.receive_part.specs.Part.{transferring}
 use Rattle.connection.specs.declared.Connection.{Connection}
 use Rattle.connection.specs.declared.Config.{Config}
 use Rattle.connection.specs.declared.Refusal.{Refusal}
@@ -11,7 +12,7 @@ use Rattle.connection.specs.declared.Answer.{Answer}
 use Rattle.connection.specs.declared.Answer.the-variants.{Done, Refused}
 use Rattle.connection.specs.declared.Stepped.{Stepped}
 use Rattle.connection.specs.declared.Event.{Event}
-use Rattle.connection.specs.declared.Event.the-variants.{Open, Close, Connected, Lost, SetRemote, Switch}
+use Rattle.connection.specs.declared.Event.the-variants.{Open, Close, Connected, Lost, SetRemote, Switch, Cancel}
 use Rattle.connection.specs.Connection.{isOffline, isReconnect, isOnline, wildcard, openOf, closeOf, connectedOf, lostOf, remoteOf, switchedOf}
 
 -- R4.1: the numbers
@@ -45,6 +46,10 @@ lostAllowed g c = g .tcp && isOnline (c .mode)
 abbrev pub remoteAllowed : Connection → Bool
 remoteAllowed c = not (isOnline (c .mode))
 
+-- R19.6, cancel: a transfer runs; also with close wanted already, and on an automatic connection
+abbrev pub cancelAllowed : Connection → Bool
+cancelAllowed c = transferring (c .part)
+
 -- online without close wanted: 4 otherwise, where bytes come in
 abbrev pub receiving : Connection → Bool
 receiving c = isOnline (c .mode) && not (c .«close_wanted»)
@@ -57,6 +62,7 @@ known Connected = true
 known Lost = true
 known (SetRemote r) = true
 known (Switch n on) = ltb n 32
+known Cancel = true
 
 abbrev pub allowed : Event → Config → Connection → Bool
 allowed Open g c = openAllowed g c
@@ -65,7 +71,9 @@ allowed Connected g c = connectedAllowed g c
 allowed Lost g c = lostAllowed g c
 allowed (SetRemote r) g c = remoteAllowed c
 allowed (Switch n on) g c = true
+allowed Cancel g c = cancelAllowed c
 
+-- R19.6: a cancel leaves what a close leaves: the transfer ends at the tick, not here
 abbrev pub recordAfter : Event → Config → Connection → Connection
 recordAfter Open g c = openOf c
 recordAfter Close g c = closeOf c
@@ -73,6 +81,7 @@ recordAfter Connected g c = connectedOf c
 recordAfter Lost g c = lostOf g c
 recordAfter (SetRemote r) g c = remoteOf r c
 recordAfter (Switch n on) g c = switchedOf n on c
+recordAfter Cancel g c = closeOf c
 
 -- which of them, done, drops the bytes held: a loss
 abbrev pub empties : Event → Bool
@@ -82,6 +91,7 @@ empties Connected = false
 empties Lost = true
 empties (SetRemote r) = false
 empties (Switch n on) = false
+empties Cancel = false
 
 -- which can be denied: all but a switch
 abbrev pub deniable : Event → Bool
@@ -91,6 +101,7 @@ deniable Connected = true
 deniable Lost = true
 deniable (SetRemote r) = true
 deniable (Switch n on) = false
+deniable Cancel = true
 
 abbrev pub refusedBy : Refusal → Connection → Stepped
 refusedBy r c = record { answer = Refused r; connection = c }

@@ -72,6 +72,7 @@ pub enum Event {
     Lost,
     SetRemote(Remote),
     Switch { number: u8, on: bool },
+    Cancel,
 }
 
 pub fn is_offline(mode: Mode) -> bool
@@ -325,6 +326,7 @@ pub fn is_known(event: Event) -> bool
         Event::Lost => true,
         Event::SetRemote(_) => true,
         Event::Switch { number, on: _ } => number < 32,
+        Event::Cancel => true,
     }
 }
 
@@ -349,6 +351,8 @@ impl Connection {
         let reconnect = is_reconnect(mode);
         let online = is_online(mode);
         let wild = has_wildcard(remote);
+        let part = self.part;
+        let transfer = receive_part::is_transfer(part);
         match event {
             Event::Open => !config.automatic & offline & !self.close_wanted,
             Event::Close => !config.automatic & (self.open_wanted | !offline),
@@ -356,6 +360,7 @@ impl Connection {
             Event::Lost => config.tcp & online,
             Event::SetRemote(_) => !online,
             Event::Switch { number: _, on: _ } => true,
+            Event::Cancel => transfer,
         }
     }
 
@@ -370,6 +375,7 @@ impl Connection {
             Event::Lost => self.lost(config),
             Event::SetRemote(remote) => self.set_remote(remote),
             Event::Switch { number, on } => self.switch(number, on),
+            Event::Cancel => self.close(),
         }
     }
 

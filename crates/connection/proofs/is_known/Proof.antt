@@ -21,6 +21,9 @@ enum-told-5 c = search needs
 enum-known-event : tie.Need-enum-known-event
 enum-known-event c = search needs
 
+enum-told-6 : tie.Need-enum-told-6
+enum-told-6 c = search needs
+
 returns : tie.Need-returns
 returns c = search needs
 
@@ -39,6 +42,9 @@ returns-5 c = search needs
 returns-6 : tie.Need-returns-6
 returns-6 c = rw (c .before .event .given .1)
 
+returns-7 : tie.Need-returns-7
+returns-7 c = search needs
+
 pub is-known-spec : {M : Type 1} → statement M
 is-known-spec =
     tie.close
@@ -49,9 +55,11 @@ is-known-spec =
     enum-told-4
     enum-told-5
     enum-known-event
+    enum-told-6
     returns
     returns-2
     returns-3
     returns-4
     returns-5
-    returns-6)
+    returns-6
+    returns-7)

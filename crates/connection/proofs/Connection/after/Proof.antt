@@ -39,6 +39,12 @@ enum-known-event-2 c = search needs
 switch-requires : tie.Need-switch-requires
 switch-requires c κs = search needs
 
+enum-told-5 : tie.Need-enum-told-5
+enum-told-5 c = search needs
+
+close-requires-2 : tie.Need-close-requires-2
+close-requires-2 c κs = search needs
+
 returns : tie.Need-returns
 returns c = rw (c .before .enum-told .given .1) (c .«open» .ensures)
 
@@ -57,6 +63,9 @@ returns-5 c = rw (c .before .before .event .given .1) (c .set-remote .ensures)
 returns-6 : tie.Need-returns-6
 returns-6 c = rw (c .before .before .event2 .given .1) (c .switch .ensures)
 
+returns-7 : tie.Need-returns-7
+returns-7 c = rw (c .before .enum-told5 .given .1) (c .close2 .ensures)
+
 pub after-spec : {M : Type 1} → statement M
 after-spec =
     tie.close
@@ -73,9 +82,12 @@ after-spec =
     set-remote-requires
     enum-known-event-2
     switch-requires
+    enum-told-5
+    close-requires-2
     returns
     returns-2
     returns-3
     returns-4
     returns-5
-    returns-6)
+    returns-6
+    returns-7)
