@@ -41,7 +41,7 @@ digit : (a : ℕ) → a % 2 < 2
 digit a = omega arith
 
 -- bit k of two words joined is the greater of their bits
-or-bit : (k a b : ℕ) → bitAt k (bitOr a b) ≡ max (bitAt k a) (bitAt k b)
+pub or-bit : (k a b : ℕ) → bitAt k (bitOr a b) ≡ max (bitAt k a) (bitAt k b)
 or-bit k a b =
     ap (λ (x : ℕ). x % 2) (or-shr a b k ∙ or-step (a / 2 ^ k) (b / 2 ^ k))
     ∙ ends (bitOr (a / 2 ^ k / 2) (b / 2 ^ k / 2)) (max (bitAt k a) (bitAt k b)) (max-small (bitAt k a) (bitAt k b) (digit _) (digit _))
@@ -53,7 +53,7 @@ xor-bit k a b =
     ∙ ends (bitXor (a / 2 ^ k / 2) (b / 2 ^ k / 2)) (differ (bitAt k a) (bitAt k b)) (differ-small (bitAt k a) (bitAt k b) (digit _) (digit _))
 
 -- the word worth switch n has bit n, and no other
-own-bit : (n : ℕ) → bitAt n (2 ^ n) ≡ 1
+pub own-bit : (n : ℕ) → bitAt n (2 ^ n) ≡ 1
 own-bit n =
     let e : 1 * 2 ^ n ≡ 2 ^ n = omega arith in
     ap (λ (x : ℕ). x % 2) (ap (λ (x : ℕ). x / 2 ^ n) (sym e) ∙ shl-shr 1 n)
@@ -63,7 +63,7 @@ low-bit k j =
     let even : 2 ^ suc j ≡ 2 ^ j * 2 = omega arith in
     ap (λ (x : ℕ). x % 2) (ap (λ (x : ℕ). x / 2 ^ k) (pow-add 2 (suc j) k) ∙ shl-shr (2 ^ suc j) k ∙ even) ∙ mul-mod-left (2 ^ j) 2
 
-other-bit : (n k : ℕ) → (k ≡ n → ⊥) → bitAt k (2 ^ n) ≡ 0
+pub other-bit : (n k : ℕ) → (k ≡ n → ⊥) → bitAt k (2 ^ n) ≡ 0
 other-bit n k ne = go (leb k n) refl
   where
     go : (b : Bool) → leb k n ≡ b → bitAt k (2 ^ n) ≡ 0

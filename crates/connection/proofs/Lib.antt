@@ -2,5 +2,6 @@
 pub mod Bits
 pub mod Ticks
 pub mod Rules
+pub mod Fails
 pub mod Keeps
 pub mod Leaves

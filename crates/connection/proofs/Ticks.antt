@@ -3,6 +3,7 @@ use mathlib.Core.Path.{_≡_, refl, sym, ap, _∙_}
 use mathlib.Core.Bool.{Bool, true, false, cond, not, _&&_, _||_}
 use lib.Dec.{eqb}
 use Rattle.lists.proofs.Both.{impossible}
+use Rattle.receive_part.specs.Part.{readyPart}
 use Rattle.connection.specs.declared.Mode.{Mode}
 use Rattle.connection.specs.declared.Mode.the-variants.{Offline, Reconnect, Online}
 use Rattle.connection.specs.declared.Connection.{Connection}
@@ -92,3 +93,18 @@ tick-is g c = go (c .«close_wanted») refl
     go : (b : Bool) → c .«close_wanted» ≡ b → Tick g c (cond b (closedOf g c) (runOf (reachOf g (startedOf g c))))
     go true e = closes-wanted e
     go false e = goes-on (runOf (reachOf g (startedOf g c))) e all
+
+-- A TICK LEAVES of the receive part nothing where it closes, and all of it otherwise; and no wish to close
+pub tick-part : (g : Config) (c : Connection) → tickOf g c .part ≡ cond (c .«close_wanted») readyPart (c .part)
+tick-part g c = go (tickOf g c) (tick-is g c)
+  where
+    go : (d : Connection) → Tick g c d → d .part ≡ cond (c .«close_wanted») readyPart (c .part)
+    go _ (closes-wanted k) = rw k
+    go d (goes-on _ k t) = rw k (t .part)
+
+pub tick-wish : (g : Config) (c : Connection) → tickOf g c .«close_wanted» ≡ false
+tick-wish g c = go (tickOf g c) (tick-is g c)
+  where
+    go : (d : Connection) → Tick g c d → d .«close_wanted» ≡ false
+    go _ (closes-wanted k) = refl
+    go d (goes-on _ k t) = t .wish ∙ k

@@ -315,6 +315,15 @@ impl Connection {
     }
 }
 
+// Whether a transfer that ran before an event runs no more after it.
+pub fn failed(before: Connection, after: Connection) -> bool
+    ensures { λ r. ⌜ r ≡ Is.failedOf before after ⌝ }
+{
+    let was = before.part;
+    let now = after.part;
+    receive_part::is_transfer(was) & !receive_part::is_transfer(now)
+}
+
 // Whether the event's numbers are there: 2 otherwise.
 pub fn is_known(event: Event) -> bool
     ensures { λ r. ⌜ r ≡ Ev.known event ⌝ }
