@@ -13,9 +13,9 @@ use Rattle.recording.specs.declared.Fault.{Fault}
 use Rattle.recording.specs.declared.Fault.the-variants.{Nothing, FarStamp, NoEvent, ZeroField, Misfit}
 use Rattle.recording.specs.Recording.{numberIn, zeroIn}
 
--- the events of a recording: 1 to 15
+-- the events of a recording: 1 to 16
 abbrev pub isRecorded : ℕ → Bool
-isRecorded n = ltb 0 n && leb n 15
+isRecorded n = ltb 0 n && leb n 16
 
 -- "the event's arguments and bytes", so long by the event number; those with bytes of their own have a length of four bytes before them
 unfoldable pub argumentsLong : ℕ → List ℕ → ℕ
@@ -55,13 +55,21 @@ isSpelt (SwitchAll number on) = true
 isSpelt (ReadCount protocol) = true
 isSpelt (ClearCount protocol) = true
 
--- one take: "bytes read (4), kind (1: 0 more wanted, 1 PDU, 2 drop), route or reason (1), id (4), length (4)", of a PDU then "0 (1) and
--- the place in the segment (4), or 1 (1) and the payload's bytes": which kinds and marks there are, and how many bytes these have
+-- one take: "bytes read (4), kind (1: 0 more wanted, 1 PDU, 2 drop, 3 start, 4 piece, 5 last piece), route or reason (1), id (4), length
+-- (4)": which kinds there are, and of a PDU which marks (R19.2, R19.3)
 unfoldable pub takeFits : List ℕ → Bool
-takeFits l = cond (eqb (be 1 l 4) 1) (leb (be 1 l 14) 1) (leb (be 1 l 4) 2)
+takeFits l = cond (eqb (be 1 l 4) 1) (leb (be 1 l 14) 1) (leb (be 1 l 4) 5)
+
+-- how many bytes a take has. Of a PDU then "0 (1) and the place in the segment (4), or 1 (1) and the payload's bytes"
+unfoldable pub pduNeeds : List ℕ → ℕ
+pduNeeds l = cond (eqb (be 1 l 14) 0) 19 (be 4 l 10 + 15)
+
+-- of a piece and a last piece then "its place in the event's whole segment (4)", of the others nothing
+unfoldable pub otherNeeds : ℕ → ℕ
+otherNeeds kind = cond (eqb kind 4 || eqb kind 5) 18 14
 
 unfoldable pub takeNeeds : List ℕ → ℕ
-takeNeeds l = cond (eqb (be 1 l 4) 1) (cond (eqb (be 1 l 14) 0) 19 (be 4 l 10 + 15)) 14
+takeNeeds l = cond (eqb (be 1 l 4) 1) (pduNeeds l) (otherNeeds (be 1 l 4))
 
 -- so many takes, and nothing behind them
 unfoldable pub takesFit : ℕ → List ℕ → Bool

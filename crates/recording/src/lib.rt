@@ -191,19 +191,37 @@ fn take_fits(s: &[u8]) -> bool
     if kind == 1 {
         return be8(s, 14) <= 1;
     }
-    kind <= 2
+    kind <= 5
+}
+
+// Where the payload of a PDU stood: a place in the segment, or its bytes.
+fn pdu_needs(s: &[u8]) -> usize
+    ensures { λ r. ⌜ r ≡ Of.pduNeeds (now (s .entry)) ⌝ }
+{
+    if be8(s, 14) == 0 {
+        return 19;
+    }
+    be32(s, 10) + 15
+}
+
+// A piece has its place.
+fn other_needs(kind: usize) -> usize
+    ensures { λ r. ⌜ r ≡ Of.otherNeeds kind ⌝ }
+{
+    if (kind == 4) | (kind == 5) {
+        return 18;
+    }
+    14
 }
 
 fn take_needs(s: &[u8]) -> usize
     ensures { λ r. ⌜ r ≡ Of.takeNeeds (now (s .entry)) ⌝ }
 {
-    if be8(s, 4) != 1 {
-        return 14;
+    let kind = be8(s, 4);
+    if kind == 1 {
+        return pdu_needs(s);
     }
-    if be8(s, 14) == 0 {
-        return 19;
-    }
-    be32(s, 10) + 15
+    other_needs(kind)
 }
 
 fn takes_fit(count: u16, s: &[u8]) -> bool
@@ -302,7 +320,7 @@ pub fn body_long(row: &[u8]) -> usize
 fn is_recorded(number: u16) -> bool
     ensures { λ r. ⌜ r ≡ Of.isRecorded number ⌝ }
 {
-    (0 < number) & (number <= 15)
+    (0 < number) & (number <= 16)
 }
 
 pub fn fault_of(distance: u32, row: &[u8], body: &[u8]) -> Fault
