@@ -4,15 +4,15 @@ use mathlib.Core.Path.{_≡_, refl, sym, ap, ap₂, _∙_, subst}
 use mathlib.Core.Bool.{Bool, true, false, _&&_}
 use mathlib.Core.List.{List, [], _∷_, _++_}
 use native.Mathlib.Omega.{arith}
-use borrow.Author.Tests.{leb-true, ltb-true}
-use lib.Dec.{leb, ltb}
+use borrow.Author.Tests.{leb-true, ltb-true, ne-eqb}
+use lib.Dec.{leb, ltb, eqb}
 use lib.ListN.{length, take, drop, length-append, length-drop}
 use lib.Seq.{take-length, length-take-le}
-use Rattle.reading.specs.declared.Decision.the-variants.{Accept, Refuse}
-use Rattle.reading.specs.Feed.{Routes, cell, header, payload, skip, Took, spelt, takeB, decided, resume}
-use Rattle.reading.proofs.Laws.{spelt-be, rest-whole, rest-short, body-whole, body-short, header-short, header-on, refused-skips, skipCell, skip-whole, skip-short}
+use Rattle.reading.specs.declared.Decision.the-variants.{Accept, Refuse, Transfer as Move}
+use Rattle.reading.specs.Feed.{Routes, cell, transfer, header, payload, skip, Took, spelt, takeB, decided, resume}
+use Rattle.reading.proofs.Laws.{spelt-be, rest-whole, rest-short, body-whole, body-short, header-short, header-on, refused-skips, skipCell, skip-whole, skip-short, moveCell, empty, started, piece-short, piece-whole}
 use Rattle.receive_part.specs.declared.Part.{Part}
-use Rattle.receive_part.specs.declared.Part.the-variants.{Header, Payload, Skip}
+use Rattle.receive_part.specs.declared.Part.the-variants.{Header, Payload, Skip, Transfer}
 use Rattle.receive_part.specs.Part.{shaped}
 use Rattle.lists.proofs.Both.{and-left, and-right}
 use Rattle.receive_route.specs.Route.{lookupOf}
@@ -23,9 +23,9 @@ use Rattle.wire.proofs.Join.{number-join}
 use Rattle.wire.proofs.Lay.{lay-fits}
 use Rattle.wire.proofs.Part.{part-to-end}
 use Rattle.receive_stream.specs.declared.Outcome.{Outcome}
-use Rattle.receive_stream.specs.declared.Outcome.the-variants.{More, Pdu, Drop}
+use Rattle.receive_stream.specs.declared.Outcome.the-variants.{More, Pdu, Drop, Start, Piece}
 use Rattle.receive_stream.specs.declared.Taken.{Taken}
-use Rattle.receive_stream.specs.Stream.{cellOf, partFrom, noneHeld, inSegment, idOf, Answers, tookOf, takenOf, rxAfter, lengthOf, Limits, Fit, skipPart}
+use Rattle.receive_stream.specs.Stream.{cellOf, partFrom, noneHeld, inSegment, idOf, Answers, tookOf, takenOf, rxAfter, lengthOf, Limits, Fit, skipPart, movePart, startTaken, pieceTaken}
 
 abbrev pub takenAs : ℕ → Outcome → Part → Taken
 takenAs n o p = record { read = n; outcome = o; part = p }
@@ -158,9 +158,57 @@ module _ (ids : ℕ → ℕ) where
       → Answers ids true (length seg) (takeB R (cell n skip) seg) rx t rx′
   skip-over R n rx seg rx′ t pos le a = move-answer (skip-whole R n seg pos le ∙ ap (takeB R (cell 8 (header 0))) (sym (part-to-end seg n))) a
 
+  -- A TRANSFER: its start; no byte of it; a piece that the segment cuts off; the last one
+  move-part-of : (n r : ℕ) → movePart n r ≡ partFrom (moveCell n r)
+  move-part-of zero r = refl
+  move-part-of (suc n) r = refl
+
+  mark-of : (n : ℕ) → eqb n 0 ≡ empty n
+  mark-of zero = refl
+  mark-of (suc n) = ne-eqb (suc n) 0 (λ e. omega (arith, e))
+
+  pub header-started : (R : Routes) (v n w r i m total : ℕ) (rx seg : List ℕ) (t : Taken) → 0 < n → n ≤ length seg → w ≡ spelt v (take n seg) → i ≡ w / 2 ^ 32 → m ≡ w % 2 ^ 32
+      → R i m ≡ Move r → t ≡ startTaken (total - (length seg - n)) r i m
+      → Answers ids true total (takeB R (cell n (header v)) seg) rx t rx
+  header-started R v n w r i m total rx seg t pos le e ei em is et =
+      let q : total - (length seg - n) ≡ total - length (drop n seg) = omega (arith, length-drop n seg) in
+      move-answer (header-on R v n w (Move r) seg pos le e (ap₂ R (sym ei) (sym em) ∙ is) ∙ ap₂ (λ (a b : ℕ). resume R (decided (Move r) a b) (drop n seg)) (sym ei) (sym em) ∙ started R i r m (drop n seg))
+      (record { answer = et ∙ (λ j. takenAs (q j) (Start r i m (mark-of m j)) (move-part-of m r j)); memory = refl })
+
+  pub piece-none : (R : Routes) (n r : ℕ) (rx seg : List ℕ) → length seg ≡ 0
+      → Answers ids true (length seg) (takeB R (transfer n r) seg) rx (takenAs 0 More (Transfer r n)) rx
+  unfolding takeB
+  piece-none R n r rx [] e = record { answer = refl; memory = sym (lay-fits rx 0 [] (omega arith)) }
+  piece-none R n r rx (b ∷ seg) e = absurd (omega arith)
+
+  pub piece-part : (R : Routes) (n r id : ℕ) (rx seg : List ℕ) (t : Taken) → ids r ≡ id → 0 < length seg → length seg < n → t ≡ pieceTaken (length seg) r id (n - length seg)
+      → Answers ids true (length seg) (takeB R (transfer n r) seg) rx t rx
+  piece-part R n r id rx seg t ei pos few et =
+      let p : length seg ≡ length seg - 0 = omega arith in
+      let q : 0 ≡ length seg - 0 - length seg = omega arith in
+      let some : 0 < n - length seg = omega arith in
+      move-answer (piece-short R n r seg pos few)
+      (record { answer = et ∙ still (n - length seg) some ∙ (λ j. takenAs (p j) (Piece r (sym ei j) (q j) (length seg) false) (Transfer r (n - length seg))); memory = refl })
+    where
+      still : (left : ℕ) → 0 < left → pieceTaken (length seg) r id left ≡ takenAs (length seg) (Piece r id 0 (length seg) false) (Transfer r left)
+      still zero h = absurd (omega arith)
+      still (suc left) h = ap (λ (m : Bool). takenAs (length seg) (Piece r id 0 (length seg) m) (Transfer r (suc left))) (mark-of (suc left))
+
+  pub piece-last : (R : Routes) (n r id : ℕ) (rx seg : List ℕ) (t : Taken) → ids r ≡ id → 0 < n → n ≤ length seg → t ≡ pieceTaken n r id 0
+      → Answers ids true (length seg) (takeB R (transfer n r) seg) rx t rx
+  piece-last R n r id rx seg t ei pos le et =
+      let l : n ≡ length (take n seg) = sym (length-take-le n seg le) in
+      let p : n ≡ length seg - length (drop n seg) = omega (arith, length-drop n seg) in
+      let q : 0 ≡ length seg - length (drop n seg) - length (take n seg) = omega (arith, length-drop n seg) in
+      move-answer (piece-whole R n r seg pos le) (record { answer = et ∙ (λ j. takenAs (p j) (Piece r (sym ei j) (q j) (l j) true) (Header 0 0)); memory = refl })
+
 pub skip-left : (n : ℕ) → (n ≡ 0 → ⊥) → Skip n ≡ skipPart n
 skip-left zero h = absurd (h refl)
 skip-left (suc n) h = refl
+
+pub move-left : (n r : ℕ) → (n ≡ 0 → ⊥) → Transfer r n ≡ movePart n r
+move-left zero r h = absurd (h refl)
+move-left (suc n) r h = refl
 
 -- WHAT A TAKE ASKS, by the kind of part
 module _ (routes : List ℕ) (part : Part) (rx : List ℕ) (fit : Fit routes part rx) where
@@ -179,6 +227,9 @@ module _ (routes : List ℕ) (part : Part) (rx : List ℕ) (fit : Fit routes par
 
   pub skip-fit : (n : ℕ) → part ≡ Skip n → 0 < n
   skip-fit n e = ltb-true 0 n (shape-at e)
+
+  pub transfer-fit : (route left : ℕ) → part ≡ Transfer route left → 0 < left
+  transfer-fit route left e = ltb-true 0 left (shape-at e)
 
 -- an accepted header's length is within the limits, and its id is its route's
 module _ (routes : List ℕ) (connection switches i n r : ℕ) (is : lookupOf routes connection switches i n ≡ Accept r) where

@@ -4,6 +4,7 @@ use Prim.Native.Nat.{ℕ, zero, suc, _+_, _-_, _≤_}
 use mathlib.Core.Path.{_≡_}
 use mathlib.Core.Bool.{Bool, true, false, cond}
 use mathlib.Core.List.{List, [], _∷_}
+use lib.Dec.{eqb}
 use lib.ListN.{length, take}
 use Rattle.reading.specs.Feed.{Cell, cell, transfer, header, payload, skip, Out, nothing, pdu, dropped, start, piece, Took, takeB}
 use Rattle.wire.specs.Place.{behind}
@@ -116,6 +117,14 @@ skipPart (suc n) = Skip (suc n)
 abbrev pub movePart : ℕ → ℕ → Part
 movePart zero r = Header 0 0
 movePart (suc n) r = Transfer r (suc n)
+
+-- R19.2, R19.5: the answer that is a start, with so many bytes of the segment read; at length 0 it carries the end mark
+abbrev pub startTaken : ℕ → ℕ → ℕ → ℕ → Taken
+startTaken read r i n = record { read = read; outcome = Start r i n (eqb n 0); part = movePart n r }
+
+-- R19.3, R19.4: the answer that is a piece of n bytes at the segment's front, with so many to come; it is the last where there are none
+abbrev pub pieceTaken : ℕ → ℕ → ℕ → ℕ → Taken
+pieceTaken n r i left = record { read = n; outcome = Piece r i 0 n (eqb left 0); part = movePart left r }
 
 -- the payload that an outcome names, of whichever of the two holds it
 abbrev pub payloadAt : List ℕ → List ℕ → Bool → ℕ → ℕ → List ℕ

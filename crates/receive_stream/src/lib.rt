@@ -1,16 +1,17 @@
 // A take over one connection's receive part, its receive stretch and a segment; and the payload that it hands out, as a
-// part of whichever of the two holds it. Skipping and whole payloads are arithmetic: no loop but the header's and the copy's.
+// part of whichever of the two holds it. Skipping, whole payloads and a transfer's pieces are arithmetic: no loop but the header's and the copy's.
 // Assumes what `Fit` says: a part of a shape that R2.4 allows, a stretch of 1,464 bytes, and routes that allow no more.
 ghost use mathlib.Core.Path.{_≡_};
 ghost use mathlib.Core.Bool.{true, false};
+ghost use mathlib.Core.List.{List};
 ghost use Prim.Native.Nat.{ℕ, _+_, _-_, _^_, _≤_, _<_};
 ghost use lib.ListN.{length, take};
 ghost use denote.Ref.{ptr};
-ghost use Rattle.reading.specs.Feed.{Routes, takeB, cell, header, payload, spelt, decided, resume};
+ghost use Rattle.reading.specs.Feed.{Routes, takeB, cell, transfer, header, payload, spelt, decided, resume};
 ghost use Rattle.reading.specs.declared.Decision.the-variants.{Accept};
 ghost use Rattle.receive_route.specs.Route.{lookupOf};
 ghost use Rattle.table_rows.specs.Rows.{routeIn};
-ghost use Rattle.receive_stream.specs.Stream.{Fit, Limits, idOf, cellOf, inSegment, Answers, skipPart, takenOf, rxAfter, payloadAt, payloadPlace};
+ghost use Rattle.receive_stream.specs.Stream.{Fit, Limits, idOf, cellOf, inSegment, Answers, skipPart, movePart, startTaken, pieceTaken, takenOf, rxAfter, payloadAt, payloadPlace};
 use reading::Decision;
 use receive_part::Part;
 use receive_route::lookup;
@@ -181,6 +182,71 @@ fn skipping(n: u32) -> Part
     }
 }
 
+// What a transfer leaves with n bytes still to come.
+fn moving(route: u8, n: u32) -> Part
+    ensures { λ r. ⌜ r ≡ movePart n route ⌝ }
+{
+    if n == 0 {
+        Part::Header { held: 0, value: 0 }
+    } else {
+        Part::Transfer { route, left: n }
+    }
+}
+
+// A transfer's start, where so many bytes of the segment are read: all of it at length 0.
+fn take_start(route: u8, id: u32, size: u32, read: usize) -> Taken
+    ensures { λ r. ⌜ r ≡ startTaken read route id size ⌝ }
+{
+    Taken {
+        read,
+        outcome: Outcome::Start {
+            route,
+            id,
+            length: size,
+            last: size == 0,
+        },
+        part: moving(route, size),
+    }
+}
+
+// A piece of n bytes at the segment's front, with so many still to come: the last one where there are none.
+fn piece_before(route: u8, id: u32, n: usize, left: u32) -> Taken
+    ensures { λ r. ⌜ r ≡ pieceTaken n route id left ⌝ }
+{
+    Taken {
+        read: n,
+        outcome: Outcome::Piece {
+            route,
+            id,
+            at: 0,
+            length: n,
+            last: left == 0,
+        },
+        part: moving(route, left),
+    }
+}
+
+// A running transfer: all of its bytes that stand in the segment, where they stand. An empty segment wants more.
+fn take_piece(routes: &[u8], route: u8, left: u32, segment: &[u8]) -> Taken
+    requires { ⌜ 0 < left ⌝ }
+    ensures { λ r. ⌜ ((R : Routes) (rx : List ℕ) → Answers (idOf (now (routes .entry))) true (length (now (segment .entry))) (takeB R (transfer left route) (now (segment .entry))) rx r rx) ⌝ }
+{
+    let here = segment.len();
+    let n = left as usize;
+    if here == 0 {
+        return Taken {
+            read: 0,
+            outcome: Outcome::More,
+            part: Part::Transfer { route, left },
+        };
+    }
+    let row = route_in(routes, route as usize);
+    if here < n {
+        return piece_before(route, row.id, here, (n - here) as u32);
+    }
+    piece_before(route, row.id, n, 0)
+}
+
 // A header of which `held` bytes have come, in the last bytes of a segment of `total`; and what follows it.
 fn take_header(
     routes: &[u8],
@@ -223,10 +289,11 @@ fn take_header(
             },
             part: skipping(size),
         },
+        Decision::Transfer(route) => take_start(route, id, size, total - (here - need)),
     }
 }
 
-// A take: up to the end of the segment's first complete PDU or dropped header.
+// A take: up to the end of the segment's first complete PDU, dropped header or transfer's start; or a piece of a running transfer.
 pub fn take(
     routes: &[u8],
     connection: u8,
@@ -276,6 +343,7 @@ pub fn take(
                 here,
             )
         }
+        Part::Transfer { route, left } => take_piece(routes, route, left, segment),
     }
 }
 

@@ -1,7 +1,7 @@
 -- `receive_stream::take` meets its contract.
 use native.Mathlib.Omega.{arith}
 use borrow.Author.Needs.{needs}
-use Rattle.receive_stream.proofs.Takes.{header-fit, payload-fit, skip-fit, skip-part, skip-over, at-part}
+use Rattle.receive_stream.proofs.Takes.{header-fit, payload-fit, skip-fit, transfer-fit, skip-part, skip-over, at-part}
 use Rattle.receive_stream.specs.Stream.{idOf}
 use Rattle.receive_route.specs.Route.{lookupOf}
 use Rattle.receive_stream.proofs.take.Statement.{statement}
@@ -32,11 +32,11 @@ enum-known-part-3 c = search needs
 cast-left : tie.Need-cast-left
 cast-left c = search needs
 
-sub-t23 : tie.Need-sub-t23
-sub-t23 c = search needs
+sub-t25 : tie.Need-sub-t25
+sub-t25 c = search needs
 
-cast-t24 : tie.Need-cast-t24
-cast-t24 c = search needs
+cast-t26 : tie.Need-cast-t26
+cast-t26 c = search needs
 
 returns : tie.Need-returns
 returns c =
@@ -56,6 +56,15 @@ part-take-header-end c = search needs
 
 take-header-requires-2 : tie.Need-take-header-requires-2
 take-header-requires-2 c κs = search needs
+
+enum-known-part-4 : tie.Need-enum-known-part-4
+enum-known-part-4 c = search needs
+
+take-piece-requires : tie.Need-take-piece-requires
+take-piece-requires c κs =
+    let k = c .before in
+    let s = k .before .before .before .before .before in
+    transfer-fit (s .args .routes .now) _ (s .args .rx .now) (s .pre) _ _ (k .part4 .given .1)
 
 same-length : tie.Need-same-length
 same-length c = search needs
@@ -92,6 +101,13 @@ returns-4 c =
     (skip-over (idOf (a .routes .now)) (lookupOf (a .routes .now) (a .connection) (a .switches)) _ (a .rx .now) (a .segment .now) _ _
     (skip-fit (a .routes .now) _ (a .rx .now) (s .pre) _ (k .part3 .given .1)) (i .if1 .left) (b .take-header2 .ensures))
 
+returns-5 : tie.Need-returns-5
+returns-5 c =
+    let k = c .before .before in
+    let a = k .before .before .before .before .before .args in
+    at-part (a .routes .now) (a .connection) (a .switches) (a .rx .now) (a .segment .now) _ _ (k .part4 .given .1)
+    (c .take-piece .ensures (lookupOf (a .routes .now) (a .connection) (a .switches)) (a .rx .now))
+
 pub take-spec : {M : Type 1} → statement M
 take-spec =
     tie.close
@@ -102,16 +118,19 @@ take-spec =
     take-payload-requires
     enum-known-part-3
     cast-left
-    sub-t23
-    cast-t24
+    sub-t25
+    cast-t26
     returns
     sub-take-header
     part-take-header-start
     part-take-header-end
     take-header-requires-2
+    enum-known-part-4
+    take-piece-requires
     same-length
     returns-2
     same-length-2
     returns-3
     same-length-3
-    returns-4)
+    returns-4
+    returns-5)

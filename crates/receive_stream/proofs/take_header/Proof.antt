@@ -4,7 +4,7 @@ use mathlib.Core.Path.{refl, sym, _∙_}
 use Prim.Native.Nat.{_-_, _/_}
 use native.Mathlib.Omega.{arith}
 use borrow.Author.Needs.{needs}
-use Rattle.receive_stream.proofs.Takes.{header-part, header-dropped, header-accepted, accepted-short, accepted-id}
+use Rattle.receive_stream.proofs.Takes.{header-part, header-dropped, header-accepted, header-started, accepted-short, accepted-id}
 use Rattle.wire.proofs.Part.{part-to-end}
 use Rattle.receive_stream.specs.Stream.{idOf}
 use Rattle.receive_route.specs.Route.{lookupOf}
@@ -17,11 +17,11 @@ sub-need c = search needs
 gather-requires : tie.Need-gather-requires
 gather-requires c κs = search needs
 
-cast-t20 : tie.Need-cast-t20
-cast-t20 c = search needs
+cast-t21 : tie.Need-cast-t21
+cast-t21 c = search needs
 
-add-t21 : tie.Need-add-t21
-add-t21 c = search needs
+add-t22 : tie.Need-add-t22
+add-t22 c = search needs
 
 returns : tie.Need-returns
 returns c =
@@ -71,11 +71,20 @@ take-body-requires c κs =
 enum-known-reason : tie.Need-enum-known-reason
 enum-known-reason c = search needs
 
-sub-t34 : tie.Need-sub-t34
-sub-t34 c = search needs
+sub-t35 : tie.Need-sub-t35
+sub-t35 c = search needs
 
 skipping-requires : tie.Need-skipping-requires
 skipping-requires c κs = search needs
+
+enum-known-route-2 : tie.Need-enum-known-route-2
+enum-known-route-2 c = search needs
+
+sub-take-start : tie.Need-sub-take-start
+sub-take-start c = search needs
+
+take-start-requires : tie.Need-take-start-requires
+take-start-requires c κs = search needs
 
 same-length : tie.Need-same-length
 same-length c = search needs
@@ -102,14 +111,23 @@ returns-3 c =
     header-dropped (idOf (a .routes .now)) (lookupOf (a .routes .now) (a .connection) (a .switches)) (a .value) _ (g .header-number .result) _ _ _ (a .total) (a .rx .now) (a .rest .now) _
     (omega arith) (g .before .if1 .left) (g .header-number .ensures .0) refl refl (sym (l .lookup .ensures) ∙ k .reason .given .1) (c .skipping .ensures)
 
+returns-4 : tie.Need-returns-4
+returns-4 c =
+    let k = c .before .before in
+    let l = k .before .before in
+    let g = l .before in
+    let a = g .before .before .before .before .before .args in
+    header-started (idOf (a .routes .now)) (lookupOf (a .routes .now) (a .connection) (a .switches)) (a .value) _ (g .header-number .result) _ _ _ (a .total) (a .rx .now) (a .rest .now) _
+    (omega arith) (g .before .if1 .left) (g .header-number .ensures .0) refl refl (sym (l .lookup .ensures) ∙ k .route2 .given .1) (c .take-start .ensures)
+
 pub take-header-spec : {M : Type 1} → statement M
 take-header-spec =
     tie.close
     (tie.spec
     sub-need
     gather-requires
-    cast-t20
-    add-t21
+    cast-t21
+    add-t22
     returns
     header-number-requires
     cast-id
@@ -122,8 +140,12 @@ take-header-spec =
     part-take-body-end
     take-body-requires
     enum-known-reason
-    sub-t34
+    sub-t35
     skipping-requires
+    enum-known-route-2
+    sub-take-start
+    take-start-requires
     same-length
     returns-2
-    returns-3)
+    returns-3
+    returns-4)
