@@ -1,22 +1,22 @@
 -- An accepted image keeps the rules of the table.
 use Prim.Native.Nat.{ℕ, _+_, _<_, _≤_}
 use mathlib.Core.Path.{_≡_}
-use mathlib.Core.Bool.{Bool, true, false, _&&_}
+use mathlib.Core.Bool.{Bool, true, false, not, _&&_, _||_}
 use mathlib.Core.List.{List}
 use native.Mathlib.Omega.{arith}
 use lib.Dec.{leb, ltb, eqb}
 use lib.ListN.{length}
 use borrow.Author.Tests.{leb-true, ltb-true, eqb-true, eq-eqb, not-true}
 use Rattle.wire.specs.Be.{be}
-use Rattle.lists.proofs.Both.{and-left, and-right, and3, and4, and-both}
+use Rattle.lists.proofs.Both.{and-left, and-right, and3, and4, and-both, impossible}
 use Rattle.lists.proofs.Search.{none-bad, every-at}
 use Rattle.table_layout.specs.Layout.{number, mostRows, entryAt, rowsOf, startOf, endOf, rowAt, bodyOf, rowOf, Laid}
 use Rattle.table_layout.specs.declared.Kind.{Kind}
 use Rattle.table_layout.specs.declared.Kind.the-variants.{Group, Connection, Route, Destination}
 use Rattle.table_rows.specs.Rows.{groupRow, connectionRow, routeRow, destinationRow}
-use Rattle.table_rows.specs.Rules.{groupGood, connectionGood, routeGood, destinationGood, sizeIn, routesShare, destinationsShare}
+use Rattle.table_rows.specs.Rules.{groupGood, connectionGood, routeGood, destinationGood, sizeIn, tcpIn, routesShare, destinationsShare}
 use Rattle.table_scan.specs.Scan.{share, clearIn, goodIn}
-use Rattle.table.specs.Table.{entryGood, rule, rowGood, badRow, demand, rowsPlace, entriesPlace, headPlace, allRowsPlace, checkTable}
+use Rattle.table.specs.Table.{entryGood, tcpOf, rule, rowGood, badRow, demand, rowsPlace, entriesPlace, headPlace, allRowsPlace, checkTable}
 use Rattle.table.specs.Accepts.{Accepts}
 use Rattle.table.specs.declared.TableAnswer.the-variants.{Accepted}
 use Rattle.table.proofs.Answers.{then-first, then-second, demand-held}
@@ -91,7 +91,7 @@ module _ (s : List ℕ) (e : checkTable s ≡ Accepted) where
   unfolding rule
   connection-rule i h = ruled Connection i h
 
-  route-rule : (i : ℕ) → i < rowsOf s Route → routeGood (rowsOf s Connection) (rowOf s Route i) ≡ true
+  route-rule : (i : ℕ) → i < rowsOf s Route → routeGood (rowsOf s Connection) (tcpOf s) (rowOf s Route i) ≡ true
   unfolding rule
   route-rule i h = ruled Route i h
 
@@ -109,8 +109,10 @@ pub record ConnectionFacts (groups : ℕ) (row : List ℕ) : Type 0 where
   pub low : 8 ≤ be 2 row 8
   pub high : be 2 row 8 ≤ 1472
 
-pub record RouteFacts (connections : ℕ) (row : List ℕ) : Type 0 where
+pub record RouteFacts (connections : ℕ) (tcp : ℕ → Bool) (row : List ℕ) : Type 0 where
   pub connection : be 1 row 0 < connections
+  pub transfer : be 1 row 1 ≤ 1
+  pub marked : eqb (be 1 row 1) 1 ≡ true → tcp (be 1 row 0) ≡ true
   pub longest : be 2 row 2 ≤ 1464
 
 pub record DestinationFacts (connections : ℕ) (size : ℕ → ℕ) (row : List ℕ) : Type 0 where
@@ -135,11 +137,20 @@ connection-facts groups row e =
     let f = and4 a b c d (and-left (a && b && c && d) (eqb (be 2 row 10) 0) e) in
     record { group = ltb-true _ _ (f .0); automatic = leb-true _ _ (f .1); low = leb-true _ _ (f .2); high = leb-true _ _ (f .3) }
 
-route-facts : (connections : ℕ) (row : List ℕ) → routeGood connections row ≡ true → RouteFacts connections row
+-- what holds where the first does not fail
+where-first : (a b : Bool) → (not a || b) ≡ true → a ≡ true → b ≡ true
+where-first true b e h = e
+where-first false b e h = impossible h
+
+route-facts : (connections : ℕ) (tcp : ℕ → Bool) (row : List ℕ) → routeGood connections tcp row ≡ true → RouteFacts connections tcp row
 unfolding routeGood routeRow
-route-facts connections row e =
-    let f = and4 (ltb (be 1 row 0) connections) (eqb (be 1 row 1) 0) (leb (be 2 row 2) 1464) (eqb (be 2 row 10) 0) e in
-    record { connection = ltb-true _ _ (f .0); longest = leb-true _ _ (f .2) }
+route-facts connections tcp row e =
+    let a = ltb (be 1 row 0) connections in
+    let b = leb (be 1 row 1) 1 in
+    let c = not (eqb (be 1 row 1) 1) || tcp (be 1 row 0) in
+    let d = leb (be 2 row 2) 1464 in
+    let f = and4 a b c d (and-left (a && b && c && d) (eqb (be 2 row 10) 0) e) in
+    record { connection = ltb-true _ _ (f .0); transfer = leb-true _ _ (f .1); marked = where-first _ _ (f .2); longest = leb-true _ _ (f .3) }
 
 destination-facts : (connections : ℕ) (size : ℕ → ℕ) (row : List ℕ) → destinationGood connections size row ≡ true → DestinationFacts connections size row
 unfolding destinationGood destinationRow
@@ -154,8 +165,8 @@ module _ (s : List ℕ) (e : checkTable s ≡ Accepted) (i : ℕ) where
   connections-keep : i < rowsOf s Connection → ConnectionFacts (rowsOf s Group) (rowOf s Connection i)
   connections-keep h = connection-facts (rowsOf s Group) (rowOf s Connection i) (connection-rule s e i h)
 
-  routes-keep : i < rowsOf s Route → RouteFacts (rowsOf s Connection) (rowOf s Route i)
-  routes-keep h = route-facts (rowsOf s Connection) (rowOf s Route i) (route-rule s e i h)
+  routes-keep : i < rowsOf s Route → RouteFacts (rowsOf s Connection) (tcpOf s) (rowOf s Route i)
+  routes-keep h = route-facts (rowsOf s Connection) (tcpOf s) (rowOf s Route i) (route-rule s e i h)
 
   destinations-keep : i < rowsOf s Destination → DestinationFacts (rowsOf s Connection) (sizeIn 16 (bodyOf s Connection)) (rowOf s Destination i)
   destinations-keep h = destination-facts (rowsOf s Connection) (sizeIn 16 (bodyOf s Connection)) (rowOf s Destination i) (destination-rule s e i h)
@@ -166,7 +177,7 @@ apart-of share f t = let z : _≡_ {A = ℕ} 0 1 = cc in omega arith
 
 -- the rules of the table, as facts of its rows
 pub accepted-facts : (s : List ℕ) → checkTable s ≡ Accepted → Accepts s
-unfolding groupRow connectionRow routeRow destinationRow sizeIn share routesShare destinationsShare
+unfolding groupRow connectionRow routeRow destinationRow sizeIn tcpIn share routesShare destinationsShare
 accepted-facts s e =
     record {
       laid = accepted-laid s e;
@@ -176,6 +187,8 @@ accepted-facts s e =
       automatic = λ i h. connections-keep s e i h .automatic;
       sized = λ i h. (connections-keep s e i h .low, connections-keep s e i h .high);
       routed = λ i h. routes-keep s e i h .connection;
+      transfer = λ i h. routes-keep s e i h .transfer;
+      marked = λ i h m. eqb-true _ _ (routes-keep s e i h .marked m);
       longest = λ i h. routes-keep s e i h .longest;
       routesApart = λ i j l h p q. apart-of _ (unshared s e Route i j l h) (and-both (eq-eqb _ _ p) (eq-eqb _ _ q));
       there = λ i h. destinations-keep s e i h .connection;

@@ -13,8 +13,8 @@ use Rattle.table_layout.specs.declared.Kind.{Kind}
 use Rattle.table_layout.specs.declared.Kind.the-variants.{Group, Connection, Route, Destination}
 use Rattle.table_rows.specs.Rules.{groupGood, connectionGood, routeGood, destinationGood, sizeIn}
 use Rattle.table_scan.specs.declared.BadRows.{BadRows}
-use Rattle.table_scan.specs.Scan.{share, goodIn, badRows}
-use Rattle.table.specs.Table.{rule, demand, thenCheck, rowsPlace}
+use Rattle.table_scan.specs.Scan.{share, goodIn, badRoute, badRows}
+use Rattle.table.specs.Table.{tcpOf, rule, demand, thenCheck, rowsPlace}
 use Rattle.table.specs.declared.TableAnswer.{TableAnswer}
 use Rattle.table.specs.declared.TableAnswer.the-variants.{Accepted, Refused}
 
@@ -50,14 +50,16 @@ module _ (s : List ℕ) (l : Laid s) (r : TableAnswer) (bad : ℕ) where
       ∙ ap (λ (n : ℕ). firstBad (goodIn (connectionGood n) (share Connection) 16 (bodyOf s Connection)) (length (bodyOf s Connection) / 16)) g)
       f
 
-  pub routes-place : (body : List ℕ) (connections : ℕ) → body ≡ bodyOf s Route → connections ≡ rowsOf s Connection
-      → bad ≡ firstBad (goodIn (routeGood connections) (share Route) 16 body) (length body / 16)
+  pub routes-place : (body connections groups : List ℕ) → body ≡ bodyOf s Route → connections ≡ bodyOf s Connection → groups ≡ bodyOf s Group
+      → bad ≡ badRoute connections groups body
       → r ≡ demand (leb (rowsOf s Route) bad) (rowAt s Route bad) → r ≡ rowsPlace s Route
   unfolding rule
-  routes-place body connections b n e f =
+  routes-place body connections groups b c g e f =
       place Route
-      (e ∙ ap (λ (x : List ℕ). firstBad (goodIn (routeGood connections) (share Route) 16 x) (length x / 16)) b
-      ∙ ap (λ (m : ℕ). firstBad (goodIn (routeGood m) (share Route) 16 (bodyOf s Route)) (length (bodyOf s Route) / 16)) n)
+      (e ∙ ap (badRoute connections groups) b
+      ∙ ap (λ (x : List ℕ). badRoute x groups (bodyOf s Route)) c
+      ∙ ap (λ (x : List ℕ). badRoute (bodyOf s Connection) x (bodyOf s Route)) g
+      ∙ ap (λ (n : ℕ). firstBad (goodIn (routeGood n (tcpOf s)) (share Route) 16 (bodyOf s Route)) (length (bodyOf s Route) / 16)) (body-rows s l Connection))
       f
 
   pub destinations-place : (body connections : List ℕ) → body ≡ bodyOf s Destination → connections ≡ bodyOf s Connection
@@ -72,15 +74,15 @@ module _ (s : List ℕ) (l : Laid s) (r : TableAnswer) (bad : ℕ) where
       f
 
 -- the last two kinds, by what one search gives
-pub last-places : (s : List ℕ) (l : Laid s) (routes destinations connections : List ℕ) (x : BadRows) (a b r : TableAnswer)
-    → routes ≡ bodyOf s Route → destinations ≡ bodyOf s Destination → connections ≡ bodyOf s Connection → x ≡ badRows routes destinations connections
+pub last-places : (s : List ℕ) (l : Laid s) (routes destinations connections groups : List ℕ) (x : BadRows) (a b r : TableAnswer)
+    → routes ≡ bodyOf s Route → destinations ≡ bodyOf s Destination → connections ≡ bodyOf s Connection → groups ≡ bodyOf s Group
+    → x ≡ badRows routes destinations connections groups
     → a ≡ demand (leb (rowsOf s Route) (x .route)) (rowAt s Route (x .route))
     → b ≡ demand (leb (rowsOf s Destination) (x .destination)) (rowAt s Destination (x .destination))
     → r ≡ thenCheck a b → r ≡ thenCheck (rowsPlace s Route) (rowsPlace s Destination)
-last-places s l routes destinations connections x a b r er ed ec ex ea eb e =
+last-places s l routes destinations connections groups x a b r er ed ec eg ex ea eb e =
     let p : a ≡ rowsPlace s Route =
-    routes-place s l a (x .route) routes (length connections / 16) er (ap (λ (y : List ℕ). length y / 16) ec ∙ body-rows s l Connection)
-    (ap (λ (y : BadRows). y .route) ex) ea in
+    routes-place s l a (x .route) routes connections groups er ec eg (ap (λ (y : BadRows). y .route) ex) ea in
     let q : b ≡ rowsPlace s Destination =
     destinations-place s l b (x .destination) destinations connections ed ec (ap (λ (y : BadRows). y .destination) ex) eb in
     e ∙ ap (λ (y : TableAnswer). thenCheck y b) p ∙ ap (thenCheck (rowsPlace s Route)) q

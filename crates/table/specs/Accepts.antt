@@ -1,6 +1,7 @@
 -- Rules of the table (R1.4 to R1.9) as facts of its rows, for those who have an accepted image (zero bytes, contents and bytes 0..3 are not among them).
 use Prim.Native.Nat.{ℕ, _+_, _<_, _≤_}
 use mathlib.Core.Path.{_≡_}
+use mathlib.Core.Bool.{true}
 use mathlib.Core.List.{List}
 use Rattle.wire.specs.Be.{be}
 use Rattle.table_layout.specs.Layout.{mostRows, rowsOf, rowOf, Laid}
@@ -18,8 +19,12 @@ pub record Accepts (s : List ℕ) : Type 0 where
   pub owned : (i : ℕ) → i < rowsOf s Connection → connectionOf s i .group < rowsOf s Group
   pub automatic : (i : ℕ) → i < rowsOf s Connection → be 1 (rowOf s Connection i) 1 ≤ 1
   pub sized : (i : ℕ) → i < rowsOf s Connection → (8 ≤ connectionOf s i .size) × (connectionOf s i .size ≤ 1472)
-  -- routes: the connection exists; longest payload 0..1,464; no two share connection and id
+  -- routes: the connection exists; transfer 0 or 1, and a marked route's connection is TCP; longest payload 0..1,464; no two share
+  -- connection and id
   pub routed : (i : ℕ) → i < rowsOf s Route → routeOf s i .connection < rowsOf s Connection
+  pub transfer : (i : ℕ) → i < rowsOf s Route → be 1 (rowOf s Route i) 1 ≤ 1
+  pub marked : (i : ℕ) → i < rowsOf s Route → routeOf s i .transfer ≡ true
+      → groupOf s (connectionOf s (routeOf s i .connection) .group) .protocol ≡ 2
   pub longest : (i : ℕ) → i < rowsOf s Route → routeOf s i .longest ≤ 1464
   pub routesApart : (i j : ℕ) → i < j → j < rowsOf s Route
       → routeOf s i .connection ≡ routeOf s j .connection → routeOf s i .id ≡ routeOf s j .id → ⊥

@@ -115,7 +115,8 @@ fn after_connections(image: &[u8]) -> TableAnswer
     let routes = body_of(image, Kind::Route);
     let destinations = body_of(image, Kind::Destination);
     let connections = body_of(image, Kind::Connection);
-    let bad = first_bad_rows(routes, destinations, connections);
+    let groups = body_of(image, Kind::Group);
+    let bad = first_bad_rows(routes, destinations, connections, groups);
     let route = place_of(image, Kind::Route, bad.route);
     let destination = place_of(image, Kind::Destination, bad.destination);
     first_refusal(route, destination)

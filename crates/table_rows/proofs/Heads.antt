@@ -1,7 +1,7 @@
 -- Four bytes of a row, read as one number, and the numbers in them: what the rules ask of the one is what they ask of the others.
 use Prim.Native.Nat.{ℕ, zero, suc, _+_, _*_, _/_, _%_, _^_, _<_, _≤_}
 use mathlib.Core.Path.{_≡_, refl, sym, ap, _∙_}
-use mathlib.Core.Bool.{Bool, true, false, _&&_, _||_}
+use mathlib.Core.Bool.{Bool, true, false, not, _&&_, _||_}
 use mathlib.Core.List.{List}
 use native.Mathlib.Nat.{pow-suc}
 use native.Mathlib.Omega.{arith}
@@ -36,15 +36,53 @@ module _ (s : List ℕ) (bytes : (i : ℕ) → byteAt s i < 256) where
     pub last-bytes : be 4 s at % 65536 ≡ be 2 s (at + 2)
     last-bytes = omega (arith, split, be-small 1 (at + 1), be-small 2 (at + 2))
 
--- "zero 1, longest payload 2"
-pub zero-and-longest : (b l : ℕ) → leb (b * 65536 + l) 1464 ≡ (eqb b 0 && leb l 1464)
-zero-and-longest b l = go (ℕ-discrete b 0)
+-- "transfer 1 (0 or 1), longest payload 2", where the two are small together: there is no mark
+pub unmarked : (b l : ℕ) (a t z : Bool) → b * 65536 + l ≤ 1464 → a && z ≡ a && leb b 1 && (not (eqb b 1) || t) && leb l 1464 && z
+unmarked b l a t z h =
+    let n : b ≡ 1 → ⊥ = λ e. omega arith in
+    rw (le-leb b 1 (omega arith), ne-eqb b 1 n, le-leb l 1464 (omega arith)) (go a)
   where
-    go : Dec (b ≡ 0) → leb (b * 65536 + l) 1464 ≡ (eqb b 0 && leb l 1464)
-    go (yes e) =
-        let z : b * 65536 + l ≡ l = omega arith in
-        rw (eq-eqb b 0 e, z)
-    go (no n) = rw (ne-eqb b 0 n, lt-leb (b * 65536 + l) 1464 (omega arith))
+    go : (x : Bool) → x && z ≡ x && true && true && true && z
+    go true = refl
+    go false = refl
+
+none-third : (y q u : Bool) → y && false && q && u ≡ false
+none-third true q u = refl
+none-third false q u = refl
+
+none-last : (y u : Bool) → y && true && false && u ≡ false
+none-last true u = refl
+none-last false u = refl
+
+none-either : (y u : Bool) → y && true && false && u ≡ u && false && y
+none-either true true = refl
+none-either true false = refl
+none-either false true = refl
+none-either false false = refl
+
+turned : (y u : Bool) → y && true && true && u ≡ u && true && y
+turned true true = refl
+turned true false = refl
+turned false true = refl
+turned false false = refl
+
+-- and where they are not, either there is one or the row is bad
+pub marked : (b l : ℕ) (a t z : Bool) → l < 65536 → 1464 < b * 65536 + l
+    → a && z && leb 65536 (b * 65536 + l) && leb (b * 65536 + l) 67000 && t ≡ a && leb b 1 && (not (eqb b 1) || t) && leb l 1464 && z
+marked b l a t z h m = go (ℕ-discrete b 0) (ℕ-discrete b 1) (decLe l 1464) a z t
+  where
+    go : Dec (b ≡ 0) → Dec (b ≡ 1) → Dec (l ≤ 1464) → (x y u : Bool)
+        → x && y && leb 65536 (b * 65536 + l) && leb (b * 65536 + l) 67000 && u ≡ x && leb b 1 && (not (eqb b 1) || u) && leb l 1464 && y
+    go p q r false y u = refl
+    go (yes e) q r true y u =
+        let w : b ≡ 1 → ⊥ = λ f. omega arith in
+        rw (lt-leb 65536 (b * 65536 + l) (omega arith), le-leb b 1 (omega arith), ne-eqb b 1 w, lt-leb l 1464 (omega arith)) (none-third y (leb (b * 65536 + l) 67000) u)
+    go (no n) (yes e) (yes r) true y u =
+        rw (le-leb 65536 (b * 65536 + l) (omega arith), le-leb (b * 65536 + l) 67000 (omega arith), le-leb b 1 (omega arith), eq-eqb b 1 e, le-leb l 1464 r) (turned y u)
+    go (no n) (yes e) (no r) true y u =
+        rw (le-leb 65536 (b * 65536 + l) (omega arith), lt-leb (b * 65536 + l) 67000 (omega arith), le-leb b 1 (omega arith), eq-eqb b 1 e, lt-leb l 1464 (omega arith)) (none-either y u)
+    go (no n) (no k) r true y u =
+        rw (le-leb 65536 (b * 65536 + l) (omega arith), lt-leb (b * 65536 + l) 67000 (omega arith), lt-leb b 1 (omega arith)) (none-last y u)
 
 -- "trigger 1 (0 or 1), longest payload 2"
 pub trigger-and-longest : (b l : ℕ) → l < 65536
@@ -58,10 +96,6 @@ trigger-and-longest b l h = go (ℕ-discrete b 0) (ℕ-discrete b 1) (decLe l 14
     go (no n) (yes e) (no q) = rw (lt-leb (b * 65536 + l) 1464 (omega arith), lt-leb (b * 65536 + l) 67000 (omega arith), le-leb b 1 (omega arith), lt-leb l 1464 (omega arith), le-leb 65536 (b * 65536 + l) (omega arith))
     go (no n) (no m) p = rw (lt-leb (b * 65536 + l) 1464 (omega arith), lt-leb (b * 65536 + l) 67000 (omega arith), lt-leb b 1 (omega arith), le-leb 65536 (b * 65536 + l) (omega arith))
 
-grouped : (a b d e : Bool) → a && (b && d) && e ≡ a && b && d && e
-grouped true b d e = refl
-grouped false b d e = refl
-
 -- the rules by the numbers that the code reads
 module _ (s : List ℕ) (bytes : (i : ℕ) → byteAt s i < 256) (h : ℕ) (is : h ≡ be 4 s 0) where
   pub owner-number : Number 1 s 0 (h / 16777216)
@@ -69,11 +103,22 @@ module _ (s : List ℕ) (bytes : (i : ℕ) → byteAt s i < 256) (h : ℕ) (is :
       let e : h / 16777216 ≡ be 1 s 0 = rw is (first-byte s bytes 0) in
       record { is = e; small = rw e (be-small s bytes 1 0) }
 
-  pub route-by-head : (n z : ℕ) → z ≡ be 4 s 8 → ltb (h / 16777216) n && leb (h % 16777216) 1464 && eqb (z % 65536) 0 ≡ routeGood n s
-  unfolding routeGood routeRow
-  route-by-head n z ez =
-      rw (is, ez, first-byte s bytes 0, low-bytes s bytes 0, last-bytes s bytes 8, zero-and-longest (be 1 s 1) (be 2 s 2))
-      (grouped (ltb (be 1 s 0) n) (eqb (be 1 s 1) 0) (leb (be 2 s 2) 1464) (eqb (be 2 s 10) 0))
+  module _ (n z : ℕ) (tcp : ℕ → Bool) (ez : z ≡ be 4 s 8) where
+    pub route-unmarked : h % 16777216 ≤ 1464 → ltb (h / 16777216) n && eqb (z % 65536) 0 ≡ routeGood n tcp s
+    unfolding routeGood routeRow
+    route-unmarked l =
+        let g : be 1 s 1 * 65536 + be 2 s 2 ≤ 1464 = rw (is, low-bytes s bytes 0) at l in
+        rw (is, ez, first-byte s bytes 0, last-bytes s bytes 8)
+        (unmarked (be 1 s 1) (be 2 s 2) (ltb (be 1 s 0) n) (tcp (be 1 s 0)) (eqb (be 2 s 10) 0) g)
+
+    pub route-marked : (t : Bool) → t ≡ tcp (h / 16777216) → 1464 < h % 16777216
+        → ltb (h / 16777216) n && eqb (z % 65536) 0 && leb 65536 (h % 16777216) && leb (h % 16777216) 67000 && t ≡ routeGood n tcp s
+    unfolding routeGood routeRow
+    route-marked t et l =
+        let g : 1464 < be 1 s 1 * 65536 + be 2 s 2 = rw (is, low-bytes s bytes 0) at l in
+        let w : t ≡ tcp (be 1 s 0) = et ∙ ap tcp (ap (λ (x : ℕ). x / 16777216) is ∙ first-byte s bytes 0) in
+        rw (is, ez, first-byte s bytes 0, low-bytes s bytes 0, last-bytes s bytes 8, w)
+        (marked (be 1 s 1) (be 2 s 2) (ltb (be 1 s 0) n) (tcp (be 1 s 0)) (eqb (be 2 s 10) 0) (be-small s bytes 2 2) g)
 
   module _ (connections : List ℕ) (n : ℕ) where
     pub destination-without : n ≤ h / 16777216 → false ≡ destinationGood n (sizeIn 16 connections) s

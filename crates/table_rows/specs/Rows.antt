@@ -27,11 +27,12 @@ connectionRow row =
       switches = be 4 row 12;
     }
 
--- connection 1, zero 1, longest payload 2, header id 4, upper PDU 2, zero 2, groups 4
+-- connection 1, transfer 1 (0 or 1, R19.1), longest payload 2, header id 4, upper PDU 2, zero 2, groups 4
 unfoldable pub routeRow : List ℕ → RouteRow
 routeRow row =
     record {
       connection = be 1 row 0;
+      transfer = eqb (be 1 row 1) 1;
       longest = be 2 row 2;
       id = be 4 row 4;
       pdu = be 2 row 8;

@@ -1,12 +1,12 @@
 -- When a row is good (R1.6): values in their ranges, zero bytes 0, and R1.7, R1.8, R1.9. Its fields are read as Rows reads them; what no field
 -- holds, zero bytes and bytes that are 0 or 1, by its bytes.
 use Prim.Native.Nat.{ℕ, _+_}
-use mathlib.Core.Bool.{Bool, _&&_}
+use mathlib.Core.Bool.{Bool, not, _&&_, _||_}
 use mathlib.Core.List.{List}
 use lib.Dec.{leb, ltb, eqb}
 use Rattle.wire.specs.Be.{be}
 use Rattle.table_layout.specs.Layout.{rowIn}
-use Rattle.table_rows.specs.Rows.{connectionRow, routeRow, destinationRow}
+use Rattle.table_rows.specs.Rows.{groupRow, connectionRow, routeRow, destinationRow}
 
 -- protocol 1 or 2, zero byte 0
 unfoldable pub groupGood : List ℕ → Bool
@@ -22,11 +22,16 @@ connectionGood groups row =
     && leb 8 (connectionRow row .size) && leb (connectionRow row .size) 1472
     && eqb (be 2 row 10) 0
 
--- R1.7, the connection exists; zero bytes 0; R1.8, longest payload 0..1,464
-unfoldable pub routeGood : ℕ → List ℕ → Bool
-routeGood connections row =
+-- R2.11: connection c is TCP, out of the bodies of groups and connections, whose rows have m and n bytes: protocol 2
+unfoldable pub tcpIn : ℕ → List ℕ → ℕ → List ℕ → ℕ → Bool
+tcpIn m groups n connections c = eqb (groupRow (rowIn m groups (connectionRow (rowIn n connections c) .group)) .protocol) 2
+
+-- R1.7, the connection exists; R19.1, transfer 0 or 1, and 1 only on a TCP connection; R1.8, longest payload 0..1,464; zero bytes 0
+unfoldable pub routeGood : ℕ → (ℕ → Bool) → List ℕ → Bool
+routeGood connections tcp row =
     ltb (routeRow row .connection) connections
-    && eqb (be 1 row 1) 0
+    && leb (be 1 row 1) 1
+    && (not (routeRow row .transfer) || tcp (routeRow row .connection))
     && leb (routeRow row .longest) 1464
     && eqb (be 2 row 10) 0
 

@@ -21,6 +21,7 @@ ghost use Rattle.table_rows.specs.Rows.{
 };
 ghost use Rattle.table_rows.specs.Rules.{
   sizeIn,
+  tcpIn,
   groupGood,
   connectionGood,
   routeGood,
@@ -58,6 +59,7 @@ pub struct ConnectionBrief {
 
 pub struct RouteRow {
     pub connection: u8,
+    pub transfer: bool,
     pub longest: u16,
     pub id: u32,
     pub pdu: u16,
@@ -122,6 +124,7 @@ pub fn route_value(row: &[u8]) -> RouteRow
 {
     RouteRow {
         connection: one_byte(row, 0),
+        transfer: be8(row, 1) == 1,
         longest: two_bytes(row, 2),
         id: four_bytes(row, 4),
         pdu: two_bytes(row, 8),
@@ -244,12 +247,25 @@ pub fn owner_of(row: &[u8]) -> usize
     be32(row, 0) / 16777216
 }
 
-// Zero byte and longest payload are one number as well.
-pub fn route_good(row: &[u8], connections: usize) -> bool
-    ensures { λ r. ⌜ r ≡ routeGood connections (now (row .entry)) ⌝ }
+// Connection c is TCP, out of the bodies of connections and groups.
+pub fn is_tcp(connections: &[u8], groups: &[u8], c: usize) -> bool
+    ensures { λ r. ⌜ r ≡ tcpIn 2 (now (groups .entry)) 16 (now (connections .entry)) c ⌝ }
+{
+    be8(row_in(groups, 2, be8(row_in(connections, 16, c), 0)), 0) == 2
+}
+
+// Transfer mark (65,536) and longest payload are one number as well. The protocol is asked for only where there is a mark.
+pub fn route_good(row: &[u8], connections: &[u8], groups: &[u8]) -> bool
+    ensures { λ r. ⌜ r ≡ routeGood (length (now (connections .entry)) / 16) (tcpIn 2 (now (groups .entry)) 16 (now (connections .entry))) (now (row .entry)) ⌝ }
 {
     let head = be32(row, 0);
-    (head / 16777216 < connections) & (head % 16777216 <= 1464) & (be32(row, 8) % 65536 == 0)
+    let connection = head / 16777216;
+    let low = head % 16777216;
+    let good = (connection < connections.len() / 16) & (be32(row, 8) % 65536 == 0);
+    if low <= 1464 {
+        return good;
+    }
+    good & (65536 <= low) & (low <= 67000) & is_tcp(connections, groups, connection)
 }
 
 // The send size of connection c, out of the body of connections.
@@ -259,7 +275,7 @@ pub fn size_in(connections: &[u8], c: usize) -> usize
     be16(row_in(connections, 16, c), 8)
 }
 
-// The same, with the trigger (65,536) in the place of the zero byte.
+// The same, with the trigger in the place of the transfer mark.
 pub fn destination_good(row: &[u8], connections: &[u8]) -> bool
     ensures { λ r. ⌜ r ≡ destinationGood (length (now (connections .entry)) / 16) (sizeIn 16 (now (connections .entry))) (now (row .entry)) ⌝ }
 {

@@ -7,7 +7,7 @@ use Rattle.lists.specs.Search.{every, firstBad}
 use Rattle.table_layout.specs.Layout.{rowIn}
 use Rattle.table_layout.specs.declared.Kind.{Kind}
 use Rattle.table_layout.specs.declared.Kind.the-variants.{Group, Connection, Route, Destination}
-use Rattle.table_rows.specs.Rules.{routeGood, destinationGood, sizeIn, routesShare, destinationsShare}
+use Rattle.table_rows.specs.Rules.{routeGood, destinationGood, sizeIn, tcpIn, routesShare, destinationsShare}
 use Rattle.table_scan.specs.declared.BadRows.{BadRows}
 
 -- two rows of a kind share what they may not; groups and connections share freely
@@ -25,20 +25,24 @@ clearIn shares n body i j = not (shares (rowIn n body j) (rowIn n body i))
 unfoldable pub goodIn : (List ℕ → Bool) → (List ℕ → List ℕ → Bool) → ℕ → List ℕ → ℕ → Bool
 goodIn good shares n body i = good (rowIn n body i) && every (clearIn shares n body i) i
 
+-- a route by itself, under the bodies of connections and groups
+abbrev pub routeRule : List ℕ → List ℕ → List ℕ → Bool
+routeRule connections groups = routeGood (length connections / 16) (tcpIn 2 groups 16 connections)
+
 -- a destination by itself, under a body of connections
 abbrev pub destinationRule : List ℕ → List ℕ → Bool
 destinationRule connections = destinationGood (length connections / 16) (sizeIn 16 connections)
 
--- the first bad route under so many connections, and the first bad destination under a body of connections
-abbrev pub badRoute : ℕ → List ℕ → ℕ
-badRoute connections body = firstBad (goodIn (routeGood connections) (share Route) 16 body) (length body / 16)
+-- the first bad route under the bodies of connections and groups, and the first bad destination under a body of connections
+abbrev pub badRoute : List ℕ → List ℕ → List ℕ → ℕ
+badRoute connections groups body = firstBad (goodIn (routeRule connections groups) (share Route) 16 body) (length body / 16)
 
 abbrev pub badDestination : List ℕ → List ℕ → ℕ
 badDestination connections body = firstBad (goodIn (destinationRule connections) (share Destination) 16 body) (length body / 16)
 
-abbrev pub badRows : List ℕ → List ℕ → List ℕ → BadRows
-badRows routes destinations connections =
+abbrev pub badRows : List ℕ → List ℕ → List ℕ → List ℕ → BadRows
+badRows routes destinations connections groups =
     record {
-      route = badRoute (length connections / 16) routes;
+      route = badRoute connections groups routes;
       destination = badDestination connections destinations;
     }

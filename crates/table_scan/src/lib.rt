@@ -4,8 +4,8 @@ ghost use mathlib.Core.Path.{_≡_};
 ghost use Prim.Native.Nat.{ℕ, _/_, _<_, _≤_};
 ghost use lib.ListN.{length};
 ghost use Rattle.lists.specs.Search.{firstBad, every};
-ghost use Rattle.table_rows.specs.Rules.{groupGood, connectionGood, routeGood};
-ghost use Rattle.table_scan.specs.Scan.{share, clearIn, goodIn, destinationRule, badRoute, badDestination, badRows};
+ghost use Rattle.table_rows.specs.Rules.{groupGood, connectionGood};
+ghost use Rattle.table_scan.specs.Scan.{share, clearIn, goodIn, routeRule, destinationRule, badRoute, badDestination, badRows};
 ghost use Rattle.table_scan.specs.Marks.{markOf, routeMark, destinationMark, Come, Struck};
 use table_layout::Kind;
 use table_rows::connection_good;
@@ -110,16 +110,22 @@ fn destination_mark(row: &[u8]) -> usize
 }
 
 // From row `from` on, the first route that is bad by itself or whose mark was met. `seen` holds 1 at each mark met.
-fn next_route(body: &[u8], connections: usize, seen: &mut [u8; 2048], from: usize) -> usize
-    requires { ⌜ Come (routeGood connections) (share Kind.Route) routeMark 1 (now body) (now seen) from ⌝ }
-    ensures { λ r. ⌜ (from ≤ r) × Struck (routeGood connections) (share Kind.Route) routeMark 1 (now (body .entry)) (now (seen .exit)) r ⌝ }
+fn next_route<'a>(
+    body: &'a [u8],
+    connections: &'a [u8],
+    groups: &'a [u8],
+    seen: &mut [u8; 2048],
+    from: usize,
+) -> usize
+    requires { ⌜ Come (routeRule (now connections) (now groups)) (share Kind.Route) routeMark 1 (now body) (now seen) from ⌝ }
+    ensures { λ r. ⌜ (from ≤ r) × Struck (routeRule (now (connections .entry)) (now (groups .entry))) (share Kind.Route) routeMark 1 (now (body .entry)) (now (seen .exit)) r ⌝ }
 {
     let n = body.len() / 16;
     let mut i = from;
     while i < n {
         let at = i * 16;
         let row = &body[at..at + 16];
-        if !route_good(row, connections) {
+        if !route_good(row, connections, groups) {
             return i;
         }
         let mark = route_mark(row);
@@ -133,21 +139,26 @@ fn next_route(body: &[u8], connections: usize, seen: &mut [u8; 2048], from: usiz
 }
 
 // The first bad route, or the row count where there is none.
-fn first_bad_route(body: &[u8], connections: usize, seen: &mut [u8; 2048]) -> usize
+fn first_bad_route<'a>(
+    body: &'a [u8],
+    connections: &'a [u8],
+    groups: &'a [u8],
+    seen: &mut [u8; 2048],
+) -> usize
     requires { ⌜ length (now seen) ≡ 2048 ⌝ }
-    ensures { λ r. ⌜ r ≡ badRoute connections (now (body .entry)) ⌝ }
+    ensures { λ r. ⌜ r ≡ badRoute (now (connections .entry)) (now (groups .entry)) (now (body .entry)) ⌝ }
     ensures { λ _. ⌜ length (now (seen .exit)) ≡ 2048 ⌝ }
 {
     let n = body.len() / 16;
     let mut i = 0;
     loop {
-        i = next_route(body, connections, seen, i);
+        i = next_route(body, connections, groups, seen, i);
         if n <= i {
             return i;
         }
         let at = i * 16;
         let row = &body[at..at + 16];
-        if !route_good(row, connections) {
+        if !route_good(row, connections, groups) {
             return i;
         }
         if !fresh(body, Kind::Route, i) {
@@ -213,11 +224,12 @@ pub fn first_bad_rows<'a>(
     routes: &'a [u8],
     destinations: &'a [u8],
     connections: &'a [u8],
+    groups: &'a [u8],
 ) -> BadRows
-    ensures { λ r. ⌜ r ≡ badRows (now (routes .entry)) (now (destinations .entry)) (now (connections .entry)) ⌝ }
+    ensures { λ r. ⌜ r ≡ badRows (now (routes .entry)) (now (destinations .entry)) (now (connections .entry)) (now (groups .entry)) ⌝ }
 {
     let mut seen = [0u8; 2048];
-    let route = first_bad_route(routes, connections.len() / 16, &mut seen);
+    let route = first_bad_route(routes, connections, groups, &mut seen);
     let destination = first_bad_destination(destinations, connections, &mut seen);
     BadRows {
         route: route,

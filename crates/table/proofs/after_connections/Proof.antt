@@ -13,6 +13,9 @@ body-of-requires-2 c κs = search needs
 body-of-requires-3 : tie.Need-body-of-requires-3
 body-of-requires-3 c κs = search needs
 
+body-of-requires-4 : tie.Need-body-of-requires-4
+body-of-requires-4 c κs = search needs
+
 first-bad-rows-requires : tie.Need-first-bad-rows-requires
 first-bad-rows-requires c κs = search needs
 
@@ -29,8 +32,9 @@ returns : tie.Need-returns
 returns c =
     let p = c .before in
     let x = p .before .before in
-    let b = x .before .before .before .before .before in
-    last-places (b .args .image .now) (b .pre) _ _ _ _ _ _ _ (x .before .before .before .body-of .ensures .0) (x .before .before .body-of2 .ensures .0) (x .before .body-of3 .ensures .0)
+    let b = x .before .before .before .before .before .before in
+    last-places (b .args .image .now) (b .pre) _ _ _ _ _ _ _ _ (x .before .before .before .before .body-of .ensures .0) (x .before .before .before .body-of2 .ensures .0)
+    (x .before .before .body-of3 .ensures .0) (x .before .body-of4 .ensures .0)
     (x .first-bad-rows .ensures) (p .before .place-of .ensures) (p .place-of2 .ensures) (c .first-refusal .ensures)
 
 pub after-connections-spec : {M : Type 1} → statement M
@@ -40,6 +44,7 @@ after-connections-spec =
     body-of-requires
     body-of-requires-2
     body-of-requires-3
+    body-of-requires-4
     first-bad-rows-requires
     place-of-requires
     place-of-requires-2

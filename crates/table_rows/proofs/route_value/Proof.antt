@@ -7,6 +7,9 @@ use Rattle.table_rows.proofs.route_value.Tie as tie
 one-byte-requires : tie.Need-one-byte-requires
 one-byte-requires c κs = search needs
 
+be8-requires : tie.Need-be8-requires
+be8-requires c κs = search needs
+
 two-bytes-requires : tie.Need-two-bytes-requires
 two-bytes-requires c κs = search needs
 
@@ -28,6 +31,7 @@ route-value-spec =
     tie.close
     (tie.spec
     one-byte-requires
+    be8-requires
     two-bytes-requires
     four-bytes-requires
     two-bytes-requires-2

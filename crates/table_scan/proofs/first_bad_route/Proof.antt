@@ -2,8 +2,7 @@
 -- of the rows passed are noted.
 use Rattle.table_scan.proofs.Marks.{come-start, found-bad, found-shared, found-none, come-past}
 use Rattle.table_scan.specs.Marks.{routeMark, Come}
-use Rattle.table_rows.specs.Rules.{routeGood}
-use Rattle.table_scan.specs.Scan.{share}
+use Rattle.table_scan.specs.Scan.{share, routeRule}
 use Rattle.table_layout.proofs.Parts.{row-in, row-range}
 use Rattle.table_layout.specs.declared.Kind.the-variants.{Route}
 use lib.ListN.{length}
@@ -15,13 +14,13 @@ use Rattle.table_scan.proofs.first_bad_route.Statement.{statement}
 use Rattle.table_scan.proofs.first_bad_route.Tie as tie
 
 abbrev Inv-loop : tie.InvT-loop
-Inv-loop body connections seen₀ n i₀ seen i = Come (routeGood connections) (share Route) routeMark 1 body seen i
+Inv-loop body connections groups seen₀ n i₀ seen i = Come (routeRule connections groups) (share Route) routeMark 1 body seen i
 
 abbrev μ-loop : tie.MeasureT-loop
-μ-loop body connections seen₀ n i₀ seen i = length body / 16 - i
+μ-loop body connections groups seen₀ n i₀ seen i = length body / 16 - i
 
 loop-holds : tie.Need-loop-holds Inv-loop μ-loop
-loop-holds c = come-start _ _ _ _ _ _ (c .before .pre)
+loop-holds c = come-start _ _ _ _ _ _ (c .before .before .before .pre)
 
 next-route-requires : tie.Need-next-route-requires Inv-loop μ-loop
 next-route-requires c κs = search needs
@@ -42,7 +41,7 @@ part-row-start : tie.Need-part-row-start Inv-loop μ-loop
 part-row-start c = omega arith
 
 part-row-end : tie.Need-part-row-end Inv-loop μ-loop
-part-row-end c = omega (arith, row-in 16 (c .before .before .before .before .before .args .body .now) (c .before .next-route .result) (c .if1 .left))
+part-row-end c = omega (arith, row-in 16 (c .before .before .before .before .before .before .before .args .body .now) (c .before .next-route .result) (c .if1 .left))
 
 route-good-requires : tie.Need-route-good-requires Inv-loop μ-loop
 route-good-requires c κs = search needs
@@ -50,7 +49,7 @@ route-good-requires c κs = search needs
 returns-2 : tie.Need-returns-2 Inv-loop μ-loop
 returns-2 c =
     let t = c .before .before .before in
-    let s = t .before .before .before .before .before .args .body .now in
+    let s = t .before .before .before .before .before .before .before .args .body .now in
     let k = t .before .next-route in
     (found-bad _ _ _ _ s _ _ _ (row-range 16 s (k .result) (t .if1 .left)) (k .ensures .1) (t .if1 .left) (c .before .route-good .ensures) (not-true _ (c .if2 .taken)), k .ensures .1 .come .size)
 
@@ -60,7 +59,7 @@ fresh-requires c κs = search needs
 returns-3 : tie.Need-returns-3 Inv-loop μ-loop
 returns-3 c =
     let t = c .before .before .before .before .before in
-    let s = t .before .before .before .before .before .args .body .now in
+    let s = t .before .before .before .before .before .before .before .args .body .now in
     let k = t .before .next-route in
     (found-shared _ _ _ _ s _ _ _ (row-range 16 s (k .result) (t .if1 .left)) (k .ensures .1) (t .if1 .left) (c .before .fresh .ensures) (not-true _ (c .if3 .taken)), k .ensures .1 .come .size)
 
@@ -75,7 +74,7 @@ loop-less c =
 loop-again : tie.Need-loop-again Inv-loop μ-loop
 loop-again c =
     let t = c .before .before .before .before .before in
-    let s = t .before .before .before .before .before .args .body .now in
+    let s = t .before .before .before .before .before .before .before .args .body .now in
     let k = t .before .next-route in
     come-past _ _ _ _ s _ _ _ (row-range 16 s (k .result) (t .if1 .left)) (k .ensures .1) (t .if1 .left) (c .before .before .before .route-good .ensures) (not-false _ (c .before .before .if2 .left)) (c .before .fresh .ensures) (not-false _ (c .if3 .left))
 

@@ -2,8 +2,7 @@
 -- of the rows passed are noted.
 use Rattle.table_scan.proofs.Marks.{struck-bad, struck-met, struck-end, come-on, routes-marked}
 use Rattle.table_scan.specs.Marks.{routeMark, Come}
-use Rattle.table_rows.specs.Rules.{routeGood}
-use Rattle.table_scan.specs.Scan.{share}
+use Rattle.table_scan.specs.Scan.{share, routeRule}
 use Rattle.table_layout.proofs.Parts.{row-in, row-range}
 use Rattle.table_layout.specs.declared.Kind.the-variants.{Route}
 use lib.ListN.{length}
@@ -15,13 +14,13 @@ use Rattle.table_scan.proofs.next_route.Statement.{statement}
 use Rattle.table_scan.proofs.next_route.Tie as tie
 
 abbrev Inv-loop : tie.InvT-loop
-Inv-loop body connections seen₀ from n i₀ seen i = (from ≤ i) × Come (routeGood connections) (share Route) routeMark 1 body seen i
+Inv-loop body connections groups seen₀ from n i₀ seen i = (from ≤ i) × Come (routeRule connections groups) (share Route) routeMark 1 body seen i
 
 abbrev μ-loop : tie.MeasureT-loop
-μ-loop body connections seen₀ from n i₀ seen i = length body / 16 - i
+μ-loop body connections groups seen₀ from n i₀ seen i = length body / 16 - i
 
 loop-holds : tie.Need-loop-holds Inv-loop μ-loop
-loop-holds c = (search needs, c .before .pre)
+loop-holds c = (search needs, c .before .before .before .pre)
 
 mul-at : tie.Need-mul-at Inv-loop μ-loop
 mul-at c = omega arith
@@ -36,7 +35,7 @@ part-row-start : tie.Need-part-row-start Inv-loop μ-loop
 part-row-start c = omega arith
 
 part-row-end : tie.Need-part-row-end Inv-loop μ-loop
-part-row-end c = omega (arith, row-in 16 (c .before .before .before .args .body .now) (c .before .loop .i) (c .loop-test .taken))
+part-row-end c = omega (arith, row-in 16 (c .before .before .before .before .before .args .body .now) (c .before .loop .i) (c .loop-test .taken))
 
 route-good-requires : tie.Need-route-good-requires Inv-loop μ-loop
 route-good-requires c κs = search needs
@@ -44,7 +43,7 @@ route-good-requires c κs = search needs
 returns : tie.Need-returns Inv-loop μ-loop
 returns c =
     let l = c .before .before .before in
-    let s = l .before .before .before .args .body .now in
+    let s = l .before .before .before .before .before .args .body .now in
     let i = l .before .loop .i in
     (l .before .loop .inv .0, struck-bad _ _ _ _ s _ i _ (row-range 16 s i (l .loop-test .taken)) (l .before .loop .inv .1) (c .before .route-good .ensures) (not-true _ (c .if1 .taken)))
 
@@ -58,7 +57,7 @@ returns-2 : tie.Need-returns-2 Inv-loop μ-loop
 returns-2 c =
     let m = c .before .before in
     let l = m .before .before .before .before in
-    let s = l .before .before .before .args .body .now in
+    let s = l .before .before .before .before .before .args .body .now in
     let i = l .before .loop .i in
     (l .before .loop .inv .0, struck-met _ _ _ _ s _ i _ (row-range 16 s i (l .loop-test .taken)) _ (m .route-mark .ensures .0) (l .before .loop .inv .1) (c .if2 .taken))
 
@@ -75,7 +74,7 @@ loop-again : tie.Need-loop-again Inv-loop μ-loop
 loop-again c =
     let m = c .before .before in
     let l = m .before .before .before .before in
-    let s = l .before .before .before .args .body .now in
+    let s = l .before .before .before .before .before .args .body .now in
     let i = l .before .loop .i in (
       search needs,
       come-on _ _ _ _ s _ i _ (row-range 16 s i (l .loop-test .taken)) _ (m .route-mark .ensures .0) routes-marked (l .before .loop .inv .1) (l .loop-test .taken) (m .before .before .route-good .ensures) (not-false _ (m .before .if1 .left)) (m .route-mark .ensures .1) (c .if2 .left),
