@@ -1,9 +1,9 @@
--- THE ROUND TRIP over a stream: what is framed, and read by a ready reader whose routes accept it, comes back: the same PDUs in
--- the same order, however the stream is cut; no drop; and the reader is ready again.
+-- THE ROUND TRIP over a stream: what is framed, and read by a ready reader whose routes accept it or hand it out in pieces, comes back:
+-- the same PDUs and transfers in the same order, however the stream is cut; no drop; and the reader is ready again.
 use Prim.Native.Nat.{ℕ, zero, suc, _+_, _*_, _/_, _%_, _^_, _<_}
 use mathlib.Core.Path.{_≡_, refl, sym, ap, ap₂, _∙_}
-use mathlib.Core.Bool.{true}
-use mathlib.Core.List.{List, [], _∷_, _++_, append-assoc, flatten}
+use mathlib.Core.Bool.{true, false}
+use mathlib.Core.List.{List, [], _∷_, _++_, append-assoc, map, flatten}
 use native.Mathlib.Omega.{arith}
 use native.Mathlib.Nat.{div-add-mod', add-mul, mul-assoc, add-assoc, pow-suc, div-lt-iff-lt-mul}
 use lib.ListN.{length, length-append}
@@ -12,12 +12,13 @@ use Rattle.wire.specs.Lay.{spell}
 use Rattle.wire.proofs.Spell.{length-spell}
 use Rattle.reading.specs.declared.Decision.{Decision}
 use Rattle.reading.specs.declared.Decision.the-variants.{Accept, Transfer}
-use Rattle.reading.specs.Feed.{Routes, header, transfer, pdu, start, piece, Fed, ready, decided, pieceDone, spelt, after, outs, Took, took, takeB, resume, Ran, segments, singles, single, Handed, complete, began, finished, pushAll, marked, compared, middleOf}
+use Rattle.reading.specs.Feed.{Routes, header, transfer, Out, nothing, pdu, dropped, start, piece, Fed, ready, decided, pieceDone, spelt, after, outs, Took, took, takeB, resume, ran}
+use Rattle.reading.specs.Feed.{emit, segments, singles, single, fine, finely, Handed, began, finished, compared, middleOf, Pdu, asOut, pdus}
 use Rattle.frame.specs.Frame.{frame, Sent, frames}
-use Rattle.reading.specs.Routed.{Carried, nil, plain, moved}
+use Rattle.reading.specs.Routed.{Routed, routed-none, routed-one, asTransfer, Carried, carried-none, carried-pdu, carried-transfer}
 use Rattle.reading.proofs.Laws.{header-whole, done-header, body-whole, spelt-append, moveCell, empty, started, piece-whole}
 use Rattle.reading.proofs.Cut.{take-after, take-outs, last-after, last-outs, segments-feed}
-use Rattle.reading.proofs.Compared.{compared-singles, compared-fine, push-body}
+use Rattle.reading.proofs.Compared.{push-body}
 
 -- spelt and read back, at any width and after any number
 pub spelt-spell : (w v n : ℕ) → n < 256 ^ w → spelt v (spell w n) ≡ v * 256 ^ w + n
@@ -83,51 +84,128 @@ moved-after R r [] more = refl
 moved-after R r (b ∷ p) more =
     last-after R (length p) r ((b ∷ p) ++ more) (omega (arith, length-append (b ∷ p) more)) ∙ ap (after R ready) (drop-append-seam (b ∷ p) more)
 
-moved-body : (R : Routes) (r : ℕ) (p more : List ℕ) (hs : List Handed) → compared (outs R ready more) ≡ hs
-    → marked r (empty (length p)) (compared (outs R (moveCell (length p) r) (p ++ more))) ≡ middleOf r p (finished r ∷ hs)
-moved-body R r [] more hs e = ap (λ (l : List Handed). finished r ∷ l) e
-moved-body R r (b ∷ p) more hs e =
-    ap compared (last-outs R (length p) r b (p ++ more) (omega (arith, length-append p more)))
-    ∙ ap₂ (λ (x y : List ℕ). compared (singles r b x true (outs R ready y))) (take-append-seam p more) (drop-append-seam p more)
-    ∙ compared-singles r b p true (outs R ready more)
-    ∙ ap (λ (l : List Handed). pushAll r (b ∷ p) (finished r ∷ l)) e
-    ∙ push-body r (b ∷ p) (finished r ∷ hs) refl
+moved-outs : (R : Routes) (r i : ℕ) (p more : List ℕ) (os : List Out) → outs R ready more ≡ fine os
+    → start r i (length p) (empty (length p)) ∷ outs R (moveCell (length p) r) (p ++ more) ≡ fine (asTransfer r i p os)
+unfolding fine
+moved-outs R r i [] more os e = ap (λ (l : List Out). start r i 0 true ∷ l) e
+moved-outs R r i (b ∷ p) more os e =
+    ap (λ (l : List Out). start r i (length (b ∷ p)) false ∷ l)
+    (last-outs R (length p) r b (p ++ more) (omega (arith, length-append p more))
+    ∙ ap₂ (λ (x y : List ℕ). singles r b x true (outs R ready y)) (take-append-seam p more) (drop-append-seam p more)
+    ∙ ap (singles r b p true) e)
 
 -- the stream behind a frame
-behind-outs : (R : Routes) (bs : List ℕ) (t : Took) → takeB R ready bs ≡ t → compared (outs R ready bs) ≡ compared (single (t .out) (outs R (t .to) (t .rest)))
-behind-outs R bs t e = ap compared (take-outs R ready bs) ∙ ap (λ (u : Took). compared (single (u .out) (outs R (u .to) (u .rest)))) e
+behind-outs : (R : Routes) (bs : List ℕ) (t : Took) → takeB R ready bs ≡ t → outs R ready bs ≡ single (t .out) (outs R (t .to) (t .rest))
+behind-outs R bs t e = take-outs R ready bs ∙ ap (λ (u : Took). single (u .out) (outs R (u .to) (u .rest))) e
 
 behind-after : (R : Routes) (bs : List ℕ) (t : Took) → takeB R ready bs ≡ t → after R ready bs ≡ after R (t .to) (t .rest)
 behind-after R bs t e = take-after R ready bs ∙ ap (λ (u : Took). after R (u .to) (u .rest)) e
 
-trip-outs : (R : Routes) {ss : List Sent} {hs : List Handed} → Carried R ss hs → compared (outs R ready (frames ss)) ≡ hs
-unfolding frames outs compared
-trip-outs R nil = refl
-trip-outs R (plain {s} {r} {ss} {hs} fits ac h) =
+trip-outs : (R : Routes) {ss : List Sent} {os : List Out} → Carried R ss os → outs R ready (frames ss) ≡ fine os
+unfolding frames outs fine
+trip-outs R carried-none = refl
+trip-outs R (carried-pdu {s} {r} {ss} {os} fits ac h) =
     behind-outs R (frame (s .id) (s .body) ++ frames ss) _ (take-frame R (s .id) r (s .body) (frames ss) (fits .id-fits) (fits .length-fits) ac)
-    ∙ ap (λ (l : List Handed). complete r (s .body) ∷ l) (trip-outs R h)
-trip-outs R (moved {s} {r} {ss} {hs} fits ac h) =
+    ∙ ap (λ (l : List Out). pdu r (s .body) ∷ l) (trip-outs R h)
+trip-outs R (carried-transfer {s} {r} {ss} {os} fits ac h) =
     behind-outs R (frame (s .id) (s .body) ++ frames ss) _ (take-start R (s .id) r (s .body) (frames ss) (fits .id-fits) (fits .length-fits) ac)
-    ∙ ap (λ (l : List Handed). began r (s .id) (length (s .body)) ∷ l) (moved-body R r (s .body) (frames ss) hs (trip-outs R h))
+    ∙ moved-outs R r (s .id) (s .body) (frames ss) os (trip-outs R h)
 
-trip-after : (R : Routes) {ss : List Sent} {hs : List Handed} → Carried R ss hs → after R ready (frames ss) ≡ ready
+trip-after : (R : Routes) {ss : List Sent} {os : List Out} → Carried R ss os → after R ready (frames ss) ≡ ready
 unfolding frames after
-trip-after R nil = refl
-trip-after R (plain {s} {r} {ss} {hs} fits ac h) =
+trip-after R carried-none = refl
+trip-after R (carried-pdu {s} {r} {ss} {os} fits ac h) =
     behind-after R (frame (s .id) (s .body) ++ frames ss) _ (take-frame R (s .id) r (s .body) (frames ss) (fits .id-fits) (fits .length-fits) ac)
     ∙ trip-after R h
-trip-after R (moved {s} {r} {ss} {hs} fits ac h) =
+trip-after R (carried-transfer {s} {r} {ss} {os} fits ac h) =
     behind-after R (frame (s .id) (s .body) ++ frames ss) _ (take-start R (s .id) r (s .body) (frames ss) (fits .id-fits) (fits .length-fits) ac)
     ∙ moved-after R r (s .body) (frames ss)
     ∙ trip-after R h
 
--- ANY NUMBER OF FRAMES, in segments cut in any way: the reader is ready again, and has handed out what was sent
-pub trip-to : (R : Routes) {ss : List Sent} {hs : List Handed} (pieces : List (List ℕ)) → Carried R ss hs → flatten pieces ≡ frames ss → segments R ready pieces .to ≡ ready
-trip-to R pieces h e = ap (λ (q : Ran). q .to) (segments-feed R ready pieces) ∙ ap (after R ready) e ∙ trip-after R h
-
-pub round-trip : (R : Routes) {ss : List Sent} {hs : List Handed} (pieces : List (List ℕ)) → Carried R ss hs → flatten pieces ≡ frames ss → compared (segments R ready pieces .list) ≡ hs
+-- ANY NUMBER OF FRAMES, in segments cut in any way: the reader is ready again, and byte by byte has given just these outcomes
+pub round-trip : (R : Routes) {ss : List Sent} {os : List Out} (pieces : List (List ℕ)) → Carried R ss os → flatten pieces ≡ frames ss
+    → finely (segments R ready pieces) ≡ finely (ran ready os)
 round-trip R pieces h e =
-    sym (compared-fine (segments R ready pieces .list))
-    ∙ ap (λ (q : Ran). compared (q .list)) (segments-feed R ready pieces)
-    ∙ ap (λ (bs : List ℕ). compared (outs R ready bs)) e
-    ∙ trip-outs R h
+    segments-feed R ready pieces
+    ∙ ap (λ (bs : List ℕ). ran (after R ready bs) (outs R ready bs)) e
+    ∙ ap₂ ran (trip-after R h) (trip-outs R h)
+
+-- A WHOLE TRANSFER, as it is compared: its start, all its bytes, its end
+pub whole-compared : (r i : ℕ) (p : List ℕ) (os : List Out)
+    → compared (asTransfer r i p os) ≡ began r i (length p) ∷ middleOf r p (finished r ∷ compared os)
+unfolding compared
+whole-compared r i [] os = refl
+whole-compared r i (b ∷ p) os = ap (λ (l : List Handed). began r i (length (b ∷ p)) ∷ l) (push-body r (b ∷ p) (finished r ∷ compared os) refl)
+
+-- NO MARKED ROUTE: PDUs alone, and they are fine as they are
+pub carried-pdus : (R : Routes) {ss : List Sent} {ps : List Pdu} → Routed R ss ps → Carried R ss (map asOut ps)
+carried-pdus R routed-none = carried-none
+carried-pdus R (routed-one fits ac h) = carried-pdu fits ac (carried-pdus R h)
+
+pub fine-pdus : (ps : List Pdu) → fine (map asOut ps) ≡ map asOut ps
+unfolding fine
+fine-pdus [] = refl
+fine-pdus (p ∷ ps) = ap (λ (l : List Out). asOut p ∷ l) (fine-pdus ps)
+
+-- .. and a list of outcomes, none of them `nothing`, that is these PDUs byte by byte is these PDUs
+abbrev pub Solid : List Out → Type 0
+Solid [] = Unit {0}
+Solid (nothing ∷ os) = ⊥
+Solid (pdu r p ∷ os) = Solid os
+Solid (dropped k i n ∷ os) = Solid os
+Solid (start r i n m ∷ os) = Solid os
+Solid (piece r p m ∷ os) = Solid os
+
+pub solid-emit : (o : Out) (os : List Out) → Solid os → Solid (emit o os)
+solid-emit nothing os h = h
+solid-emit (pdu r p) os h = h
+solid-emit (dropped k i n) os h = h
+solid-emit (start r i n m) os h = h
+solid-emit (piece r p m) os h = h
+
+pub solid-append : (xs ys : List Out) → Solid xs → Solid ys → Solid (xs ++ ys)
+solid-append [] ys h g = g
+solid-append (nothing ∷ xs) ys h g = absurd h
+solid-append (pdu r p ∷ xs) ys h g = solid-append xs ys h g
+solid-append (dropped k i n ∷ xs) ys h g = solid-append xs ys h g
+solid-append (start r i n m ∷ xs) ys h g = solid-append xs ys h g
+solid-append (piece r p m ∷ xs) ys h g = solid-append xs ys h g
+
+-- 1 for a PDU, and the outcome in front
+abbrev one-pdu : Out → ℕ
+one-pdu nothing = 0
+one-pdu (pdu r p) = 1
+one-pdu (dropped k i n) = 0
+one-pdu (start r i n m) = 0
+one-pdu (piece r p m) = 0
+
+abbrev front : List Out → Out
+front [] = nothing
+front (o ∷ os) = o
+
+abbrev later : List Out → List Out
+later [] = []
+later (o ∷ os) = os
+
+-- an outcome that is no PDU is not in front of them
+other : (o : Out) (os : List Out) (ps : List Pdu) → one-pdu o ≡ 0 → o ∷ os ≡ map asOut ps → ⊥
+other o os [] n e = let z : _≡_ {A = ℕ} (suc (length os)) 0 = ap length e in absurd (omega (arith, z))
+other o os (p ∷ ps) n e = let z : one-pdu o ≡ 1 = ap (λ (l : List Out). one-pdu (front l)) e in absurd (omega (arith, z, n))
+
+pub pdus-alone : (os : List Out) (ps : List Pdu) → Solid os → fine os ≡ map asOut ps → os ≡ map asOut ps
+unfolding fine
+pdus-alone [] ps h e = e
+pdus-alone (nothing ∷ os) ps h e = absurd h
+pdus-alone (pdu r p ∷ os) [] h e = let z : _≡_ {A = ℕ} (suc (length (fine os))) 0 = ap length e in absurd (omega (arith, z))
+pdus-alone (pdu r p ∷ os) (q ∷ ps) h e = ap₂ (λ (o : Out) (l : List Out). o ∷ l) (ap front e) (pdus-alone os ps h (ap later e))
+pdus-alone (dropped k i n ∷ os) ps h e = absurd (other (dropped k i n) (fine os) ps refl e)
+pdus-alone (start r i n m ∷ os) ps h e = absurd (other (start r i n m) (fine os) ps refl e)
+pdus-alone (piece r [] m ∷ os) ps h e = absurd (other (piece r [] m) (fine os) ps refl e)
+pdus-alone (piece r (b ∷ []) m ∷ os) ps h e = absurd (other (piece r (b ∷ []) m) (fine os) ps refl e)
+pdus-alone (piece r (b ∷ c ∷ cs) m ∷ os) ps h e = absurd (other (piece r (b ∷ []) false) (singles r c cs m (fine os)) ps refl e)
+
+-- the PDUs of outcomes that are PDUs
+pub pdus-back : (ps : List Pdu) → pdus (map asOut ps) ≡ ps
+unfolding pdus
+pdus-back [] = refl
+pdus-back (p ∷ ps) = ap (λ (l : List Pdu). p ∷ l) (pdus-back ps)
