@@ -7,7 +7,7 @@ use lib.Dec.{eqb, leb, ltb}
 use Rattle.connection.specs.declared.Config.{Config}
 use Rattle.connection.specs.Event.{receiving, stepOf}
 use Rattle.state.specs.State.{counted}
-use Rattle.reading.specs.Feed.{Routes, Out, Ran, segmentRan as segmentOf, Pdu, pdus, drops}
+use Rattle.reading.specs.Feed.{Routes, Out, Ran, segmentRan as segmentOf, finely, drops}
 use Rattle.reading_walk.specs.Walk.{walkAt, outsTold}
 use Rattle.send_waiting.specs.Waiting.{takeOf}
 use Rattle.model.specs.World.{Held, World, heldAt, cellAt, withCell, follow}
@@ -29,11 +29,7 @@ abbrev pub countAfterIf : Bool → ℕ → ℕ → ℕ
 countAfterIf true drops n = countAfter drops n
 countAfterIf false drops n = n
 
--- WHAT DEMAND 3 COMPARES of the outcomes that a connection has given in a run: for now its PDUs
-abbrev pub compared : List Out → List Pdu
-compared os = pdus os
-
--- what an event makes of its connection, and the outcomes that it gives
+-- what an event makes of its connection, and the outcomes that it gives, a transfer's byte by byte (R19.9)
 pub record Acted : Type 0 where
   pub to : Held
   pub list : List Out
@@ -53,7 +49,7 @@ module _ (T : Table) where
   -- an event of connection k on its record; a refusal changes nothing and gives nothing
   unfoldable pub does : ℕ → Own → Held → Acted
   does k (change e) h = acted (follow (stepOf e (T .config k) (h .connection) .connection) h) []
-  does k (segment bytes) h = cond (T .config k .tcp && receiving (h .connection)) (streamed h (segmentOf (routesAt k h) (cellAt h) bytes)) (acted h [])
+  does k (segment bytes) h = cond (T .config k .tcp && receiving (h .connection)) (streamed h (finely (segmentOf (routesAt k h) (cellAt h) bytes))) (acted h [])
   does k (walk datagram place) h =
       cond (not (T .config k .tcp) && leb place (length datagram) && receiving (h .connection))
       (acted h (outsTold datagram (walkAt (routesAt k h) datagram place .found) []))

@@ -4,7 +4,7 @@ use Prim.Native.Nat.{ℕ, suc}
 use mathlib.Core.List.{List, [], _∷_, map}
 use lib.ListN.{getD, take}
 use Rattle.receive_part.specs.declared.Part.{Part}
-use Rattle.receive_part.specs.declared.Part.the-variants.{Header, Payload, Skip}
+use Rattle.receive_part.specs.declared.Part.the-variants.{Header, Payload, Skip, Transfer}
 use Rattle.connection.specs.declared.Connection.{Connection}
 use Rattle.connection.specs.Connection.{zeroRecord, withPart}
 use Rattle.state.specs.declared.State.{State}
@@ -31,11 +31,12 @@ blank = record { connection = zeroRecord; received = []; waiting = [] }
 abbrev pub heldAt : World → ℕ → Held
 heldAt w k = getD (w .held) k blank
 
--- how many bytes of receive memory a part holds (header bytes are kept in the record)
+-- how many bytes of receive memory a part holds (header bytes are kept in the record; a transfer holds none)
 abbrev pub heldBy : Part → ℕ
 heldBy (Header held value) = 0
 heldBy (Payload route length held) = held
 heldBy (Skip bytes) = 0
+heldBy (Transfer route left) = 0
 
 -- R2.7: connection k with the bytes it holds in the two lent memories
 abbrev pub heldOf : List ℕ → List ℕ → ℕ → Connection → Held

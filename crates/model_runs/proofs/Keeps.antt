@@ -10,7 +10,7 @@ use lib.Dec.{ltb}
 use native.Mathlib.Nat.{le-refl}
 use Rattle.lists.proofs.Each.{one-at}
 use Rattle.receive_part.specs.declared.Part.{Part}
-use Rattle.receive_part.specs.declared.Part.the-variants.{Header, Payload, Skip}
+use Rattle.receive_part.specs.declared.Part.the-variants.{Header, Payload, Skip, Transfer}
 use Rattle.connection.specs.declared.Connection.{Connection}
 use Rattle.connection.specs.declared.Config.{Config}
 use Rattle.receive_part.specs.Part.{readyPart}
@@ -37,6 +37,7 @@ pub cell-follow : (p : Part) (l : List ℕ) → cellOf p (front (heldBy p) l) �
 cell-follow (Header held value) l = refl
 cell-follow (Payload route n held) l = ap (λ (q : List ℕ). cell (n - held) (payload route q)) (take-take held held l (le-refl held))
 cell-follow (Skip bytes) l = refl
+cell-follow (Transfer route left) l = refl
 
 pub follows : (c : Connection) (h : Held) → c .part ≡ h .connection .part → cellAt (follow c h) ≡ cellAt h
 follows c h e = cell-follow (c .part) (h .received) ∙ ap (λ (p : Part). cellOf p (h .received)) e

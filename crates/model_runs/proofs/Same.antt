@@ -10,7 +10,7 @@ use lib.Dec.{eqb, ltb}
 use native.Mathlib.Decide.{decLt}
 use native.Mathlib.Omega.{arith}
 use borrow.Author.Tests.{eqb-true}
-use Rattle.reading.specs.Feed.{Routes, Cell, segmentRan as segmentOf, drops, Out}
+use Rattle.reading.specs.Feed.{Routes, Cell, segmentRan as segmentOf, drops, Out, finely}
 use Rattle.reading.proofs.Cut.{cut as cut-segment, drops-append}
 use Rattle.model.specs.World.{Held, World, blank, cellAt, withCell}
 use Rattle.model.specs.Events.{Own, segment, Whole, Event, on}
@@ -54,15 +54,15 @@ module _ (T : Table) where
 
   -- a segment that is read, in two pieces: the first leaves mode, wishes and switches
   streamed-cut : (R : Routes) (h : Held) (x y : List ℕ)
-      → streamed h (segmentOf R (cellAt h) (x ++ y))
-      ≡ following (streamed h (segmentOf R (cellAt h) x)) (streamed (withCell (segmentOf R (cellAt h) x .to) h) (segmentOf R (cellAt (withCell (segmentOf R (cellAt h) x .to) h)) y))
+      → streamed h (finely (segmentOf R (cellAt h) (x ++ y)))
+      ≡ following (streamed h (finely (segmentOf R (cellAt h) x))) (streamed (withCell (segmentOf R (cellAt h) x .to) h) (finely (segmentOf R (cellAt (withCell (segmentOf R (cellAt h) x .to) h)) y)))
   streamed-cut R h x y =
       ap (streamed h) (cut-segment R (cellAt h) x y)
-      ∙ ap (λ (c : Cell). following (streamed h (segmentOf R (cellAt h) x)) (streamed h (segmentOf R c y)))
+      ∙ ap (λ (c : Cell). following (streamed h (finely (segmentOf R (cellAt h) x))) (streamed h (finely (segmentOf R c y))))
       (sym (cell-back (segmentOf R (cellAt h) x .to) (snug-segment R (cellAt h) x (snug-in (h .connection .part) (h .received)))))
 
   -- .. and one that is refused: so are both pieces
-  pub does-read : (k : ℕ) (h : Held) (x : List ℕ) → (T .config k .tcp && receiving (h .connection)) ≡ true → does T k (segment x) h ≡ streamed h (segmentOf (routesAt T k h) (cellAt h) x)
+  pub does-read : (k : ℕ) (h : Held) (x : List ℕ) → (T .config k .tcp && receiving (h .connection)) ≡ true → does T k (segment x) h ≡ streamed h (finely (segmentOf (routesAt T k h) (cellAt h) x))
   unfolding does
   does-read k h x e = rw e
 
@@ -73,7 +73,7 @@ module _ (T : Table) where
   does-cut : (k : ℕ) (h : Held) (x y : List ℕ) (r : Bool) → (T .config k .tcp && receiving (h .connection)) ≡ r
       → does T k (segment (x ++ y)) h ≡ following (does T k (segment x) h) (does T k (segment y) (does T k (segment x) h .to))
   does-cut k h x y true e =
-      let first : Acted = streamed h (segmentOf (routesAt T k h) (cellAt h) x) in
+      let first : Acted = streamed h (finely (segmentOf (routesAt T k h) (cellAt h) x)) in
       does-read k h (x ++ y) e
       ∙ streamed-cut (routesAt T k h) h x y
       ∙ ap (following first) (sym (does-read k (first .to) y e))
@@ -169,7 +169,7 @@ module _ (T : Table) (whole : Whole → World → World) where
   same-end w (later e h) = same-end (step T whole w e) h
   same-end w (both h g) = same-end w h ∙ same-end w g
 
-  -- THE SAME OUTCOMES, IN THE SAME ORDER: the PDUs and the drops
+  -- THE SAME OUTCOMES, IN THE SAME ORDER: the PDUs, the drops, and the transfers byte by byte
   pub same-heard : (k : ℕ) (w : World) {es fs : List Event} → Same es fs → heard T whole k w es ≡ heard T whole k w fs
   unfolding heard
   same-heard k w (swap i j a b es ne) = swap-heard k w i j a b es ne

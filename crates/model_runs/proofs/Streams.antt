@@ -12,17 +12,17 @@ use native.Mathlib.Omega.{arith}
 use borrow.Author.Tests.{eq-eqb, ne-eqb}
 use Rattle.lists.proofs.Both.{and-left, and-right}
 use Rattle.connection.specs.Connection.{isOnline}
-use Rattle.reading.specs.Feed.{Routes, Cell, ready, Ran, ran, segmentRan as segmentOf, pdus, Out}
-use Rattle.reading.proofs.Cut.{pdus-append}
+use Rattle.reading.specs.Feed.{Routes, Cell, ready, Out, Ran, ran, segmentRan as segmentOf, finely, compared}
+use Rattle.reading.proofs.Compared.{free, compared-append, free-append}
 use Rattle.model.specs.World.{Held, World, blank, heldAt, cellAt}
 use Rattle.model.specs.Events.{Own, change, segment, walk, takeWaiting, Whole, Event, on, onWhole}
 use Rattle.connection.specs.Event.{receiving}
-use Rattle.model.specs.Step.{Table, Acted, acted, streamed, routesAt, acts, actsAt, step, hands, heard, compared}
+use Rattle.model.specs.Step.{Table, Acted, acted, streamed, routesAt, acts, actsAt, step, hands, heard}
 use Rattle.model.proofs.Cells.{snug-in, snug-segment, cell-back}
 use Rattle.reading_lengths.specs.Listed.{Marked, mark, bytesOf, readTo, readOut, Bytes}
 use Rattle.reading_lengths.proofs.Bytes.{bytes-append, bytes-mark}
 use Rattle.reading_lengths.proofs.Marks.{out-append, segment-reads}
-use Rattle.reading_lengths.proofs.Ready.{ready-list}
+use Rattle.reading_lengths.proofs.Ready.{ready-list, free-read}
 use Rattle.reading_lengths.proofs.Reading.{reading}
 use Rattle.model_runs.specs.Streams.{online, Streams, streams, longer, accepts, reads, ends, streamsOf, listedLater, listedIn, EventBytes, RunBytes, Quiet, Rests, Kept}
 use Rattle.model_runs.proofs.Keeps.{kept-same, Other, a-change, a-walk, a-take, kept-acts, acts-nothing, kept-set}
@@ -86,7 +86,7 @@ module _ (T : Table) (whole : Whole → World → World) (k : ℕ) (tcp : T .con
 
   -- a segment: refused, or read
   acts-read : (h : Held) (bs : List ℕ) → ltb k (T .rows) ≡ true → (T .config k .tcp && receiving (h .connection)) ≡ true
-      → acts T k (segment bs) h ≡ streamed h (segmentOf (routesAt T k h) (cellAt h) bs)
+      → acts T k (segment bs) h ≡ streamed h (finely (segmentOf (routesAt T k h) (cellAt h) bs))
   unfolding acts
   acts-read h bs t r = rw t (does-read T k h bs r)
 
@@ -107,9 +107,9 @@ module _ (T : Table) (whole : Whole → World → World) (k : ℕ) (tcp : T .con
       let u : (T .config k .tcp && receiving (h .connection)) ≡ true = and-right (ltb k (T .rows)) _ r in
       let on-line : isOnline (h .connection .mode) ≡ true = and-left (isOnline (h .connection .mode)) _ (and-right (T .config k .tcp) _ u) in
       let ms : List Marked = map (mark (sw w)) bs in
-      let f : segmentOf (routesAt T k h) (cellAt h) bs ≡ ran (readTo (T .routes k) (cellAt h) ms) (readOut (T .routes k) (cellAt h) ms) =
+      let f : finely (segmentOf (routesAt T k h) (cellAt h) bs) ≡ ran (readTo (T .routes k) (cellAt h) ms) (readOut (T .routes k) (cellAt h) ms) =
       segment-reads (T .routes k) (sw w) (cellAt h) bs in
-      let a : actsAt T w k (segment bs) ≡ streamed h (segmentOf (routesAt T k h) (cellAt h) bs) = acts-read h bs t u in
+      let a : actsAt T w k (segment bs) ≡ streamed h (finely (segmentOf (routesAt T k h) (cellAt h) bs)) = acts-read h bs t u in
       let s : heldAt (next w (on k (segment bs))) k ≡ actsAt T w k (segment bs) .to = held-stays T w k bs (decLt k (length (w .held))) in
       read ms
       (rw (eq-eqb k k refl) (ap (λ (x : Acted). x .list) a ∙ ap (λ (x : Ran). x .list) f))
@@ -229,10 +229,18 @@ module _ (T : Table) (whole : Whole → World → World) (k : ℕ) (tcp : T .con
   streams-bytes w (e ∷ es) (b, bs) =
       longer-bytes (ends T whole k w e) (reads T whole k w e) (streamsOf T whole k (next w e) es) (reads-bytes w e b) (streams-bytes (next w e) es bs)
 
+  -- each later online period begins with no byte of a transfer
+  free-later : (ss : List (List Marked)) → free (compared (readLater ss)) ≡ true
+  unfolding readLater compared
+  free-later [] = refl
+  free-later (s ∷ ss) =
+      ap free (compared-append (readOut Q ready s) (readLater ss) (free-later ss))
+      ∙ free-append (compared (readOut Q ready s)) (compared (readLater ss)) (free-read Q ready s refl) (free-later ss)
+
   later-listed : (ss : List (List Marked)) → LaterBytes ss → compared (readLater ss) ≡ listedLater Q ss
-  unfolding readLater listedLater pdus
+  unfolding readLater listedLater compared
   later-listed [] b = refl
-  later-listed (s ∷ ss) (b, bs) = pdus-append (readOut Q ready s) (readLater ss) ∙ ap₂ _++_ (ready-list Q s b) (later-listed ss bs)
+  later-listed (s ∷ ss) (b, bs) = compared-append (readOut Q ready s) (readLater ss) (free-later ss) ∙ ap₂ _++_ (ready-list Q s b) (later-listed ss bs)
 
   -- THE LIST: whatever the run, of what a TCP connection has given demand 3 compares what its streams hold by lengths
   pub heard-listed : (w : World) (es : List Event) → Rests (heldAt w k) → RunBytes es
@@ -242,5 +250,5 @@ module _ (T : Table) (whole : Whole → World → World) (k : ℕ) (tcp : T .con
       let s : Streams = streamsOf T whole k w es in
       let sb : StreamBytes s = streams-bytes w es b in
       ap compared (heard-read w es (r .quiet))
-      ∙ pdus-append (readOut Q (cellAt (heldAt w k)) (s .first)) (readLater (s .later))
+      ∙ compared-append (readOut Q (cellAt (heldAt w k)) (s .first)) (readLater (s .later)) (free-later (s .later))
       ∙ ap₂ _++_ (reading Q (cellAt (heldAt w k)) (s .first) (r .shape) (sb .0)) (later-listed (s .later) (sb .1))

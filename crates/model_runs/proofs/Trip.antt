@@ -5,10 +5,10 @@ use Prim.Native.Nat.{ℕ}
 use mathlib.Core.Path.{_≡_, refl, sym, ap, _∙_}
 use mathlib.Core.List.{List, [], _∷_, _++_, append-nil, flatten, map}
 use borrow.Author.Tests.{eq-eqb}
-use Rattle.reading.specs.Feed.{Routes, Cell, ready, Ran, segmentRan as segmentOf, segments, Pdu, asOut}
+use Rattle.reading.specs.Feed.{Routes, Cell, ready, Out, Ran, segmentRan as segmentOf, segments, fine, finely, Pdu, asOut}
 use Rattle.frame.specs.Frame.{Sent, frames}
-use Rattle.reading.specs.Routed.{Routed}
-use Rattle.reading.proofs.Trip.{round-trip}
+use Rattle.reading.specs.Routed.{Routed, Carried}
+use Rattle.reading.proofs.Trip.{round-trip, carried-pdus, fine-pdus}
 use Rattle.model.specs.World.{World, heldAt}
 use Rattle.model.specs.Events.{segment, Whole, Event, on}
 use Rattle.model.specs.Step.{Table, Acted, routesAt, acts, actsAt, hands, heard}
@@ -29,28 +29,34 @@ module _ (T : Table) (whole : Whole → World → World) (w : World) (k : ℕ) (
   abbrev R : Routes
   R = routesAt T k (heldAt w k)
 
-  at-read : (bs : List ℕ) → actsAt T w k (segment bs) .list ≡ segmentOf R ready bs .list
+  at-read : (bs : List ℕ) → actsAt T w k (segment bs) .list ≡ fine (segmentOf R ready bs .list)
   unfolding acts
   at-read bs =
       rw (r .there)
-      (ap (λ (a : Acted). a .list) (does-read T k (heldAt w k) bs (rw (r .tcp) (r .receives))) ∙ ap (λ (c : Cell). segmentOf R c bs .list) (r .at-header))
+      (ap (λ (a : Acted). a .list) (does-read T k (heldAt w k) bs (rw (r .tcp) (r .receives))) ∙ ap (λ (c : Cell). fine (segmentOf R c bs .list)) (r .at-header))
 
-  one-segment : {ss : List Sent} {ps : List Pdu} (bs : List ℕ) → Routed R ss ps → bs ≡ frames ss → heard T whole k w (on k (segment bs) ∷ []) ≡ map asOut ps
+  one-segment : {ss : List Sent} {os : List Out} (bs : List ℕ) → Carried R ss os → bs ≡ frames ss → heard T whole k w (on k (segment bs) ∷ []) ≡ fine os
   unfolding heard hands segments flatten
-  one-segment {ss} {ps} bs h e =
+  one-segment {ss} {os} bs h e =
       rw (eq-eqb k k refl)
       (append-nil (actsAt T w k (segment bs) .list)
       ∙ at-read bs
-      ∙ sym (append-nil (segmentOf R ready bs .list))
+      ∙ ap fine (sym (append-nil (segmentOf R ready bs .list)))
       ∙ ap (λ (q : Ran). q .list) (round-trip R (bs ∷ []) h (append-nil bs ∙ e)))
 
-  none-read : segments R ready [] .list ≡ []
-  unfolding segments
+  none-read : fine (segments R ready [] .list) ≡ []
+  unfolding segments fine
   none-read = refl
 
-  -- ANY PIECES: just these PDUs, and no drop
-  pub trip : {ss : List Sent} {ps : List Pdu} (pieces : List (List ℕ)) → Routed (routesAt T k (heldAt w k)) ss ps → flatten pieces ≡ frames ss → heard T whole k w (asSegments k pieces) ≡ map asOut ps
+  -- ANY PIECES: just these PDUs and whole transfers, byte by byte, and no drop
+  pub trip : {ss : List Sent} {os : List Out} (pieces : List (List ℕ)) → Carried (routesAt T k (heldAt w k)) ss os → flatten pieces ≡ frames ss
+      → heard T whole k w (asSegments k pieces) ≡ fine os
   unfolding heard
-  trip {ss} {ps} [] h e =
+  trip {ss} {os} [] h e =
       sym none-read ∙ ap (λ (q : Ran). q .list) (round-trip R [] h e)
-  trip {ss} {ps} (p ∷ pieces) h e = same-heard T whole k w (pieces-same k p pieces) ∙ one-segment (flatten (p ∷ pieces)) h e
+  trip {ss} {os} (p ∷ pieces) h e = same-heard T whole k w (pieces-same k p pieces) ∙ one-segment (flatten (p ∷ pieces)) h e
+
+  -- .. where no route is marked, just these PDUs
+  pub trip-pdus : {ss : List Sent} {ps : List Pdu} (pieces : List (List ℕ)) → Routed (routesAt T k (heldAt w k)) ss ps → flatten pieces ≡ frames ss
+      → heard T whole k w (asSegments k pieces) ≡ map asOut ps
+  trip-pdus {ss} {ps} pieces h e = trip pieces (carried-pdus R h) e ∙ fine-pdus ps

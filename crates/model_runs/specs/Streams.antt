@@ -6,7 +6,7 @@ use mathlib.Core.Bool.{Bool, true, false, cond, not, _&&_}
 use mathlib.Core.List.{List, [], _∷_, _++_, map}
 use lib.Dec.{eqb, ltb}
 use Rattle.connection.specs.Connection.{isOnline}
-use Rattle.reading.specs.Feed.{Routes, Cell, ready, Pdu}
+use Rattle.reading.specs.Feed.{Routes, Cell, ready, Handed}
 use Rattle.reading_lengths.specs.Listed.{Marked, mark, listed, listedFrom, Bytes, Shaped}
 use Rattle.model.specs.World.{Held, World, heldAt, cellAt}
 use Rattle.model.specs.Events.{change, segment, walk, takeWaiting, Whole, Event, on, onWhole}
@@ -51,13 +51,14 @@ module _ (T : Table) (whole : Whole → World → World) (k : ℕ) where
   streamsOf w [] = streams [] []
   streamsOf w (e ∷ es) = longer (ends w e) (reads w e) (streamsOf (step T whole w e) es)
 
--- THE PDUS OF STREAMS, by lengths: those that are complete, routed, switched on at their eighth header byte and short enough; the
--- first stream begins with what the record holds, the later ones at a header's first byte
-unfoldable pub listedLater : (ℕ → Routes) → List (List Marked) → List Pdu
+-- THE PDUS AND TRANSFERS OF STREAMS, by lengths: those that are complete, routed, switched on at their eighth header byte and short
+-- enough, and transfers with their bytes so far (no stream goes on with a transfer of the one before); the first stream begins with what
+-- the record holds, the later ones at a header's first byte
+unfoldable pub listedLater : (ℕ → Routes) → List (List Marked) → List Handed
 listedLater Q [] = []
 listedLater Q (s ∷ ss) = listed Q s ++ listedLater Q ss
 
-unfoldable pub listedIn : (ℕ → Routes) → Cell → Streams → List Pdu
+unfoldable pub listedIn : (ℕ → Routes) → Cell → Streams → List Handed
 listedIn Q c s = listedFrom Q c (s .first) ++ listedLater Q (s .later)
 
 -- a run whose segments are bytes
