@@ -7,7 +7,7 @@ use native.Mathlib.Omega.{arith}
 use borrow.Author.Tests.{lt-ltb, le-ltb}
 use lib.Dec.{ltb, eqb}
 use lib.ListN.{length, take, drop}
-use Rattle.reading.specs.declared.Decision.the-variants.{Accept, Refuse}
+use Rattle.reading.specs.declared.Decision.the-variants.{Accept, Refuse, Transfer}
 use Rattle.lists.specs.Search.{firstBad}
 use Rattle.lists.proofs.Search.{Searched, search-start, search-on, search-found, search-ended}
 use Rattle.table_rows.specs.declared.RouteRow.{RouteRow}
@@ -83,39 +83,45 @@ reason-none routes i n switches length h en =
     let l : rowsIn routes ≤ i = omega arith in
     simp (le-ltb i (rowsIn routes) l)
 
--- a reason is 0 or one of 20, 21, 22
+-- a reason is 0, 1 or one of 20, 21, 22
 pub record Known (k : ℕ) : Type 0 where
   pub low : 20 ≤ k
   pub high : k ≤ 22
 
-pub reason-known : (routes : List ℕ) (i switches length k : ℕ) → k ≡ reasonOf routes i switches length → (k ≡ 0 → ⊥) → Known k
+pub reason-known : (routes : List ℕ) (i switches length k : ℕ) → k ≡ reasonOf routes i switches length → (k ≡ 0 → ⊥) → (k ≡ 1 → ⊥) → Known k
 unfolding reasonOf reasonIn
-reason-known routes i switches length k e h =
-    go (ltb i (rowsIn routes)) (not (isOn (routeIn routes i .groups) switches)) (ltb (routeIn routes i .longest) length) e
+reason-known routes i switches length k e h g =
+    go (ltb i (rowsIn routes)) (not (isOn (routeIn routes i .groups) switches)) (routeIn routes i .transfer) (ltb (routeIn routes i .longest) length) e
   where
-    go : (a b c : Bool) → k ≡ cond a (cond b 21 (cond c 22 0)) 20 → Known k
-    go false b c q = record { low = omega arith; high = omega arith }
-    go true true c q = record { low = omega arith; high = omega arith }
-    go true false true q = record { low = omega arith; high = omega arith }
-    go true false false q = absurd (h q)
+    go : (a b m c : Bool) → k ≡ cond a (cond b 21 (cond m 1 (cond c 22 0))) 20 → Known k
+    go false b m c q = record { low = omega arith; high = omega arith }
+    go true true m c q = record { low = omega arith; high = omega arith }
+    go true false true c q = absurd (g q)
+    go true false false true q = record { low = omega arith; high = omega arith }
+    go true false false false q = absurd (h q)
+
+refusal : (k i : ℕ) → (k ≡ 0 → ⊥) → (k ≡ 1 → ⊥) → Refuse k ≡ decisionOf k i
+unfolding decisionOf
+refusal zero i h g = absurd (h refl)
+refusal (suc zero) i h g = absurd (g refl)
+refusal (suc (suc k)) i h g = refl
 
 -- the decision at a reason
-pub reason-accepts : (routes : List ℕ) (connection switches id length row k : ℕ) → row ≡ rowFor routes connection id → k ≡ reasonOf routes row switches length → k ≡ 0
-    → Accept row ≡ lookupOf routes connection switches id length
-unfolding lookupOf decisionOf
-reason-accepts routes connection switches id length row k er ek e =
-    ap (λ (j : ℕ). decisionOf j row) (sym e ∙ ek) ∙ ap (λ (r : ℕ). decisionOf (reasonOf routes r switches length) r) er
+module _ (routes : List ℕ) (connection switches id length row k : ℕ) (er : row ≡ rowFor routes connection id) (ek : k ≡ reasonOf routes row switches length) where
+  decides : decisionOf k row ≡ lookupOf routes connection switches id length
+  unfolding lookupOf
+  decides = ap (λ (j : ℕ). decisionOf j row) ek ∙ ap (λ (r : ℕ). decisionOf (reasonOf routes r switches length) r) er
 
-refusal : (k i : ℕ) → (k ≡ 0 → ⊥) → Refuse k ≡ decisionOf k i
-unfolding decisionOf
-refusal zero i h = absurd (h refl)
-refusal (suc k) i h = refl
+  pub reason-accepts : k ≡ 0 → Accept row ≡ lookupOf routes connection switches id length
+  unfolding decisionOf
+  reason-accepts e = ap (λ (j : ℕ). decisionOf j row) (sym e) ∙ decides
 
-pub refuses : (routes : List ℕ) (connection switches id length row k : ℕ) → row ≡ rowFor routes connection id → k ≡ reasonOf routes row switches length → (k ≡ 0 → ⊥)
-    → Refuse k ≡ lookupOf routes connection switches id length
-unfolding lookupOf
-refuses routes connection switches id length row k er ek h =
-    refusal k row h ∙ ap (λ (j : ℕ). decisionOf j row) ek ∙ ap (λ (r : ℕ). decisionOf (reasonOf routes r switches length) r) er
+  pub reason-transfers : k ≡ 1 → Transfer row ≡ lookupOf routes connection switches id length
+  unfolding decisionOf
+  reason-transfers e = ap (λ (j : ℕ). decisionOf j row) (sym e) ∙ decides
+
+  pub refuses : (k ≡ 0 → ⊥) → (k ≡ 1 → ⊥) → Refuse k ≡ lookupOf routes connection switches id length
+  refuses h g = refusal k row h g ∙ decides
 
 -- a drop reason is 20, 21 or 22
 pub refused-known : (routes : List ℕ) (connection switches id length k : ℕ) → lookupOf routes connection switches id length ≡ Refuse k → Known k
@@ -124,4 +130,5 @@ refused-known routes connection switches id length k e = go (reasonOf routes (ro
   where
     go : (j : ℕ) → j ≡ reasonOf routes (rowFor routes connection id) switches length → decisionOf j (rowFor routes connection id) ≡ Refuse k → Known k
     go zero p q = let z : _≡_ {A = ℕ} 0 1 = cc in absurd (omega arith)
-    go (suc j) p q = subst Known (cc) (reason-known routes (rowFor routes connection id) switches length (suc j) p (λ n. omega arith))
+    go (suc zero) p q = let z : _≡_ {A = ℕ} 0 1 = cc in absurd (omega arith)
+    go (suc (suc j)) p q = subst Known (cc) (reason-known routes (rowFor routes connection id) switches length (suc (suc j)) p (λ n. omega arith) (λ n. omega arith))

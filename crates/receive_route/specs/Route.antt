@@ -6,7 +6,7 @@ use mathlib.Core.List.{List}
 use lib.Dec.{eqb, leb, ltb}
 use lib.ListN.{length}
 use Rattle.reading.specs.declared.Decision.{Decision}
-use Rattle.reading.specs.declared.Decision.the-variants.{Accept, Refuse}
+use Rattle.reading.specs.declared.Decision.the-variants.{Accept, Refuse, Transfer}
 use Rattle.reading.specs.Feed.{Routes}
 use Rattle.switches.specs.Switches.{isOn}
 use Rattle.lists.specs.Search.{firstBad}
@@ -42,17 +42,19 @@ passed routes connection id i = not (counts (routeIn routes i) connection id)
 unfoldable pub rowFor : List ℕ → ℕ → ℕ → ℕ
 rowFor routes connection id = firstBad (passed routes connection id) (rowsIn routes)
 
--- R5.5, the first that applies: 20 no route, 21 switched off, 22 longer than allowed; 0 where none applies
+-- R5.5, the first that applies: 20 no route, 21 switched off, 22 longer than allowed; 0 where none applies. R19.1: a marked row that is on
+-- says 1, a transfer, to every length
 unfoldable pub reasonIn : RouteRow → ℕ → ℕ → ℕ
-reasonIn row switches n = cond (not (isOn (row .groups) switches)) 21 (cond (ltb (row .longest) n) 22 0)
+reasonIn row switches n = cond (not (isOn (row .groups) switches)) 21 (cond (row .transfer) 1 (cond (ltb (row .longest) n) 22 0))
 
 unfoldable pub reasonOf : List ℕ → ℕ → ℕ → ℕ → ℕ
 reasonOf routes i switches n = cond (ltb i (rowsIn routes)) (reasonIn (routeIn routes i) switches n) 20
 
--- the decision on row i at a reason: 0 takes the payload
+-- the decision on row i at a reason: 0 takes the payload, 1 takes it as a transfer
 unfoldable pub decisionOf : ℕ → ℕ → Decision
 decisionOf zero i = Accept i
-decisionOf (suc k) i = Refuse (suc k)
+decisionOf (suc zero) i = Transfer i
+decisionOf (suc (suc k)) i = Refuse (suc (suc k))
 
 -- what the routes of a body say to a header on a connection with these switches
 unfoldable pub lookupOf : List ℕ → ℕ → ℕ → Routes

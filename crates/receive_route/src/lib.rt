@@ -66,12 +66,15 @@ fn find(routes: &[u8], connection: u8, id: u32) -> usize
     n
 }
 
-// Why a row drops a payload: 21 switched off, 22 longer than allowed; 0 where it takes it.
+// What a row says to a payload: 21 switched off; 1 a transfer, of any length; 22 longer than allowed; 0 taken.
 fn reason_in(row: RouteRow, switches: u32, length: u32) -> u8
     ensures { λ r. ⌜ r ≡ reasonIn row switches length ⌝ }
 {
     if !is_on(row.groups, switches) {
         return 21;
+    }
+    if row.transfer {
+        return 1;
     }
     if (row.longest as u32) < length {
         return 22;
@@ -79,7 +82,7 @@ fn reason_in(row: RouteRow, switches: u32, length: u32) -> u8
     0
 }
 
-// The reason of row i (R5.5), and 20 where there is no such row.
+// What row i says (R5.5, R19.1), and 20 where there is no such row.
 fn reason_of(routes: &[u8], i: usize, switches: u32, length: u32) -> u8
     ensures { λ r. ⌜ r ≡ reasonOf (now (routes .entry)) i switches length ⌝ }
 {
@@ -90,7 +93,7 @@ fn reason_of(routes: &[u8], i: usize, switches: u32, length: u32) -> u8
     }
 }
 
-// What the routes say: the row's number, or the drop reason that applies first.
+// What the routes say: the row's number, of a payload or of a transfer, or the drop reason that applies first.
 pub fn lookup(routes: &[u8], connection: u8, switches: u32, id: u32, length: u32) -> Decision
     ensures { λ r. ⌜ r ≡ lookupOf (now (routes .entry)) connection switches id length ⌝ }
 {
@@ -98,6 +101,7 @@ pub fn lookup(routes: &[u8], connection: u8, switches: u32, id: u32, length: u32
     let reason = reason_of(routes, route, switches, length);
     match reason {
         0 => Decision::Accept(route as u8),
+        1 => Decision::Transfer(route as u8),
         20..=22 => Decision::Refuse(reason),
         _ => Decision::Refuse(20),
     }
