@@ -8,7 +8,7 @@ use Rattle.wire.specs.Be.{be}
 use Rattle.connection.specs.declared.Remote.{Remote}
 use Rattle.event_decode.specs.declared.Call.{Call}
 use Rattle.event_decode.specs.declared.Call.the-variants.{Unknown, Unfit, Ticks, Own, Lost, Segment, Walk, TakeWaiting, Datagram, Accept, Transmit, SwitchAll, ReadCount, ClearCount}
-use Rattle.connection.specs.declared.Event.the-variants.{Open, Close, Connected, SetRemote, Switch}
+use Rattle.connection.specs.declared.Event.the-variants.{Open, Close, Connected, SetRemote, Switch, Cancel}
 
 -- "a body that does not fit is refused"
 abbrev pub fitted : Bool → Call → Call
@@ -58,7 +58,8 @@ callOf n b =
     (cond (eqb n 13) (fitted (positioned b 3 2) (SwitchAll (be 1 b 1) (eqb (be 1 b 2) 1)))
     (cond (eqb n 14) (fitted (plain b 2) (ReadCount (be 1 b 1)))
     (cond (eqb n 15) (fitted (plain b 2) (ClearCount (be 1 b 1)))
-    Unknown)))))))))))))))
+    (cond (eqb n 16) (fitted (plain b 2) (Own (be 1 b 1) Cancel))
+    Unknown))))))))))))))))
 
 -- the bytes that a call names: those of the body from the place at on
 abbrev pub bytesFrom : List ℕ → ℕ → List ℕ

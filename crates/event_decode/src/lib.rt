@@ -218,6 +218,7 @@ pub fn call_of(number: u16, body: &[u8]) -> Call
         ),
         14 => fitted(is_plain(body, 2), Call::ReadCount(first)),
         15 => fitted(is_plain(body, 2), Call::ClearCount(first)),
+        16 => fitted(is_plain(body, 2), own(first, Event::Cancel)),
         _ => Call::Unknown,
     }
 }
