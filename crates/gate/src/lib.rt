@@ -33,7 +33,8 @@ pub enum Gate {
     Refused(Refusal),
 }
 
-// The route of an unfinished payload belongs to connection n and allows the length.
+// The route of an unfinished payload belongs to connection n, allows the length and is not marked; that of a transfer belongs to it and is
+// marked.
 pub fn is_routed(routes: &[u8], n: usize, part: Part) -> bool
     ensures { λ r. ⌜ r ≡ routed (now (routes .entry)) n part ⌝ }
 {
@@ -47,9 +48,15 @@ pub fn is_routed(routes: &[u8], n: usize, part: Part) -> bool
             let i = route as usize;
             let row = route_in(routes, i);
             let owner = row.connection as usize;
-            (i < routes.len() / 16) & (owner == n) & (length <= row.longest)
+            (i < routes.len() / 16) & (owner == n) & (length <= row.longest) & !row.transfer
         }
         Part::Skip(_) => true,
+        Part::Transfer { route, left: _ } => {
+            let i = route as usize;
+            let row = route_in(routes, i);
+            let owner = row.connection as usize;
+            (i < routes.len() / 16) & (owner == n) & row.transfer
+        }
     }
 }
 
