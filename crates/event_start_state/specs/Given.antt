@@ -8,7 +8,7 @@ use Rattle.wire.specs.Be.{be}
 use Rattle.lists.specs.Search.{every}
 use Rattle.lists.specs.Each.{each}
 use Rattle.receive_part.specs.declared.Part.{Part}
-use Rattle.receive_part.specs.declared.Part.the-variants.{Header, Payload, Skip}
+use Rattle.receive_part.specs.declared.Part.the-variants.{Header, Payload, Skip, Transfer}
 use Rattle.connection.specs.declared.Mode.{Mode}
 use Rattle.connection.specs.declared.Mode.the-variants.{Offline, Reconnect, Online}
 use Rattle.connection.specs.declared.Connection.{Connection}
@@ -22,9 +22,12 @@ use Rattle.event_start_state.specs.declared.Given.{Given}
 abbrev pub modeOf : ℕ → Mode
 modeOf n = cond (eqb n 0) Offline (cond (eqb n 1) Reconnect Online)
 
--- "receive part, kind: 0 header, 1 payload, 2 skip"; route (1), held (2), number (8)
+-- "receive part, kind: 0 header, 1 payload, 2 skip, 3 transfer"; route (1), held (2), number (8)
 abbrev pub partGiven : List ℕ → Part
-partGiven s = cond (eqb (be 1 s 26) 0) (Header (be 1 s 29) (be 8 s 30)) (cond (eqb (be 1 s 26) 1) (Payload (be 1 s 27) (be 2 s 36) (be 2 s 28)) (Skip (be 4 s 34)))
+partGiven s =
+    cond (eqb (be 1 s 26) 0) (Header (be 1 s 29) (be 8 s 30))
+    (cond (eqb (be 1 s 26) 1) (Payload (be 1 s 27) (be 2 s 36) (be 2 s 28))
+    (cond (eqb (be 1 s 26) 2) (Skip (be 4 s 34)) (Transfer (be 1 s 27) (be 4 s 34))))
 
 -- "A value that its field cannot hold ..": the bytes above a header's held count; a route where there is none
 abbrev pub headerFits : List ℕ → Bool
@@ -38,8 +41,15 @@ payloadFits s = eqb (be 4 s 30) 0 && eqb (be 2 s 34) 0
 abbrev pub skipFits : List ℕ → Bool
 skipFits s = eqb (be 1 s 27) 0 && eqb (be 2 s 28) 0 && eqb (be 4 s 30) 0
 
+-- of a transfer likewise bytes to come above 4,294,967,295, and held bytes: it holds none (R19.8)
+abbrev pub transferFits : List ℕ → Bool
+transferFits s = eqb (be 2 s 28) 0 && eqb (be 4 s 30) 0
+
 abbrev pub partFits : List ℕ → Bool
-partFits s = cond (eqb (be 1 s 26) 0) (headerFits s) (cond (eqb (be 1 s 26) 1) (payloadFits s) (eqb (be 1 s 26) 2 && skipFits s))
+partFits s =
+    cond (eqb (be 1 s 26) 0) (headerFits s)
+    (cond (eqb (be 1 s 26) 1) (payloadFits s)
+    (cond (eqb (be 1 s 26) 2) (skipFits s) (eqb (be 1 s 26) 3 && transferFits s)))
 
 -- "a mode above 2, a wish or due above 1", an address that does not fit
 unfoldable pub recordFits : List ℕ → Bool

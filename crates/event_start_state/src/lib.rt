@@ -58,7 +58,11 @@ fn part_of(s: &[u8]) -> Part
             length: two_bytes(s, 36),
             held: two_bytes(s, 28),
         },
-        _ => Part::Skip(four_bytes(s, 34)),
+        2 => Part::Skip(four_bytes(s, 34)),
+        _ => Part::Transfer {
+            route: one_byte(s, 27),
+            left: four_bytes(s, 34),
+        },
     }
 }
 
@@ -71,7 +75,8 @@ fn part_fits(s: &[u8]) -> bool
     match kind {
         0 => (route == 0) & (be8(s, 28) == 0),
         1 => (high == 0) & (be16(s, 34) == 0),
-        _ => (kind == 2) & ((route == 0) & (be16(s, 28) == 0) & (high == 0)),
+        2 => (route == 0) & (be16(s, 28) == 0) & (high == 0),
+        _ => (kind == 3) & ((be16(s, 28) == 0) & (high == 0)),
     }
 }
 

@@ -24,6 +24,9 @@ be16-requires c κs = search needs
 be16-requires-2 : tie.Need-be16-requires-2
 be16-requires-2 c κs = search needs
 
+be16-requires-3 : tie.Need-be16-requires-3
+be16-requires-3 c κs = search needs
+
 returns : tie.Need-returns
 returns c = let i = c .before .before .before .before .be8 .ensures .is in let e = sym i ∙ c .before .match .keys1 in rw (e) (cc)
 
@@ -31,7 +34,15 @@ returns-2 : tie.Need-returns-2
 returns-2 c = let i = c .before .before .before .before .be8 .ensures .is in let e = sym i ∙ c .before .match .keys2 in rw (e) (cc)
 
 returns-3 : tie.Need-returns-3
-returns-3 c = let a = c .before .before .before .before .before .before .args in let i = c .before .before .before .before .be8 .ensures .is in let r = c .before .match .rest in rw (ne-eqb (be 1 (a .s .now) 26) 0 (λ e. r .0 .1 (i ∙ e)), ne-eqb (be 1 (a .s .now) 26) 1 (λ e. r .1 (i ∙ e))) (cc)
+returns-3 c = let i = c .before .before .before .before .be8 .ensures .is in let e = sym i ∙ c .before .match .keys3 in rw (e) (cc)
+
+returns-4 : tie.Need-returns-4
+returns-4 c =
+    let a = c .before .before .before .before .before .before .args in
+    let i = c .before .before .before .before .be8 .ensures .is in
+    let r = c .before .match .rest in
+    let k = be 1 (a .s .now) 26 in
+    rw (ne-eqb k 0 (λ e. r .0 .0 .1 (i ∙ e)), ne-eqb k 1 (λ e. r .0 .1 (i ∙ e)), ne-eqb k 2 (λ e. r .1 (i ∙ e))) (cc)
 
 pub part-fits-spec : {M : Type 1} → statement M
 part-fits-spec =
@@ -43,6 +54,8 @@ part-fits-spec =
     be8-requires-3
     be16-requires
     be16-requires-2
+    be16-requires-3
     returns
     returns-2
-    returns-3)
+    returns-3
+    returns-4)

@@ -27,6 +27,12 @@ two-bytes-requires-2 c κs = search needs
 four-bytes-requires : tie.Need-four-bytes-requires
 four-bytes-requires c κs = search needs
 
+one-byte-requires-3 : tie.Need-one-byte-requires-3
+one-byte-requires-3 c κs = search needs
+
+four-bytes-requires-2 : tie.Need-four-bytes-requires-2
+four-bytes-requires-2 c κs = search needs
+
 returns : tie.Need-returns
 returns c = let a = c .before .before .before .before .before .args in let i = c .before .before .before .be8 .ensures .is in rw (eq-eqb (be 1 (a .s .now) 26) 0 (sym i ∙ c .before .before .match .keys1)) (cc)
 
@@ -34,7 +40,18 @@ returns-2 : tie.Need-returns-2
 returns-2 c = let a = c .before .before .before .before .before .before .args in let i = c .before .before .before .before .be8 .ensures .is in let e = sym i ∙ c .before .before .before .match .keys2 in rw (e) (cc)
 
 returns-3 : tie.Need-returns-3
-returns-3 c = let a = c .before .before .before .before .args in let i = c .before .before .be8 .ensures .is in let r = c .before .match .rest in rw (ne-eqb (be 1 (a .s .now) 26) 0 (λ e. r .0 .1 (i ∙ e)), ne-eqb (be 1 (a .s .now) 26) 1 (λ e. r .1 (i ∙ e))) (cc)
+returns-3 c =
+    let i = c .before .before .be8 .ensures .is in
+    let e = sym i ∙ c .before .match .keys3 in
+    rw e (cc)
+
+returns-4 : tie.Need-returns-4
+returns-4 c =
+    let a = c .before .before .before .before .before .args in
+    let i = c .before .before .before .be8 .ensures .is in
+    let r = c .before .before .match .rest in
+    let k = be 1 (a .s .now) 26 in
+    rw (ne-eqb k 0 (λ e. r .0 .0 .1 (i ∙ e)), ne-eqb k 1 (λ e. r .0 .1 (i ∙ e)), ne-eqb k 2 (λ e. r .1 (i ∙ e))) (cc)
 
 pub part-of-spec : {M : Type 1} → statement M
 part-of-spec =
@@ -47,6 +64,9 @@ part-of-spec =
     two-bytes-requires
     two-bytes-requires-2
     four-bytes-requires
+    one-byte-requires-3
+    four-bytes-requires-2
     returns
     returns-2
-    returns-3)
+    returns-3
+    returns-4)
