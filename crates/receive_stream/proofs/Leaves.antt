@@ -21,8 +21,8 @@ use Rattle.receive_part.specs.declared.Part.{Part}
 use Rattle.receive_part.specs.declared.Part.the-variants.{Header, Payload, Skip, Transfer}
 use Rattle.receive_part.specs.Part.{shaped}
 use Rattle.receive_route.specs.Route.{lookupOf, rowsIn}
-use Rattle.receive_route.specs.Decided.{Allows}
-use Rattle.receive_route.proofs.Decided.{route-accepted}
+use Rattle.receive_route.specs.Decided.{Allows, Carries}
+use Rattle.receive_route.proofs.Decided.{route-accepted, route-transfers}
 use Rattle.table_rows.specs.Rows.{routeIn}
 use Rattle.wire.specs.Lay.{lay}
 use Rattle.wire.proofs.Lay.{lay-fits, lay-own, lay-length}
@@ -255,16 +255,28 @@ middle l pre p rest e =
     ∙ ap (λ (m : List ℕ). take (length p) (drop (length pre) m)) e
     ∙ ap (take (length p)) (drop-append-seam pre (p ++ rest)) ∙ take-append-seam p rest
 
--- a route of the connection that allows the length
+-- a route of the connection that is not marked and allows the length
 pub record Owns (routes : List ℕ) (connection route n : ℕ) : Type 0 where
   pub there : route < rowsIn routes
   pub owned : routeIn routes route .connection ≡ connection
   pub allows : n ≤ routeIn routes route .longest
+  pub plain : routeIn routes route .transfer ≡ false
+
+-- a marked route of the connection
+pub record Moves (routes : List ℕ) (connection route : ℕ) : Type 0 where
+  pub there : route < rowsIn routes
+  pub owned : routeIn routes route .connection ≡ connection
+  pub marked : routeIn routes route .transfer ≡ true
 
 owns : (routes : List ℕ) (connection switches i n r : ℕ) → lookupOf routes connection switches i n ≡ Accept r → Owns routes connection r n
 owns routes connection switches i n r e =
     let a : Allows routes connection switches i n r = route-accepted routes connection switches i n r e in
-    record { there = a .bears .there; owned = a .bears .owned; allows = a .fits }
+    record { there = a .bears .there; owned = a .bears .owned; allows = a .fits; plain = a .unmarked }
+
+marks : (routes : List ℕ) (connection switches i n r : ℕ) → lookupOf routes connection switches i n ≡ Move r → Moves routes connection r
+marks routes connection switches i n r e =
+    let a : Carries routes connection switches i n r = route-transfers routes connection switches i n r e in
+    record { there = a .bears .there; owned = a .bears .owned; marked = a .marked }
 
 -- THE WHOLE TAKE, from a part and a stretch that fit, of a segment of bytes
 module _ (routes : List ℕ) (connection switches : ℕ) (part : Part) (rx segment : List ℕ) (fit : Fit routes part rx) (bytes : (i : ℕ) → getD segment i 0 < 256) where
@@ -312,14 +324,17 @@ module _ (routes : List ℕ) (connection switches : ℕ) (part : Part) (rx segme
         limits = fit .limits;
       }
 
-  -- R3.4, its route belongs to the connection and allows the length, and what holds of a transfer's route: kept by a take
-  pub leaves-owned : (M : ℕ → Type 0) → ((i n r : ℕ) → lookupOf routes connection switches i n ≡ Move r → M r) → PartHolds (Owns routes connection) M part
-      → PartHolds (Owns routes connection) M (takenOf routes connection switches part rx segment .part)
+  -- R3.4, R19.8: the route of a payload belongs to the connection, allows the length and is not marked; that of a transfer belongs to it and
+  -- is marked: kept by a take
+  pub leaves-owned : PartHolds (Owns routes connection) (Moves routes connection) part
+      → PartHolds (Owns routes connection) (Moves routes connection) (takenOf routes connection switches part rx segment .part)
   unfolding takenOf tookOf
-  leaves-owned M moves h =
-      sane-part (Owns routes connection) M (tookOf routes connection switches part rx segment .to)
-      (take-sane (Owns routes connection) M (lookupOf routes connection switches) (owns routes connection switches) moves (cellOf part rx) segment bytes
-      (part-sane (Owns routes connection) M routes part rx fit h) .0)
+  leaves-owned h =
+      let O : ℕ → ℕ → Type 0 = Owns routes connection in
+      let M : ℕ → Type 0 = Moves routes connection in
+      sane-part O M (tookOf routes connection switches part rx segment .to)
+      (take-sane O M (lookupOf routes connection switches) (owns routes connection switches) (marks routes connection switches) (cellOf part rx) segment bytes
+      (part-sane O M routes part rx fit h) .0)
 
   -- WHAT `payload_of` RETURNS OF A TAKE'S ANSWER IS THE PDU'S PAYLOAD
   told-short : (r : ℕ) (p : List ℕ) (o : Out) (c : Cell) → o ≡ pdu r p → Told Short Any o c → length p ≤ 1464
@@ -348,7 +363,7 @@ module _ (routes : List ℕ) (connection switches : ℕ) (part : Part) (rx segme
           ∙ part-fits (lay rx 0 p) 0 (length p) (omega (arith, lay-length rx 0 p, fit .room))
           ∙ lay-own rx 0 p (omega (arith, fit .room))
 
--- A PIECE STANDS AT THE FRONT OF ITS SEGMENT: it is what was read
+-- A PIECE STANDS AT THE FRONT OF ITS SEGMENT: it is what was read, one byte at least
 abbrev bytesIn : Out → List ℕ
 bytesIn nothing = []
 bytesIn (pdu r p) = p
@@ -356,11 +371,11 @@ bytesIn (dropped k i n) = []
 bytesIn (start r i n m) = []
 bytesIn (piece r p m) = p
 
-piece-front : (R : Routes) (c : Cell) (bs : List ℕ) (t : Took) → Ends R c bs t → (r : ℕ) (p : List ℕ) (m : Bool) → t .out ≡ piece r p m → bs ≡ p ++ t .rest
+pub piece-front : (R : Routes) (c : Cell) (bs : List ℕ) (t : Took) → Ends R c bs t → (r : ℕ) (p : List ℕ) (m : Bool) → t .out ≡ piece r p m → (0 < length p) × (bs ≡ p ++ t .rest)
 piece-front R c bs t (at-end _ _ _) r p m e = let z : _≡_ {A = ℕ} 0 1 = cc in absurd (omega arith)
 piece-front R c bs t (at-byte _ a b rest f _ _ s) r p m e = absurd (true≢false (sym s ∙ ap stops e))
-piece-front R c bs t (at-seam n q a _ _) r p m e = ap bytesIn e ∙ sym (append-nil p)
-piece-front R c bs t (at-mark n q a rest _ _) r p m e = ap (λ (l : List ℕ). l ++ rest) (ap bytesIn e)
+piece-front R c bs t (at-seam n q a some _) r p m e = (subst (λ (l : List ℕ). 0 < length l) (ap bytesIn e) some, ap bytesIn e ∙ sym (append-nil p))
+piece-front R c bs t (at-mark n q a rest some _) r p m e = (subst (λ (l : List ℕ). 0 < length l) (ap bytesIn e) some, ap (λ (l : List ℕ). l ++ rest) (ap bytesIn e))
 
 pub handed-piece : (routes : List ℕ) (connection switches : ℕ) (part : Part) (rx segment : List ℕ) (r : ℕ) (p : List ℕ) (m : Bool)
     → tookOf routes connection switches part rx segment .out ≡ piece r p m
@@ -368,7 +383,7 @@ pub handed-piece : (routes : List ℕ) (connection switches : ℕ) (part : Part)
 unfolding tookOf
 handed-piece routes connection switches part rx segment r p m e =
     let R : Routes = lookupOf routes connection switches in
-    middle segment [] p (takeB R (cellOf part rx) segment .rest) (piece-front R (cellOf part rx) segment _ (take-ends R (cellOf part rx) segment) r p m e)
+    middle segment [] p (takeB R (cellOf part rx) segment .rest) (piece-front R (cellOf part rx) segment _ (take-ends R (cellOf part rx) segment) r p m e .1)
 
 -- A TAKE OF NO BYTE reads none, wants more and leaves the part and receive memory as they are
 part-back : (routes : List ℕ) (part : Part) (rx : List ℕ) → Fit routes part rx → partFrom (cellOf part rx) ≡ part

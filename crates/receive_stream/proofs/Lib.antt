@@ -1,3 +1,4 @@
 -- The laws of a take.
 pub mod Takes
 pub mod Leaves
+pub mod Runs

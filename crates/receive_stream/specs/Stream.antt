@@ -1,8 +1,8 @@
 -- A take as the contracts cite it: the cell that a receive part and receive memory are, the answer that a take of the
 -- stream is, and receive memory afterwards (R5.8 to R5.11, R2.8).
-use Prim.Native.Nat.{ℕ, zero, suc, _+_, _-_, _≤_}
+use Prim.Native.Nat.{ℕ, zero, suc, _+_, _-_, _≤_, _<_}
 use mathlib.Core.Path.{_≡_}
-use mathlib.Core.Bool.{Bool, true, false, cond}
+use mathlib.Core.Bool.{Bool, true, false, cond, not}
 use mathlib.Core.List.{List, [], _∷_}
 use lib.Dec.{eqb}
 use lib.ListN.{length, take}
@@ -125,6 +125,22 @@ startTaken read r i n = record { read = read; outcome = Start r i n (eqb n 0); p
 -- R19.3, R19.4: the answer that is a piece of n bytes at the segment's front, with so many to come; it is the last where there are none
 abbrev pub pieceTaken : ℕ → ℕ → ℕ → ℕ → Taken
 pieceTaken n r i left = record { read = n; outcome = Piece r i 0 n (eqb left 0); part = movePart left r }
+
+-- R19.2, R19.4, R19.5: whether a transfer runs after an outcome, by whether one ran before: it does after a start or a piece without the
+-- end mark and does not after one with it; no other outcome begins or ends one
+abbrev pub runsAfter : Bool → Outcome → Bool
+runsAfter ran More = ran
+runsAfter ran (Pdu route id inside at n) = ran
+runsAfter ran (Drop reason id n) = ran
+runsAfter ran (Start route id n last) = not last
+runsAfter ran (Piece route id at n last) = not last
+
+-- R19.3: a piece of n bytes at a place of the segment, of which the take has read so many: it is all that was read, and one byte at least
+pub record PieceStands (segment : List ℕ) (read at n : ℕ) : Type 0 where
+  pub some : 0 < n
+  pub front : at ≡ 0
+  pub all : n ≡ read
+  pub within : n ≤ length segment
 
 -- the payload that an outcome names, of whichever of the two holds it
 abbrev pub payloadAt : List ℕ → List ℕ → Bool → ℕ → ℕ → List ℕ

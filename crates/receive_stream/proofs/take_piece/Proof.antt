@@ -10,8 +10,9 @@ use Rattle.receive_stream.proofs.take_piece.Tie as tie
 
 returns : tie.Need-returns
 returns c =
-    let a = c .before .before .before .args in
-    λ R rx. piece-none (idOf (a .routes .now)) R (a .left) (a .route) rx (a .segment .now) (c .if1 .taken)
+    let s = c .before .before .before in
+    let a = s .args in
+    λ R rx. piece-none (idOf (a .routes .now)) R (a .left) (a .route) rx (a .segment .now) (omega (arith, s .pre, c .if1 .taken))
 
 route-in-requires : tie.Need-route-in-requires
 route-in-requires c κs = search needs
