@@ -8,6 +8,7 @@ use Rattle.connection.specs.declared.Answer.{Answer}
 use Rattle.connection.specs.declared.Answer.the-variants.{Done, Refused}
 use Rattle.connection.specs.declared.Event.{Event}
 use Rattle.connection.specs.declared.Event.the-variants.{Lost}
+use Rattle.connection.specs.Connection.{failedOf}
 use Rattle.connection.specs.Event.{stepOf}
 use Rattle.state.specs.declared.State.{State}
 use Rattle.state.specs.State.{recordAt, withRecord}
@@ -35,6 +36,10 @@ changeOf image s n e =
 unfoldable pub eventOf : Lent → ℕ → Event → Told
 eventOf l n e = through (gateAt l n) (refusedTold (l .state)) (changeOf (l .image) (l .state) n e)
 
+-- R19.7: a loss says as well whether a transfer of the connection ran before it, in the state s, and none runs after it
+abbrev pub lossFrom : State → ℕ → Told → Loss
+lossFrom s n t = record { answer = t .answer; state = t .state; failed = failedOf (recordAt s n) (recordAt (t .state) n) }
+
 -- a loss
 unfoldable pub lossOf : Lent → ℕ → Loss
-lossOf l n = record { answer = eventOf l n Lost .answer; state = eventOf l n Lost .state }
+lossOf l n = lossFrom (l .state) n (eventOf l n Lost)

@@ -24,11 +24,11 @@ pub struct Told {
     pub state: State,
 }
 
-// What a loss answers, and the state after it. Apart from the other events' answer: a loss may come to answer more (docs/EVENTS.md has
-// its byte).
+// What a loss answers, the state after it, and whether it ended a transfer.
 pub struct Loss {
     pub answer: Answer,
     pub state: State,
+    pub failed: bool,
 }
 
 // What reading a count answers.
@@ -102,6 +102,13 @@ pub fn close(image: &[u8], state: State, rx: &[u8], tx: &[u8], connection: u8) -
     happen(image, state, rx, tx, connection, Event::Close)
 }
 
+// A transfer is to end early: wanted like a close, also on an automatic connection; the tick ends it.
+pub fn cancel(image: &[u8], state: State, rx: &[u8], tx: &[u8], connection: u8) -> Told
+    ensures { λ r. ⌜ r ≡ eventOf (lentBy (now (image .entry)) state (now (rx .entry)) (now (tx .entry))) connection Event.Cancel ⌝ }
+{
+    happen(image, state, rx, tx, connection, Event::Cancel)
+}
+
 pub fn connected(image: &[u8], state: State, rx: &[u8], tx: &[u8], connection: u8) -> Told
     ensures { λ r. ⌜ r ≡ eventOf (lentBy (now (image .entry)) state (now (rx .entry)) (now (tx .entry))) connection Event.Connected ⌝ }
 {
@@ -114,9 +121,20 @@ pub fn lost(image: &[u8], state: State, rx: &[u8], tx: &[u8], connection: u8) ->
     let told = happen(image, state, rx, tx, connection, Event::Lost);
     let answer = told.answer;
     let after = told.state;
+    let n = connection as usize;
+    if n < 16 {
+        let was = state.connections[n];
+        let now = after.connections[n];
+        return Loss {
+            answer: answer,
+            state: after,
+            failed: connection::failed(was, now),
+        };
+    }
     Loss {
         answer: answer,
         state: after,
+        failed: false,
     }
 }
 
