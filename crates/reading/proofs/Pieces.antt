@@ -61,7 +61,7 @@ pub full-segment : (R : Routes) (c : Cell) (bs : List ℕ) → FullPieces (segme
 unfolding segmentRan
 full-segment R c bs = full-takes R (suc (length bs)) c bs
 
-full-append : (a b : List Out) → FullPieces a → FullPieces b → FullPieces (a ++ b)
+pub full-append : (a b : List Out) → FullPieces a → FullPieces b → FullPieces (a ++ b)
 full-append [] b h g = g
 full-append (o ∷ a) b (h, hs) g = (h, full-append a b hs g)
 
