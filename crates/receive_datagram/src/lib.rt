@@ -31,7 +31,8 @@ pub struct Walked {
     pub next: usize,
 }
 
-// A header whose payload stands whole in the datagram: the routes decide.
+// A header whose payload stands whole in the datagram: the routes decide. A marked route hands it out whole as well; an accepted table has
+// none on a UDP connection.
 fn whole_at(decision: Decision, place: usize, id: u32, size: u32) -> Walked
     requires { ⌜ place + 8 + size < 2 ^ 64 ⌝ }
     ensures { λ r. ⌜ r ≡ stepped (wholeAt decision place id size) ⌝ }
@@ -52,6 +53,15 @@ fn whole_at(decision: Decision, place: usize, id: u32, size: u32) -> Walked
             outcome: Outcome::Drop {
                 reason,
                 id,
+                length: size,
+            },
+            next,
+        },
+        Decision::Transfer(route) => Walked {
+            outcome: Outcome::Pdu {
+                route,
+                id,
+                at,
                 length: size,
             },
             next,

@@ -15,13 +15,27 @@ enum-known-decision c = search needs
 enum-known-decision-2 : tie.Need-enum-known-decision-2
 enum-known-decision-2 c = search needs
 
+enum-known-decision-3 : tie.Need-enum-known-decision-3
+enum-known-decision-3 c = search needs
+
 returns : tie.Need-returns
 returns c = rw (c .before .decision .given .1)
 
 returns-2 : tie.Need-returns-2
 returns-2 c = rw (c .before .decision2 .given .1)
 
+returns-3 : tie.Need-returns-3
+returns-3 c = rw (c .before .decision3 .given .1)
+
 pub whole-at-spec : {M : Type 1} → statement M
 whole-at-spec =
     tie.close
-    (tie.spec add-at add-next enum-known-decision enum-known-decision-2 returns returns-2)
+    (tie.spec
+    add-at
+    add-next
+    enum-known-decision
+    enum-known-decision-2
+    enum-known-decision-3
+    returns
+    returns-2
+    returns-3)
