@@ -14,7 +14,7 @@ use Rattle.state.specs.declared.State.{State}
 use Rattle.state.specs.State.{recordAt, withRecord}
 use Rattle.state.specs.Fresh.{configOf}
 use Rattle.receive_stream.specs.declared.Outcome.{Outcome}
-use Rattle.receive_stream.specs.declared.Outcome.the-variants.{More, Pdu, Drop}
+use Rattle.receive_stream.specs.declared.Outcome.the-variants.{More, Pdu, Drop, Start, Piece}
 use Rattle.receive_stream.proofs.Leaves.{leaves-length}
 use Rattle.receive_datagram.specs.declared.Outcome.{Outcome as Found}
 use Rattle.receive_datagram.specs.declared.Outcome.the-variants as Met
@@ -32,6 +32,8 @@ count-udp : (o : Outcome) (s : State) → countTake o s .«udp_drops» ≡ s .«
 count-udp More s = refl
 count-udp (Pdu route id inside at n) s = refl
 count-udp (Drop reason id n) s = refl
+count-udp (Start route id n last) s = refl
+count-udp (Piece route id at n last) s = refl
 
 count-tcp : (o : Found) (s : State) → countWalk o s .«tcp_drops» ≡ s .«tcp_drops»
 count-tcp Met.End s = refl

@@ -23,8 +23,8 @@ use Rattle.state.specs.declared.State.{State}
 use Rattle.state.specs.State.{recordAt, withRecord}
 use Rattle.state.specs.Fresh.{configOf}
 use Rattle.receive_stream.specs.declared.Outcome.{Outcome}
-use Rattle.receive_stream.specs.declared.Outcome.the-variants.{More, Pdu, Drop}
-use Rattle.receive_stream.proofs.Leaves.{PartHolds, Owns, leaves-fit, leaves-owned}
+use Rattle.receive_stream.specs.declared.Outcome.the-variants.{More, Pdu, Drop, Start, Piece}
+use Rattle.receive_stream.proofs.Leaves.{PartHolds, Owns, Moves, leaves-fit, leaves-owned}
 use Rattle.receive_datagram.specs.declared.Outcome.{Outcome as Found}
 use Rattle.receive_datagram.specs.declared.Outcome.the-variants as Met
 use Rattle.gate.specs.Lent.{Lent, next, Loan, sizes, received}
@@ -60,6 +60,8 @@ pub count-records : (o : Outcome) (s : State) → countTake o s .connections ≡
 count-records More s = refl
 count-records (Pdu route id inside at n) s = refl
 count-records (Drop reason id n) s = refl
+count-records (Start route id n last) s = refl
+count-records (Piece route id at n last) s = refl
 
 pub walk-count-records : (o : Found) (s : State) → countWalk o s .connections ≡ s .connections
 walk-count-records Met.End s = refl
@@ -86,13 +88,13 @@ module _ (l : Loan) (k : ℕ) (segment : List ℕ) (bytes : (i : ℕ) → getD s
   sound-before : soundAt image k (recordAt s k) ≡ true
   sound-before = record-at image (s .connections) k (clear .passed .sound) (in-range s k (clear .receives))
 
-  owned : PartHolds (Owns (bodyOf image Routes) k) (takenAt image s rx k segment .part)
+  owned : PartHolds (Owns (bodyOf image Routes) k) (Moves (bodyOf image Routes) k) (takenAt image s rx k segment .part)
   owned =
       leaves-owned (bodyOf image Routes) k (recordAt s k .switches) (recordAt s k .part) (stretch 1464 k rx) segment (takes .fit) bytes
       (routed-owns (bodyOf image Routes) k (recordAt s k .part) (few-routes image (clear .passed .table))
       (row-routed image k (recordAt s k) sound-before (clear .there)))
 
-  -- the record is sound again: shaped, its route the connection's, the length allowed
+  -- the record is sound again: shaped; a payload's route the connection's, unmarked, the length allowed; a transfer's the connection's, marked
   sound-after : soundAt image k after ≡ true
   sound-after =
       sound-row image k after (clear .there)

@@ -7,3 +7,4 @@ pub mod Routed
 pub mod Decided
 pub mod Keeps
 pub mod Apart
+pub mod Running

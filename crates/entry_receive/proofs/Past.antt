@@ -1,7 +1,7 @@
 -- What the gate shows to a take and to a walk.
 use Prim.Native.Nat.{ℕ, _*_, _/_, _<_, _≤_}
 use mathlib.Core.Path.{_≡_, refl, sym, subst}
-use mathlib.Core.Bool.{true, _&&_}
+use mathlib.Core.Bool.{Bool, true, _&&_}
 use mathlib.Core.List.{List, []}
 use native.Mathlib.Omega.{arith}
 use native.Mathlib.Decide.{decLt}
@@ -10,7 +10,7 @@ use lib.Dec.{eqb, leb, ltb}
 use lib.ListN.{length, drop, length-drop, List·getD-eq-default}
 use lib.Seq.{length-take-le}
 use Rattle.wire.specs.Be.{be}
-use Rattle.lists.proofs.Both.{and-right}
+use Rattle.lists.proofs.Both.{and-left, and-right}
 use Rattle.table_layout.specs.Layout.{rowsOf, bodyOf}
 use Rattle.table_layout.specs.declared.Kind.the-variants.{Connection as Connections, Route as Routes}
 use Rattle.table_layout.proofs.Parts.{body-rows, row-none}
@@ -20,7 +20,7 @@ use Rattle.table.specs.Table.{checkTable}
 use Rattle.table.specs.Accepts.{Accepts}
 use Rattle.table.proofs.Facts.{accepted-facts}
 use Rattle.receive_part.specs.declared.Part.{Part}
-use Rattle.receive_part.specs.declared.Part.the-variants.{Header, Payload, Skip}
+use Rattle.receive_part.specs.declared.Part.the-variants.{Header, Payload, Skip, Transfer}
 use Rattle.receive_part.specs.Part.{shaped}
 use Rattle.connection.specs.declared.Connection.{Connection}
 use Rattle.connection.specs.Connection.{zeroRecord}
@@ -59,10 +59,12 @@ module _ (image : List ℕ) (ok : checkTable image ≡ Accepted) where
 routed-short : (routes : List ℕ) (n : ℕ) (part : Part) → Limits routes → routed routes n part ≡ true → lengthOf part ≤ 1464
 routed-short routes n (Header held value) most p = omega arith
 routed-short routes n (Payload route len held) most p =
+    let row : Bool = ltb route (length routes / 16) && eqb (routeIn routes route .connection) n in
     let h : len ≤ routeIn routes route .longest =
-    leb-true _ _ (and-right (ltb route (length routes / 16) && eqb (routeIn routes route .connection) n) (leb len (routeIn routes route .longest)) p) in
+    leb-true _ _ (and-right row (leb len (routeIn routes route .longest)) (and-left (row && leb len (routeIn routes route .longest)) _ p)) in
     omega (arith, most route)
 routed-short routes n (Skip bytes) most p = omega arith
+routed-short routes n (Transfer route left) most p = omega arith
 
 -- the part of a sound record
 pub record SoundPart (part : Part) : Type 0 where

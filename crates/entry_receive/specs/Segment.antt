@@ -7,14 +7,14 @@ use mathlib.Core.List.{List, []}
 use lib.ListN.{length}
 use Rattle.wire.specs.Lay.{lay}
 use Rattle.wire.specs.Place.{behind, fromAt}
-use Rattle.table_layout.specs.Layout.{bodyOf}
+use Rattle.table_layout.specs.Layout.{bodyOf, partOf, partAt}
 use Rattle.table_layout.specs.declared.Kind.the-variants.{Route as Routes}
 use Rattle.connection.specs.Connection.{withPart}
 use Rattle.state.specs.declared.State.{State}
 use Rattle.state.specs.State.{recordAt, withRecord, countOf, withCount, counted}
 use Rattle.state.specs.Fresh.{configOf}
 use Rattle.receive_stream.specs.declared.Outcome.{Outcome}
-use Rattle.receive_stream.specs.declared.Outcome.the-variants.{More, Pdu, Drop}
+use Rattle.receive_stream.specs.declared.Outcome.the-variants.{More, Pdu, Drop, Start, Piece}
 use Rattle.receive_stream.specs.declared.Taken.{Taken}
 use Rattle.receive_stream.specs.Stream.{takenOf, rxAfter, payloadAt, payloadPlace, Fit}
 use Rattle.state.specs.Memory.{stretch}
@@ -24,11 +24,13 @@ use Rattle.entry_receive.specs.declared.Answer.the-variants.{Done}
 use Rattle.entry_receive.specs.declared.SegmentTaken.{SegmentTaken}
 use Rattle.entry_receive.specs.Answer.{isDone, judgedAnswer}
 
--- R5.6: a drop adds 1 to its protocol's count, TCP's
+-- R5.6: a drop adds 1 to its protocol's count, TCP's; a transfer's start and its pieces add none
 abbrev pub dropsAfter : Outcome → ℕ → ℕ
 dropsAfter More drops = drops
 dropsAfter (Pdu route id inside at n) drops = drops
 dropsAfter (Drop reason id n) drops = counted drops
+dropsAfter (Start route id n last) drops = drops
+dropsAfter (Piece route id at n last) drops = drops
 
 abbrev pub countTake : Outcome → State → State
 countTake outcome s = withCount true (dropsAfter outcome (countOf true s)) s
@@ -88,12 +90,14 @@ pub record Apart (k : ℕ) (s t : State) (rx rx′ : List ℕ) : Type 0 where
   pub stretches : (j : ℕ) → (j ≡ k → ⊥) → stretch 1464 j rx′ ≡ stretch 1464 j rx
   pub udp : t .«udp_drops» ≡ s .«udp_drops»
 
--- R5.11: the payload, out of the segment when all of it stands there, otherwise out of receive memory; where no PDU is handed out there
--- is none
+-- R5.11: the payload, out of the segment when all of it stands there, otherwise out of receive memory; R19.3: a transfer's piece, out of the
+-- segment; where neither is handed out there is none
 unfoldable pub payloadOf : List ℕ → List ℕ → ℕ → Outcome → List ℕ
 payloadOf segment rx connection More = []
 payloadOf segment rx connection (Pdu route id inside at n) = payloadAt segment (stretch 1464 connection rx) inside at n
 payloadOf segment rx connection (Drop reason id n) = []
+payloadOf segment rx connection (Start route id n last) = []
+payloadOf segment rx connection (Piece route id at n last) = partOf segment at n
 
 -- and where it stands: in the segment, whose front is at the place p, or in the connection's stretch of receive memory, whose front is at
 -- q; an empty part at the segment's front
@@ -102,3 +106,5 @@ payloadStands p segment q rx connection More = p
 payloadStands p segment q rx connection (Pdu route id inside at n) =
     payloadPlace p segment (behind q (fromAt rx (connection * 1464))) (stretch 1464 connection rx) inside at n
 payloadStands p segment q rx connection (Drop reason id n) = p
+payloadStands p segment q rx connection (Start route id n last) = p
+payloadStands p segment q rx connection (Piece route id at n last) = behind p (partAt segment at n)

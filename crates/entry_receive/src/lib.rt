@@ -22,6 +22,7 @@ use state::config_of;
 use state::counted_once;
 use table_layout::Kind;
 use table_layout::body_of;
+use table_layout::part_of;
 
 // 0; 11, 12, 2, 3; 4.
 pub enum Answer {
@@ -112,6 +113,19 @@ pub fn drops_after(outcome: Outcome, drops: u32) -> u32
             id: _,
             length: _,
         } => counted_once(drops),
+        Outcome::Start {
+            route: _,
+            id: _,
+            length: _,
+            last: _,
+        } => drops,
+        Outcome::Piece {
+            route: _,
+            id: _,
+            at: _,
+            length: _,
+            last: _,
+        } => drops,
     }
 }
 
@@ -153,7 +167,7 @@ fn take_on(
     }
 }
 
-// A take of a segment: up to the end of its first complete PDU or dropped header.
+// A take of a segment: up to the end of its first complete PDU, dropped header or transfer's start; or a piece of a running transfer.
 pub fn segment_take(
     image: &[u8],
     state: State,
@@ -193,7 +207,8 @@ fn stretch_of(rx: &[u8], connection: u8) -> &[u8]
     &rx[start..start + 1464]
 }
 
-// The payload of the PDU that a take has handed out: the part of whichever of the two lent slices holds it.
+// The payload of the PDU that a take has handed out, the part of whichever of the two lent slices holds it; of a transfer's piece, its part
+// of the segment.
 pub fn segment_payload<'a>(
     segment: &'a [u8],
     rx: &'a [u8],
@@ -218,6 +233,19 @@ pub fn segment_payload<'a>(
             id: _,
             length: _,
         } => &segment[..0],
+        Outcome::Start {
+            route: _,
+            id: _,
+            length: _,
+            last: _,
+        } => &segment[..0],
+        Outcome::Piece {
+            route: _,
+            id: _,
+            at,
+            length,
+            last: _,
+        } => part_of(segment, at, length),
     }
 }
 

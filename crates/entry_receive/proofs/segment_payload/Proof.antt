@@ -27,6 +27,18 @@ enum-told-2 c = search needs
 slice-aggregate-result-2 : tie.Need-slice-aggregate-result-2
 slice-aggregate-result-2 c = search needs
 
+enum-told-3 : tie.Need-enum-told-3
+enum-told-3 c = search needs
+
+slice-aggregate-result-3 : tie.Need-slice-aggregate-result-3
+slice-aggregate-result-3 c = search needs
+
+enum-known-outcome-2 : tie.Need-enum-known-outcome-2
+enum-known-outcome-2 c = search needs
+
+part-of-requires : tie.Need-part-of-requires
+part-of-requires c κs = search needs
+
 returns : tie.Need-returns
 unfolding payloadOf payloadStands
 returns c = rw (c .before .enum-told .given .1) (refl, refl)
@@ -42,6 +54,14 @@ returns-3 : tie.Need-returns-3
 unfolding payloadOf payloadStands
 returns-3 c = rw (c .before .enum-told2 .given .1) (refl, refl)
 
+returns-4 : tie.Need-returns-4
+unfolding payloadOf payloadStands
+returns-4 c = rw (c .before .enum-told3 .given .1) (refl, refl)
+
+returns-5 : tie.Need-returns-5
+unfolding payloadOf payloadStands
+returns-5 c = rw (c .before .before .outcome2 .given .1) (c .part-of .ensures)
+
 pub segment-payload-spec : {M : Type 1} → statement M
 segment-payload-spec =
     tie.close
@@ -53,6 +73,12 @@ segment-payload-spec =
     payload-of-requires
     enum-told-2
     slice-aggregate-result-2
+    enum-told-3
+    slice-aggregate-result-3
+    enum-known-outcome-2
+    part-of-requires
     returns
     returns-2
-    returns-3)
+    returns-3
+    returns-4
+    returns-5)
