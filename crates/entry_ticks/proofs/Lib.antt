@@ -1,3 +1,5 @@
 -- The laws of the crate.
+pub mod Fails
 pub mod Many
+pub mod Marks
 pub mod Turns

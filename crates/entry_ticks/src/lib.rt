@@ -1,9 +1,9 @@
 // A tick of the whole module, and many ticks under one check, by jumps from change to change. Assumes nothing: no entry relies on its caller.
 ghost use mathlib.Core.Path.{_≡_};
-ghost use Prim.Native.Nat.{_-_, _≤_};
+ghost use Prim.Native.Nat.{_-_, _<_, _≤_};
 ghost use Rattle.gate.specs.Lent.{lentBy};
 ghost use Rattle.entry_ticks.specs.Many.{manyOf, beforeEnd, quietFor, smallerOf, agedBy};
-ghost use Rattle.entry_ticks.specs.Tick.{restsOf, coastsOf, ticksTo, tickEvent, ticksEvent};
+ghost use Rattle.entry_ticks.specs.Tick.{restsOf, coastsOf, ticksTo, markedOf, tickedFrom, tickEvent, ticksEvent};
 use connection::Answer;
 use connection::Config;
 use connection::Connection;
@@ -18,11 +18,11 @@ use table_layout::Kind;
 use table_layout::body_of;
 use table_layout::rows_of;
 
-// What a tick answers, and the state after it. Apart from the other events' answer: a tick may come to answer more (docs/EVENTS.md has
-// its bytes).
+// What a tick answers, the state after it, and whose transfers it ended: bit k, worth 2 to the k, for connection k.
 pub struct Ticked {
     pub answer: Answer,
     pub state: State,
+    pub failed: u16,
 }
 
 // Whether a tick finds nothing to do.
@@ -109,14 +109,28 @@ fn tick_many(config: Config, c: Connection, count: u32) -> Connection
     }
 }
 
-// `count` ticks of the first `rows` connections, in order; the row of one that rests or coasts is not asked for.
-fn tick_rows(image: &[u8], rows: usize, state: State, count: u32) -> State
+// A word with bit k set as well.
+fn marked(word: u16, k: usize, on: bool) -> u16
+    requires { ⌜ k < 16 ⌝ }
+    ensures { λ r. ⌜ r ≡ markedOf k on word ⌝ }
+{
+    if on {
+        let one: u16 = 1;
+        return word | (one << k);
+    }
+    word
+}
+
+// `count` ticks of the first `rows` connections, in order, and whose transfers they end; the row of one that rests or coasts is not
+// asked for, and its transfer goes on.
+fn tick_rows(image: &[u8], rows: usize, state: State, count: u32) -> Ticked
     requires { ⌜ rows ≤ 16 ⌝ }
-    ensures { λ r. ⌜ r ≡ ticksTo (now (image .entry)) rows count state ⌝ }
+    ensures { λ r. ⌜ r ≡ tickedFrom rows state (ticksTo (now (image .entry)) rows count state) ⌝ }
 {
     let connections = body_of(image, Kind::Connection);
     let groups = body_of(image, Kind::Group);
     let mut after = state;
+    let mut failed: u16 = 0;
     let mut i: usize = 0;
     while i < rows {
         let connection = after.connections[i];
@@ -132,9 +146,14 @@ fn tick_rows(image: &[u8], rows: usize, state: State, count: u32) -> State
         }
         let next = tick_many(config_in(connections, groups, i), connection, count);
         after.connections[i] = next;
+        failed = marked(failed, i, connection::failed(connection, next));
         i += 1;
     }
-    after
+    Ticked {
+        answer: Answer::Done,
+        state: after,
+        failed: failed,
+    }
 }
 
 pub fn tick(image: &[u8], state: State, rx: &[u8], tx: &[u8]) -> Ticked
@@ -145,14 +164,9 @@ pub fn tick(image: &[u8], state: State, rx: &[u8], tx: &[u8]) -> Ticked
         Gate::Refused(reason) => Ticked {
             answer: Answer::Refused(reason),
             state: state,
+            failed: 0,
         },
-        Gate::Pass => {
-            let after = tick_rows(image, rows_of(image, Kind::Connection), state, 1);
-            Ticked {
-                answer: Answer::Done,
-                state: after,
-            }
-        }
+        Gate::Pass => tick_rows(image, rows_of(image, Kind::Connection), state, 1),
     }
 }
 
@@ -165,13 +179,8 @@ pub fn ticks(image: &[u8], state: State, rx: &[u8], tx: &[u8], count: u32) -> Ti
         Gate::Refused(reason) => Ticked {
             answer: Answer::Refused(reason),
             state: state,
+            failed: 0,
         },
-        Gate::Pass => {
-            let after = tick_rows(image, rows_of(image, Kind::Connection), state, count);
-            Ticked {
-                answer: Answer::Done,
-                state: after,
-            }
-        }
+        Gate::Pass => tick_rows(image, rows_of(image, Kind::Connection), state, count),
     }
 }
