@@ -1,7 +1,7 @@
--- THE STARRED EDGES (R12.1 to R12.7) as one table: what the definitions give, and what the rules say, both as the rules' numbers. One
+-- THE STARRED EDGES (R12.1 to R12.7), and those of transfers (R19.1 to R19.7), as one table: what the definitions give, and what the rules say, both as the rules' numbers. One
 -- statement says all of it: `Hold` of the table.
 use Prim.Native.Nat.{ℕ}
-use mathlib.Core.Bool.{Bool, true, false, _&&_}
+use mathlib.Core.Bool.{Bool, true, false, cond, _&&_}
 use mathlib.Core.Path.{_≡_}
 use mathlib.Core.List.{List, [], _∷_}
 use lib.Dec.{eqb}
@@ -10,16 +10,21 @@ use Rattle.wire.specs.Be.{be}
 use Rattle.table_layout.specs.Layout.{bodyOf}
 use Rattle.table_layout.specs.declared.Kind.the-variants.{Route}
 use Rattle.table_rows.specs.Rows.{routeOf}
-use Rattle.reading.specs.Feed.{Routes, Out, nothing, pdu, dropped, ready, segmentRan, segments}
+use Rattle.reading.specs.Feed.{Routes, Out, nothing, pdu, dropped, start, piece, ready, segmentRan, segments}
 use Rattle.receive_route.specs.Route.{lookupOf}
 use Rattle.reading_walk.specs.Walk.{walkAt, outsTold}
-use Rattle.table.specs.Table.{checkTable, tableNumber}
+use Rattle.table.specs.Table.{checkTable, tableNumber, answerPlace}
+use Rattle.connection.specs.declared.Event.the-variants.{Cancel}
+use Rattle.connection.specs.Event.{answerNumber}
+use Rattle.state.specs.declared.State.{State}
+use Rattle.state.specs.State.{recordAt}
+use Rattle.entry_events.specs.Change.{eventOf, lossOf}
 use Rattle.select.specs.declared.Arrival.{Arrival}
 use Rattle.select.specs.declared.Arrival.the-variants.{Met, Refused, Unmatched}
-use Rattle.select.specs.Choose.{arriveOf, arrivalNumber}
+use Rattle.select.specs.Choose.{oneOf, arriveOf, arrivalNumber}
 use Rattle.send.specs.Verdict.{transmissionNumber}
 use Rattle.send.specs.Send.{checkOf}
-use Rattle.example_edges.specs.Table.{image, fresh, waitingFor, used, exact}
+use Rattle.example_edges.specs.Table.{image, markedUdp, markedTwice, fresh, waitingFor, used, moving, exact, lends}
 
 pub record Edge : Type 0 where
   pub is : List ℕ
@@ -29,18 +34,32 @@ abbrev pub edge : List ℕ → List ℕ → Edge
 edge a b = record { is = a; says = b }
 
 -- outcomes as numbers: a PDU by 0, its route, the header id of that route's row, the number that its payload stands for, and its length; a
--- drop by reason, id, length
+-- drop by reason, id, length; a transfer's start by 3, its route, id, length, and 1 where it carries the end mark; a piece by 4, the last one
+-- by 5, and then as a PDU
 abbrev pub numbers : List Out → List ℕ
 numbers [] = []
 numbers (nothing ∷ os) = numbers os
 numbers (pdu r p ∷ os) = 0 ∷ r ∷ routeOf image r .id ∷ be (length p) p 0 ∷ length p ∷ numbers os
 numbers (dropped k i n ∷ os) = k ∷ i ∷ n ∷ numbers os
+numbers (start r i n m ∷ os) = 3 ∷ r ∷ i ∷ n ∷ oneOf m ∷ numbers os
+numbers (piece r p m ∷ os) = cond m 5 4 ∷ r ∷ routeOf image r .id ∷ be (length p) p 0 ∷ length p ∷ numbers os
 
 -- an arrival by its number, and the connection that it names
 abbrev pub arrivedNumbers : Arrival → List ℕ
 arrivedNumbers (Met k) = 0 ∷ k ∷ []
 arrivedNumbers (Refused r) = arrivalNumber (Refused r) ∷ []
 arrivedNumbers Unmatched = arrivalNumber Unmatched ∷ []
+
+-- a table's answer by its number, and the place that it gives
+abbrev pub tableNumbers : List ℕ → List ℕ
+tableNumbers s = tableNumber (checkTable s) ∷ answerPlace (checkTable s) 0 ∷ []
+
+-- a cancel of connection 2 by its number, and whether close is wanted after it; a loss by 1 where a transfer failed
+abbrev pub cancelNumbers : State → List ℕ
+cancelNumbers s = answerNumber (eventOf (lends s) 2 Cancel .answer) ∷ oneOf (recordAt (eventOf (lends s) 2 Cancel .state) 2 .«close_wanted») ∷ []
+
+abbrev pub lossNumbers : State → List ℕ
+lossNumbers s = answerNumber (lossOf (lends s) 2 .answer) ∷ oneOf (lossOf (lends s) 2 .failed) ∷ []
 
 -- what connection k's routes say, with these switches
 abbrev pub routes : ℕ → ℕ → Routes
@@ -83,6 +102,22 @@ edges =
     -- R12.7: a datagram of 7 bytes is 23; and the whole one
     ∷ edge (numbers (outsTold (take 7 bar) (walkAt (routes 0 0) (take 7 bar) 0 .found) [])) (23 ∷ 0 ∷ 0 ∷ [])
     ∷ edge (numbers (outsTold bar (walkAt (routes 0 0) bar 0 .found) [])) (0 ∷ 2 ∷ 0x101 ∷ 180 ∷ 2 ∷ [])
+    -- R19.1: the mark on a UDP connection's route, and a mark of 2, are refused at their rows
+    ∷ edge (tableNumbers markedUdp) (1 ∷ 120 ∷ [])
+    ∷ edge (tableNumbers markedTwice) (1 ∷ 88 ∷ [])
+    -- R19.5: a start at length 0; R19.3, R19.4: a transfer of one byte, and of two bytes in two segments
+    ∷ edge (numbers (segmentRan (routes 2 0) ready (framed 4 0 []) .list)) (3 ∷ 3 ∷ 0x104 ∷ 0 ∷ 1 ∷ [])
+    ∷ edge (numbers (segmentRan (routes 2 0) ready (framed 4 1 (7 ∷ [])) .list)) (3 ∷ 3 ∷ 0x104 ∷ 1 ∷ 0 ∷ 5 ∷ 3 ∷ 0x104 ∷ 7 ∷ 1 ∷ [])
+    ∷ edge (numbers (segments (routes 2 0) ready (framed 4 2 (7 ∷ []) ∷ (8 ∷ []) ∷ []) .list))
+    (3 ∷ 3 ∷ 0x104 ∷ 2 ∷ 0 ∷ 4 ∷ 3 ∷ 0x104 ∷ 7 ∷ 1 ∷ 5 ∷ 3 ∷ 0x104 ∷ 8 ∷ 1 ∷ [])
+    -- R19.1, R19.2: the longest transfer begins, whatever the row's longest payload
+    ∷ edge (numbers (segmentRan (routes 2 0) ready (0 ∷ 0 ∷ 1 ∷ 4 ∷ 255 ∷ 255 ∷ 255 ∷ 255 ∷ []) .list)) (3 ∷ 3 ∷ 0x104 ∷ 4294967295 ∷ 0 ∷ [])
+    -- R19.6: a cancel while a transfer runs, and without one
+    ∷ edge (cancelNumbers (moving 5)) (0 ∷ 1 ∷ [])
+    ∷ edge (cancelNumbers (used 10)) (3 ∷ 0 ∷ [])
+    -- R19.7: a loss while a transfer runs, and without one
+    ∷ edge (lossNumbers (moving 5)) (0 ∷ 1 ∷ [])
+    ∷ edge (lossNumbers (used 10)) (0 ∷ 0 ∷ [])
     ∷ []
 
 -- two lists of numbers are the same; all rows are

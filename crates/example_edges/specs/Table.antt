@@ -2,32 +2,42 @@
 use Prim.Native.Nat.{ℕ}
 use mathlib.Core.Bool.{true}
 use mathlib.Core.List.{List, [], _∷_}
-use lib.ListN.{replicate}
+use lib.ListN.{replicate, set}
+use Rattle.receive_part.specs.declared.Part.the-variants.{Transfer}
 use Rattle.connection.specs.declared.Remote.{Remote}
 use Rattle.connection.specs.declared.Mode.the-variants.{Reconnect, Online}
-use Rattle.connection.specs.Connection.{become, withSend}
+use Rattle.connection.specs.Connection.{become, withPart, withSend}
 use Rattle.state.specs.declared.State.{State}
 use Rattle.state.specs.State.{recordAt, withRecord}
 use Rattle.state.specs.Fresh.{freshState}
 use Rattle.gate.specs.Lent.{Lent, lent, Loan, loan}
 
--- two groups (UDP, TCP), three connections, three routes, one destination
+-- two groups (UDP, TCP), three connections, four routes, one destination
 unfoldable pub image : List ℕ
 image =
     0 ∷ 1 ∷ 0 ∷ 4
     ∷ 0 ∷ 1 ∷ 0 ∷ 2 ∷ 0 ∷ 0 ∷ 0 ∷ 36 ∷ 0 ∷ 2 ∷ 0 ∷ 3 ∷ 0 ∷ 0 ∷ 0 ∷ 40
-    ∷ 0 ∷ 3 ∷ 0 ∷ 3 ∷ 0 ∷ 0 ∷ 0 ∷ 88 ∷ 0 ∷ 4 ∷ 0 ∷ 1 ∷ 0 ∷ 0 ∷ 0 ∷ 136
+    ∷ 0 ∷ 3 ∷ 0 ∷ 4 ∷ 0 ∷ 0 ∷ 0 ∷ 88 ∷ 0 ∷ 4 ∷ 0 ∷ 1 ∷ 0 ∷ 0 ∷ 0 ∷ 152
     ∷ 1 ∷ 0 ∷ 2 ∷ 0
     -- 0: UDP, remote 0:0; 1: UDP, 192.168.0.5 port 1,000; 2: TCP, 192.168.0.7 port 1,000; each with all switches off
     ∷ 0 ∷ 0 ∷ 0 ∷ 0 ∷ 0 ∷ 0 ∷ 0 ∷ 0 ∷ 5 ∷ 0xC0 ∷ 0 ∷ 0 ∷ 0 ∷ 0 ∷ 0 ∷ 0
     ∷ 0 ∷ 0 ∷ 192 ∷ 168 ∷ 0 ∷ 5 ∷ 3 ∷ 0xE8 ∷ 5 ∷ 0xC0 ∷ 0 ∷ 0 ∷ 0 ∷ 0 ∷ 0 ∷ 0
     ∷ 1 ∷ 0 ∷ 192 ∷ 168 ∷ 0 ∷ 7 ∷ 3 ∷ 0xE8 ∷ 5 ∷ 0xC0 ∷ 0 ∷ 0 ∷ 0 ∷ 0 ∷ 0 ∷ 0
-    -- connection 2: 0x101 to 2 bytes under switch 0; 0x102 to 2 bytes with groups 0; connection 0: 0x101
+    -- connection 2: 0x101 to 2 bytes under switch 0; 0x102 to 2 bytes with groups 0; connection 0: 0x101; connection 2: 0x104, marked, with
+    -- longest payload 0 and groups 0
     ∷ 2 ∷ 0 ∷ 0 ∷ 2 ∷ 0 ∷ 0 ∷ 1 ∷ 1 ∷ 0 ∷ 7 ∷ 0 ∷ 0 ∷ 0 ∷ 0 ∷ 0 ∷ 1
     ∷ 2 ∷ 0 ∷ 0 ∷ 2 ∷ 0 ∷ 0 ∷ 1 ∷ 2 ∷ 0 ∷ 8 ∷ 0 ∷ 0 ∷ 0 ∷ 0 ∷ 0 ∷ 0
     ∷ 0 ∷ 0 ∷ 0 ∷ 2 ∷ 0 ∷ 0 ∷ 1 ∷ 1 ∷ 0 ∷ 7 ∷ 0 ∷ 0 ∷ 0 ∷ 0 ∷ 0 ∷ 0
+    ∷ 2 ∷ 1 ∷ 0 ∷ 0 ∷ 0 ∷ 0 ∷ 1 ∷ 4 ∷ 0 ∷ 10 ∷ 0 ∷ 0 ∷ 0 ∷ 0 ∷ 0 ∷ 0
     -- PDU 9 to connection 2, id 0x202, to 1,464 bytes, groups 0
     ∷ 2 ∷ 0 ∷ 5 ∷ 0xB8 ∷ 0 ∷ 0 ∷ 2 ∷ 2 ∷ 0 ∷ 9 ∷ 0 ∷ 0 ∷ 0 ∷ 0 ∷ 0 ∷ 0 ∷ []
+
+-- R19.1, the mark, a row's second byte: 1 on route 2, whose connection is UDP; 2 on route 0
+abbrev pub markedUdp : List ℕ
+markedUdp = set image 121 1
+
+abbrev pub markedTwice : List ℕ
+markedTwice = set image 89 2
 
 abbrev pub fresh : State
 fresh = freshState image
@@ -39,6 +49,10 @@ waitingFor = withRecord 0 (become Reconnect (recordAt fresh 0)) (withRecord 1 (b
 -- the TCP connection online with so many bytes waiting, and due
 abbrev pub used : ℕ → State
 used n = withRecord 2 (withSend n 0 true (become Online (recordAt fresh 2))) fresh
+
+-- the TCP connection online, with a transfer of which so many bytes are to come
+abbrev pub moving : ℕ → State
+moving n = withRecord 2 (withPart (Transfer 3 n) (become Online (recordAt fresh 2))) fresh
 
 -- the remote of connection 1
 abbrev pub exact : Remote

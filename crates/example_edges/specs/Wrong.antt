@@ -1,9 +1,13 @@
--- WRONG PROGRAMS (R13.3) that concern the state and the send bytes: each as a property of a function with an entry point's arguments and
+-- WRONG PROGRAMS (R13.3, R19.6) that concern the state and the send bytes: each as a property of a function with an entry point's arguments and
 -- result; no function has it and meets the contract's definition.
 use Prim.Native.Nat.{ℕ}
 use mathlib.Core.Path.{_≡_}
+use mathlib.Core.Bool.{false}
 use mathlib.Core.List.{List}
+use Rattle.receive_part.specs.Part.{transferring}
 use Rattle.connection.specs.declared.Event.{Event}
+use Rattle.connection.specs.declared.Event.the-variants.{Cancel}
+use Rattle.state.specs.State.{recordAt}
 use Rattle.entry_events.specs.declared.Told.{Told}
 use Rattle.entry_events.specs.Change.{eventOf}
 use Rattle.gate.specs.Lent.{Lent, Loan}
@@ -19,6 +23,10 @@ IsHappen f = (l : Lent) (n : ℕ) (e : Event) → f l n e ≡ eventOf l n e
 -- events that leave the state as it was
 abbrev pub LeavesState : Happen → Type 0
 LeavesState f = (l : Lent) (n : ℕ) (e : Event) → f l n e .state ≡ l .state
+
+-- R19.6: a cancel that ends the transfer itself
+abbrev pub CancelEnds : Happen → Type 0
+CancelEnds f = (l : Lent) (n : ℕ) → transferring (recordAt (f l n Cancel .state) n .part) ≡ false
 
 -- send memory after a transmit: what it is lent, PDU, payload
 abbrev pub Send : Type 0
