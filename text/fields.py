@@ -192,6 +192,25 @@ class Choice:
         raise data.wrong(self.field, f"{value} is none of {', '.join(f'{number} ({word})' for word, number in self.values.items())}")
 
 
+class Mark:
+    """A byte that is 1 where its word stands, and 0 where it does not."""
+
+    def __init__(self, field, word):
+        self.field, self.word, self.form = field, word, f"[{word}]"
+
+    def read(self, words):
+        here = words.words[:1] == [self.word]
+        if here:
+            words.next(self.field)
+        return bytes([here])
+
+    def show(self, data):
+        value = data.next(self.field, 1)[0]
+        if value > 1:
+            raise data.wrong(self.field, f"{value} is neither 0 nor 1 ({self.word})")
+        return self.word * value
+
+
 class Address:
     """IPv4 address and port, each of which may be `any` (0)."""
 

@@ -32,17 +32,19 @@ EVENTS = {
     "switch-all": (13, [PARTY, *SWITCH]),
     "count": (14, [PARTY, Number("protocol", 1)]),
     "clear": (15, [PARTY, Number("protocol", 1)]),
+    "cancel": (16, [PARTY, CONNECTION]),
 }
 NAMED = {event: (name, row) for name, (event, row) in EVENTS.items()}
 
 
 class Part:
     """The receive part of a record: its kind, then the kind's own fields."""
-    kind = Choice("receive part", header=0, payload=1, skip=2)
+    kind = Choice("receive part", header=0, payload=1, skip=2, transfer=3)
     rows = (
         [Always("route", b"\0"), Number("header bytes held", 2, most=255), Number("number of the header bytes", 8)],
         [Number("route", 1), Number("payload bytes held", 2), Number("payload length", 8, most=65535)],
         [Always("route", b"\0"), Always("bytes held", b"\0\0"), Number("bytes to skip", 8, most=2 ** 32 - 1)],
+        [Number("route", 1), Always("bytes held", b"\0\0"), Number("bytes to come", 8, most=2 ** 32 - 1)],
     )
     form = "(" + " | ".join(form(name, row) for name, row in zip(kind.values, rows)) + ")"
 

@@ -2,6 +2,7 @@
 
 use crate::bytes::{hex, Reader, Writer};
 use crate::event::{Answer, Done, Event};
+use crate::fault::{or, Fault};
 use crate::header::Header;
 use crate::script::{address, Body};
 use crate::stream::{Outcome, Stood, Take};
@@ -10,7 +11,7 @@ use crate::walk::{Found, Step};
 
 /// "Answer number (2). Then, when it is not 0: the destination's row number (4) with a transmit's 4, 7 and 8; else 0 (4). When it is 0, by
 /// event".
-pub fn spell(event: &Event, answer: &Answer) -> Vec<u8> {
+pub fn spell(answer: &Answer) -> Vec<u8> {
     let done = match answer {
         Err((number, destination)) => {
             return Writer::default().number(*number, 2).number(destination.unwrap_or(0) as u64, 4).0;
@@ -18,15 +19,15 @@ pub fn spell(event: &Event, answer: &Answer) -> Vec<u8> {
         Ok(done) => done,
     };
     let front = Writer::default().number(0u8, 2);
-    let whole = match (done, event) {
-        (Done::Nothing, Event::Lost(_)) => front.number(0u8, 1),
-        (Done::Nothing, Event::Ticks(_)) => front.number(0u8, 2),
-        (Done::Nothing, _) => front,
-        (Done::Takes(takes), _) => takes.iter().fold(front.number(takes.len() as u64, 2), spell_take),
-        (Done::Walked(step), _) => spell_step(front, step),
-        (Done::Waiting(to, bytes), _) => address(front.number(bytes.len() as u64, 4), *to).bytes(bytes),
-        (Done::Chosen(connection), _) => front.number(*connection as u64, 1),
-        (Done::Count(value), _) => front.number(*value, 4),
+    let whole = match done {
+        Done::Nothing => front,
+        Done::Ticked(failed) => front.number(*failed, 2),
+        Done::Lost(failed) => front.number(*failed, 1),
+        Done::Takes(takes) => takes.iter().fold(front.number(takes.len() as u64, 2), spell_take),
+        Done::Walked(step) => spell_step(front, step),
+        Done::Waiting(to, bytes) => address(front.number(bytes.len() as u64, 4), *to).bytes(bytes),
+        Done::Chosen(connection) => front.number(*connection as u64, 1),
+        Done::Count(value) => front.number(*value, 4),
     };
     whole.0
 }
@@ -35,7 +36,8 @@ fn spell_found(to: Writer, kind: u8, number: u64, header: Header) -> Writer {
     to.number(kind, 1).number(number, 1).number(header.id, 4).number(header.length, 4)
 }
 
-/// "bytes read (4), kind (1: 0 more wanted, 1 PDU, 2 drop), route or reason (1), id (4), length (4)", and where a payload stood.
+/// "bytes read (4), kind (1: 0 more wanted, 1 PDU, 2 drop, 3 start, 4 piece, 5 last piece), route or reason (1), id (4), length (4)", and
+/// where a payload or a piece stood.
 fn spell_take(to: Writer, take: &Take) -> Writer {
     let to = to.number(take.read as u64, 4);
     match &take.outcome {
@@ -47,6 +49,11 @@ fn spell_take(to: Writer, take: &Take) -> Writer {
                 Stood::Segment(at) => to.number(0u8, 1).number(*at as u64, 4),
                 Stood::Memory => to.number(1u8, 1).bytes(payload),
             }
+        }
+        Outcome::Start { route, header } => spell_found(to, 3, *route as u64, *header),
+        Outcome::Piece { route, id, at, bytes, last } => {
+            let header = Header { id: *id, length: bytes.len() as u32 };
+            spell_found(to, if *last { 5 } else { 4 }, *route as u64, header).number(*at as u64, 4)
         }
     }
 }
@@ -71,7 +78,7 @@ pub fn fits(event: u16, answer: &[u8]) -> bool {
             (0..takes).for_each(|_| fit_take(&mut body));
         }
         (0, 8) => {
-            let kind = fit_found(&mut body).0;
+            let kind = fit_found(&mut body, 2).0;
             body.skip(if kind == 1 { 4 } else { 0 });
         }
         (0, 9) => {
@@ -84,20 +91,24 @@ pub fn fits(event: u16, answer: &[u8]) -> bool {
     body.end(()).is_ok()
 }
 
-/// Kind and length.
-fn fit_found(body: &mut Body) -> (u64, usize) {
+/// Kind, which is at most this, and length.
+fn fit_found(body: &mut Body, most: u64) -> (u64, usize) {
     body.skip(4);
-    let kind = body.at_most(1, 2);
+    let kind = body.at_most(1, most);
     body.skip(5);
     (kind, body.number(4) as usize)
 }
 
-/// "Of kind 1 then a mark (1): 0 and a place (4), or 1 and as many bytes as the length says".
+/// "Of kind 1 then a mark (1): 0 and a place (4), or 1 and as many bytes as the length says"; of kinds 4 and 5 a place (4).
 fn fit_take(body: &mut Body) {
-    let (kind, length) = fit_found(body);
-    if kind == 1 {
-        let mark = body.at_most(1, 1);
-        body.skip(if mark == 0 { 4 } else { length });
+    let (kind, length) = fit_found(body, or(Fault::StartsUnfit, 5, 2));
+    match kind {
+        1 => {
+            let mark = body.at_most(1, 1);
+            body.skip(if mark == 0 { 4 } else { length });
+        }
+        4 | 5 => body.skip(or(Fault::PieceHoldsBytes, 4, 4 + length)),
+        _ => {}
     }
 }
 
@@ -172,6 +183,21 @@ impl Seen {
         format!("id 0x{:08x}, length {}", self.header.id, count_words(u64::from(self.header.length), "byte"))
     }
 
+    fn start_words(&self) -> String {
+        let end = if self.header.length == 0 { ", the end" } else { "" };
+        format!("start of a transfer on route {}, {}{}", self.number, self.header_words(), end)
+    }
+
+    fn piece_words(&self, at: u64, segment: &[u8]) -> String {
+        let (front, size) =
+            (if self.kind == 5 { "last piece" } else { "piece" }, count_words(self.header.length.into(), "byte"));
+        let bytes = payload(segment, at, self.header);
+        format!(
+            "{} of route {}, id 0x{:08x}, {}, from the segment at byte {}: {}",
+            front, self.number, self.header.id, size, at, bytes
+        )
+    }
+
     fn drop_words(&self) -> String {
         format!("drop {}, {}, {}", self.number, reason_words(self.number), self.header_words())
     }
@@ -197,6 +223,8 @@ fn take_words(answer: &mut Reader, number: u64, segment: &[u8]) -> String {
             };
             format!("PDU of route {}, {}, from {}", seen.number, seen.header_words(), from)
         }
+        3 => seen.start_words(),
+        4 | 5 => seen.piece_words(answer.number(4), segment),
         _ => seen.drop_words(),
     };
     format!("; take {} read {}: {}", number, count_words(seen.front, "byte"), found)
@@ -214,6 +242,16 @@ fn walk_words(answer: &mut Reader, datagram: &[u8]) -> String {
         _ => seen.drop_words(),
     };
     format!("; {}, next byte {}", found, seen.front)
+}
+
+/// The connections whose transfers failed at a tick.
+fn ended_words(mask: u64) -> String {
+    let named: Vec<String> = (0..16).filter(|k| mask >> k & 1 == 1).map(|k: u32| k.to_string()).collect();
+    match named.len() {
+        0 => String::new(),
+        1 => format!("; a transfer failed on connection {}", named[0]),
+        _ => format!("; transfers failed on connections {}", named.join(", ")),
+    }
 }
 
 /// An answer that fits its event, in the words of docs/EVENTS.md, "ANSWER is the number and its meaning", and of docs/RECORDING.md, "A recorded
@@ -235,6 +273,8 @@ pub fn words(event: &Event, answer: &[u8]) -> String {
             let to = Remote { address: answer.number(4) as u32, port: answer.number(2) as u16 };
             format!("; {} for {}: {}", count_words(count, "byte"), remote_words(to), bytes_words(answer.bytes(count as usize)))
         }
+        (0, Event::Ticks(_)) => ended_words(answer.number(2)),
+        (0, Event::Lost(_)) if answer.number(1) != 0 => "; a transfer failed".into(),
         (0, Event::Datagram(..) | Event::Accept(..)) => format!("; connection {}", answer.number(1)),
         (0, Event::ReadCount(_) | Event::ReadAndClear(_)) => format!("; {}", count_words(answer.number(4), "drop")),
         _ => String::new(),
@@ -257,7 +297,7 @@ mod tests {
         let mut met = 0;
         for _ in 0..40 {
             lines(&script(random, 60), |seen| {
-                let (number, bytes) = (number_of(seen.event), spell(seen.event, seen.answer));
+                let (number, bytes) = (number_of(seen.event), spell(seen.answer));
                 if number > 0 {
                     assert!(fits(number, &bytes), "{:?}", seen.event);
                     assert!(!fits(number, &[&bytes[..], &[0]].concat()) && !fits(number, &bytes[..bytes.len() - 1]));
@@ -267,6 +307,8 @@ mod tests {
         }
         assert!(met > 1000);
     }
+
+    const FAILED: &str = "0 done; a transfer failed";
 
     #[test]
     fn values_that_the_core_never_answers_have_words() {
@@ -283,6 +325,19 @@ mod tests {
         assert_eq!(answer("01", "20000000002"), format!("{}the segment at byte 2: -", pdu));
         assert_eq!(answer("01", "200ffffffff"), format!("{}the segment at byte 4294967295: -", pdu));
         assert_eq!(answer("01", "201aabb"), format!("{}receive memory: aabb", pdu));
+        let start = format!("0 done{}start of a transfer on route 3, id 0x00000101, length ", take);
+        assert_eq!(answer("03", "2"), format!("{}2 bytes", start));
+        assert_eq!(answer("03", "0"), format!("{}0 bytes, the end", start));
+        let piece = |front: &str, rest: &str| format!("0 done{}{} of route 3, id 0x00000101, {}", take, front, rest);
+        assert_eq!(answer("04", "100000002"), piece("piece", "1 byte, from the segment at byte 2: 03"));
+        assert_eq!(answer("05", "200000001"), piece("last piece", "2 bytes, from the segment at byte 1: 0203"));
+        assert_eq!(answer("05", "200000002"), piece("last piece", "2 bytes, from the segment at byte 2: -"));
+        assert_eq!(answer("04", "000000001"), piece("piece", "0 bytes, from the segment at byte 1: -"));
+        assert_eq!([0, 1, 77].map(|byte| words(Event::Lost(0), &format!("0000{:02x}", byte))), ["0 done", FAILED, FAILED]);
+        let ticks = |mask: &str| words(Event::Ticks(1), &format!("0000{}", mask));
+        assert_eq!(ticks("0000"), "0 done");
+        assert_eq!(ticks("8000"), "0 done; a transfer failed on connection 15");
+        assert_eq!(ticks("0013"), "0 done; transfers failed on connections 0, 1, 4");
         let waiting = format!("00000000000109{}0a0000010050ff", "ee".repeat(12));
         assert_eq!(words(Event::TakeWaiting(0, 9), &waiting), "0 done; 1 byte for 10.0.0.1 port 80: ff");
     }

@@ -43,6 +43,20 @@ pub fn lost(config: Config, record: Record) -> Answer {
     allowed(condition, Record { mode: Mode::Reconnect, part, used, remote, close_wanted, timer: 0, due: false, ..record })
 }
 
+/// "The receiver may cancel, which sets close wanted (00575, 00581); it gets 3 when none runs".
+pub fn cancel(config: Config, record: Record) -> Answer {
+    let runs = record.part.is_transfer() || seeded(Fault::CancelAlways);
+    let refused =
+        (config.row.automatic && seeded(Fault::CancelNotAutomatic)) || (record.close_wanted && seeded(Fault::CancelOnce));
+    let part = or(Fault::CancelEnds, record.part, READY);
+    allowed(runs && !refused, Record { close_wanted: true, open_wanted: false, part, ..record })
+}
+
+/// "The tick or loss that ends a transfer early answers failed": one ran before, and none runs after.
+pub fn failed(before: &Record, after: &Record) -> bool {
+    before.part.is_transfer() && !after.part.is_transfer()
+}
+
 /// "Set remote: not online, else 3."
 pub fn set_remote(record: Record, remote: Remote) -> Answer {
     allowed(record.mode != Mode::Online || seeded(Fault::RemoteWhileOnline), Record { remote, ..record })
@@ -94,6 +108,7 @@ fn run_timer(record: Record) -> Record {
 #[cfg(test)]
 mod tests {
     use super::*;
+    use crate::stream::Part;
     use crate::table::Connection;
 
     const EXACT: Remote = Remote { address: 1, port: 1 };
@@ -116,6 +131,23 @@ mod tests {
         assert_eq!(ticked(false, false, wanted.clone()), [online; 2]);
         assert_eq!(ticked(true, false, wanted), [(Mode::Reconnect, false, false); 2]);
         assert_eq!(ticked(false, true, closing), [(Mode::Offline, false, false), online]);
+    }
+
+    #[test]
+    fn a_transfer_is_cancelled_and_fails_at_the_tick() {
+        for (automatic, close_wanted) in [(false, false), (false, true), (true, false), (true, true)] {
+            let row = Connection { group: 0, automatic, remote: EXACT, send_size: 8, switches: 5 };
+            let config = Config { row: &row, tcp: true };
+            let ready = Record { mode: Mode::Online, remote: EXACT, close_wanted, ..Record::zero() };
+            let running = Record { part: Part::Transfer { route: 0, left: 9 }, ..ready.clone() };
+            assert_eq!(cancel(config, ready.clone()), Err(3));
+            assert_eq!(cancel(config, Record { part: Part::Skip(9), ..ready.clone() }), Err(3));
+            let cancelled = cancel(config, running.clone()).unwrap();
+            assert_eq!(cancelled, Record { close_wanted: true, ..running.clone() });
+            assert!(!failed(&running, &cancelled) && failed(&cancelled, &tick(config, cancelled.clone())));
+            assert!(failed(&running, &lost(config, running.clone()).unwrap()));
+            assert!(!failed(&ready, &tick(config, ready.clone())));
+        }
     }
 
     #[test]

@@ -1,6 +1,6 @@
 //! The events, and what the core answers to each: sections 4 and 8 of the rules.
 
-use crate::connection::{close, connected, lost, open, set_remote, switch, tick};
+use crate::connection::{cancel, close, connected, failed, lost, open, set_remote, switch, tick};
 use crate::fault::{or, seeded, Fault};
 use crate::select::{select, ACCEPT, DATAGRAM};
 use crate::sound::is_sound;
@@ -29,12 +29,17 @@ pub enum Event {
     SwitchAll(u8, bool),
     ReadCount(u8),
     ReadAndClear(u8),
+    Cancel(u8),
 }
 
 /// What comes with answer 0.
 #[derive(Clone, PartialEq, Eq, Debug)]
 pub enum Done {
     Nothing,
+    /// Which connections' transfers the ticks ended: connection k is the bit worth 2 to the k.
+    Ticked(u16),
+    /// Whether the loss ended a transfer.
+    Lost(bool),
     Takes(Vec<Take>),
     Walked(Step),
     Waiting(Remote, Vec<u8>),
@@ -54,13 +59,20 @@ pub fn run(world: &mut World, event: &Event) -> Answer {
     let table = gate(world).map_err(plain)?;
     match *event {
         Event::Ticks(times) => {
-            (0..times).for_each(|_| tick_all(&table, world));
-            Ok(Done::Nothing)
+            let last = seeded(Fault::FailedOfTheLastTick);
+            let all = (0..times).fold(0, |before, _| tick_all(&table, world) | if last { 0 } else { before });
+            Ok(Done::Ticked(all))
         }
         Event::Open(connection) => of_connection(&table, world, connection, open),
         Event::Close(connection) => of_connection(&table, world, connection, close),
         Event::Connected(connection) => of_connection(&table, world, connection, connected),
-        Event::Lost(connection) => of_connection(&table, world, connection, lost),
+        Event::Lost(connection) => {
+            let before = world.state.records.get(usize::from(connection)).cloned();
+            of_connection(&table, world, connection, lost)?;
+            let ended = before.map_or(false, |before| failed(&before, &world.state.records[usize::from(connection)]));
+            Ok(Done::Lost(ended && !seeded(Fault::LossTellsNothing)))
+        }
+        Event::Cancel(connection) => of_connection(&table, world, connection, cancel),
         Event::SetRemote(connection, remote) => {
             of_connection(&table, world, connection, |_, record| set_remote(record, remote))
         }
@@ -133,8 +145,13 @@ fn each_record(table: &Table, world: &mut World, event: impl Fn(Config, Record) 
     }
 }
 
-fn tick_all(table: &Table, world: &mut World) {
+/// A tick, and the connections whose transfer it ends.
+fn tick_all(table: &Table, world: &mut World) -> u16 {
+    let before = world.state.records.clone();
     each_record(table, world, tick);
+    let ended = (0..before.len()).filter(|&k| failed(&before[k], &world.state.records[k]));
+    let told = ended.filter(|_| !seeded(Fault::TickTellsNothing));
+    told.map(|k| 1 << or(Fault::FailedFromTheTop, k, before.len() - 1 - k)).sum()
 }
 
 /// "Segment: TCP, else 3." 4: "segment, walk or transmit on a connection not online or with close wanted".

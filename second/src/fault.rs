@@ -43,7 +43,9 @@ faults! {
         SendSizeSeven: "a send size of 7 is allowed",
         SendSizeOneMore: "a send size of 1,473 is allowed",
         SecondZeroOverlooked: "the second zero byte of a connection is not tested",
-        RouteZeroOverlooked: "the zero byte of a route is not tested",
+        AnyMark: "the second byte of a route is not tested",
+        MarkOnUdp: "a route of a UDP connection may be marked",
+        MarkedLongestFree: "the longest payload of a marked route may be any number",
         ConnectionJustPast: "a destination may name the connection after the last",
         LongestOneMore: "a longest payload of 1,465 is allowed for a route",
         HeaderForgotten: "a destination's longest payload may fill the send size, without 8 more",
@@ -80,6 +82,12 @@ faults! {
         NothingSkipped: "the payload of a dropped header is taken for the next header",
         SkipBelow65536: "a skip counts in two bytes",
         FirstRouteAlways: "every PDU is given the first route",
+        MarkEarly: "a transfer ends, with its mark, one byte early",
+        LongestApplied: "22 is applied to a transfer, too",
+        PieceAsPdu: "a piece is handed out as a PDU",
+        PieceWaits: "a piece is handed out only where the segment has all that is to come",
+        TransferHeld: "a transfer is held in receive memory where it fits there",
+        SwitchDuringTransfer: "a piece is dropped when its route is switched off meanwhile",
     }
     events {
         SoundUnasked: "an unsound state is not refused",
@@ -134,6 +142,16 @@ faults! {
         No00582: "00582 is not applied",
         No00644: "00644 is not applied",
     }
+    transfers {
+        CancelAlways: "cancel gets 0 when no transfer runs",
+        CancelEnds: "cancel ends the transfer itself",
+        CancelNotAutomatic: "cancel gets 3 on an automatic connection",
+        CancelOnce: "cancel gets 3 where close is wanted already",
+        TickTellsNothing: "a tick does not tell that it ended a transfer",
+        LossTellsNothing: "a loss does not tell that it ended a transfer",
+        FailedOfTheLastTick: "of several ticks the last one's failed is told",
+        FailedFromTheTop: "connection 0 is the highest bit of what a tick tells",
+    }
     selections {
         OldTie: "more equal fields win, and the two kinds of half match tie",
         PortFirst: "any address with the port beats the address with any port",
@@ -159,7 +177,10 @@ faults! {
         ZeroBeforeNumber: "the zero field is tested before the event number",
         FitBeforeZero: "the body is tested before the zero field",
         TicksKnown: "event 0 is known in a recording",
-        CancelKnown: "event 16 is known",
+        CancelUnknown: "event 16 is unknown",
+        OneNumberMore: "event 17 is known",
+        StartsUnfit: "takes of kinds 3, 4 and 5 do not fit",
+        PieceHoldsBytes: "the bytes of a piece stand in its take",
         LastDifference: "the last difference is told, not the first",
         DifferenceEnds: "nothing is run after a difference",
         RestRefused: "bytes after the last body are refused",

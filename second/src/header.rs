@@ -31,14 +31,16 @@ pub fn is_on(groups: u32, switches: u32) -> bool {
 }
 
 /// The route for a header, or the reason of its drop. "A receive route counts for the header's id on its connection." "First
-/// that applies: drop 20 no route, 21 switched off, 22 longer than allowed."
+/// that applies: drop 20 no route, 21 switched off, 22 longer than allowed." Of a marked route "its longest payload is not applied and 22
+/// is never given".
 pub fn lookup(table: &Table, connection: usize, switches: u32, header: Header) -> Result<usize, u8> {
     let own = |route: &Route| usize::from(route.connection) == connection;
     let counts = |route: &Route| route.id == header.id && (own(route) || seeded(Fault::RouteOfAnother));
     let route = table.routes.iter().position(counts).ok_or(NO_ROUTE)?;
     let row = &table.routes[route];
     let off = !is_on(row.groups, switches);
-    let long = header.length > u32::from(row.longest).saturating_sub(or(Fault::LongestIsTooLong, 0, 1));
+    let longest = u32::from(row.longest).saturating_sub(or(Fault::LongestIsTooLong, 0, 1));
+    let long = (!row.transfer || seeded(Fault::LongestApplied)) && header.length > longest;
     let reasons =
         or(Fault::LengthBeforeSwitch, [(off, SWITCHED_OFF), (long, TOO_LONG)], [(long, TOO_LONG), (off, SWITCHED_OFF)]);
     let dropped = reasons.iter().find(|(applies, _)| *applies);

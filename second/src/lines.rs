@@ -49,6 +49,7 @@ pub fn event_words(event: &Event) -> String {
         Event::SwitchAll(number, on) => format!("switch {} of all connections {}", number, position(*on)),
         Event::ReadCount(protocol) => format!("read count of protocol {}", protocol),
         Event::ReadAndClear(protocol) => format!("read and clear count of protocol {}", protocol),
+        Event::Cancel(connection) => format!("cancel connection {}", connection),
     }
 }
 
@@ -82,6 +83,7 @@ fn record_line(world: &World, connection: usize) -> String {
             )
         }
         Part::Skip(left) => format!("skip {}", count(u64::from(left), "byte")),
+        Part::Transfer { route, left } => format!("transfer of route {}, {} to come", route, count(u64::from(left), "byte")),
     };
     let send = format!("send {}: {}", count(u64::from(record.used), "byte"), bytes(world.waiting(connection)));
     let timer =
@@ -141,7 +143,7 @@ pub fn lines(input: &[u8], mut met: impl FnMut(&Seen)) -> Vec<String> {
                     "entry {}: {}: {}",
                     number,
                     event_words(&event),
-                    answer::words(&event, &answer::spell(&event, &answer))
+                    answer::words(&event, &answer::spell(&answer))
                 ));
             }
             Ok(Entry::Start(start)) => {

@@ -25,7 +25,7 @@ pub struct Entry {
 
 impl Entry {
     pub fn new(stamp: u32, event: &Event, answer: &Answer) -> Self {
-        let body = [&script::write(event)[8..], &answer::spell(event, answer)].concat();
+        let body = [&script::write(event)[8..], &answer::spell(answer)].concat();
         Entry { stamp, number: number_of(event), zero: 0, length: body.len() as u32, body }
     }
 }
@@ -64,7 +64,7 @@ pub fn row(recording: &[u8], entry: usize) -> Row {
 fn arguments_end(event: u16, body: &[u8]) -> usize {
     let length = |at| number(body, at, 4) as usize;
     match event {
-        1..=4 | 14 | 15 => 2,
+        1..=4 | 14..=16 => 2,
         5 | 10 | 11 => 21,
         6 => 4,
         7 => 6 + length(2),

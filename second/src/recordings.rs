@@ -34,6 +34,16 @@ pub const TO_MEET: &[&str] = &[
     "N ticks at once",
 ];
 
+/// What random recordings must meet of transfers, in the lines of entries, and how often; of damaged transfers it is at least 100.
+pub const TRANSFERS_TO_MEET: &[(&str, usize)] = &[
+    (": start of a transfer on route ", 20),
+    (", length 0 bytes, the end", 2),
+    (": piece of route ", 15),
+    (": last piece of route ", 10),
+    (": 0 done; a transfer failed", 1),
+    (": cancel connection ", 20),
+];
+
 /// A line with each number as N.
 fn form(line: &str) -> String {
     let mut form = String::new();
@@ -56,6 +66,8 @@ fn note(met: &mut Met, lines: &[String]) {
             line.split(of).nth(1).and_then(|rest| rest.split(&[',', ' '][..]).next()).and_then(|n| n.parse::<u32>().ok())
         };
         if line.starts_with("entry ") {
+            let met = TRANSFERS_TO_MEET.iter().filter(|(piece, _)| line.contains(piece));
+            met.for_each(|(piece, _)| add(piece.to_string()));
             let (stamp, ticks) = (number("stamp ").unwrap_or(0), number("after ").unwrap_or(0));
             if stamp < before {
                 add("stamp across the wrap".into());

@@ -94,7 +94,7 @@ fn far(entry: usize, row: Row, ticks: u32) -> Option<Stop> {
 }
 
 fn unknown(entry: usize, row: Row) -> Option<Stop> {
-    let most = or(Fault::CancelKnown, 15, 16);
+    let most = or(Fault::CancelUnknown, or(Fault::OneNumberMore, 16, 17), 15);
     let known = (1..=most).contains(&row.number) || (row.number == 0 && seeded(Fault::TicksKnown));
     (!known).then(|| refused(format!("entry {}: unknown event number {}", entry, row.number)))
 }
@@ -156,7 +156,7 @@ impl Replay {
     fn step(&mut self, entry: usize, stamp: u32, asked: &Asked) {
         let Asked { ticks, event, recorded } = asked;
         self.tick(*ticks);
-        let today = answer::spell(event, &run(&mut self.world, event));
+        let today = answer::spell(&run(&mut self.world, event));
         let (what, now) = (event_words(event), answer::words(event, &today));
         self.lines.push(format!(
             "entry {}, stamp {}, after {}: {}: {}",

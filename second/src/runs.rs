@@ -2,6 +2,7 @@
 
 use crate::event::{Done, Event};
 use crate::fault::{self, Fault};
+use crate::header::{is_on, Header};
 use crate::lines::{lines, Seen};
 use crate::select::between_halves;
 use crate::shrink::script::Script;
@@ -47,6 +48,39 @@ pub const TO_MEET: &[&str] = &[
     "part payload",
     "part skip",
     "part ready",
+    "part transfer",
+    "start",
+    "piece",
+    "last piece",
+    "cancel 3",
+    "unsound part of a transfer",
+];
+
+/// What a run must meet, though less often.
+pub const ALSO_TO_MEET: &[&str] = &["start of no bytes", "cancel 0", "failed at a tick", "failed at a loss"];
+
+/// What a comparison of transfers must meet this often.
+pub const TRANSFERS_TO_MEET: &[(&str, usize)] = &[
+    ("start", 1000),
+    ("start of no bytes", 100),
+    ("start of 1 byte", 100),
+    ("start beyond 65535 bytes", 100),
+    ("piece", 1000),
+    ("piece of 1 byte", 100),
+    ("piece of a route that is off", 5),
+    ("last piece", 1000),
+    ("cancel 0", 300),
+    ("cancel 0 with close wanted", 100),
+    ("cancel 0, automatic", 100),
+    ("cancel 3", 300),
+    ("cancel 3 online", 100),
+    ("failed at a tick", 150),
+    ("failed at the first of several ticks", 100),
+    ("several failed at a tick", 5),
+    ("failed at a loss", 80),
+    ("drop 20", 100),
+    ("drop 21", 100),
+    ("drop 22", 30),
 ];
 
 fn mode(mode: Mode) -> &'static str {
@@ -63,7 +97,70 @@ fn part(part: Part) -> &'static str {
         Part::Header { .. } => "header",
         Part::Payload { .. } => "payload",
         Part::Skip(_) => "skip",
+        Part::Transfer { .. } => "transfer",
     }
+}
+
+/// What a take of a transfer is, and the edges among such takes; `on` says whether a route is switched on.
+fn transfer_kinds(outcome: &Outcome, on: impl Fn(usize) -> bool) -> Vec<&'static str> {
+    let told = |all: &[(bool, &'static str)]| all.iter().filter(|(met, _)| *met).map(|&(_, kind)| kind).collect();
+    match outcome {
+        Outcome::Start { header: Header { length, .. }, .. } => told(&[
+            (true, "start"),
+            (*length == 0, "start of no bytes"),
+            (*length == 1, "start of 1 byte"),
+            (*length > 65_535, "start beyond 65535 bytes"),
+        ]),
+        Outcome::Piece { route, bytes, last, .. } => told(&[
+            (!last, "piece"),
+            (*last, "last piece"),
+            (bytes.len() == 1, "piece of 1 byte"),
+            (!on(*route), "piece of a route that is off"),
+        ]),
+        _ => vec![],
+    }
+}
+
+/// Cancels, and transfers that fail.
+fn note_transfers(met: &mut Met, seen: &Seen) {
+    let mut add = |what: &str, times: bool| *met.entry(what.into()).or_insert(0) += usize::from(times);
+    let record = |connection: u8| seen.before.records.get(usize::from(connection));
+    let automatic = |connection: u8| {
+        let row = seen.after.table.as_ref().ok().and_then(|table| table.connections.get(usize::from(connection)));
+        row.map_or(false, |row| row.automatic)
+    };
+    match (seen.event, seen.answer) {
+        (Event::Cancel(connection), Ok(_)) => {
+            add("cancel 0", true);
+            add("cancel 0 with close wanted", record(*connection).map_or(false, |record| record.close_wanted));
+            add("cancel 0, automatic", automatic(*connection));
+        }
+        (Event::Cancel(connection), Err((3, _))) => {
+            add("cancel 3", true);
+            add("cancel 3 online", record(*connection).map_or(false, |record| record.mode == Mode::Online));
+        }
+        (Event::Ticks(times), Ok(Done::Ticked(failed))) => {
+            add("failed at a tick", *failed != 0);
+            add("failed at the first of several ticks", *failed != 0 && *times > 1);
+            add("several failed at a tick", failed.count_ones() > 1);
+        }
+        (Event::Lost(_), Ok(Done::Lost(failed))) => add("failed at a loss", *failed),
+        (_, Err((12, _))) => add("unsound part of a transfer", has_marked_part(seen)),
+        _ => {}
+    }
+}
+
+/// True where a record has a transfer, or a payload of a marked route.
+fn has_marked_part(seen: &Seen) -> bool {
+    let marked = |route: u8| {
+        let row = seen.after.table.as_ref().ok().and_then(|table| table.routes.get(usize::from(route)));
+        row.map_or(false, |row| row.transfer)
+    };
+    seen.before.records.iter().any(|record| match record.part {
+        Part::Transfer { .. } => true,
+        Part::Payload { route, .. } => marked(route),
+        _ => false,
+    })
 }
 
 /// What a comparison of selections must meet this often: choices between two different half matches, and those among them where the
@@ -83,7 +180,12 @@ fn note_selection(met: &mut Met, seen: &Seen) {
 
 fn note(met: &mut Met, seen: &Seen) {
     note_selection(met, seen);
+    note_transfers(met, seen);
     let (before, after, answer) = (seen.before, &seen.after.state, seen.answer);
+    let on = |route: usize| {
+        let row = seen.after.table.as_ref().ok().and_then(|table| table.routes.get(route));
+        row.map_or(false, |row| is_on(row.groups, before.records[usize::from(row.connection)].switches))
+    };
     let mut add = |what: String, times: usize| *met.entry(what).or_insert(0) += times;
     add("events".into(), 1);
     add(format!("answer {}", answer.as_ref().map_or_else(|(number, _)| *number, |_| 0)), 1);
@@ -101,6 +203,7 @@ fn note(met: &mut Met, seen: &Seen) {
                 if let Outcome::Drop { reason, .. } = take.outcome {
                     add(format!("drop {}", reason), 1);
                 }
+                transfer_kinds(&take.outcome, on).into_iter().for_each(|kind| add(kind.into(), 1));
             }
         }
         Ok(Done::Walked(step)) => {

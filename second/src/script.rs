@@ -76,6 +76,7 @@ pub fn write(event: &Event) -> Vec<u8> {
         Event::SwitchAll(number, on) => (13, body.number(*number, 1).number(*on, 1)),
         Event::ReadCount(protocol) => (14, body.number(*protocol, 1)),
         Event::ReadAndClear(protocol) => (15, body.number(*protocol, 1)),
+        Event::Cancel(connection) => (16, body.number(*connection, 1)),
     };
     entry(number, 0, &body.0)
 }
@@ -154,7 +155,7 @@ impl<'a> Body<'a> {
 /// What is refused before the body is read: an unknown number, a zero field that is not 0, a body longer than any.
 pub fn read_head(number: u16, zero: u16, length: usize) -> Result<(), Refused> {
     let most = match number {
-        0..=15 => MOST_BODY,
+        0..=16 => MOST_BODY,
         START_STATE => START_BODY,
         _ => return Err(Refused::Unknown),
     };
@@ -193,7 +194,8 @@ fn read_event(number: u16, mut body: Body) -> Result<Event, Refused> {
         12 => Event::Transmit(body.number(2) as u16, body.counted()),
         13 => Event::SwitchAll(body.byte(), body.flag()),
         14 => Event::ReadCount(body.byte()),
-        _ => Event::ReadAndClear(body.byte()),
+        15 => Event::ReadAndClear(body.byte()),
+        _ => Event::Cancel(body.byte()),
     };
     body.end(event)
 }
@@ -208,6 +210,7 @@ pub fn write_start(world: &World) -> Vec<u8> {
             Part::Header { held, value } => (0u8, 0, held.into(), value),
             Part::Payload { route, length, held } => (1, route, held, length.into()),
             Part::Skip(left) => (2, 0, 0, left.into()),
+            Part::Transfer { route, left } => (3, route, 0, left.into()),
         };
         body = body.number(kind, 1).number(route, 1).number(held, 2).number(number, 8);
         body = body.number(record.used, 2).number(record.timer, 2).number(record.due, 1);
@@ -245,10 +248,10 @@ fn read_record(body: &mut Body) -> Record {
     }
 }
 
-/// "A value that its field cannot hold (.. a kind above 2, a payload's length above 65,535, bytes to skip above 4,294,967,295, a
-/// route or held bytes where the kind has none) does not fit."
+/// "A value that its field cannot hold (.. a kind above 3, a payload's length above 65,535, bytes to skip or to come above 4,294,967,295,
+/// a route or held bytes where the kind has none) does not fit."
 fn read_part(body: &mut Body) -> Part {
-    match body.at_most(1, 2) {
+    match body.at_most(1, 3) {
         0 => {
             let (_, held) = (body.at_most(1, 0), body.at_most(2, 255) as u8);
             Part::Header { held, value: body.number(8) }
@@ -257,9 +260,13 @@ fn read_part(body: &mut Body) -> Part {
             let (route, held) = (body.byte(), body.number(2) as u16);
             Part::Payload { route, held, length: body.at_most(8, 65_535) as u16 }
         }
-        _ => {
+        2 => {
             let _ = (body.at_most(1, 0), body.at_most(2, 0));
             Part::Skip(body.at_most(8, u32::MAX.into()) as u32)
+        }
+        _ => {
+            let (route, _) = (body.byte(), body.at_most(2, 0));
+            Part::Transfer { route, left: body.at_most(8, u32::MAX.into()) as u32 }
         }
     }
 }
@@ -299,6 +306,7 @@ mod tests {
             Event::Transmit(0x201, vec![0, 0xB4]),
             Event::SwitchAll(0, false),
             Event::ReadAndClear(2),
+            Event::Cancel(15),
         ];
         for event in events {
             let bytes = write(&event);
@@ -315,7 +323,8 @@ mod tests {
 
     #[test]
     fn a_start_state_comes_back() {
-        let world = World::new(&crate::table::whole_image());
+        let mut world = World::new(&crate::table::whole_image());
+        world.state.records[1].part = Part::Transfer { route: 63, left: u32::MAX };
         let bytes = write_start(&world);
         assert_eq!(bytes.len(), 8 + START_BODY);
         assert!(matches!(read_body(START_STATE, &bytes[8..], true), Ok(Entry::Start(start)) if start.state == world.state));

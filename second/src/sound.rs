@@ -23,6 +23,21 @@ pub const RULES: &[(&str, Rule)] = &[
         Part::Payload { route, length, .. } => table.routes.get(usize::from(route)).map_or(true, |row| length <= row.longest),
         _ => true,
     }),
+    ("an unfinished payload has an unmarked route", |table, _, record| match record.part {
+        Part::Payload { route, .. } => table.routes.get(usize::from(route)).map_or(true, |row| !row.transfer),
+        _ => true,
+    }),
+    ("a running transfer has a route of its connection", |table, i, record| match record.part {
+        Part::Transfer { route, .. } => {
+            table.routes.get(usize::from(route)).map_or(false, |row| usize::from(row.connection) == i)
+        }
+        _ => true,
+    }),
+    ("that is marked", |table, _, record| match record.part {
+        Part::Transfer { route, .. } => table.routes.get(usize::from(route)).map_or(true, |row| row.transfer),
+        _ => true,
+    }),
+    ("and at least one byte to come", |_, _, record| !matches!(record.part, Part::Transfer { left: 0, .. })),
     ("0..7 header bytes", |_, _, record| match record.part {
         Part::Header { held, value } => held <= 7 && value >> (8 * u32::from(held.min(7))) == 0,
         _ => true,

@@ -45,6 +45,8 @@ pub struct Connection {
 #[derive(Clone, PartialEq, Eq, Debug)]
 pub struct Route {
     pub connection: u8,
+    /// "A route is marked TP by 1 in its second byte".
+    pub transfer: bool,
     pub longest: u16,
     pub id: u32,
     pub pdu: u16,
@@ -93,7 +95,7 @@ impl Table {
             image = image.number(row.remote.port, 2).number(row.send_size, 2).number(0u8, 2).number(row.switches, 4);
         }
         for row in &self.routes {
-            image = image.number(row.connection, 1).number(0u8, 1).number(row.longest, 2).number(row.id, 4);
+            image = image.number(row.connection, 1).number(row.transfer, 1).number(row.longest, 2).number(row.id, 4);
             image = image.number(row.pdu, 2).number(0u8, 2).number(row.groups, 4);
         }
         for row in &self.destinations {
@@ -223,16 +225,29 @@ fn add_route(row: Reader, table: &mut Table) -> Result<(), usize> {
     Ok(())
 }
 
-/// "connection 1, zero 1, longest payload 2, header id 4, upper PDU 2, zero 2, groups 4"; "Longest payload is 0..1,464".
+/// "connection 1, zero 1, longest payload 2, header id 4, upper PDU 2, zero 2, groups 4"; "Longest payload is 0..1,464". "A route is
+/// marked TP by 1 in its second byte, which on a UDP connection is a bad row".
 fn read_route(mut row: Reader, table: &Table) -> Option<Route> {
-    let connection = row.number(1) as u8;
-    let zero = row.number(1) == 0 || seeded(Fault::RouteZeroOverlooked);
+    let (connection, mark) = (row.number(1) as u8, row.number(1));
     let (longest, id, pdu) = (row.number(2) as u16, row.number(4) as u32, row.number(2) as u16);
     let also_zero = row.number(2) == 0;
     let groups = row.number(4) as u32;
     let there = usize::from(connection) < table.connections.len();
-    let good = there && zero && longest <= or(Fault::LongestOneMore, LONGEST, 1465) && also_zero;
-    good.then_some(Route { connection, longest, id, pdu, groups })
+    let most = or(Fault::LongestOneMore, LONGEST, 1465);
+    let good = there && mark_fits(table, connection, mark) && (longest <= most || longest_freed(mark)) && also_zero;
+    good.then_some(Route { connection, transfer: mark == 1, longest, id, pdu, groups })
+}
+
+/// The second byte of a route of a connection that is there: 0, or 1 on a TCP connection.
+fn mark_fits(table: &Table, connection: u8, mark: u64) -> bool {
+    let group = usize::from(table.connections[usize::from(connection)].group);
+    let tcp = || table.groups.get(group).map_or(false, |group| group.protocol == TCP);
+    mark == 0 || (mark == 1 && (tcp() || seeded(Fault::MarkOnUdp))) || (mark > 1 && seeded(Fault::AnyMark))
+}
+
+/// A fault: the longest payload of a marked route, which is not applied, may be any number.
+fn longest_freed(mark: u64) -> bool {
+    mark == 1 && seeded(Fault::MarkedLongestFree)
 }
 
 /// "connection 1, trigger 1 (0 or 1), longest payload 2, header id 4, PDU 2, timeout ticks 2, groups 4"; "for a destination, 8
@@ -300,5 +315,22 @@ mod tests {
         assert_eq!(refusal(|image| image[54] = 1), Some(54));
         assert_eq!(refusal(|image| image[71] = 2), Some(70));
         assert_eq!(refusal(|image| (image[37], image[71]) = (1, 2)), Some(36));
+    }
+
+    #[test]
+    fn a_mark_is_0_or_on_a_tcp_connection_1() {
+        for (protocol, mark, place) in
+            [(UDP, 0, None), (UDP, 1, Some(54)), (TCP, 0, None), (TCP, 1, None), (TCP, 2, Some(54)), (TCP, 255, Some(54))]
+        {
+            assert_eq!(refusal(|image| (image[36], image[55]) = (protocol, mark)), place);
+        }
+        let marked = |image: &mut Vec<u8>| (image[36], image[55]) = (TCP, 1);
+        let longest = |high, low| {
+            refusal(move |image| {
+                marked(image);
+                (image[56], image[57]) = (high, low);
+            })
+        };
+        assert_eq!((longest(5, 0xB8), longest(5, 0xB9)), (None, Some(54)));
     }
 }

@@ -2,8 +2,8 @@
 
 use crate::bytes::{hex, Reader, Writer};
 use crate::event::{run, Done, Event};
-use crate::generate::datagram::{four_routes, frames, mixed_frames};
-use crate::generate::table::{switches, table};
+use crate::generate::datagram::{few_routes, frames, mixed_frames, mixed_transfers};
+use crate::generate::table::{mark, switches, table};
 use crate::random::Random;
 use crate::state::{Mode, World};
 use crate::stream::{Outcome, Stood, Take};
@@ -56,6 +56,14 @@ pub fn read(input: &[u8]) -> Case {
     case
 }
 
+/// What cases must meet: outcomes of takes.
+pub const TO_MEET: &[&str] = &["more", "pdu", "drop", "start", "piece", "last"];
+
+/// How many of some lines are of a kind of outcome.
+pub fn met<'a>(lines: impl Iterator<Item = &'a String>, kind: &str) -> usize {
+    lines.filter(|line| line.split(' ').nth(1) == Some(kind)).count()
+}
+
 /// The lines that the program is to print for a case.
 pub fn lines(case: &Case) -> Vec<String> {
     let mut world = World::new(&[]);
@@ -95,6 +103,11 @@ fn take_lines(takes: &[Take]) -> Vec<String> {
                 let bytes = if payload.is_empty() { "-".into() } else { hex(payload) };
                 format!("pdu {} {} {} {} x{}", route, header.id, header.length, stood, bytes)
             }
+            Outcome::Start { route, header } => format!("start {} {} {}", route, header.id, header.length),
+            Outcome::Piece { route, id, at, bytes, last } => {
+                let kind = if *last { "last" } else { "piece" };
+                format!("{} {} {} {} segment {} x{}", kind, route, id, bytes.len(), at - before, hex(bytes))
+            }
         };
         before += take.read;
         format!("{} {}", take.read, words)
@@ -102,11 +115,12 @@ fn take_lines(takes: &[Take]) -> Vec<String> {
     takes.iter().map(line).collect()
 }
 
-/// A table with TCP groups, and a connection of it.
+/// A table with TCP groups and marked routes, and a connection of it.
 fn tcp_table(random: &mut Random) -> (Table, u8) {
     let counts = [random.between(1, 2), random.between(1, 3), random.between(1, 12), 0];
     let mut table = table(random, counts);
     table.groups.iter_mut().for_each(|group| group.protocol = TCP);
+    mark(random, &mut table);
     (table, random.below(counts[1]) as u8)
 }
 
@@ -127,9 +141,13 @@ pub fn random_case(random: &mut Random) -> Case {
     case
 }
 
-/// Frames of every kind, cut in two places: each pair of places once.
+/// Frames of every kind, and transfers among them, each cut in two places: each pair of places once.
 pub fn cut_cases() -> Vec<Case> {
-    let (image, bytes) = (four_routes(TCP).image(), mixed_frames());
+    [mixed_frames(), mixed_transfers()].iter().flat_map(|bytes| cut_twice(bytes)).collect()
+}
+
+fn cut_twice(bytes: &[u8]) -> Vec<Case> {
+    let image = few_routes(TCP).image();
     let item = |segment, bytes: &[u8]| Item { segment, connection: 0, switches: 1, bytes: bytes.to_vec() };
     let cuts = (0..=bytes.len()).flat_map(|one| (one..=bytes.len()).map(move |two| (one, two)));
     let case = |(one, two)| {
@@ -153,5 +171,12 @@ mod tests {
         let told = |cut: usize| lines(&vec![item(false, &image), item(true, &bytes[..cut]), item(true, &bytes[cut..])]);
         assert_eq!(told(8), ["table 0", "8 more", "2 pdu 0 257 2 segment 0 x00b4"]);
         assert_eq!(told(9), ["table 0", "9 more", "1 pdu 0 257 2 memory 0 x00b4"]);
+        let mut marked = image.clone();
+        marked[55] = 1;
+        let segments =
+            [item(false, &marked), item(true, &bytes[..9]), item(true, &bytes[9..]), item(true, &[0, 0, 1, 1, 0, 0, 0, 0])];
+        let all =
+            ["table 0", "8 start 0 257 2", "1 piece 0 257 1 segment 0 x00", "1 last 0 257 1 segment 0 xb4", "8 start 0 257 0"];
+        assert_eq!(lines(&segments.to_vec()), all);
     }
 }

@@ -56,7 +56,7 @@ pub fn table(table: &Table) -> Vec<String> {
         format!("connection {}{} longest {} bytes id 0x{:08x} pdu 0x{:04x}", connection, kept, longest, id, pdu)
     };
     let routes = table.routes.iter().map(|row| {
-        let front = common(row.connection, "", row.longest, row.id, row.pdu);
+        let front = common(row.connection, word(row.transfer, ["", " tp"]), row.longest, row.id, row.pdu);
         format!("{} groups 0x{:08x}", front, row.groups)
     });
     let destinations = table.destinations.iter().map(|row| {
@@ -101,6 +101,7 @@ fn event(event: &Event) -> String {
         Event::SwitchAll(number, on) => format!("switch-all {} {}", number, position(*on)),
         Event::ReadCount(protocol) => format!("count {}", protocol),
         Event::ReadAndClear(protocol) => format!("clear {}", protocol),
+        Event::Cancel(connection) => format!("cancel {}", connection),
     }
 }
 
@@ -135,6 +136,7 @@ fn record(record: &Record) -> String {
         Part::Header { held, value } => format!("header {} {}", held, value),
         Part::Payload { route, length, held } => format!("payload {} {} {}", route, held, length),
         Part::Skip(left) => format!("skip {}", left),
+        Part::Transfer { route, left } => format!("transfer {} {}", route, left),
     };
     let (open, close, due) = (wanted(record.open_wanted), wanted(record.close_wanted), wanted(record.due));
     let (remote, switches) = (address(record.remote), record.switches);
@@ -156,5 +158,9 @@ mod tests {
             "destination 0 connection 0 trigger longest 2 bytes id 0x00000202 pdu 0x0009 timeout 0 ticks groups 0x00000000",
         ];
         assert_eq!(table(&check(&whole_image()).unwrap()), lines);
+        let mut marked = whole_image();
+        (marked[36], marked[55]) = (crate::table::TCP, 1);
+        let route = "route 0 connection 0 tp longest 2 bytes id 0x00000101 pdu 0x0007 groups 0x00000001";
+        assert_eq!(table(&check(&marked).unwrap())[2], route);
     }
 }

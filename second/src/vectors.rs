@@ -50,7 +50,10 @@ impl Vector {
         Table {
             groups: vec![Group { protocol: self.protocol }],
             connections: vec![Connection { group: 0, automatic: true, remote, send_size: MOST_SEND_SIZE, switches: 0 }],
-            routes: ids.into_iter().map(|id| Route { connection: 0, longest: LONGEST, id, pdu: 0, groups: 0 }).collect(),
+            routes: ids
+                .into_iter()
+                .map(|id| Route { connection: 0, transfer: false, longest: LONGEST, id, pdu: 0, groups: 0 })
+                .collect(),
             destinations: vec![],
         }
     }

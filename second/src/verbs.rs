@@ -5,8 +5,8 @@ use crate::fault::{self, Fault};
 use crate::generate::datagram::{walk_cuts, walk_request};
 use crate::generate::framing::framing;
 use crate::generate::image::{changes, image, single_changes};
-use crate::generate::recording::{cuts, limits, recording};
-use crate::generate::script::{image_script, misfit_script, script, stream_script, unsound_script};
+use crate::generate::recording::{cuts, limits, recording, transfers};
+use crate::generate::script::{image_script, misfit_script, script, stream_script, transfer_script, unsound_script};
 use crate::generate::selection::selection_script;
 use crate::lines::lines;
 use crate::random::Random;
@@ -28,6 +28,11 @@ fn often_enough(to_meet: &[&str], least: usize, met: impl Fn(&str) -> usize) -> 
         Some(kind) => Err(format!("'{}' was met fewer than {} times", kind, least)),
         None => Ok(()),
     }
+}
+
+/// Every kind must be met as often as it says.
+fn floors(to_meet: &[(&str, usize)], met: impl Fn(&str) -> usize) -> Outcome {
+    to_meet.iter().try_for_each(|&(kind, least)| often_enough(&[kind], least, &met))
 }
 
 /// The random requests of a part, or a fixed list of them.
@@ -121,8 +126,10 @@ pub fn vector_streams(path: &str, words: &Words) -> Outcome {
 
 /// True for the parts that are compared by scripts.
 pub fn is_script(part: &str) -> bool {
-    ["runs", "streams", "selections"].contains(&part)
+    SCRIPTS.contains(&part)
 }
+
+const SCRIPTS: &[&str] = &["runs", "streams", "selections", "transfers"];
 
 /// Scripts of a part: `count` of different lengths, and of runs as many under any image, from a state that does not fit, and from
 /// an unsound one. Timers and wishes show at a script's end alone, so short ones count.
@@ -136,6 +143,8 @@ fn scripts(part: &str, words: &Words) -> Vec<(String, Vec<u8>)> {
             scripts.push((name, selection_script(random, 200)));
         } else if part == "streams" {
             scripts.push((name, stream_script(random, events)));
+        } else if part == "transfers" {
+            scripts.push((name, transfer_script(random, 200)));
         } else {
             scripts.push((format!("{}-image", name), image_script(random)));
             scripts.push((format!("{}-misfit", name), misfit_script(random)));
@@ -157,15 +166,19 @@ pub fn compare_scripts(part: &str, words: &Words) -> Outcome {
     let met = compare_all(&scripts(part, words), words)?;
     let times = |kind: &str| met.get(kind).copied().unwrap_or(0);
     match part {
-        "runs" => often_enough(runs::TO_MEET, 100, times),
-        "selections" => runs::HALVES_TO_MEET.iter().try_for_each(|&(kind, least)| often_enough(&[kind], least, times)),
+        "runs" => {
+            often_enough(runs::TO_MEET, 100, times)?;
+            often_enough(runs::ALSO_TO_MEET, 10, times)
+        }
+        "selections" => floors(runs::HALVES_TO_MEET, times),
+        "transfers" => floors(runs::TRANSFERS_TO_MEET, times),
         _ => Ok(()),
     }
 }
 
 /// The answers as bytes, and what is left, of scripts of each part; the name of each that differs.
 pub fn compare_answers(words: &Words) -> Outcome {
-    let scripts = ["runs", "streams", "selections"].iter().flat_map(|part| scripts(part, words));
+    let scripts = SCRIPTS.iter().flat_map(|part| scripts(part, words));
     let taken: Vec<_> = scripts.map(|(name, input)| (name, answers::taken(&input))).collect();
     let (mut lines, mut different) = (0, 0);
     for (name, input) in taken {
@@ -189,7 +202,7 @@ pub fn fault_scripts(part: &str, words: &Words) -> Outcome {
     let of = match part {
         "runs" => "events",
         "streams" => "segment",
-        _ => "selections",
+        _ => part,
     };
     let faults = fault::of(of).ok_or(USAGE)?;
     let scripts = scripts(part, words);
@@ -221,13 +234,18 @@ fn compare_replays(recordings: &[(String, Vec<u8>)], words: &Words) -> Result<ru
 
 pub fn compare_recordings(words: &Words) -> Outcome {
     let met = compare_replays(&random_recordings(words), words)?;
-    often_enough(recordings::WORDS, 1 + words.count / 100, |kind| met.get(kind).copied().unwrap_or(0))
+    let times = |kind: &str| met.get(kind).copied().unwrap_or(0);
+    often_enough(recordings::WORDS, 1 + words.count / 100, times)?;
+    floors(recordings::TRANSFERS_TO_MEET, times)
 }
 
-/// The limits from both sides, and a small recording cut at every byte.
+/// The limits from both sides, a small recording cut at every byte, and one of transfers with each of its bytes changed.
 pub fn compare_recording_edges(words: &Words) -> Outcome {
-    let met = compare_replays(&[fixed("limits", limits()), fixed("cuts", cuts())].concat(), words)?;
-    often_enough(recordings::TO_MEET, 1, |kind| met.get(kind).copied().unwrap_or(0))
+    let edges = [fixed("limits", limits()), fixed("cuts", cuts()), fixed("transfers", transfers())].concat();
+    let met = compare_replays(&edges, words)?;
+    let times = |kind: &str| met.get(kind).copied().unwrap_or(0);
+    often_enough(recordings::TO_MEET, 1, times)?;
+    recordings::TRANSFERS_TO_MEET.iter().try_for_each(|(kind, _)| often_enough(&[kind], 100, times))
 }
 
 pub fn replay_recordings(folder: &Path, words: &Words) -> Outcome {
@@ -274,7 +292,13 @@ fn printed_takes(cases: Vec<takes::Case>, words: &Words) -> Result<Vec<Told>, St
 }
 
 pub fn compare_takes(words: &Words) -> Outcome {
-    compare_cases(take_cases(words), words)
+    let cases = take_cases(words);
+    let lines: Vec<String> = cases.iter().flat_map(takes::lines).collect();
+    compare_cases(cases, words)?;
+    let times = |kind: &str| takes::met(lines.iter(), kind);
+    let kinds: Vec<String> = takes::TO_MEET.iter().map(|kind| format!("{} {}", kind, times(kind))).collect();
+    println!("takes-{}: {}", words.seed, kinds.join(", "));
+    often_enough(takes::TO_MEET, words.count / 4, times)
 }
 
 pub fn replay_takes(folder: &Path, words: &Words) -> Outcome {

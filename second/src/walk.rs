@@ -1,4 +1,4 @@
-//! R7.7 to R7.12: the walk through one datagram.
+//! R7.7 to R7.12: the walk through one datagram. It meets no marked route: on a UDP connection that is a bad row.
 
 use crate::fault::{or, seeded, Fault};
 use crate::header::{lookup, Header, CUT, HEADER};

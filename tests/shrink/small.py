@@ -13,17 +13,22 @@ import table
 
 SECOND, RUN = sys.argv[1], sys.argv[2:]
 
-# part of the comparison, cases, who answers, the fault, and what the printed case may have at most
+# part of the comparison, seed, cases, who answers, the fault, and what the printed case may have at most
 FAULTS = [
-    ("runs", 40, "run", "DueOneTickEarly", {"entries": 4, "table rows": 3}),
-    ("runs", 10, "run", "FewerFieldsWin", {"entries": 3, "table rows": 3}),
-    ("runs", 20, "run", "StoredBeforeAllChecked", {"entries": 4, "table rows": 5}),
-    ("streams", 10, "run", "SwitchAtTheEnd", {"entries": 4, "table rows": 3}),
-    ("recordings", 100, "replay", "SignedDistance", {"entries": 2, "table rows": 4}),
-    ("takes", 100, "takes", "SwitchAtTheEnd", {"segments": 2, "bytes": 150}),
-    ("table", 1000, "driver", "SendSizeSeven", {"bytes": 54}),
-    ("walk", 1000, "driver", "CutLast", {"bytes": 90}),
-    ("frame", 100, "driver", "RestCleared", {"bytes": 9}),
+    ("runs", 2, 40, "run", "DueOneTickEarly", {"entries": 4, "table rows": 3}),
+    ("runs", 3, 10, "run", "FewerFieldsWin", {"entries": 3, "table rows": 3}),
+    ("runs", 2, 20, "run", "StoredBeforeAllChecked", {"entries": 4, "table rows": 5}),
+    ("streams", 2, 10, "run", "SwitchAtTheEnd", {"entries": 4, "table rows": 3}),
+    ("transfers", 2, 10, "run", "TickTellsNothing", {"entries": 5, "table rows": 3}),
+    ("transfers", 2, 10, "run", "MarkEarly", {"entries": 3, "table rows": 3}),
+    ("recordings", 2, 100, "replay", "SignedDistance", {"entries": 2, "table rows": 4}),
+    ("recordings", 2, 100, "replay", "StartsUnfit", {"entries": 3, "table rows": 3}),
+    ("takes", 2, 100, "takes", "SwitchAtTheEnd", {"segments": 2, "bytes": 150}),
+    ("takes", 2, 100, "takes", "PieceAsPdu", {"segments": 1, "bytes": 95}),
+    ("table", 2, 1000, "driver", "SendSizeSeven", {"bytes": 54}),
+    ("table", 2, 1000, "driver", "MarkOnUdp", {"bytes": 70}),
+    ("walk", 2, 1000, "driver", "CutLast", {"bytes": 90}),
+    ("frame", 2, 100, "driver", "RestCleared", {"bytes": 9}),
 ]
 
 
@@ -57,17 +62,17 @@ def stored(folder):
         return bytes.fromhex("".join(line for line in file if not line.startswith("#")))
 
 
-def tried(part, count, answers, fault, most, folder):
+def tried(part, seed, count, answers, fault, most, folder):
     """What is wrong with a failing comparison, and what it came to."""
     wrong = []
     program = [SECOND, "simulate", answers]
-    failed, printed = second("compare", part, "--seed", 2, "--count", count, "--store", folder, "--", *program, "--fault", fault)
+    failed, printed = second("compare", part, "--seed", seed, "--count", count, "--store", folder, "--", *program, "--fault", fault)
     if not failed:
         return ["the comparison did not fail"], ""
     calls, bound, has = sizes(printed)
     wrong += [f"{has[name]} {name}, not {limit} at most" for name, limit in most.items() if has[name] > limit]
     wrong += [f"{calls} calls of {bound}"] * (calls >= bound)
-    replayed = {"streams": "runs"}.get(part, part)
+    replayed = {"streams": "runs", "transfers": "runs"}.get(part, part)
     if not second("replay", replayed, folder, "--", *program, "--fault", fault)[0]:
         wrong.append("the fault is not seen on the stored case")
     others = [program] + ([RUN] if answers == "run" and RUN else [])
@@ -79,9 +84,9 @@ def tried(part, count, answers, fault, most, folder):
 
 def main():
     bad = 0
-    for part, count, answers, fault, most in FAULTS:
+    for part, seed, count, answers, fault, most in FAULTS:
         with tempfile.TemporaryDirectory() as folder:
-            wrong, told = tried(part, count, answers, fault, most, folder)
+            wrong, told = tried(part, seed, count, answers, fault, most, folder)
         print(f"{part}, fault {fault}: {told}" + "".join(f"; WRONG: {what}" for what in wrong))
         bad += bool(wrong)
     print(f"shrink: {len(FAULTS) - bad} passed, {bad} failed")

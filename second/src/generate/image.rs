@@ -3,7 +3,7 @@
 use super::table::{sizes, table};
 use crate::bytes::spell;
 use crate::random::Random;
-use crate::table::{layout, whole_image, FRONT, MOST_ROWS, ROW_BYTES};
+use crate::table::{layout, whole_image, FRONT, MOST_ROWS, ROW_BYTES, TCP, UDP};
 
 /// An image that is being damaged, and where its bodies stood when it was good.
 struct Draft {
@@ -61,7 +61,7 @@ const WRONG_VALUES: &[(usize, usize, usize, &[usize])] = &[
     (1, 8, 2, &[1473, 65_535]),
     (1, 10, 1, &[1, 128]),
     (1, 11, 1, &[1, 128]),
-    (2, 1, 1, &[1, 128]),
+    (2, 1, 1, &[2, 128, 255]),
     (2, 2, 2, &[1465, 65_535]),
     (2, 10, 1, &[1, 128]),
     (2, 11, 1, &[1, 128]),
@@ -86,6 +86,8 @@ const DAMAGES: &[Damage] = &[
     |draft, random| draft.repeat(random, 2, 4..8),
     |draft, random| draft.repeat(random, 3, 8..10),
     too_long_for_its_connection,
+    |draft, random| mark(draft, random, UDP).map(|_| ()),
+    marked_and_too_long,
 ];
 
 /// Breaks one rule: first those of WRONG_VALUES, then those of DAMAGES.
@@ -154,6 +156,23 @@ fn too_long_for_its_connection(draft: &mut Draft, random: &mut Random) -> Option
     let row = draft.bodies[1].0 + usize::from(*draft.bytes.get(at)?) * ROW_BYTES[1];
     let send_size = crate::bytes::number(&draft.bytes, row + 8, 2) as usize;
     draft.put(at + 2, 2, (send_size + random.edge(0, 8)).saturating_sub(7));
+    Some(())
+}
+
+/// Marks a route, gives its connection's group a protocol, and the place of the row.
+fn mark(draft: &mut Draft, random: &mut Random, protocol: u8) -> Option<usize> {
+    let at = draft.field(random, 2, 0)?;
+    let row = draft.bodies[1].0 + usize::from(*draft.bytes.get(at)?) * ROW_BYTES[1];
+    let group = draft.bodies[0].0 + usize::from(*draft.bytes.get(row)?) * ROW_BYTES[0];
+    draft.put(at + 1, 1, 1);
+    draft.put(group, 1, protocol.into());
+    Some(at)
+}
+
+/// A marked route whose longest payload is out of range, although it is not applied.
+fn marked_and_too_long(draft: &mut Draft, random: &mut Random) -> Option<()> {
+    let at = mark(draft, random, TCP)?;
+    draft.put(at + 2, 2, *random.pick(&[1465, 65_535]));
     Some(())
 }
 

@@ -1,10 +1,10 @@
 //! Recordings of random scripts with their answers: whole ones, damaged ones, a small one cut at every byte, and the limits from both sides.
 
-use super::datagram::{four_routes, mixed_frames};
-use super::script::{answered, table_for_events};
+use super::datagram::{few_routes, mixed_frames, MARKED};
+use super::script::{answered, table_for_events, table_of_transfers};
 use crate::event::{run, Answer, Event};
 use crate::random::Random;
-use crate::recording::{read_body, write, Entry, EDITION, MOST_BODY};
+use crate::recording::{read_body, write, Entry, EDITION, FRONT, MOST_BODY, ROW};
 use crate::state::World;
 use crate::table::{Destination, Remote, Table, TCP};
 
@@ -49,8 +49,9 @@ fn first_stamp(random: &mut Random) -> u32 {
 }
 
 fn whole(random: &mut Random, events: usize) -> Draft {
-    let table = table_for_events(random);
-    let events = answered(random, &table, events);
+    let transfers = random.one_in(2);
+    let table = if transfers { table_of_transfers(random) } else { table_for_events(random) };
+    let events = answered(random, &table, if transfers { events.max(20) } else { events }, transfers);
     Draft::of(&table, first_stamp(random), &events)
 }
 
@@ -61,7 +62,7 @@ fn change(random: &mut Random, bytes: &mut [u8]) {
         bytes[at] = match random.below(4) {
             0 => bytes[at].wrapping_add(1),
             1 => bytes[at].wrapping_sub(1),
-            _ => *random.pick(&[0, 1, 2, 3, 4, 6, 16, 20, 24, 255]),
+            _ => *random.pick(&[0, 1, 2, 3, 4, 5, 6, 16, 20, 24, 255]),
         };
     }
 }
@@ -87,10 +88,12 @@ fn damage_entry(random: &mut Random, entry: &mut Entry, before: u32) {
             let far = *random.pick(&[65_534, 65_535, 65_536, 65_537, 1 << 31, u32::MAX, u32::MAX - 1]);
             entry.stamp = before.wrapping_add(far);
         }
-        1 => entry.number = *random.pick(&[0, 16, 17, 255, 256, 257, 65_535]),
-        2 => entry.number = random.between(1, 15) as u16,
+        1 => entry.number = *random.pick(&[0, 17, 18, 255, 256, 257, 65_535]),
+        2 => entry.number = random.between(1, 16) as u16,
         3 => entry.zero = *random.pick(&[1, 256, 65_535]),
-        4 => entry.length = *random.pick(&[0, entry.length.wrapping_sub(1), entry.length + 1, 4096, 4097, u32::MAX]),
+        4 => {
+            entry.length = *random.pick(&[0, entry.length.wrapping_sub(1), entry.length.wrapping_add(1), 4096, 4097, u32::MAX])
+        }
         5 => {
             entry.body.pop();
             entry.length = entry.body.len() as u32;
@@ -112,7 +115,7 @@ fn damage(random: &mut Random, draft: &mut Draft) {
     let entries = draft.entries.len();
     match random.below(16) {
         0 => draft.edition = *random.pick(&[0, 2, 256, 257, 65_535]),
-        1 => draft.count = *random.pick(&[0, draft.count.wrapping_sub(1), draft.count + 1, 4000, 4001, 65_535]),
+        1 => draft.count = *random.pick(&[0, draft.count.wrapping_sub(1), draft.count.wrapping_add(1), 4000, 4001, 65_535]),
         2 => {
             let bytes = *random.pick(&[1, 1, 40]);
             draft.behind = random.bytes(bytes);
@@ -153,7 +156,7 @@ fn run_all(table: &Table, events: Vec<Event>) -> Vec<(Event, Answer)> {
 
 /// A few events of different kinds, with a header and a payload that are cut, and stamps across the wrap.
 fn small() -> Draft {
-    let mut table = four_routes(TCP);
+    let mut table = few_routes(TCP);
     table.destinations =
         vec![Destination { connection: 0, trigger: true, longest: 2, id: 0x101, pdu: 9, timeout: 0, groups: 0 }];
     let frames = mixed_frames();
@@ -177,6 +180,47 @@ pub fn cuts() -> Vec<Vec<u8>> {
     let cut = |lacks| Draft { lacks, ..whole.clone() }.input();
     let behind = |bytes: &[u8]| Draft { behind: bytes.to_vec(), ..whole.clone() }.input();
     (0..=long).map(cut).chain([behind(&[0]), behind(&[0; 30])]).collect()
+}
+
+/// Transfers of 4, 0, 9 and the most bytes: one ends by itself, one by a cancel, one by a loss.
+fn transferred() -> Draft {
+    let table = few_routes(TCP);
+    let header = |length: u32| [MARKED.to_be_bytes(), length.to_be_bytes()].concat();
+    let events = vec![
+        Event::ReadCount(2),
+        Event::Ticks(1),
+        Event::Connected(0),
+        Event::Segment(0, [header(4), vec![1]].concat()),
+        Event::Segment(0, vec![]),
+        Event::Segment(0, [vec![2, 3, 4], header(0), header(9), vec![1, 2]].concat()),
+        Event::Cancel(0),
+        Event::Segment(0, vec![3]),
+        Event::Ticks(1),
+        Event::Cancel(0),
+        Event::Ticks(1),
+        Event::Connected(0),
+        Event::Segment(0, [header(u32::MAX), vec![1, 2]].concat()),
+        Event::Lost(0),
+        Event::ReadCount(2),
+    ];
+    Draft::of(&table, u32::MAX, &run_all(&table, events))
+}
+
+/// That recording as it is, with each of its bytes one higher, and with each kind of take, and every byte that looks like one, another.
+pub fn transfers() -> Vec<Vec<u8>> {
+    let whole = transferred();
+    let (input, front) = (whole.input(), whole.image.len());
+    let with = |at: usize, byte: u8| {
+        let mut input = input.clone();
+        input[at] = byte;
+        input
+    };
+    let bodies = front + FRONT + ROW * whole.entries.len();
+    let higher = (front..input.len()).map(|at| with(at, input[at].wrapping_add(1)));
+    let kinds = (bodies..input.len()).filter(|&at| (3..=5).contains(&input[at]));
+    let other = kinds.flat_map(|at| (0..=6).map(move |kind| (at, kind))).filter(|&(at, kind)| kind != input[at]);
+    let other = other.map(|(at, kind)| with(at, kind));
+    std::iter::once(input.clone()).chain(higher).chain(other).collect()
 }
 
 /// So many read counts, in one tick each.
@@ -222,7 +266,7 @@ pub fn limits() -> Vec<Vec<u8>> {
 }
 
 fn small_table() -> Table {
-    let mut table = four_routes(TCP);
+    let mut table = few_routes(TCP);
     table.connections[0].remote = Remote { address: 0x0A00_0001, port: 30490 };
     table
 }
@@ -238,15 +282,19 @@ fn pairs(table: &Table) -> Vec<Draft> {
     let empty = |entry: &mut Entry| (entry.length, entry.body) = (0, vec![]);
     vec![
         cut(&|entry| entry.stamp = 65_535),
-        cut(&|entry| entry.number = 16),
+        cut(&|entry| entry.number = 17),
         cut(&|entry| entry.zero = 1),
         cut(&|_| ()),
         Draft { lacks: 8, ..with(&|_| ()) },
         with(&|entry| (entry.stamp, entry.number) = (65_535, 0)),
-        with(&|entry| (entry.number, entry.zero) = (16, 1)),
+        with(&|entry| (entry.number, entry.zero) = (17, 1)),
         with(&|entry| (entry.zero, entry.body[0]) = (1, 1)),
         with(&|entry| entry.number = 0),
         with(&|entry| entry.number = 65_535),
+        with(&|entry| entry.number = 17),
+        with(&|entry| (entry.number, entry.body, entry.length) = (16, vec![0, 0, 0, 3, 0, 0, 0, 0], 8)),
+        with(&|entry| (entry.number, entry.body, entry.length) = (16, vec![0, 0, 0, 0], 4)),
+        with(&|entry| (entry.number, entry.body, entry.length) = (16, vec![0, 0, 0, 0, 0], 5)),
         with(&empty),
         with(&|entry| entry.body[7] = 1),
         with(&|entry| entry.body[3] = 2),
@@ -289,7 +337,7 @@ mod tests {
         let random = &mut Random::new(4);
         for _ in 0..60 {
             let table = table_for_events(random);
-            let mut events = answered(random, &table, 40);
+            let mut events = answered(random, &table, 40, false);
             let which = random.below(events.len());
             if matches!(events[which].0, Event::Ticks(_)) || events[which].1 == Err((9, None)) {
                 continue;
@@ -314,6 +362,28 @@ mod tests {
         assert_eq!(words[0], "SAME");
         assert!(words[1..=long].iter().all(|word| word == "CUT"));
         assert!(words[long + 1..].iter().all(|word| word == "SAME"));
+    }
+
+    #[test]
+    fn transfers_are_recorded_and_their_damages_told() {
+        let all = transfers();
+        let whole = lines(&all[0]);
+        assert_eq!(whole.last().map(String::as_str), Some("SAME"));
+        let start = "entry 5, stamp 0, after 0 ticks: segment on connection 0, 21 bytes: 0 done; take 1 read 3 bytes: last piece of route 4, ";
+        for line in [
+            &format!("{}id 0x00000105, 3 bytes, from the segment at byte 0: 020304; take 2 read 8 bytes: start of a transfer on route 4, \
+                      id 0x00000105, length 0 bytes, the end; take 3 read 8 bytes: start of a transfer on route 4, id 0x00000105, \
+                      length 9 bytes; take 4 read 2 bytes: piece of route 4, id 0x00000105, 2 bytes, from the segment at byte 19: 0102", start),
+            "entry 6, stamp 0, after 0 ticks: cancel connection 0: 0 done",
+            "entry 7, stamp 0, after 0 ticks: segment on connection 0, 1 byte: 4 not online",
+            "entry 8, stamp 1, after 1 tick: cancel connection 0: 3 not allowed",
+            "entry 11, stamp 2, after 0 ticks: lost connection 0: 0 done; a transfer failed",
+        ] {
+            assert!(whole.iter().any(|other| other == line), "{}: {:?}", line, whole);
+        }
+        let words: Vec<String> = all[1..].iter().map(|input| last(input)).collect();
+        let met = |word: &str| words.iter().filter(|other| *other == word).count();
+        assert!(met("DIFFERS") > 100 && met("REFUSED") > 100, "{} and {}", met("DIFFERS"), met("REFUSED"));
     }
 
     #[test]

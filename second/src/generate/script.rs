@@ -1,9 +1,9 @@
 //! Scripts: runs of events under one table, from a fresh, a sound or an unsound state, that end well, refused or cut.
 
-use super::datagram::{datagram, frames};
+use super::datagram::{datagram, frames, transfers};
 use super::image::image;
-use super::state::{exact, sound, unsound};
-use super::table::{remote, table_with_few_pdus};
+use super::state::{exact, sound, unsound, unsound_part};
+use super::table::{mark, remote, table_with_few_pdus};
 use crate::event::{run, Answer, Event};
 use crate::header::is_on;
 use crate::random::Random;
@@ -92,9 +92,10 @@ impl Runner<'_> {
             return Event::Segment(connection, self.random.bytes(4));
         }
         let part = self.world.state.records[number].part;
-        if let Part::Skip(5000..) = part {
+        if let Part::Skip(5000..) | Part::Transfer { left: 5000.., .. } = part {
             if self.random.one_in(3) {
-                return Event::Lost(connection);
+                let end = *self.random.pick(&[Event::Lost as fn(u8) -> Event, Event::Cancel]);
+                return end(connection);
             }
         }
         if part == READY && (self.streams[number].is_empty() || self.random.one_in(4)) {
@@ -111,12 +112,43 @@ impl Runner<'_> {
         Event::Segment(connection, stream.drain(..length.min(MOST_BYTES)).collect())
     }
 
+    /// The next piece of a stream that has many transfers, mostly a short one.
+    fn transfer_segment(&mut self) -> Event {
+        let connection = self.line(true);
+        let number = usize::from(connection);
+        if self.streams.get(number).map_or(true, |stream| !stream.is_empty() && self.random.one_in(8)) {
+            return self.segment();
+        }
+        let part = self.world.state.records[number].part;
+        if matches!(part, Part::Skip(200..)) && !self.random.one_in(4) {
+            return Event::Lost(connection);
+        }
+        if self.streams[number].is_empty() {
+            let front = if part == READY { vec![] } else { self.rest_of(part) };
+            self.streams[number] = [front, transfers(self.random, &self.table, number)].concat();
+        }
+        let stream = &mut self.streams[number];
+        let length = match self.random.below(4) {
+            0 => stream.len(),
+            1 => self.random.below(3),
+            _ => self.random.below(40),
+        };
+        Event::Segment(connection, stream.drain(..length.min(stream.len()).min(MOST_BYTES)).collect())
+    }
+
+    /// Connected, and a new stream.
+    fn connected_again(&mut self) -> Event {
+        let connection = self.fitting(|_, record| record.mode == Mode::Reconnect);
+        self.streams.get_mut(usize::from(connection)).into_iter().for_each(Vec::clear);
+        Event::Connected(connection)
+    }
+
     /// Bytes that complete a receive part, or go some way.
     fn rest_of(&mut self, part: Part) -> Vec<u8> {
         let length = match part {
             Part::Header { held, .. } => 8 - usize::from(held),
             Part::Payload { length, held, .. } => usize::from(length - held),
-            Part::Skip(left) => (left as usize).min(2000),
+            Part::Skip(left) | Part::Transfer { left, .. } => (left as usize).min(2000),
         };
         self.random.bytes(length)
     }
@@ -180,11 +212,46 @@ impl Runner<'_> {
         )
     }
 
+    /// A connection on which a transfer runs.
+    fn transferring(&mut self) -> u8 {
+        self.fitting(|_, record| record.part.is_transfer())
+    }
+
+    /// What ends a transfer, or would if one ran.
+    fn transfer_event(&mut self) -> Event {
+        match self.random.below(9) {
+            0..=3 => Event::Cancel(self.transferring()),
+            4 => Event::Cancel(self.line(true)),
+            5 => Event::Cancel(self.connection()),
+            6 | 7 => Event::Lost(self.transferring()),
+            _ => Event::Close(self.fitting(|config, record| !config.row.automatic && record.part.is_transfer())),
+        }
+    }
+
+    /// One of the events by which transfers come and go.
+    fn event_of_transfers(&mut self) -> Event {
+        let rows = &self.world.state.records[..self.table.connections.len()];
+        let [closed, lost] = [Mode::Offline, Mode::Reconnect].map(|mode| rows.iter().any(|record| record.mode == mode));
+        match self.random.below(32) {
+            0..=3 => self.transfer_event(),
+            4..=6 => Event::Ticks(self.random.between(1, 3) as u32),
+            7..=10 if lost => self.connected_again(),
+            11 | 12 if closed => Event::Open(self.fitting(|_, record| record.mode == Mode::Offline)),
+            13 if lost => Event::SetRemote(self.fitting(|_, record| record.mode == Mode::Reconnect), exact(self.random)),
+            14 => Event::Accept(self.group(), exact(self.random)),
+            15 => Event::Switch(self.connection(), self.random.below(2) as u8, self.random.one_in(2)),
+            16 => Event::SwitchAll(self.random.below(2) as u8, !self.random.one_in(3)),
+            17 => self.transmit(),
+            18 => self.take_waiting(),
+            _ => self.transfer_segment(),
+        }
+    }
+
     fn event(&mut self) -> Event {
         let switch = if self.random.one_in(20) { self.random.between(32, 255) as u8 } else { self.random.below(32) as u8 };
         let protocol = if self.random.one_in(10) { self.random.word() as u8 } else { self.random.between(1, 2) as u8 };
         let on = self.random.one_in(2);
-        match self.random.below(100) {
+        match self.random.below(104) {
             0..=9 => Event::Ticks(self.random.between(1, 3) as u32),
             10 => Event::Ticks(self.random.edge(0, 300) as u32),
             11..=15 => Event::Open(self.fitting(|_, record| record.mode == Mode::Offline)),
@@ -201,7 +268,8 @@ impl Runner<'_> {
             80..=84 => Event::Accept(self.group(), self.source()),
             85..=97 => self.transmit(),
             98 => Event::ReadCount(protocol),
-            _ => Event::ReadAndClear(protocol),
+            99 => Event::ReadAndClear(protocol),
+            _ => self.transfer_event(),
         }
     }
 }
@@ -226,14 +294,15 @@ fn add_events(input: &mut Vec<u8>, runner: &mut Runner, count: usize, mut next: 
 }
 
 /// Events from a table's fresh state, each with its answer, that a recording can hold: no tick before the first, at most 65,535 between two,
-/// no body that is too long.
-pub fn answered(random: &mut Random, table: &Table, count: usize) -> Vec<(Event, Answer)> {
+/// no body that is too long. They are events of every kind, or by which transfers come and go.
+pub fn answered(random: &mut Random, table: &Table, count: usize, transfers: bool) -> Vec<(Event, Answer)> {
     let (_, mut runner) = begin(random, table.clone(), None);
     let (mut all, mut left) = (Vec::new(), 0);
     while all.len() < count {
         let event = match runner.random.below(200) {
             0 => Event::Ticks(left),
             1..=50 => Event::Ticks(runner.random.between(1, 4) as u32),
+            _ if transfers => runner.event_of_transfers(),
             _ => runner.event(),
         };
         left = match event {
@@ -248,6 +317,13 @@ pub fn answered(random: &mut Random, table: &Table, count: usize) -> Vec<(Event,
         } else {
             all.push((event, answer));
         }
+    }
+    // most transfers that run at the end are lost there
+    let running = runner.world.state.records.iter().position(|record| record.part.is_transfer());
+    if let Some(connection) = running.filter(|_| !runner.random.one_in(4)) {
+        let event = Event::Lost(connection as u8);
+        let answer = run(&mut runner.world, &event);
+        all.push((event, answer));
     }
     all
 }
@@ -280,10 +356,8 @@ pub fn stream_script(random: &mut Random, events: usize) -> Vec<u8> {
     let mut table = table_for_events(random);
     table.groups.iter_mut().for_each(|group| group.protocol = TCP);
     table.connections.iter_mut().for_each(|row| row.remote = exact(random));
-    let mut start = sound(random, &table);
-    for record in &mut start.state.records[..table.connections.len()] {
-        (record.mode, record.open_wanted, record.close_wanted, record.remote) = (Mode::Online, false, false, exact(random));
-    }
+    mark(random, &mut table);
+    let start = all_online(random, &table);
     let (mut input, mut runner) = begin(random, table, Some(start));
     add_events(&mut input, &mut runner, events, |runner| match runner.random.below(40) {
         0 => Event::Accept(runner.group(), exact(runner.random)),
@@ -297,11 +371,50 @@ pub fn stream_script(random: &mut Random, events: usize) -> Vec<u8> {
     input
 }
 
+/// A sound state in which every connection is online.
+fn all_online(random: &mut Random, table: &Table) -> World {
+    let mut start = sound(random, table);
+    for record in &mut start.state.records[..table.connections.len()] {
+        (record.mode, record.open_wanted, record.close_wanted, record.remote) = (Mode::Online, false, false, exact(random));
+    }
+    start
+}
+
+/// Few TCP connections; half of all routes are marked, and most hang on one of two switches.
+pub fn table_of_transfers(random: &mut Random) -> Table {
+    let connections = random.between(1, 4);
+    let counts = [random.between(1, 2), connections, random.between(4, 8) * connections, random.between(1, 4)];
+    let mut table = table_with_few_pdus(random, counts);
+    table.groups.iter_mut().for_each(|group| group.protocol = TCP);
+    for row in &mut table.connections {
+        row.remote = if random.one_in(3) { remote(random) } else { exact(random) };
+        row.switches |= 3;
+    }
+    for row in &mut table.routes {
+        row.transfer = random.one_in(2);
+        row.groups = *random.pick(&[0, 1, 2]);
+    }
+    table
+}
+
+/// Transfers of any length among other frames, in pieces; they end by all there is: their last byte, a cancel, a close, a loss, 00644.
+pub fn transfer_script(random: &mut Random, events: usize) -> Vec<u8> {
+    let table = table_of_transfers(random);
+    let start = all_online(random, &table);
+    let (mut input, mut runner) = begin(random, table, Some(start));
+    add_events(&mut input, &mut runner, events, |runner| runner.event_of_transfers());
+    input
+}
+
 /// A script that starts from an unsound state: each event is refused with 12.
 pub fn unsound_script(random: &mut Random) -> Vec<u8> {
     let (table, world) = loop {
         let table = table_for_events(random);
-        if let Some((world, _)) = unsound(random, &table) {
+        let world = match random.one_in(4) {
+            true => unsound_part(random, &table),
+            false => unsound(random, &table).map(|(world, _)| world),
+        };
+        if let Some(world) = world {
             break (table, world);
         }
     };
@@ -318,12 +431,15 @@ const MISFITS: &[(usize, &[u8])] = &[
     (3, &[6]),
     (4, &[1]),
     (15, &[1]),
-    (26, &[3]),
+    (26, &[4]),
     (26, &[0, 1]),
     (26, &[1, 0, 0, 0, 0, 0, 0, 0, 0, 1, 0, 0]),
     (26, &[2, 0, 0, 0, 0, 0, 0, 1, 0, 0, 0, 0]),
     (26, &[2, 1]),
     (26, &[2, 0, 0, 1]),
+    (26, &[3, 0, 0, 1]),
+    (26, &[3, 0, 1, 0]),
+    (26, &[3, 0, 0, 0, 0, 0, 0, 1, 0, 0, 0, 0]),
     (42, &[2]),
 ];
 
@@ -353,17 +469,17 @@ pub fn image_script(random: &mut Random) -> Vec<u8> {
 fn misfit(random: &mut Random) -> Vec<u8> {
     let remote = |family: u8, zero: u8| [&[family, zero][..], &[0; 11], &[10, 0, 0, 1, 0, 80]].concat();
     match random.below(13) {
-        0 => entry(*random.pick(&[16, 17, 255, 256, 257, 65_534]), 0, &[0, 0]),
+        0 => entry(*random.pick(&[17, 18, 255, 256, 272, 65_534]), 0, &[0, 0]),
         1 => entry(1, *random.pick(&[1, 256]), &[0, 0]),
-        2 => entry(1, 0, &[1, 0]),
-        3 => entry(random.between(1, 15) as u16, 0, &[]),
+        2 => entry(*random.pick(&[1, 16]), 0, &[1, 0]),
+        3 => entry(random.between(1, 16) as u16, 0, &[]),
         4 => entry(0, 0, &[0, 0, 0, 0, 1]),
         5 => entry(6, 0, &[0, 0, 0, 2]),
         6 => entry(10, 0, &[&[0, 0][..], &remote(6, 0)].concat()),
         7 => entry(5, 0, &[&[0, 0][..], &remote(4, 1)].concat()),
         8 => entry(7, 0, &[0, 0, 0, 0, 0, 2, 9]),
         9 => entry(START_STATE, 0, &[0; 100]),
-        10 => entry(16, 0, &[0, 0])[..9].to_vec(),
+        10 => entry(17, 0, &[0, 0])[..9].to_vec(),
         11 => entry(3, 1, &[0, 0])[..9].to_vec(),
         _ => entry(12, 0, &vec![0; 4097]),
     }

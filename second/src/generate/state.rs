@@ -18,9 +18,11 @@ pub fn exact(random: &mut Random) -> Remote {
 }
 
 fn receive_part(random: &mut Random, table: &Table, connection: usize) -> Part {
-    let own = |route: &usize| usize::from(table.routes[*route].connection) == connection && table.routes[*route].longest > 0;
-    let routes: Vec<usize> = (0..table.routes.len()).filter(own).collect();
-    match random.below(4) {
+    let own = |route: &usize| usize::from(table.routes[*route].connection) == connection;
+    let (marked, others): (Vec<usize>, _) =
+        (0..table.routes.len()).filter(own).partition(|&route| table.routes[route].transfer);
+    let routes: Vec<usize> = others.into_iter().filter(|&route| table.routes[route].longest > 0).collect();
+    match random.below(5) {
         0 => READY,
         1 => {
             let held = random.edge(1, 7) as u8;
@@ -31,7 +33,16 @@ fn receive_part(random: &mut Random, table: &Table, connection: usize) -> Part {
             let length = random.edge(1, usize::from(table.routes[route].longest));
             Part::Payload { route: route as u8, length: length as u16, held: random.edge(0, length - 1) as u16 }
         }
-        _ => Part::Skip(random.edge(1, u32::MAX as usize) as u32 >> (8 * random.below(4)) | 1),
+        3 if !marked.is_empty() => Part::Transfer { route: *random.pick(&marked) as u8, left: to_come(random) },
+        _ => Part::Skip(to_come(random)),
+    }
+}
+
+/// Bytes to skip, or to come: at least one.
+fn to_come(random: &mut Random) -> u32 {
+    match random.below(3) {
+        0 => random.between(1, 9) as u32,
+        _ => random.edge(1, u32::MAX as usize) as u32 >> (8 * random.below(4)) | 1,
     }
 }
 
@@ -102,10 +113,15 @@ fn disturb(random: &mut Random, table: &Table, state: &mut State) {
 }
 
 fn any_part(random: &mut Random, part: Part) -> Part {
-    match (part, random.below(4)) {
+    match (part, random.below(6)) {
         (Part::Payload { route, length, .. }, 0) => Part::Payload { route, length, held: length },
         (Part::Payload { route, held, .. }, 1) => Part::Payload { route, length: 1464, held },
         (Part::Payload { length, held, .. }, 2) => Part::Payload { route: random.below(70) as u8, length, held },
+        (Part::Payload { route, length, .. }, 3) => Part::Transfer { route, left: length.into() },
+        (Part::Transfer { route, .. }, 0) => Part::Transfer { route, left: 0 },
+        (Part::Transfer { left, .. }, 1) => Part::Transfer { route: random.below(70) as u8, left },
+        (Part::Transfer { route, .. }, 2) => Part::Payload { route, length: 1, held: 0 },
+        (_, 4) => Part::Transfer { route: random.below(70) as u8, left: random.below(3) as u32 },
         (Part::Header { held, .. }, 0) => Part::Header { held, value: 1 << (8 * u32::from(held.min(7))) },
         (_, 1) => Part::Header { held: 8, value: 0 },
         (_, 2) => Part::Skip(random.below(2) as u32),
@@ -131,6 +147,37 @@ pub fn unsound(random: &mut Random, table: &Table) -> Option<(World, &'static st
     None
 }
 
+/// A state that is unsound for the part of one record: a transfer, or a payload, of a route that it cannot have, or a transfer of no byte.
+pub fn unsound_part(random: &mut Random, table: &Table) -> Option<World> {
+    for _ in 0..100 {
+        let mut state = sound_state(random, table);
+        let connection = random.below(table.connections.len());
+        let record = &mut state.records[connection];
+        if record.mode != Mode::Online {
+            let open = Record { mode: Mode::Online, remote: exact(random), ..Record::zero() };
+            *record = or_as_it_is(random, open, record);
+        }
+        let (route, left) = (random.below(table.routes.len() + 1) as u8, *random.pick(&[0, 1, 1, 1, 5, 2000, u32::MAX]));
+        record.part = match random.below(4) {
+            0 => Part::Payload { route, length: 1, held: 0 },
+            _ => Part::Transfer { route, left },
+        };
+        if !broken(table, &state).is_empty() {
+            return Some(world(random, table, state));
+        }
+    }
+    None
+}
+
+/// Mostly the new record.
+fn or_as_it_is(random: &mut Random, new: Record, old: &Record) -> Record {
+    if random.one_in(4) {
+        old.clone()
+    } else {
+        new
+    }
+}
+
 #[cfg(test)]
 mod tests {
     use super::*;
@@ -145,6 +192,7 @@ mod tests {
             Part::Header { .. } => "header",
             Part::Payload { .. } => "payload",
             Part::Skip(_) => "skip",
+            Part::Transfer { .. } => "transfer",
         };
         let wishes = (record.open_wanted, record.close_wanted);
         format!("{:?} {:?} {} {:?}", record.mode, wishes, part, (record.used > 0, record.timer > 0, record.due))
@@ -161,8 +209,29 @@ mod tests {
             assert!(is_sound(&table, &world.state));
             shapes.extend(world.state.records[..table.connections.len()].iter().map(shape));
         }
-        // offline with a wish or none, reconnect and online with close wanted or not, online with 4 parts and 4 kinds of buffer
-        assert_eq!(shapes.len(), 3 + 2 + 2 * 4 * 4, "{:?}", shapes);
+        // offline with a wish or none, reconnect and online with close wanted or not, online with 5 parts and 4 kinds of buffer
+        assert_eq!(shapes.len(), 3 + 2 + 2 * 5 * 4, "{:?}", shapes);
+    }
+
+    #[test]
+    fn transfers_are_put_where_they_cannot_be() {
+        let random = &mut Random::new(1);
+        let mut met = BTreeMap::new();
+        for _ in 0..400 {
+            let table = table_for_events(random);
+            if let Some(world) = unsound_part(random, &table) {
+                broken(&table, &world.state).into_iter().for_each(|(_, rule)| *met.entry(rule).or_insert(0) += 1);
+            }
+        }
+        for rule in [
+            "a running transfer has a route of its connection",
+            "that is marked",
+            "and at least one byte to come",
+            "an unfinished payload has an unmarked route",
+            "only an online TCP connection has a receive part",
+        ] {
+            assert!(met.get(rule).copied().unwrap_or(0) >= 10, "{}: {:?}", rule, met);
+        }
     }
 
     #[test]

@@ -2,7 +2,7 @@
 
 use crate::random::Random;
 use crate::table::{Connection, Destination, Group, Remote, Route, Table};
-use crate::table::{LEAST_SEND_SIZE, LONGEST, MOST_ROWS, MOST_SEND_SIZE};
+use crate::table::{LEAST_SEND_SIZE, LONGEST, MOST_ROWS, MOST_SEND_SIZE, TCP};
 use std::collections::HashSet;
 
 /// Row counts that a table can have: without groups no connections, without connections no routes and destinations.
@@ -37,6 +37,7 @@ fn table_with(random: &mut Random, counts: [usize; 4], pdus: Keys) -> Table {
     let ids = Keys::new(random);
     let routes = distinct(random, counts[1], counts[2], &ids).into_iter().map(|(connection, id)| Route {
         connection,
+        transfer: false,
         longest: random.edge(0, usize::from(LONGEST)) as u16,
         id,
         pdu: random.word() as u16,
@@ -56,7 +57,17 @@ fn table_with(random: &mut Random, counts: [usize; 4], pdus: Keys) -> Table {
         }
     });
     let destinations = destinations.collect();
-    Table { groups, connections, routes, destinations }
+    let mut table = Table { groups, connections, routes, destinations };
+    mark(random, &mut table);
+    table
+}
+
+/// Marks some routes of TCP connections, and no others.
+pub fn mark(random: &mut Random, table: &mut Table) {
+    let tcp: Vec<bool> = (0..table.connections.len()).map(|connection| table.protocol(connection) == TCP).collect();
+    for route in &mut table.routes {
+        route.transfer = tcp[usize::from(route.connection)] && random.one_in(3);
+    }
 }
 
 fn connection(random: &mut Random, groups: usize) -> Connection {

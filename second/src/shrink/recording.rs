@@ -56,8 +56,10 @@ impl Recording {
 
 /// The number of a connection, or of a group, that an entry's event names: the byte behind the party.
 fn named(entry: &mut Entry, kind: usize) -> Option<&mut u8> {
-    let names =
-        (kind == CONNECTIONS && (1..=9).contains(&entry.number)) || (kind == GROUPS && (10..=11).contains(&entry.number));
+    let names = match kind {
+        CONNECTIONS => matches!(entry.number, 1..=9 | 16),
+        _ => kind == GROUPS && matches!(entry.number, 10 | 11),
+    };
     entry.body.get_mut(1).filter(|_| names)
 }
 

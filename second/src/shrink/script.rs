@@ -107,7 +107,7 @@ impl Script {
 fn numbered(event: &mut Event, kind: usize) -> Option<&mut u8> {
     use Event::*;
     match event {
-        Open(number) | Close(number) | Connected(number) | Lost(number) if kind == CONNECTIONS => Some(number),
+        Open(number) | Close(number) | Connected(number) | Lost(number) | Cancel(number) if kind == CONNECTIONS => Some(number),
         SetRemote(number, _) | Switch(number, _, _) | Segment(number, _) if kind == CONNECTIONS => Some(number),
         Walk(number, _, _) | TakeWaiting(number, _) if kind == CONNECTIONS => Some(number),
         Datagram(number, _) | Accept(number, _) if kind == GROUPS => Some(number),
@@ -128,9 +128,11 @@ fn leave_out_record(start: &mut Start, connection: usize) {
 
 fn rename_route(record: &mut Record, left_out: usize) {
     match &mut record.part {
-        Part::Payload { route, .. } if usize::from(*route) == left_out => record.part = READY,
-        Part::Payload { route, .. } => *route -= u8::from(usize::from(*route) > left_out),
-        _ => {}
+        Part::Payload { route, .. } | Part::Transfer { route, .. } => match usize::from(*route) == left_out {
+            true => record.part = READY,
+            false => *route -= u8::from(usize::from(*route) > left_out),
+        },
+        Part::Header { .. } | Part::Skip(_) => {}
     }
 }
 
@@ -217,7 +219,8 @@ fn event_numbers(event: &mut Event, each: &mut dyn FnMut(u64) -> u64) {
     use Event::*;
     match event {
         Ticks(times) => field(times, each),
-        Open(number) | Close(number) | Connected(number) | Lost(number) | Segment(number, _) => field(number, each),
+        Open(number) | Close(number) | Connected(number) | Lost(number) | Cancel(number) => field(number, each),
+        Segment(number, _) => field(number, each),
         ReadCount(protocol) | ReadAndClear(protocol) => field(protocol, each),
         SetRemote(number, remote) | Datagram(number, remote) | Accept(number, remote) => {
             field(number, each);
@@ -271,6 +274,10 @@ fn part_numbers(part: &mut Part, each: &mut dyn FnMut(u64) -> u64) {
             field(held, each);
         }
         Part::Skip(left) => field(left, each),
+        Part::Transfer { route, left } => {
+            field(route, each);
+            field(left, each);
+        }
     }
 }
 
@@ -279,7 +286,7 @@ mod tests {
     use super::super::{shrink, Bound};
     use super::*;
     use crate::fault::{self, Fault};
-    use crate::generate::script::{image_script, misfit_script, script, stream_script, unsound_script};
+    use crate::generate::script::{image_script, misfit_script, script, stream_script, transfer_script, unsound_script};
     use crate::lines::lines;
     use crate::random::Random;
 
@@ -290,6 +297,7 @@ mod tests {
             let all = [
                 script(random, 40),
                 stream_script(random, 40),
+                transfer_script(random, 40),
                 image_script(random),
                 misfit_script(random),
                 unsound_script(random),
@@ -307,9 +315,10 @@ mod tests {
     }
 
     fn first(part: &str, fault: Fault) -> Vec<u8> {
-        let random = &mut Random::new(2);
+        let random = &mut Random::new(1);
         let make = || match part {
             "segment" => stream_script(random, 40),
+            "transfers" => transfer_script(random, 40),
             _ => script(random, 40),
         };
         std::iter::repeat_with(make).find(|input| differs(fault, input)).expect("each fault is noticed somewhere")
@@ -317,7 +326,7 @@ mod tests {
 
     #[test]
     fn scripts_become_small() {
-        for (part, step) in [("events", 6), ("segment", 3)] {
+        for (part, step) in [("events", 6), ("segment", 3), ("transfers", 3)] {
             for &(fault, _) in fault::of(part).unwrap()[1..].iter().step_by(step) {
                 let bound = Bound { calls: 2000, cases: 1 };
                 let mut ask = |all: &[Script]| all.iter().position(|script| differs(fault, &script.bytes()));

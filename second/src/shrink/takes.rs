@@ -25,17 +25,30 @@ fn leave_out_row(case: &mut Case, mut image: Image, kind: usize, row: usize) -> 
     Some(())
 }
 
-/// The kinds of parts: what follows the first table; rows of it, groups aside.
+/// The case with a segment and the one before it as one; nothing where a table stands there.
+fn join(case: &mut Case, number: usize) -> Option<()> {
+    let both = case[number - 1].segment && case[number].segment;
+    both.then(|| {
+        let front = case.remove(number - 1).bytes;
+        case[number - 1].bytes.splice(..0, front);
+    })
+}
+
+/// The kinds of parts: what follows the first table; rows of it, groups aside; the seams between two segments.
 impl super::Case for Case {
     fn parts(&self) -> Vec<usize> {
         let [_, connections, routes, destinations] = image(self).map_or([0; 4], |image| image.counts());
-        vec![self.len() - 1, connections, routes, destinations]
+        vec![self.len() - 1, connections, routes, destinations, self.len().saturating_sub(2)]
     }
 
     fn without(&self, kind: usize, parts: Range<usize>) -> Option<Self> {
         let mut less = self.clone();
         if kind == 0 {
             less.drain(parts.start + 1..parts.end + 1);
+            return Some(less);
+        }
+        if kind == 4 {
+            parts.rev().try_for_each(|seam| join(&mut less, seam + 2).ok_or(())).ok()?;
             return Some(less);
         }
         for row in parts.rev() {
