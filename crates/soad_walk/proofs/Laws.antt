@@ -5,25 +5,21 @@ use mathlib.Core.Bool.{Bool, true, false}
 use mathlib.Core.List.{List}
 use native.Mathlib.Omega.{arith}
 use borrow.Author.Tests.{le-leb, lt-leb, lt-ltb, le-ltb}
-use lib.Dec.{eqb}
 use lib.ListN.{length}
 use Rattle.receive_datagram.specs.declared.Walked.{Walked}
 use Rattle.receive_datagram.specs.Datagram.{walkedOf}
-use Rattle.table_layout.specs.declared.Kind.the-variants.{Connection, Route}
+use Rattle.table_layout.specs.declared.Kind.the-variants.{Group, Connection, Route}
 use Rattle.table_layout.specs.Layout.{rowsOf, bodyOf}
-use Rattle.table_rows.specs.declared.ConnectionRow.{ConnectionRow}
-use Rattle.table_rows.specs.declared.GroupRow.{GroupRow}
-use Rattle.table_rows.specs.Rows.{groupOf, connectionOf}
+use Rattle.table_rows.specs.Rules.{tcpIn}
 use Rattle.table.specs.declared.TableAnswer.{TableAnswer}
-use Rattle.table.specs.Table.{checkTable}
+use Rattle.table.specs.Table.{tcpOf, checkTable}
 use Rattle.soad_walk.specs.declared.TableWalk.the-variants.{Refused, Step}
-use Rattle.soad_walk.specs.TableWalk.{isTcp, acceptedWalk, afterCheck, tableWalkOf}
+use Rattle.soad_walk.specs.TableWalk.{acceptedWalk, afterCheck, tableWalkOf}
 
-pub tcp-is : (image : List ℕ) (connection : ℕ) (row : ConnectionRow) (group : GroupRow) → row ≡ connectionOf image connection → group ≡ groupOf image (row .group)
-    → eqb (group .protocol) 2 ≡ isTcp image connection
-unfolding isTcp
-tcp-is image connection row group er eg =
-    ap (λ (g : GroupRow). eqb (g .protocol) 2) eg ∙ ap (λ (r : ConnectionRow). eqb (groupOf image (r .group) .protocol) 2) er
+pub tcp-is : (image connections groups : List ℕ) (connection : ℕ) (b : Bool) → connections ≡ bodyOf image Connection → groups ≡ bodyOf image Group
+    → b ≡ tcpIn 2 groups 16 connections connection → b ≡ tcpOf image connection
+tcp-is image connections groups connection b ec eg e =
+    e ∙ ap (λ (x : List ℕ). tcpIn 2 groups 16 x connection) ec ∙ ap (λ (x : List ℕ). tcpIn 2 x 16 (bodyOf image Connection) connection) eg
 
 -- the order of the checks
 module _ (image : List ℕ) (connection switches : ℕ) (datagram : List ℕ) (place rows : ℕ) (counted : rows ≡ rowsOf image Connection) where
@@ -31,7 +27,7 @@ module _ (image : List ℕ) (connection switches : ℕ) (datagram : List ℕ) (p
   unfolding acceptedWalk
   not-there h = let l : rowsOf image Connection ≤ connection = omega arith in simp (le-leb (rowsOf image Connection) connection l)
 
-  module _ (there : connection < rows) (tcp : Bool) (is : tcp ≡ isTcp image connection) where
+  module _ (there : connection < rows) (tcp : Bool) (is : tcp ≡ tcpOf image connection) where
     here : connection < rowsOf image Connection
     here = omega arith
 

@@ -1,32 +1,27 @@
 -- The bench computer's walk (R11.3): it takes image, connection and switches, gets 1 first for a bad image, has no 4 and changes no state.
 use Prim.Native.Nat.{ℕ}
-use mathlib.Core.Bool.{Bool, cond}
+use mathlib.Core.Bool.{cond}
 use mathlib.Core.List.{List}
-use lib.Dec.{eqb, leb, ltb}
+use lib.Dec.{leb, ltb}
 use lib.ListN.{length}
 use Rattle.receive_datagram.specs.declared.Outcome.{Outcome}
 use Rattle.receive_datagram.specs.declared.Outcome.the-variants.{End, Pdu, Drop}
 use Rattle.receive_datagram.specs.Datagram.{walkedOf}
 use Rattle.table_layout.specs.declared.Kind.the-variants.{Connection, Route}
 use Rattle.table_layout.specs.Layout.{rowsOf, bodyOf}
-use Rattle.table_rows.specs.Rows.{groupOf, connectionOf}
 use Rattle.table.specs.declared.TableAnswer.{TableAnswer}
 use Rattle.table.specs.declared.TableAnswer.the-variants.{Accepted}
-use Rattle.table.specs.Table.{checkTable}
+use Rattle.table.specs.Table.{tcpOf, checkTable}
 use Rattle.soad_walk.specs.declared.Numbers.{Numbers}
 use Rattle.soad_walk.specs.declared.TableWalk.{TableWalk}
 use Rattle.soad_walk.specs.declared.TableWalk.the-variants.{Refused, Step}
 use Rattle.table.specs.declared.TableAnswer.the-variants as answer
 
--- R2.11: the protocol of the connection's group, 2 for TCP
-unfoldable pub isTcp : List ℕ → ℕ → Bool
-isTcp image connection = eqb (groupOf image (connectionOf image connection .group) .protocol) 2
-
 -- R11.3: 2, the connection is not there; 3, a TCP connection or a place beyond the end; else the step by the image's routes
 unfoldable pub acceptedWalk : List ℕ → ℕ → ℕ → List ℕ → ℕ → TableWalk
 acceptedWalk image connection switches datagram place =
     cond (leb (rowsOf image Connection) connection) (Refused 2)
-    (cond (isTcp image connection) (Refused 3)
+    (cond (tcpOf image connection) (Refused 3)
     (cond (ltb (length datagram) place) (Refused 3)
     (Step (walkedOf datagram place (bodyOf image Route) connection switches))))
 

@@ -2,7 +2,7 @@
 // plain numbers.
 ghost use mathlib.Core.Path.{_≡_};
 ghost use Rattle.table.specs.Accepts.{Accepts};
-ghost use Rattle.soad_walk.specs.TableWalk.{isTcp, acceptedWalk, tableWalkOf, numbersOf};
+ghost use Rattle.soad_walk.specs.TableWalk.{acceptedWalk, tableWalkOf, numbersOf};
 use receive_datagram::Outcome;
 use receive_datagram::Walked;
 use receive_datagram::walk;
@@ -11,8 +11,7 @@ use table::check_table;
 use table_layout::Kind;
 use table_layout::body_of;
 use table_layout::rows_of;
-use table_rows::connection_row;
-use table_rows::group_row;
+use table_rows::is_tcp;
 
 pub enum TableWalk {
     Refused(u32),
@@ -61,15 +60,6 @@ pub fn numbers_of(outcome: Outcome) -> Numbers
     }
 }
 
-// A connection is TCP by its group's row.
-fn is_tcp(image: &[u8], connection: usize) -> bool
-    ensures { λ r. ⌜ r ≡ isTcp (now (image .entry)) connection ⌝ }
-{
-    let row = connection_row(image, connection);
-    let group = group_row(image, row.group as usize);
-    group.protocol == 2
-}
-
 // An image that is accepted: 2, then 3, then the step.
 fn walk_accepted(
     image: &[u8],
@@ -84,7 +74,9 @@ fn walk_accepted(
     if rows_of(image, Kind::Connection) <= connection {
         return TableWalk::Refused(2);
     }
-    if is_tcp(image, connection) {
+    let connections = body_of(image, Kind::Connection);
+    let groups = body_of(image, Kind::Group);
+    if is_tcp(connections, groups, connection) {
         return TableWalk::Refused(3);
     }
     if datagram.len() < place {

@@ -1,7 +1,7 @@
 -- `soad_walk::walk_accepted` meets its contract.
 use native.Mathlib.Omega.{arith}
 use borrow.Author.Needs.{needs}
-use Rattle.soad_walk.proofs.Laws.{not-there, a-tcp, past-the-end, a-step}
+use Rattle.soad_walk.proofs.Laws.{tcp-is, not-there, a-tcp, past-the-end, a-step}
 use Rattle.table_layout.specs.declared.Kind.the-variants.{Connection}
 use Rattle.soad_walk.proofs.walk_accepted.Statement.{statement}
 use Rattle.soad_walk.proofs.walk_accepted.Tie as tie
@@ -14,30 +14,41 @@ returns c =
     let a = c .before .before .before .before .args in
     not-there (a .image .now) (a .connection) (a .switches) (a .datagram .now) (a .place) _ (c .before .rows-of .ensures .0) (c .if1 .taken)
 
+body-of-requires : tie.Need-body-of-requires
+body-of-requires c κs = search needs
+
+body-of-requires-2 : tie.Need-body-of-requires-2
+body-of-requires-2 c κs = search needs
+
 is-tcp-requires : tie.Need-is-tcp-requires
 is-tcp-requires c κs = search needs
 
 returns-2 : tie.Need-returns-2
 returns-2 c =
     let t = c .before in
-    let n = t .before .before in
+    let f = t .before .before .before in
+    let n = f .before in
     let a = n .before .before .before .args in
-    a-tcp (a .image .now) (a .connection) (a .switches) (a .datagram .now) (a .place) _ (n .rows-of .ensures .0) (t .before .if1 .left) _ (t .is-tcp .ensures) (c .if2 .taken)
+    a-tcp (a .image .now) (a .connection) (a .switches) (a .datagram .now) (a .place) _ (n .rows-of .ensures .0) (f .if1 .left) _
+    (tcp-is _ _ _ _ _ (t .before .before .body-of .ensures .0) (t .before .body-of2 .ensures .0) (t .is-tcp .ensures)) (c .if2 .taken)
 
 returns-3 : tie.Need-returns-3
 returns-3 c =
     let t = c .before .before in
-    let n = t .before .before in
+    let f = t .before .before .before in
+    let n = f .before in
     let a = n .before .before .before .args in
-    past-the-end (a .image .now) (a .connection) (a .switches) (a .datagram .now) (a .place) _ (n .rows-of .ensures .0) (t .before .if1 .left) _ (t .is-tcp .ensures) (c .before .if2 .left) (c .if3 .taken)
+    past-the-end (a .image .now) (a .connection) (a .switches) (a .datagram .now) (a .place) _ (n .rows-of .ensures .0) (f .if1 .left) _
+    (tcp-is _ _ _ _ _ (t .before .before .body-of .ensures .0) (t .before .body-of2 .ensures .0) (t .is-tcp .ensures)) (c .before .if2 .left) (c .if3 .taken)
 
-body-of-requires : tie.Need-body-of-requires
-body-of-requires c κs = search needs
+body-of-requires-3 : tie.Need-body-of-requires-3
+body-of-requires-3 c κs = search needs
 
 cast-walk : tie.Need-cast-walk
 cast-walk c =
-    let n = c .before .before .before .before .before in
-    omega (arith, n .before .before .before .pre .most Connection, n .rows-of .ensures .0, c .before .before .before .before .if1 .left)
+    let f = c .before .before .before .before .before .before in
+    let n = f .before in
+    omega (arith, n .before .before .before .pre .most Connection, n .rows-of .ensures .0, f .if1 .left)
 
 walk-requires : tie.Need-walk-requires
 walk-requires c κs = search needs
@@ -46,9 +57,12 @@ returns-4 : tie.Need-returns-4
 returns-4 c =
     let b = c .before in
     let t = b .before .before .before in
-    let n = t .before .before in
+    let f = t .before .before .before in
+    let n = f .before in
     let a = n .before .before .before .args in
-    a-step (a .image .now) (a .connection) (a .switches) (a .datagram .now) (a .place) _ (n .rows-of .ensures .0) (t .before .if1 .left) _ (t .is-tcp .ensures) (b .before .before .if2 .left) (b .before .if3 .left) _ _ (b .body-of .ensures .0) (c .walk .ensures)
+    a-step (a .image .now) (a .connection) (a .switches) (a .datagram .now) (a .place) _ (n .rows-of .ensures .0) (f .if1 .left) _
+    (tcp-is _ _ _ _ _ (t .before .before .body-of .ensures .0) (t .before .body-of2 .ensures .0) (t .is-tcp .ensures))
+    (b .before .before .if2 .left) (b .before .if3 .left) _ _ (b .body-of3 .ensures .0) (c .walk .ensures)
 
 pub walk-accepted-spec : {M : Type 1} → statement M
 walk-accepted-spec =
@@ -56,10 +70,12 @@ walk-accepted-spec =
     (tie.spec
     rows-of-requires
     returns
+    body-of-requires
+    body-of-requires-2
     is-tcp-requires
     returns-2
     returns-3
-    body-of-requires
+    body-of-requires-3
     cast-walk
     walk-requires
     returns-4)
