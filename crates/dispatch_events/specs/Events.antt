@@ -1,6 +1,6 @@
 -- The answers of the events that write no memory, as bytes (R16.2; docs/EVENTS.md, "The answer").
 use Prim.Native.Nat.{ℕ}
-use mathlib.Core.Bool.{Bool}
+use mathlib.Core.Bool.{Bool, cond}
 use lib.ListN.{length}
 use mathlib.Core.List.{List}
 use Rattle.connection.specs.declared.Answer.{Answer}
@@ -24,15 +24,18 @@ abbrev pub toldBytes : Answer → List ℕ
 toldBytes Done = doneAlone
 toldBytes (Refused r) = refusal r
 
--- "lost: failed (1): 0, kept"
-abbrev pub lossBytes : Answer → List ℕ
-lossBytes Done = doneWith 1 0
-lossBytes (Refused r) = refusal r
+-- "lost: failed (1), 0 or 1"
+abbrev pub failedByte : Bool → ℕ
+failedByte failed = cond failed 1 0
 
--- "n ticks: failed connections (2): 0, kept"
-abbrev pub ticksBytes : Answer → List ℕ
-ticksBytes Done = doneWith 2 0
-ticksBytes (Refused r) = refusal r
+abbrev pub lossBytes : Answer → Bool → List ℕ
+lossBytes Done failed = doneWith 1 (failedByte failed)
+lossBytes (Refused r) failed = refusal r
+
+-- "n ticks: failed connections (2), bit k (worth 2 to the k) for connection k"
+abbrev pub ticksBytes : Answer → ℕ → List ℕ
+ticksBytes Done failed = doneWith 2 failed
+ticksBytes (Refused r) failed = refusal r
 
 -- "counts: value (4)"
 abbrev pub countBytes : CountAnswer → List ℕ
@@ -44,17 +47,17 @@ abbrev pub toldEffect : Told → List ℕ → List ℕ → List ℕ → Effect
 toldEffect t rx tx out = answers (toldBytes (t .answer)) (t .state) rx tx out
 
 abbrev pub lossEffect : Loss → List ℕ → List ℕ → List ℕ → Effect
-lossEffect t rx tx out = answers (lossBytes (t .answer)) (t .state) rx tx out
+lossEffect t rx tx out = answers (lossBytes (t .answer) (t .failed)) (t .state) rx tx out
 
 abbrev pub ticked : Ticked → List ℕ → List ℕ → List ℕ → Effect
-ticked t rx tx out = answers (ticksBytes (t .answer)) (t .state) rx tx out
+ticked t rx tx out = answers (ticksBytes (t .answer) (t .failed)) (t .state) rx tx out
 
 abbrev pub countedEffect : Counted → List ℕ → List ℕ → List ℕ → Effect
 countedEffect t rx tx out = answers (countBytes (t .answer)) (t .state) rx tx out
 
 -- WHAT EACH LEAVES: an out buffer that is too short is refused
 module _ (l : Loan) (out : List ℕ) where
-  -- open, close, connected, set remote, switch
+  -- open, close, connected, set remote, switch, cancel
   unfoldable pub ownEffect : ℕ → Event → Effect
   ownEffect connection event = ifRoom (l .state) (l .rx) (l .tx) out (toldEffect (eventOf (sizes l) connection event) (l .rx) (l .tx) out)
 

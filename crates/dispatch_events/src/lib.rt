@@ -28,22 +28,30 @@ fn put_told(out: &mut [u8], answer: Answer) -> usize
     }
 }
 
-fn put_loss(out: &mut [u8], answer: Answer) -> usize
-    ensures { λ r. ⌜ r ≡ length (Is.lossBytes answer) ⌝ }
-    ensures { λ _. ⌜ now (out .exit) ≡ lay (now (out .entry)) 0 (Is.lossBytes answer) ⌝ }
+// Failed as a byte.
+fn failed_byte(failed: bool) -> u8
+    ensures { λ r. ⌜ r ≡ Is.failedByte failed ⌝ }
 {
+    if failed { 1 } else { 0 }
+}
+
+fn put_loss(out: &mut [u8], answer: Answer, failed: bool) -> usize
+    ensures { λ r. ⌜ r ≡ length (Is.lossBytes answer failed) ⌝ }
+    ensures { λ _. ⌜ now (out .exit) ≡ lay (now (out .entry)) 0 (Is.lossBytes answer failed) ⌝ }
+{
+    let byte = failed_byte(failed);
     match answer {
-        Answer::Done => put_done1(out, 0),
+        Answer::Done => put_done1(out, byte),
         Answer::Refused(reason) => put_refusal(out, reason),
     }
 }
 
-fn put_ticks(out: &mut [u8], answer: Answer) -> usize
-    ensures { λ r. ⌜ r ≡ length (Is.ticksBytes answer) ⌝ }
-    ensures { λ _. ⌜ now (out .exit) ≡ lay (now (out .entry)) 0 (Is.ticksBytes answer) ⌝ }
+fn put_ticks(out: &mut [u8], answer: Answer, failed: u16) -> usize
+    ensures { λ r. ⌜ r ≡ length (Is.ticksBytes answer failed) ⌝ }
+    ensures { λ _. ⌜ now (out .exit) ≡ lay (now (out .entry)) 0 (Is.ticksBytes answer failed) ⌝ }
 {
     match answer {
-        Answer::Done => put_done2(out, 0),
+        Answer::Done => put_done2(out, failed),
         Answer::Refused(reason) => put_refusal(out, reason),
     }
 }
@@ -58,7 +66,7 @@ fn put_count(out: &mut [u8], answer: CountAnswer) -> usize
     }
 }
 
-// Open, close, connected, set remote, switch.
+// Open, close, connected, set remote, switch, cancel.
 pub fn own(
     image: &[u8],
     state: State,
@@ -107,7 +115,7 @@ pub fn lost(
     let entry = entry_events::lost(image, state, rx, tx, connection);
     let answer = entry.answer;
     let after = entry.state;
-    let n = put_loss(out, answer);
+    let n = put_loss(out, answer, entry.failed);
     Dispatched {
         verdict: Verdict::Done(n),
         state: after,
@@ -134,7 +142,7 @@ pub fn many_ticks(
     let entry = entry_ticks::ticks(image, state, rx, tx, count);
     let answer = entry.answer;
     let after = entry.state;
-    let n = put_ticks(out, answer);
+    let n = put_ticks(out, answer, entry.failed);
     Dispatched {
         verdict: Verdict::Done(n),
         state: after,

@@ -27,7 +27,7 @@ returns-2 c =
     let a = i .before .before .before .before .before .args in
     let h = c .before .before .before .before .before .ticks .ensures in
     let p = c .before .before .put-ticks .ensures in
-    replies (a .state) (a .rx .now) (a .tx .now) (a .out .now) (i .if1 .left) (p .0) (p .1) (ap (λ (t : Ticked). ticksBytes (t .answer)) h)
+    replies (a .state) (a .rx .now) (a .tx .now) (a .out .now) (i .if1 .left) (p .0) (p .1) (ap (λ (t : Ticked). ticksBytes (t .answer) (t .failed)) h)
     (ap (λ (t : Ticked). t .state) h)
 
 pub many-ticks-spec : {M : Type 1} → statement M

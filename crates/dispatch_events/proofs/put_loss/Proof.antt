@@ -3,6 +3,9 @@ use borrow.Author.Needs.{needs}
 use Rattle.dispatch_events.proofs.put_loss.Statement.{statement}
 use Rattle.dispatch_events.proofs.put_loss.Tie as tie
 
+failed-byte-requires : tie.Need-failed-byte-requires
+failed-byte-requires c κs = search needs
+
 enum-told : tie.Need-enum-told
 enum-told c = search needs
 
@@ -19,7 +22,7 @@ same-length : tie.Need-same-length
 same-length c = search needs
 
 returns : tie.Need-returns
-returns c = rw (c .before .before .before .before .enum-told .given .1) (c .before .before .put-done1 .ensures)
+returns c = rw (c .before .before .before .before .enum-told .given .1, ← c .before .before .before .before .before .before .failed-byte .ensures) (c .before .before .put-done1 .ensures)
 
 same-length-2 : tie.Need-same-length-2
 same-length-2 c = search needs
@@ -31,6 +34,7 @@ pub put-loss-spec : {M : Type 1} → statement M
 put-loss-spec =
     tie.close
     (tie.spec
+    failed-byte-requires
     enum-told
     put-done1-requires
     enum-known-answer
