@@ -32,7 +32,7 @@ use Rattle.entry_events.specs.Count.{uncounted, readPast, clearPast, readOf, cl
 use Rattle.entry_events.specs.declared.Counted.{Counted}
 use Rattle.entry_events.proofs.Counts.{read-state, clear-records}
 use Rattle.entry_ticks.specs.declared.Ticked.{Ticked}
-use Rattle.entry_ticks.specs.Tick.{tickAt, tickedTo, tickOnce, ticksTo, unticked, tickEvent, ticksEvent}
+use Rattle.entry_ticks.specs.Tick.{tickAt, tickedTo, tickOnce, ticksTo, unticked, tickedFrom, tickEvent, ticksEvent}
 use Rattle.law_keeps.proofs.Past.{past-or}
 use Rattle.law_keeps.proofs.Rows.{sound-row-at, step-sound, switch-sound, tick-sound}
 
@@ -105,11 +105,11 @@ module _ (l : Lent) (passed : Passed l) where
   pub tick-passed : Passed (next l (tickEvent l .state))
   unfolding tickEvent
   tick-passed =
-      past-or (λ (t : Ticked). Passed (next l (t .state))) (gateOf l) (unticked s) (record { answer = Answers.Done; state = tickedTo image (rowsOf image Connections) s }) (λ r. passed)
+      past-or (λ (t : Ticked). Passed (next l (t .state))) (gateOf l) (unticked s) (tickedFrom (rowsOf image Connections) s (tickedTo image (rowsOf image Connections) s)) (λ r. passed)
       (λ _. passed-next l _ passed (ticked-sound image s (passed .sound)))
 
   pub ticks-passed : (count : ℕ) → Passed (next l (ticksEvent l count .state))
   unfolding ticksEvent
   ticks-passed count =
-      past-or (λ (t : Ticked). Passed (next l (t .state))) (gateOf l) (unticked s) (record { answer = Answers.Done; state = ticksTo image (rowsOf image Connections) count s }) (λ r. passed)
+      past-or (λ (t : Ticked). Passed (next l (t .state))) (gateOf l) (unticked s) (tickedFrom (rowsOf image Connections) s (ticksTo image (rowsOf image Connections) count s)) (λ r. passed)
       (λ _. passed-next l _ passed (ticks-sound image s count (passed .sound)))

@@ -4,14 +4,13 @@ use mathlib.Core.Path.{_≡_, refl, sym, ap, _∙_}
 use mathlib.Core.List.{List}
 use Rattle.table_layout.specs.Layout.{rowsOf}
 use Rattle.table_layout.specs.declared.Kind.the-variants.{Connection as Connections}
-use Rattle.connection.specs.declared.Answer.the-variants.{Done}
 use Rattle.lists.specs.Fold.{foldFrom}
 use Rattle.state.specs.declared.State.{State}
 use Rattle.gate.specs.Lent.{Lent, next}
 use Rattle.gate.specs.declared.Gate.{Gate}
 use Rattle.gate.specs.Gate.{through, Passed}
 use Rattle.gate.proofs.Pass.{passed-gate}
-use Rattle.entry_ticks.specs.Tick.{tickedTo, tickOnce, ticksTo, unticked, tickEvent, ticksEvent}
+use Rattle.entry_ticks.specs.Tick.{tickedTo, tickOnce, ticksTo, unticked, tickedFrom, tickEvent, ticksEvent}
 use Rattle.law_keeps.specs.Calls.{calls}
 use Rattle.law_keeps.proofs.Keeps.{tick-passed}
 
@@ -33,8 +32,8 @@ many (suc n) l p =
     ∙ ap (foldFrom (tickOnce (l .image) (rowsOf (l .image) Connections)) n 0) (sym (one l p))
     ∙ many n (next l (tickEvent l .state)) (tick-passed l p)
 
-pub ticks-single : (l : Lent) (n : ℕ) → Passed l → ticksEvent l n ≡ record { answer = Done; state = calls n l }
+pub ticks-single : (l : Lent) (n : ℕ) → Passed l → ticksEvent l n ≡ tickedFrom (rowsOf (l .image) Connections) (l .state) (calls n l)
 unfolding ticksEvent
 ticks-single l n p =
-    ap (λ (g : Gate). through g (unticked (l .state)) (record { answer = Done; state = ticksTo (l .image) (rowsOf (l .image) Connections) n (l .state) })) (passed-gate l p)
-    ∙ ap (λ (t : State). record { answer = Done; state = t }) (many n l p)
+    ap (λ (g : Gate). through g (unticked (l .state)) (tickedFrom (rowsOf (l .image) Connections) (l .state) (ticksTo (l .image) (rowsOf (l .image) Connections) n (l .state)))) (passed-gate l p)
+    ∙ ap (tickedFrom (rowsOf (l .image) Connections) (l .state)) (many n l p)
