@@ -24,7 +24,7 @@ use Rattle.table_rows.specs.Rows.{destinationOf}
 use Rattle.state.specs.declared.State.{State}
 use Rattle.state.specs.State.{recordAt}
 use Rattle.state.specs.Fresh.{configOf}
-use Rattle.reading.specs.Feed.{segmentRan as segmentOf}
+use Rattle.reading.specs.Feed.{segmentRan as segmentOf, finely}
 use Rattle.reading_walk.specs.Walk.{walkAt, outsTold}
 use Rattle.receive_stream.specs.Stream.{partFrom}
 use Rattle.select.specs.Choose.{arriveOf}
@@ -54,7 +54,7 @@ unfolding does
 does-is T k (change e) h = acts-changed e
 does-is T k (segment bytes) h = go (T .config k .tcp && receiving (h .connection))
   where
-    go : (b : Bool) → Acts (T .config k) (h .connection) (segment bytes) (cond b (streamed h (segmentOf (routesAt T k h) (cellAt h) bytes)) (acted h []) .to .connection)
+    go : (b : Bool) → Acts (T .config k) (h .connection) (segment bytes) (cond b (streamed h (finely (segmentOf (routesAt T k h) (cellAt h) bytes))) (acted h []) .to .connection)
     go true = acts-fed bytes (partFrom (segmentOf (routesAt T k h) (cellAt h) bytes .to))
     go false = acts-idle (segment bytes)
 does-is T k (walk d p) h = go (not (T .config k .tcp) && leb p (length d) && receiving (h .connection))

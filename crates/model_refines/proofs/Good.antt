@@ -36,7 +36,7 @@ use Rattle.entry_events.specs.Module.{switchAt, switchedAll, switchAllOf}
 use Rattle.entry_events.specs.Count.{uncounted, readPast, clearPast, readOf, clearOf}
 use Rattle.entry_events.proofs.Counts.{read-state, clear-records}
 use Rattle.entry_ticks.specs.declared.Ticked.{Ticked}
-use Rattle.entry_ticks.specs.Tick.{tickAt, tickedTo, unticked, tickEvent}
+use Rattle.entry_ticks.specs.Tick.{tickAt, tickedTo, unticked, tickedFrom, tickEvent}
 use Rattle.law_waits.proofs.Append.{append-sixteen, append-long}
 use Rattle.send.specs.declared.Transmitted.{Transmitted}
 use Rattle.model_refines.proofs.Arrivals.{arrive-is, meeting-length}
@@ -97,7 +97,7 @@ module _ (image : List ℕ) (m : Machine) (g : Good image m) where
   unfolding tickEvent tickedTo
   tick-good =
       with-state (tickEvent (lentTo image m) .state) (tick-passed (lentTo image m) (g .passed))
-      (past-or (λ (t : Ticked). Sixteen (t .state)) (gateOf (lentTo image m)) (unticked s) (record { answer = Done; state = tickedTo image (rowsOf image Connections) s }) (λ r. g .sixteen)
+      (past-or (λ (t : Ticked). Sixteen (t .state)) (gateOf (lentTo image m)) (unticked s) (tickedFrom (rowsOf image Connections) s (tickedTo image (rowsOf image Connections) s)) (λ r. g .sixteen)
       (λ _. each-length (tickAt image) 0 (rowsOf image Connections) (s .connections) ∙ g .sixteen))
 
   switches-good : (n : ℕ) (b : Bool) → Good image (machine (switchAllOf (lentTo image m) n b .state) (m .rx) (m .tx))

@@ -6,12 +6,13 @@ use mathlib.Core.List.{List, []}
 use lib.ListN.{set}
 use lib.Seq.{set-getD}
 use Rattle.connection.specs.declared.Connection.{Connection}
-use Rattle.reading.specs.Feed.{Out, drops}
+use Rattle.reading.specs.Feed.{Out, Ran, finely, drops}
+use Rattle.reading.proofs.Compared.{drops-fine}
 use Rattle.state.specs.declared.State.{State}
 use Rattle.state.specs.State.{recordAt, withRecord}
 use Rattle.state.specs.Memory.{stretch}
-use Rattle.model.specs.World.{Held, World, blank, heldAt, heldOf, viewOf, follow}
-use Rattle.model.specs.Step.{Table, countAfter, countAfterIf, acted, left}
+use Rattle.model.specs.World.{Held, World, blank, heldAt, heldOf, viewOf, follow, withCell}
+use Rattle.model.specs.Step.{Table, countAfter, countAfterIf, acted, streamed, left}
 use Rattle.model.proofs.View.{view-at, view-one, Less, follow-held}
 
 -- a state with so many drops of a protocol more
@@ -62,3 +63,15 @@ left-nothing T w k =
     let u : countAfterIf (not (T .config k .tcp)) 0 (w .udp) ≡ w .udp = none (not (T .config k .tcp)) (w .udp) in
     let t : countAfterIf (T .config k .tcp) 0 (w .tcp) ≡ w .tcp = none (T .config k .tcp) (w .tcp) in
     λ i. record { held = p i; udp = u i; tcp = t i }
+
+-- byte by byte or in pieces, takes leave the same
+pub left-fine : (T : Table) (w : World) (k : ℕ) (h : Held) (q : Ran) → left T w k (streamed h (finely q)) ≡ left T w k (streamed h q)
+left-fine T w k h q =
+    ap
+    (λ (n : ℕ).
+    record {
+      held = set (w .held) k (withCell (q .to) h);
+      udp = countAfterIf (not (T .config k .tcp)) n (w .udp);
+      tcp = countAfterIf (T .config k .tcp) n (w .tcp);
+    })
+    (drops-fine (q .list))

@@ -20,7 +20,7 @@ use Rattle.gate.specs.Gate.{gateOf, through, Passed}
 use Rattle.gate.proofs.Pass.{passed-gate}
 use Rattle.select.specs.Choose.{arriveOf}
 use Rattle.entry_ticks.specs.declared.Ticked.{Ticked}
-use Rattle.entry_ticks.specs.Tick.{tickAt, tickedTo, unticked, tickEvent}
+use Rattle.entry_ticks.specs.Tick.{tickAt, tickedTo, unticked, tickedFrom, tickEvent}
 use Rattle.entry_events.specs.declared.Told.{Told}
 use Rattle.entry_events.specs.declared.Counted.{Counted}
 use Rattle.entry_events.specs.Change.{refusedTold}
@@ -71,7 +71,7 @@ module _ (l : Loan) where
       → viewOf (tickEvent (sizes l) .state) rx tx ≡ step (tableOf image) (wholeOf image) w (onWhole tick)
   unfolding tickEvent step tickedTo
   tick-view p =
-      ap (λ (t : Ticked). viewOf (t .state) rx tx) (past (unticked s) (record { answer = Done; state = tickedTo image (rowsOf image Connections) s }) p)
+      ap (λ (t : Ticked). viewOf (t .state) rx tx) (past (unticked s) (tickedFrom (rowsOf image Connections) s (tickedTo image (rowsOf image Connections) s)) p)
       ∙ leaves-view (tickedTo image (rowsOf image Connections)) s rx tx
       (fewer-each (tickAt image) (λ k c. tick-less (configOf image k) c) 0 (rowsOf image Connections) (s .connections))
 

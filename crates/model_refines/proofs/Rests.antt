@@ -8,7 +8,7 @@ use lib.Dec.{eqb, leb}
 use borrow.Author.Tests.{leb-true, ltb-true, eqb-true}
 use Rattle.lists.proofs.Both.{and-left, and-right}
 use Rattle.receive_part.specs.declared.Part.{Part}
-use Rattle.receive_part.specs.declared.Part.the-variants.{Header, Payload, Skip}
+use Rattle.receive_part.specs.declared.Part.the-variants.{Header, Payload, Skip, Transfer}
 use Rattle.receive_part.specs.Part.{shaped, emptyPart}
 use Rattle.connection.specs.declared.Config.{Config}
 use Rattle.connection.specs.Connection.{isOnline}
@@ -27,12 +27,14 @@ shape-cell (Header held value) received e =
     (omega arith, omega arith, subst (λ (n : ℕ). value < 256 ^ n) q v)
 shape-cell (Payload route n held) received e = let h : held < n = ltb-true held n e in omega arith
 shape-cell (Skip bytes) received e = ltb-true 0 bytes e
+shape-cell (Transfer route left) received e = ltb-true 0 left e
 
 empty-cell : (p : Part) (received : List ℕ) → emptyPart p ≡ true → cellOf p received ≡ ready
 empty-cell (Header held value) received e =
     ap₂ (λ (n v : ℕ). cell (8 - n) (header v)) (eqb-true held 0 (and-left (eqb held 0) _ e)) (eqb-true value 0 (and-right (eqb held 0) _ e))
 empty-cell (Payload route n held) received e = absurd (false≢true e)
 empty-cell (Skip bytes) received e = absurd (false≢true e)
+empty-cell (Transfer route left) received e = absurd (false≢true e)
 
 empty-part : (e o t : Bool) → (e || (o && t)) ≡ true → o ≡ false → e ≡ true
 empty-part true o t p q = refl

@@ -14,7 +14,7 @@ use Rattle.table_layout.specs.declared.Kind.the-variants.{Connection as Connect
 use Rattle.connection.specs.declared.Connection.{Connection}
 use Rattle.state.specs.State.{recordAt}
 use Rattle.state.specs.Fresh.{configOf}
-use Rattle.reading.specs.Feed.{segmentRan as segmentOf}
+use Rattle.reading.specs.Feed.{segmentRan as segmentOf, fine, finely}
 use Rattle.reading_lengths.specs.Listed.{Bytes}
 use Rattle.reading_lengths.proofs.Bytes.{bytes-drop}
 use Rattle.gate.specs.Gate.{Passed}
@@ -30,7 +30,7 @@ use Rattle.model.proofs.View.{view-record}
 use Rattle.model_runs.proofs.Same.{does-read, does-refused}
 use Rattle.model_refines.specs.Table.{tableOf}
 use Rattle.model_refines.specs.Machine.{Machine, loanTo, lentTo, seen, taken, afterOne, restOf, pduTold, toldBy, goesOn, afterTakes, toldTakes, afterSegment, toldSegment}
-use Rattle.model_refines.proofs.Left.{left-nothing}
+use Rattle.model_refines.proofs.Left.{left-nothing, left-fine}
 use Rattle.model_refines.proofs.Answered.{done-is}
 use Rattle.model_refines.proofs.Take.{Open, open-after}
 use Rattle.model_refines.proofs.Takes.{R, C, takes-view, takes-told}
@@ -106,7 +106,7 @@ module _ (image : List ℕ) (k : ℕ) where
     seen-c : heldAt (seen m) k .connection ≡ c
     seen-c = view-record (m .state) (m .rx) (m .tx) k
 
-    at-open : readable ≡ true → actsAt (tableOf image) (seen m) k (segment bs) ≡ streamed (heldAt (seen m) k) (segmentOf (R image k m) (C image k m) bs)
+    at-open : readable ≡ true → actsAt (tableOf image) (seen m) k (segment bs) ≡ streamed (heldAt (seen m) k) (finely (segmentOf (R image k m) (C image k m) bs))
     unfolding acts
     at-open e =
         rw (and-left (ltb k (rowsOf image Connections)) _ e)
@@ -124,20 +124,34 @@ module _ (image : List ℕ) (k : ℕ) where
     segment-view = go readable refl
       where
         go : (b : Bool) → readable ≡ b → seen (afterSegment image k m bs) ≡ left (tableOf image) (seen m) k (actsAt (tableOf image) (seen m) k (segment bs))
-        go true e = takes-view image k (suc (length bs)) m bs (opened e) bytes (omega arith) ∙ ap (left (tableOf image) (seen m) k) (sym (at-open e))
+        go true e =
+            takes-view image k (suc (length bs)) m bs (opened e) bytes (omega arith)
+            ∙ sym (left-fine (tableOf image) (seen m) k (heldAt (seen m) k) (segmentOf (R image k m) (C image k m) bs))
+            ∙ ap (left (tableOf image) (seen m) k) (sym (at-open e))
         go false e =
             ap seen (no-segment image m k bs (refused e))
             ∙ sym (left-nothing (tableOf image) (seen m) k)
             ∙ ap (left (tableOf image) (seen m) k) (sym (at-refused (ltb k (rowsOf image Connections)) refl e))
 
-    -- WHAT IT HANDS OUT
-    pub segment-told : toldSegment image k m bs ≡ actsAt (tableOf image) (seen m) k (segment bs) .list
+    -- WHAT IT HANDS OUT: the stream's list ..
+    pub segment-list : toldSegment image k m bs ≡ cond readable (segmentOf (R image k m) (C image k m) bs .list) []
     unfolding segmentOf
+    segment-list = go readable refl
+      where
+        go : (b : Bool) → readable ≡ b → toldSegment image k m bs ≡ cond b (segmentOf (R image k m) (C image k m) bs .list) []
+        go true e = takes-told image k (suc (length bs)) m bs (opened e) bytes (omega arith)
+        go false e = none-told image m k bs (refused e)
+
+    -- .. which is the world's, byte by byte
+    pub segment-told : fine (toldSegment image k m bs) ≡ actsAt (tableOf image) (seen m) k (segment bs) .list
+    unfolding fine
     segment-told = go readable refl
       where
-        go : (b : Bool) → readable ≡ b → toldSegment image k m bs ≡ actsAt (tableOf image) (seen m) k (segment bs) .list
-        go true e = takes-told image k (suc (length bs)) m bs (opened e) bytes (omega arith) ∙ ap (λ (a : Acted). a .list) (sym (at-open e))
-        go false e = none-told image m k bs (refused e) ∙ ap (λ (a : Acted). a .list) (sym (at-refused (ltb k (rowsOf image Connections)) refl e))
+        go : (b : Bool) → readable ≡ b → fine (toldSegment image k m bs) ≡ actsAt (tableOf image) (seen m) k (segment bs) .list
+        go true e = ap fine (segment-list ∙ ap (λ (b : Bool). cond b (segmentOf (R image k m) (C image k m) bs .list) []) e) ∙ ap (λ (a : Acted). a .list) (sym (at-open e))
+        go false e =
+            ap fine (segment-list ∙ ap (λ (b : Bool). cond b (segmentOf (R image k m) (C image k m) bs .list) []) e)
+            ∙ ap (λ (a : Acted). a .list) (sym (at-refused (ltb k (rowsOf image Connections)) refl e))
 
     -- SOUND STAYS SOUND
     pub segment-event-passed : Passed (lentTo image (afterSegment image k m bs))

@@ -1,4 +1,4 @@
--- EVERY ENTRY POINT: from a good machine, what an event leaves is the world's step, and what the caller is given is the world's list.
+-- EVERY ENTRY POINT: from a good machine, what an event leaves is the world's step, and what the caller is given is, byte by byte, the world's list.
 use Prim.Native.Nat.{ℕ}
 use mathlib.Core.Path.{_≡_, refl, sym, ap, ap₂, _∙_}
 use mathlib.Core.Bool.{Bool, true, false, cond}
@@ -9,7 +9,7 @@ use Rattle.table_layout.specs.Layout.{rowsOf}
 use Rattle.table_layout.specs.declared.Kind.the-variants.{Connection as Connections}
 use Rattle.connection.specs.declared.Remote.{Remote}
 use Rattle.state.specs.declared.State.{State}
-use Rattle.reading.specs.Feed.{Out}
+use Rattle.reading.specs.Feed.{Out, fine}
 use Rattle.table.proofs.Facts.{accepted-facts}
 use Rattle.select.specs.declared.Arrived.{Arrived}
 use Rattle.select.specs.Choose.{arrivalRefused, arriveOf}
@@ -91,10 +91,15 @@ module _ (image : List ℕ) (m : Machine) (good : Good image m) where
       go true false = refl
       go false y = refl
 
-  pub event-given : (k : ℕ) (e : Event) → EventBytes e → given image k e m ≡ hands (tableOf image) (wholeOf image) k (seen m) e
-  unfolding given hands does
+  only-own : (b : Bool) (os : List Out) → fine (cond b os []) ≡ cond b (fine os) []
+  unfolding fine
+  only-own true os = refl
+  only-own false os = refl
+
+  pub event-given : (k : ℕ) (e : Event) → EventBytes e → fine (given image k e m) ≡ hands (tableOf image) (wholeOf image) k (seen m) e
+  unfolding given hands does fine
   event-given k (on i (change e)) b = no-list k i (change e) (λ h. refl)
-  event-given k (on i (segment bytes)) b = ap (λ (os : List Out). cond (eqb i k) os []) (segment-told image i m bytes (good .passed) b W)
-  event-given k (on i (walk d p)) b = ap (λ (os : List Out). cond (eqb i k) os []) (walk-told (loanTo image m) i d p (good .passed) W)
+  event-given k (on i (segment bytes)) b = only-own (eqb i k) _ ∙ ap (λ (os : List Out). cond (eqb i k) os []) (segment-told image i m bytes (good .passed) b W)
+  event-given k (on i (walk d p)) b = only-own (eqb i k) _ ∙ ap (λ (os : List Out). cond (eqb i k) os []) (walk-told (loanTo image m) i d p (good .passed) W)
   event-given k (on i (takeWaiting room)) b = no-list k i (takeWaiting room) (λ h. refl)
   event-given k (onWhole e) b = refl

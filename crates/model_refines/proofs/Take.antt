@@ -10,17 +10,17 @@ use lib.Seq.{getD-set-same}
 use Rattle.table_layout.specs.Layout.{bodyOf}
 use Rattle.table_layout.specs.declared.Kind.the-variants.{Route as Routes}
 use Rattle.receive_part.specs.declared.Part.{Part}
-use Rattle.receive_part.specs.declared.Part.the-variants.{Header, Payload, Skip}
+use Rattle.receive_part.specs.declared.Part.the-variants.{Header, Payload, Skip, Transfer}
 use Rattle.connection.specs.declared.Connection.{Connection}
 use Rattle.connection.specs.Connection.{withPart}
 use Rattle.state.specs.declared.State.{State}
 use Rattle.state.specs.State.{recordAt, withRecord}
 use Rattle.state.specs.Fresh.{configOf}
-use Rattle.reading.specs.Feed.{Out, nothing, pdu, dropped, emit, Took, takeB, drops}
+use Rattle.reading.specs.Feed.{Out, nothing, pdu, dropped, start, piece, emit, Took, takeB, drops}
 use Rattle.reading.proofs.Cut.{take-rest}
 use Rattle.reading_lengths.specs.Listed.{Bytes}
 use Rattle.receive_stream.specs.Stream.{cellOf, partFrom, heldIn, inSegment, takeOutcome, tookOf, takenOf, payloadAt}
-use Rattle.receive_stream.proofs.Leaves.{leaves-cell, leaves-length, hands-out}
+use Rattle.receive_stream.proofs.Leaves.{leaves-cell, leaves-length, hands-out, handed-piece}
 use Rattle.receive_route.specs.Route.{lookupOf}
 use Rattle.gate.proofs.Pass.{passed-gate-at}
 use Rattle.gate.specs.Lent.{sizes, received}
@@ -49,6 +49,7 @@ held-bytes : (p : Part) (st : List ℕ) → take (heldBy p) st ≡ heldIn (cellO
 held-bytes (Header held value) st = refl
 held-bytes (Payload route n held) st = refl
 held-bytes (Skip bytes) st = refl
+held-bytes (Transfer route left) st = refl
 
 -- the count after a take
 count-is : (ids : ℕ → ℕ) (b : Bool) (n : ℕ) (o : Out) (s : State) (k : ℕ) (c : Connection)
@@ -57,6 +58,8 @@ unfolding drops countAfter
 count-is ids b n nothing s k c = refl
 count-is ids b n (pdu r p) s k c = refl
 count-is ids b n (dropped q i l) s k c = refl
+count-is ids b n (start r i l x) s k c = refl
+count-is ids b n (piece r p x) s k c = refl
 
 module _ (image : List ℕ) (k : ℕ) (m : Machine) (segment : List ℕ) (o : Open image k m) (bytes : Bytes segment) where
   abbrev s : State
@@ -164,6 +167,8 @@ module _ (image : List ℕ) (k : ℕ) (m : Machine) (segment : List ℕ) (o : Op
       own
       ∙ hands-out routes k (c .switches) (c .part) st segment (takes .fit) bytes r p e))
   told-is (dropped q i n) e = rw e
+  told-is (start r i n x) e = rw e
+  told-is (piece r p x) e = rw e (ap (λ (l : List ℕ). piece r l x ∷ []) (handed-piece routes k (c .switches) (c .part) st segment r p x e))
 
   pub one-told : toldBy image k m segment ≡ emit (tookAt .out) []
   unfolding takeOn

@@ -15,7 +15,7 @@ use Rattle.connection.specs.Connection.{zeroRecord}
 use Rattle.state.specs.declared.State.{State}
 use Rattle.state.specs.State.{recordAt, withRecord}
 use Rattle.state.specs.Fresh.{configOf}
-use Rattle.reading.specs.Feed.{drops}
+use Rattle.reading.specs.Feed.{fine, drops}
 use Rattle.reading_walk.specs.Walk.{Found, the-end, a-pdu, a-drop, walkAt, outsTold}
 use Rattle.receive_route.specs.Route.{lookupOf}
 use Rattle.receive_datagram.specs.Datagram.{walkOutcome, walkedOf}
@@ -28,6 +28,7 @@ use Rattle.model.specs.Events.{walk, Whole, on}
 use Rattle.connection.specs.Event.{receiving}
 use Rattle.model.specs.Step.{Acted, countAfter, acted, does, acts, actsAt, left, step}
 use Rattle.model.proofs.View.{view-at}
+use Rattle.receive_datagram.specs.declared.Outcome.{Outcome as Step}
 use Rattle.receive_datagram.specs.declared.Outcome.the-variants.{End}
 use Rattle.model_refines.specs.Table.{tableOf}
 use Rattle.model_refines.specs.Run.{toldWalk}
@@ -113,8 +114,9 @@ module _ (l : Loan) (k : ℕ) (d : List ℕ) (place : ℕ) (passed : Passed (siz
           ∙ sym (left-nothing (tableOf image) w k)
           ∙ ap (left (tableOf image) w k) (sym (acts-refused (ltb k (rowsOf image Connections)) refl e))
 
-  -- WHAT IT HANDS OUT
-  told-found : (f : Found) → toldWalk d (walkOutcome f) ≡ outsTold d f []
+  -- WHAT IT HANDS OUT: no piece is in it
+  told-found : (f : Found) → fine (toldWalk d (walkOutcome f)) ≡ outsTold d f []
+  unfolding fine
   told-found the-end = refl
   told-found (a-pdu r p n i) = refl
   told-found (a-drop q i n) = refl
@@ -124,9 +126,10 @@ module _ (l : Loan) (k : ℕ) (d : List ℕ) (place : ℕ) (passed : Passed (siz
   walk-out true e = rw (is-done ∙ e)
   walk-out false e = rw (is-done ∙ e)
 
-  pub walk-told : toldWalk d (walkOf (sizes l) k d place .outcome) ≡ actsAt (tableOf image) w k (walk d place) .list
+  pub walk-told : fine (toldWalk d (walkOf (sizes l) k d place .outcome)) ≡ actsAt (tableOf image) w k (walk d place) .list
+  unfolding fine
   walk-told = go readable refl
     where
-      go : (b : Bool) → readable ≡ b → toldWalk d (walkOf (sizes l) k d place .outcome) ≡ actsAt (tableOf image) w k (walk d place) .list
-      go true e = ap (toldWalk d) (walk-out true e) ∙ told-found found ∙ ap (λ (a : Acted). a .list) (sym (acts-made e))
-      go false e = ap (toldWalk d) (walk-out false e) ∙ ap (λ (a : Acted). a .list) (sym (acts-refused (ltb k (rowsOf image Connections)) refl e))
+      go : (b : Bool) → readable ≡ b → fine (toldWalk d (walkOf (sizes l) k d place .outcome)) ≡ actsAt (tableOf image) w k (walk d place) .list
+      go true e = ap (λ (o : Step). fine (toldWalk d o)) (walk-out true e) ∙ told-found found ∙ ap (λ (a : Acted). a .list) (sym (acts-made e))
+      go false e = ap (λ (o : Step). fine (toldWalk d o)) (walk-out false e) ∙ ap (λ (a : Acted). a .list) (sym (acts-refused (ltb k (rowsOf image Connections)) refl e))

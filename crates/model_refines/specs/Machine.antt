@@ -4,7 +4,7 @@ use Prim.Native.Nat.{ℕ, zero, suc}
 use mathlib.Core.Bool.{Bool, false, cond}
 use mathlib.Core.List.{List, [], _∷_, _++_}
 use lib.ListN.{length, drop}
-use Rattle.reading.specs.Feed.{Out, pdu, dropped}
+use Rattle.reading.specs.Feed.{Out, pdu, dropped, start, piece}
 use Rattle.state.specs.declared.State.{State}
 use Rattle.gate.specs.Lent.{Lent, Loan, loan, sizes}
 use Rattle.receive_stream.specs.declared.Outcome.{Outcome}
@@ -45,11 +45,14 @@ module _ (image : List ℕ) (k : ℕ) where
   abbrev pub restOf : Machine → List ℕ → List ℕ
   restOf m segment = drop (taken m segment .read) segment
 
-  -- what it found: a PDU, with the payload that the caller is given, or a drop
+  -- what it found: a PDU, with the payload that the caller is given, or a drop; R19.2, R19.3: a transfer's start, or a piece of it, with the
+  -- bytes that the caller is given
   abbrev pub pduTold : List ℕ → Outcome → List Out
   pduTold payload Found.More = []
   pduTold payload (Found.Pdu route id inside at n) = pdu route payload ∷ []
   pduTold payload (Found.Drop reason id n) = dropped reason id n ∷ []
+  pduTold payload (Found.Start route id n last) = start route id n last ∷ []
+  pduTold payload (Found.Piece route id at n last) = piece route payload last ∷ []
 
   abbrev pub toldBy : Machine → List ℕ → List Out
   toldBy m segment = pduTold (payloadOf segment (afterOne m segment .rx) k (taken m segment .outcome)) (taken m segment .outcome)

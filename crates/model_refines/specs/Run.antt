@@ -49,7 +49,7 @@ module _ (image : List ℕ) where
   afterEvent (on k e) m = afterOwn k e m
   afterEvent (onWhole e) m = afterWhole e m
 
-  -- the outcomes that the caller is given for connection k: PDUs, and drops with their reason, id and length
+  -- the outcomes that the caller is given for connection k: PDUs, drops with their reason, id and length, and transfers' starts and pieces
   unfoldable pub given : ℕ → Event → Machine → List Out
   given k (on i (change e)) m = []
   given k (on i (segment bytes)) m = cond (eqb i k) (toldSegment image i m bytes) []
