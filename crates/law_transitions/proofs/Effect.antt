@@ -3,6 +3,7 @@ use Prim.Native.Nat.{_-_}
 use lib.Dec.{eqb}
 use mathlib.Core.Path.{_≡_, refl, ap, _∙_}
 use mathlib.Core.Bool.{Bool, true, false, cond, not, _&&_, _||_, Bool·beq}
+use Rattle.receive_part.specs.Part.{transferring}
 use Rattle.connection.specs.declared.Mode.{Mode}
 use Rattle.connection.specs.declared.Mode.the-variants.{Offline, Reconnect, Online}
 use Rattle.connection.specs.declared.Connection.{Connection}
@@ -10,13 +11,14 @@ use Rattle.connection.specs.declared.Config.{Config}
 use Rattle.connection.specs.declared.Refusal.the-variants.{Denied}
 use Rattle.connection.specs.declared.Answer.the-variants.{Done}
 use Rattle.connection.specs.declared.Event.{Event}
-use Rattle.connection.specs.declared.Event.the-variants.{Open, Close, Connected, Lost, SetRemote, Switch}
+use Rattle.connection.specs.declared.Event.the-variants.{Open, Close, Connected, Lost, SetRemote, Switch, Cancel}
 use Rattle.connection.specs.Connection.{isOffline, isReconnect, isOnline, wildcard, withMode, withSend, become, closedOf, startedOf, reachOf, runOf, tickOf}
 use Rattle.connection.specs.Event.{allowed, recordAfter, refusedBy, stepOf}
 use Rattle.connection.specs.Sound.{Sound}
+use Rattle.connection.proofs.Keeps.{moves-online}
 use Rattle.connection.proofs.Ticks.{step-either}
 use Rattle.lists.proofs.Both.{impossible, and-left, and-right, and-both}
-use Rattle.law_transitions.specs.Table.{Place, at, placeOf, Happening, opens, closes, connects, loses, stays, ticks, happeningOf, modeNumber, table, firstIn, move}
+use Rattle.law_transitions.specs.Table.{Place, at, placeOf, Happening, opens, closes, connects, loses, stays, cancels, ticks, happeningOf, modeNumber, table, firstIn, move}
 
 -- the two steps of a tick that goes on
 abbrev startP : Bool → Place → Place
@@ -26,17 +28,18 @@ abbrev reachP : Bool → Bool → Place → Place
 reachP t w (at m o k) = cond (isReconnect m && not t && not w) (at Online o k) (at m o k)
 
 -- what the definitions of the events say of mode and wishes
-effect : Happening → Bool → Bool → Bool → Mode → Bool → Bool → Place
-effect opens t a w m o k = cond (not a && isOffline m && not k) (at m true k) (at m o k)
-effect closes t a w m o k = cond (not a && (o || not (isOffline m))) (at m false true) (at m o k)
-effect connects t a w m o k = cond (t && isReconnect m && not k && not w) (at Online o k) (at m o k)
-effect loses t a w m o k = cond (t && isOnline m) (at Reconnect o k) (at m o k)
-effect stays t a w m o k = at m o k
-effect ticks t a w m o k = cond k (at Offline false false) (reachP t w (startP a (at m o k)))
+effect : Happening → Bool → Bool → Bool → Bool → Mode → Bool → Bool → Place
+effect opens t a w x m o k = cond (not a && isOffline m && not k) (at m true k) (at m o k)
+effect closes t a w x m o k = cond (not a && (o || not (isOffline m))) (at m false true) (at m o k)
+effect connects t a w x m o k = cond (t && isReconnect m && not k && not w) (at Online o k) (at m o k)
+effect loses t a w x m o k = cond (t && isOnline m) (at Reconnect o k) (at m o k)
+effect stays t a w x m o k = at m o k
+effect cancels t a w x m o k = cond x (at m false true) (at m o k)
+effect ticks t a w x m o k = cond k (at Offline false false) (reachP t w (startP a (at m o k)))
 
--- the rules on wishes
-ruled : Bool → Bool → Mode → Bool → Bool → Bool
-ruled t a m o k = (not o || (not a && isOffline m && not k)) && (not k || not a || (t && not (isOffline m)))
+-- the rules on wishes, and on where a transfer runs
+ruled : Bool → Bool → Bool → Mode → Bool → Bool → Bool
+ruled t a x m o k = (not o || (not a && isOffline m && not k)) && (not k || not a || (t && not (isOffline m))) && (not x || (isOnline m && t))
 
 same : Place → Place → Bool
 same (at m o k) (at n p q) = eqb (modeNumber m) (modeNumber n) && Bool·beq o p && Bool·beq k q
@@ -49,13 +52,13 @@ modes : (Mode → Bool) → Bool
 modes p = p Offline && p Reconnect && p Online
 
 happenings : (Happening → Bool) → Bool
-happenings p = p opens && p closes && p connects && p loses && p stays && p ticks
+happenings p = p opens && p closes && p connects && p loses && p stays && p cancels && p ticks
 
-agrees : Happening → Bool → Bool → Bool → Mode → Bool → Bool → Bool
-agrees h t a w m o k = not (ruled t a m o k) || same (effect h t a w m o k) (move h t a w (at m o k))
+agrees : Happening → Bool → Bool → Bool → Bool → Mode → Bool → Bool → Bool
+agrees h t a w x m o k = not (ruled t a x m o k) || same (effect h t a w x m o k) (move h t a w x (at m o k))
 
 whole : Bool
-whole = happenings (λ h. bools (λ t. bools (λ a. bools (λ w. modes (λ m. bools (λ o. bools (λ k. agrees h t a w m o k)))))))
+whole = happenings (λ h. bools (λ t. bools (λ a. bools (λ w. bools (λ x. modes (λ m. bools (λ o. bools (λ k. agrees h t a w x m o k))))))))
 
 -- every happening, protocol, mode and wish, by computation
 checked : whole ≡ true
@@ -77,8 +80,11 @@ of-happening : (p : Happening → Bool) → happenings p ≡ true → (h : Happe
 unfolding happenings
 of-happening p e h = go h
   where
+    six : (p opens && p closes && p connects && p loses && p stays && p cancels) ≡ true
+    six = and-left (p opens && p closes && p connects && p loses && p stays && p cancels) (p ticks) e
+
     five : (p opens && p closes && p connects && p loses && p stays) ≡ true
-    five = and-left (p opens && p closes && p connects && p loses && p stays) (p ticks) e
+    five = and-left (p opens && p closes && p connects && p loses && p stays) (p cancels) six
 
     four : (p opens && p closes && p connects && p loses) ≡ true
     four = and-left (p opens && p closes && p connects && p loses) (p stays) five
@@ -95,7 +101,8 @@ of-happening p e h = go h
     go connects = and-right (p opens && p closes) (p connects) three
     go loses = and-right (p opens && p closes && p connects) (p loses) four
     go stays = and-right (p opens && p closes && p connects && p loses) (p stays) five
-    go ticks = and-right (p opens && p closes && p connects && p loses && p stays) (p ticks) e
+    go cancels = and-right (p opens && p closes && p connects && p loses && p stays) (p cancels) six
+    go ticks = and-right (p opens && p closes && p connects && p loses && p stays && p cancels) (p ticks) e
 
 bool-is : (a b : Bool) → Bool·beq a b ≡ true → a ≡ b
 bool-is true true e = refl
@@ -123,22 +130,32 @@ same-is (at m o k) (at n p q) e =
     let c = bool-is k q (and-right (eqb (modeNumber m) (modeNumber n) && Bool·beq o p) (Bool·beq k q) e) in
     rw (a, b, c)
 
--- of places that meet the rules on wishes
-moved : (h : Happening) (t a w : Bool) (m : Mode) (o k : Bool) → ruled t a m o k ≡ true → effect h t a w m o k ≡ move h t a w (at m o k)
+-- of places that meet these rules
+moved : (h : Happening) (t a w x : Bool) (m : Mode) (o k : Bool) → ruled t a x m o k ≡ true → effect h t a w x m o k ≡ move h t a w x (at m o k)
 unfolding whole agrees
-moved h t a w m o k r =
-    let p1 = of-happening (λ h. bools (λ t. bools (λ a. bools (λ w. modes (λ m. bools (λ o. bools (λ k. agrees h t a w m o k))))))) checked h in
-    let p2 = of-bool (λ t. bools (λ a. bools (λ w. modes (λ m. bools (λ o. bools (λ k. agrees h t a w m o k)))))) p1 t in
-    let p3 = of-bool (λ a. bools (λ w. modes (λ m. bools (λ o. bools (λ k. agrees h t a w m o k))))) p2 a in
-    let p4 = of-bool (λ w. modes (λ m. bools (λ o. bools (λ k. agrees h t a w m o k)))) p3 w in
-    let p5 = of-mode (λ m. bools (λ o. bools (λ k. agrees h t a w m o k))) p4 m in
-    let p6 = of-bool (λ o. bools (λ k. agrees h t a w m o k)) p5 o in
-    let p7 = of-bool (λ k. agrees h t a w m o k) p6 k in
-    same-is (effect h t a w m o k) (move h t a w (at m o k)) (rw r at p7)
+moved h t a w x m o k r =
+    let p1 = of-happening (λ h. bools (λ t. bools (λ a. bools (λ w. bools (λ x. modes (λ m. bools (λ o. bools (λ k. agrees h t a w x m o k)))))))) checked h in
+    let p2 = of-bool (λ t. bools (λ a. bools (λ w. bools (λ x. modes (λ m. bools (λ o. bools (λ k. agrees h t a w x m o k))))))) p1 t in
+    let p3 = of-bool (λ a. bools (λ w. bools (λ x. modes (λ m. bools (λ o. bools (λ k. agrees h t a w x m o k)))))) p2 a in
+    let p4 = of-bool (λ w. bools (λ x. modes (λ m. bools (λ o. bools (λ k. agrees h t a w x m o k))))) p3 w in
+    let p5 = of-bool (λ x. modes (λ m. bools (λ o. bools (λ k. agrees h t a w x m o k)))) p4 x in
+    let p6 = of-mode (λ m. bools (λ o. bools (λ k. agrees h t a w x m o k))) p5 m in
+    let p7 = of-bool (λ o. bools (λ k. agrees h t a w x m o k)) p6 o in
+    let p8 = of-bool (λ k. agrees h t a w x m o k) p7 k in
+    same-is (effect h t a w x m o k) (move h t a w x (at m o k)) (rw r at p8)
 
-rules : (g : Config) (c : Connection) → Sound g c → ruled (g .tcp) (g .automatic) (c .mode) (c .«open_wanted») (c .«close_wanted») ≡ true
+-- a transfer runs on an online TCP record alone
+moving-online : (g : Config) (c : Connection) → Sound g c → (not (transferring (c .part)) || (isOnline (c .mode) && g .tcp)) ≡ true
+moving-online g c s = go (transferring (c .part)) refl
+  where
+    go : (x : Bool) → transferring (c .part) ≡ x → (not x || (isOnline (c .mode) && g .tcp)) ≡ true
+    go false e = refl
+    go true e = moves-online g c s e
+
+rules : (g : Config) (c : Connection) → Sound g c
+    → ruled (g .tcp) (g .automatic) (transferring (c .part)) (c .mode) (c .«open_wanted») (c .«close_wanted») ≡ true
 unfolding ruled
-rules g c s = and-both (s .opening) (s .closing)
+rules g c s = and-both (and-both (s .opening) (s .closing)) (moving-online g c s)
 
 -- an event that is allowed or not
 decided : (b : Bool) (c d : Connection) → placeOf (cond (not b) (refusedBy Denied c) (record { answer = Done; connection = d }) .connection) ≡ cond b (placeOf d) (placeOf c)
@@ -150,7 +167,8 @@ stays-put : (e : Event) (g : Config) (c : Connection) → placeOf (recordAfter e
 stays-put e g c p = step-either e g c (λ (d : Connection). placeOf d ≡ placeOf c) (λ _. refl) (λ _. p)
 
 step-effect : (e : Event) (g : Config) (c : Connection)
-    → placeOf (stepOf e g c .connection) ≡ effect (happeningOf e) (g .tcp) (g .automatic) (wildcard (c .remote)) (c .mode) (c .«open_wanted») (c .«close_wanted»)
+    → placeOf (stepOf e g c .connection)
+    ≡ effect (happeningOf e) (g .tcp) (g .automatic) (wildcard (c .remote)) (transferring (c .part)) (c .mode) (c .«open_wanted») (c .«close_wanted»)
 unfolding stepOf effect
 step-effect Open g c = decided (allowed Open g c) c (recordAfter Open g c)
 step-effect Close g c = decided (allowed Close g c) c (recordAfter Close g c)
@@ -158,6 +176,7 @@ step-effect Connected g c = decided (allowed Connected g c) c (recordAfter Conne
 step-effect Lost g c = decided (allowed Lost g c) c (recordAfter Lost g c)
 step-effect (SetRemote r) g c = stays-put (SetRemote r) g c refl
 step-effect (Switch n on) g c = stays-put (Switch n on) g c refl
+step-effect Cancel g c = decided (allowed Cancel g c) c (recordAfter Cancel g c)
 
 start-place : (g : Config) (c : Connection) → placeOf (startedOf g c) ≡ startP (g .automatic) (placeOf c)
 unfolding startedOf
@@ -192,7 +211,8 @@ run-place c = go (eqb (c .timer) 0)
     go false = refl
 
 tick-effect : (g : Config) (c : Connection)
-    → placeOf (tickOf g c) ≡ effect ticks (g .tcp) (g .automatic) (wildcard (c .remote)) (c .mode) (c .«open_wanted») (c .«close_wanted»)
+    → placeOf (tickOf g c)
+    ≡ effect ticks (g .tcp) (g .automatic) (wildcard (c .remote)) (transferring (c .part)) (c .mode) (c .«open_wanted») (c .«close_wanted»)
 unfolding tickOf effect
 tick-effect g c = go (c .«close_wanted»)
   where
@@ -209,8 +229,13 @@ tick-effect g c = go (c .«close_wanted»)
 
 -- THE TABLE IS THE EVENTS' EFFECT
 pub event-moves : (e : Event) (g : Config) (c : Connection) → Sound g c
-    → placeOf (stepOf e g c .connection) ≡ move (happeningOf e) (g .tcp) (g .automatic) (wildcard (c .remote)) (placeOf c)
-event-moves e g c s = step-effect e g c ∙ moved (happeningOf e) (g .tcp) (g .automatic) (wildcard (c .remote)) (c .mode) (c .«open_wanted») (c .«close_wanted») (rules g c s)
+    → placeOf (stepOf e g c .connection) ≡ move (happeningOf e) (g .tcp) (g .automatic) (wildcard (c .remote)) (transferring (c .part)) (placeOf c)
+event-moves e g c s =
+    step-effect e g c
+    ∙ moved (happeningOf e) (g .tcp) (g .automatic) (wildcard (c .remote)) (transferring (c .part)) (c .mode) (c .«open_wanted») (c .«close_wanted») (rules g c s)
 
-pub tick-moves : (g : Config) (c : Connection) → Sound g c → placeOf (tickOf g c) ≡ move ticks (g .tcp) (g .automatic) (wildcard (c .remote)) (placeOf c)
-tick-moves g c s = tick-effect g c ∙ moved ticks (g .tcp) (g .automatic) (wildcard (c .remote)) (c .mode) (c .«open_wanted») (c .«close_wanted») (rules g c s)
+pub tick-moves : (g : Config) (c : Connection) → Sound g c
+    → placeOf (tickOf g c) ≡ move ticks (g .tcp) (g .automatic) (wildcard (c .remote)) (transferring (c .part)) (placeOf c)
+tick-moves g c s =
+    tick-effect g c
+    ∙ moved ticks (g .tcp) (g .automatic) (wildcard (c .remote)) (transferring (c .part)) (c .mode) (c .«open_wanted») (c .«close_wanted») (rules g c s)

@@ -1,5 +1,5 @@
 -- THE TRANSITIONS OF A CONNECTION: mode, open wanted and close wanted (its wishes), by the events that concern the record alone and by
--- a tick (R8.2, R9.1); of a sound record (an unsound one is answered 12). Where no row fits, they stay. A datagram or an accept makes the
+-- a tick (R8.2, R9.1, R19.6); of a sound record (an unsound one is answered 12). Where no row fits, they stay. A datagram or an accept makes the
 -- chosen member online (R7.6: select/specs/Choose `meet`), and what follows a non-empty take of waiting bytes is R10.9 (send_waiting/specs/Waiting
 -- `afterTake`): these are not in the table.
 use Prim.Native.Nat.{ℕ}
@@ -10,7 +10,7 @@ use Rattle.connection.specs.declared.Mode.{Mode}
 use Rattle.connection.specs.declared.Mode.the-variants.{Offline, Reconnect, Online}
 use Rattle.connection.specs.declared.Connection.{Connection}
 use Rattle.connection.specs.declared.Event.{Event}
-use Rattle.connection.specs.declared.Event.the-variants.{Open, Close, Connected, Lost, SetRemote, Switch}
+use Rattle.connection.specs.declared.Event.the-variants.{Open, Close, Connected, Lost, SetRemote, Switch, Cancel}
 
 -- mode, open wanted, close wanted
 pub data Place : Type 0 where
@@ -26,6 +26,7 @@ pub data Happening : Type 0 where
   connects : Happening
   loses : Happening
   stays : Happening
+  cancels : Happening
   ticks : Happening
 
 abbrev pub happeningOf : Event → Happening
@@ -35,6 +36,7 @@ happeningOf Connected = connects
 happeningOf Lost = loses
 happeningOf (SetRemote r) = stays
 happeningOf (Switch n on) = stays
+happeningOf Cancel = cancels
 
 -- what a column asks
 pub data Asks : Type 0 where
@@ -46,24 +48,25 @@ pub data AsksMode : Type 0 where
   only : Mode → AsksMode
 
 pub data Row : Type 0 where
-  row : Happening → Asks → Asks → Asks → AsksMode → Asks → Asks → Place → Row
+  row : Happening → Asks → Asks → Asks → Asks → AsksMode → Asks → Asks → Place → Row
 
--- THE TABLE. Columns: event; TCP; automatic; a wildcard in the remote; mode; open wanted; close wanted; what it becomes
+-- THE TABLE. Columns: event; TCP; automatic; a wildcard in the remote; a transfer runs; mode; open wanted; close wanted; what it becomes
 unfoldable pub table : List Row
 table =
-    row opens either (is false) either (only Offline) either (is false) (at Offline true false)
-    ∷ row closes either (is false) either (only Offline) (is true) either (at Offline false true)
-    ∷ row closes either (is false) either (only Reconnect) either either (at Reconnect false true)
-    ∷ row closes either (is false) either (only Online) either either (at Online false true)
-    ∷ row connects (is true) either (is false) (only Reconnect) either (is false) (at Online false false)
-    ∷ row loses (is true) either either (only Online) either (is false) (at Reconnect false false)
-    ∷ row loses (is true) either either (only Online) either (is true) (at Reconnect false true)
-    ∷ row ticks either either either anyMode either (is true) (at Offline false false)
-    ∷ row ticks (is false) either (is false) (only Offline) (is true) (is false) (at Online false false)
-    ∷ row ticks (is false) (is true) (is false) (only Offline) either (is false) (at Online false false)
-    ∷ row ticks either either either (only Offline) (is true) (is false) (at Reconnect false false)
-    ∷ row ticks either (is true) either (only Offline) either (is false) (at Reconnect false false)
-    ∷ row ticks (is false) either (is false) (only Reconnect) either (is false) (at Online false false)
+    row opens either (is false) either either (only Offline) either (is false) (at Offline true false)
+    ∷ row closes either (is false) either either (only Offline) (is true) either (at Offline false true)
+    ∷ row closes either (is false) either either (only Reconnect) either either (at Reconnect false true)
+    ∷ row closes either (is false) either either (only Online) either either (at Online false true)
+    ∷ row connects (is true) either (is false) either (only Reconnect) either (is false) (at Online false false)
+    ∷ row loses (is true) either either either (only Online) either (is false) (at Reconnect false false)
+    ∷ row loses (is true) either either either (only Online) either (is true) (at Reconnect false true)
+    ∷ row cancels (is true) either either (is true) (only Online) either either (at Online false true)
+    ∷ row ticks either either either either anyMode either (is true) (at Offline false false)
+    ∷ row ticks (is false) either (is false) either (only Offline) (is true) (is false) (at Online false false)
+    ∷ row ticks (is false) (is true) (is false) either (only Offline) either (is false) (at Online false false)
+    ∷ row ticks either either either either (only Offline) (is true) (is false) (at Reconnect false false)
+    ∷ row ticks either (is true) either either (only Offline) either (is false) (at Reconnect false false)
+    ∷ row ticks (is false) either (is false) either (only Reconnect) either (is false) (at Online false false)
     ∷ []
 
 abbrev pub happeningNumber : Happening → ℕ
@@ -72,6 +75,7 @@ happeningNumber closes = 2
 happeningNumber connects = 3
 happeningNumber loses = 4
 happeningNumber stays = 5
+happeningNumber cancels = 6
 happeningNumber ticks = 0
 
 abbrev pub meets : Asks → Bool → Bool
@@ -87,20 +91,21 @@ abbrev pub meetsMode : AsksMode → Mode → Bool
 meetsMode anyMode m = true
 meetsMode (only n) m = eqb (modeNumber n) (modeNumber m)
 
-abbrev pub rowFits : Row → Happening → Bool → Bool → Bool → Place → Bool
-rowFits (row h t a w m o k to) happening tcp automatic wild (at mode opened closed) =
+abbrev pub rowFits : Row → Happening → Bool → Bool → Bool → Bool → Place → Bool
+rowFits (row h t a w x m o k to) happening tcp automatic wild moving (at mode opened closed) =
     eqb (happeningNumber h) (happeningNumber happening)
-    && meets t tcp && meets a automatic && meets w wild && meetsMode m mode && meets o opened && meets k closed
+    && meets t tcp && meets a automatic && meets w wild && meets x moving && meetsMode m mode && meets o opened && meets k closed
 
 abbrev pub target : Row → Place
-target (row h t a w m o k to) = to
+target (row h t a w x m o k to) = to
 
 -- the first row that fits
-unfoldable pub firstIn : List Row → Happening → Bool → Bool → Bool → Place → Place
-firstIn [] happening tcp automatic wild place = place
-firstIn (r ∷ rs) happening tcp automatic wild place =
-    cond (rowFits r happening tcp automatic wild place) (target r) (firstIn rs happening tcp automatic wild place)
+unfoldable pub firstIn : List Row → Happening → Bool → Bool → Bool → Bool → Place → Place
+firstIn [] happening tcp automatic wild moving place = place
+firstIn (r ∷ rs) happening tcp automatic wild moving place =
+    cond (rowFits r happening tcp automatic wild moving place) (target r) (firstIn rs happening tcp automatic wild moving place)
 
--- the place after an event: of a connection that is TCP or not, automatic or not, its remote with a wildcard or not
-unfoldable pub move : Happening → Bool → Bool → Bool → Place → Place
+-- the place after an event: of a connection that is TCP or not, automatic or not, its remote with a wildcard or not, with a transfer that
+-- runs or none
+unfoldable pub move : Happening → Bool → Bool → Bool → Bool → Place → Place
 move = firstIn table
