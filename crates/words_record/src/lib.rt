@@ -54,6 +54,11 @@ fn spell_skip(row: &mut [u8], n: u32) {
     put32(row, 34, n);
 }
 
+fn spell_transfer(row: &mut [u8], route: u8, left: u32) {
+    put16(row, 26, 768 + route as u16);
+    put32(row, 34, left);
+}
+
 fn spell_part(row: &mut [u8], part: Part) {
     match part {
         Part::Header { held, value } => spell_header(row, held, value),
@@ -63,6 +68,7 @@ fn spell_part(row: &mut [u8], part: Part) {
             held,
         } => spell_payload(row, route, length, held),
         Part::Skip(n) => spell_skip(row, n),
+        Part::Transfer { route, left } => spell_transfer(row, route, left),
     }
 }
 
@@ -82,7 +88,7 @@ fn spell(row: &mut [u8], c: Connection) {
 
 // ---- its line
 
-// 0 ready, 1 header bytes held, 2 a payload, 3 a skip.
+// 0 ready, 1 header bytes held, 2 a payload, 3 a skip, 4 a transfer.
 fn part_shape(row: &[u8]) -> usize {
     let kind = be8(row, 26);
     if (kind == 0) & (be16(row, 28) == 0) {
@@ -106,7 +112,8 @@ fn received(text: &mut [u8], at: usize, row: &[u8], stretch: &[u8]) -> usize {
         ready/\
         header %h28 byte^: */\
         payload of route %b27, %h28 of %w34 byte^: */\
-        skip %w34 byte^/";
+        skip %w34 byte^/\
+        transfer of route %b27, %w34 byte^ to come/";
     let pattern = phrase(patterns, part_shape(row));
     if be8(row, 26) == 0 {
         return lay(text, at, pattern, 0, row, header_held(row));
