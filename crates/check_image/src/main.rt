@@ -10,6 +10,7 @@ use table_layout::kind_number;
 use table_layout::row_bytes;
 use table_layout::row_in;
 use table_layout::rows_of;
+use wire::be8;
 use words::lay;
 use words::phrase;
 use words_refusal::refusal;
@@ -33,18 +34,25 @@ fn heading(k: Kind, n: usize) {
     say(phrase(patterns, kind_number(k)), n, b"");
 }
 
+// The pattern of a row: its kind's, and another for a route that is marked for transfers.
+fn shape_of(k: Kind, row: &[u8]) -> usize {
+    let kind = kind_number(k);
+    if (kind == 3) & (be8(row, 1) == 1) {
+        return 5;
+    }
+    kind
+}
+
 fn row_of_kind(image: &[u8], k: Kind, i: usize) {
     let patterns = b"\
         /\
         \x20 group @: %u00\n/\
         \x20 connection @: group %b00, %f01, remote %q02 port %r06, send size %h08 byte^, start switches 0x%i12\n/\
         \x20 receive route @: connection %b00, header id 0x%i04, upper PDU 0x%p08, longest payload %h02 byte^, routing groups 0x%i12\n/\
-        \x20 destination @: PDU 0x%p08, connection %b00, header id 0x%i04, longest payload %h02 byte^, trigger %b01, timeout %h10 tick^, routing groups 0x%i12\n/";
-    say(
-        phrase(patterns, kind_number(k)),
-        i,
-        row_in(body_of(image, k), row_bytes(image, k), i),
-    );
+        \x20 destination @: PDU 0x%p08, connection %b00, header id 0x%i04, longest payload %h02 byte^, trigger %b01, timeout %h10 tick^, routing groups 0x%i12\n/\
+        \x20 receive route @: connection %b00, transfer (TP), header id 0x%i04, upper PDU 0x%p08, longest payload %h02 byte^, routing groups 0x%i12\n/";
+    let row = row_in(body_of(image, k), row_bytes(image, k), i);
+    say(phrase(patterns, shape_of(k, row)), i, row);
 }
 
 fn rows_of_kind(image: &[u8], k: Kind) {

@@ -2,8 +2,11 @@
 -- the reason is a test that fails.
 use Prim.Native.Nat.{ℕ}
 use mathlib.Core.Path.{_≡_, refl, sym, ap, _∙_}
-use mathlib.Core.Bool.{Bool, true, false, cond, _&&_}
+use mathlib.Core.Bool.{Bool, true, false, cond, not, _&&_, _||_}
 use mathlib.Core.List.{List}
+use native.Mathlib.Decide.{ℕ-discrete}
+use native.Mathlib.Omega.{arith}
+use borrow.Author.Tests.{le-leb, lt-leb, eq-eqb, ne-eqb}
 use lib.Dec.{leb, ltb, eqb}
 use lib.ListN.{length}
 use Rattle.wire.specs.Be.{be}
@@ -16,7 +19,7 @@ use Rattle.table_rows.specs.Rows.{connectionRow, routeRow, destinationRow}
 use Rattle.table_rows.specs.Rules.{groupGood, connectionGood, routeGood, destinationGood, sizeIn}
 use Rattle.table_scan.specs.Scan.{goodIn}
 use Rattle.table_scan.proofs.Rows.{free, groups-free, connections-free}
-use Rattle.table.specs.Table.{headGood, entryGood, rule, rowGood, demand, headPlace, entriesPlace, allRowsPlace, checkTable}
+use Rattle.table.specs.Table.{headGood, entryGood, tcpOf, rule, rowGood, demand, headPlace, entriesPlace, allRowsPlace, checkTable}
 use Rattle.table.specs.declared.TableAnswer.the-variants.{Accepted, Refused}
 use Rattle.table.proofs.Answers.{then-first, then-second, demand-held}
 use Rattle.table.proofs.Facts.{accepted-row}
@@ -31,6 +34,7 @@ use Rattle.table_fault.specs.Faults.{
   totalFault,
   groupFault,
   connectionFault,
+  mostMark,
   routeFault,
   destinationFault,
   sharesNothing,
@@ -62,6 +66,8 @@ use Rattle.table_fault.specs.declared.Fault.the-variants.{
   Trigger,
   Room,
   Shared,
+  Transfer,
+  NotTcp,
 }
 use Rattle.table_fault.specs.declared.Told.{Told}
 use Rattle.table_fault.proofs.Named.{bad-there, spot-back}
@@ -96,6 +102,20 @@ five : (a b c d e : Bool) → a && (b && (c && (d && e))) ≡ a && b && c && d &
 five true true c d e = three c d e
 five true false c d e = refl
 five false b c d e = refl
+
+six : (a b c d e f : Bool) → a && (b && (c && (d && (e && f)))) ≡ a && b && c && d && e && f
+six true b c d e f = five b c d e f
+six false b c d e f = refl
+
+-- a mark of 0 or 1 is not above the highest: it is 0, or the connection is TCP
+not-above : (m : ℕ) (t x : Bool) → leb m 1 && (leb m (mostMark t) && x) ≡ leb m 1 && ((not (eqb m 1) || t) && x)
+not-above m t x = go (ℕ-discrete m 0) (ℕ-discrete m 1) t
+  where
+    go : Dec (m ≡ 0) → Dec (m ≡ 1) → (u : Bool) → leb m 1 && (leb m (mostMark u) && x) ≡ leb m 1 && ((not (eqb m 1) || u) && x)
+    go (yes e) d u = let n : m ≡ 1 → ⊥ = λ f. omega arith in rw (le-leb m 1 (omega arith), le-leb m (mostMark u) (omega arith), ne-eqb m 1 n)
+    go (no n) (yes e) true = rw (le-leb m 1 (omega arith), eq-eqb m 1 e)
+    go (no n) (yes e) false = rw (le-leb m 1 (omega arith), lt-leb m 0 (omega arith), eq-eqb m 1 e)
+    go (no n) (no k) u = rw (lt-leb m 1 (omega arith))
 
 sized : (a b c d e : Bool) → a && (b && ((c && d) && e)) ≡ a && b && c && d && e
 sized true true c d e = refl
@@ -139,11 +159,17 @@ module _ (s : List ℕ) where
       same _ (sized (ltb (be 1 row 0) groups) (leb (be 1 row 1) 1) (leb 8 (be 2 row 8)) (leb (be 2 row 8) 1472) (eqb (be 2 row 10) 0))
       (test NoGroup (be 1 row 0) groups _ _ (test Automatic (be 1 row 1) 1 _ _ (test SendSize (be 2 row 8) 1472 _ _ (last Zero (be 2 row 10) 10))))
 
-  route-tells : (connections : ℕ) (row : List ℕ) (b : Bool) (shared : Told) → Tells b shared → Tells (routeGood connections row && b) (routeFault connections shared row)
+  route-tells : (connections : ℕ) (tcp : ℕ → Bool) (row : List ℕ) (b : Bool) (shared : Told) → Tells b shared
+      → Tells (routeGood connections tcp row && b) (routeFault connections (mostMark (tcp (be 1 row 0))) shared row)
   unfolding routeGood routeRow routeFault passesTest
-  route-tells connections row b shared h =
-      same _ (five (ltb (be 1 row 0) connections) (eqb (be 1 row 1) 0) (leb (be 2 row 2) 1464) (eqb (be 2 row 10) 0) _)
-      (test NoConnection (be 1 row 0) connections _ _ (test Zero (be 1 row 1) 1 _ _ (test Longest (be 2 row 2) 1464 _ _ (test Zero (be 2 row 10) 10 _ _ h))))
+  route-tells connections tcp row b shared h =
+      let there = ltb (be 1 row 0) connections in
+      let long = leb (be 2 row 2) 1464 in
+      let zeros = eqb (be 2 row 10) 0 in
+      let tp = not (eqb (be 1 row 1) 1) || tcp (be 1 row 0) in
+      same _ (ap (λ (y : Bool). there && y) (not-above (be 1 row 1) (tcp (be 1 row 0)) (long && (zeros && b))) ∙ six there (leb (be 1 row 1) 1) tp long zeros b)
+      (test NoConnection (be 1 row 0) connections _ _ (test Transfer (be 1 row 1) 1 _ _ (test NotTcp (be 1 row 1) (mostMark (tcp (be 1 row 0))) _ _
+      (test Longest (be 2 row 2) 1464 _ _ (test Zero (be 2 row 10) 10 _ _ h)))))
 
   destination-tells : (connections : ℕ) (size : ℕ → ℕ) (row : List ℕ) (b : Bool) (shared : Told) → Tells b shared
       → Tells (destinationGood connections size row && b) (destinationFault connections (size (be 1 row 0)) shared row)
@@ -156,7 +182,7 @@ module _ (s : List ℕ) where
   unfolding goodIn rule rowFault
   row-tells Group i = same _ (with-true _ _ (free Group 2 (bodyOf s Group) i groups-free)) (group-tells (rowOf s Group i))
   row-tells Connection i = same _ (with-true _ _ (free Connection 16 (bodyOf s Connection) i connections-free)) (connection-tells (rowsOf s Group) (rowOf s Connection i))
-  row-tells Route i = route-tells (rowsOf s Connection) (rowOf s Route i) _ _ (shared-tells Route i)
+  row-tells Route i = route-tells (rowsOf s Connection) (tcpOf s) (rowOf s Route i) _ _ (shared-tells Route i)
   row-tells Destination i = destination-tells (rowsOf s Connection) (sizeIn 16 (bodyOf s Connection)) (rowOf s Destination i) _ _ (shared-tells Destination i)
 
   pub told-fails : (at : Spot) → Tells (goodAt s at) (faultAt s at)

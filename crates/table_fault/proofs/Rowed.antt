@@ -7,7 +7,8 @@ use Rattle.table_layout.specs.Layout.{rowsOf, bodyOf, rowOf}
 use Rattle.table_layout.specs.declared.Kind.{Kind}
 use Rattle.table_layout.specs.declared.Kind.the-variants.{Group, Connection, Route, Destination}
 use Rattle.table_rows.specs.Rules.{sizeIn}
-use Rattle.table_fault.specs.Faults.{groupFault, connectionFault, routeFault, destinationFault, sharedFault, rowFault}
+use Rattle.table.specs.Table.{tcpOf}
+use Rattle.table_fault.specs.Faults.{groupFault, connectionFault, mostMark, routeFault, destinationFault, sharedFault, rowFault}
 use Rattle.table_fault.specs.declared.Told.{Told}
 
 module _ (s : List ℕ) (k : Kind) (i : ℕ) {r : Told} {row : List ℕ} where
@@ -19,10 +20,11 @@ module _ (s : List ℕ) (k : Kind) (i : ℕ) {r : Told} {row : List ℕ} where
   unfolding rowFault
   connection-told e p g q = q ∙ rw (p, e, g)
 
-  pub route-told : {shared : Told} {connections : ℕ} → k ≡ Route → row ≡ rowOf s k i → shared ≡ sharedFault s Route i → connections ≡ rowsOf s Connection
-      → r ≡ routeFault connections shared row → r ≡ rowFault s k i
+  pub route-told : {shared : Told} {connections c most : ℕ} → k ≡ Route → row ≡ rowOf s k i → shared ≡ sharedFault s Route i
+      → c ≡ be 1 row 0 → most ≡ mostMark (tcpOf s c) → connections ≡ rowsOf s Connection
+      → r ≡ routeFault connections most shared row → r ≡ rowFault s k i
   unfolding rowFault
-  route-told e p f n q = q ∙ rw (p, e, f, n)
+  route-told e p f c m n q = q ∙ rw (m, c, p, e, f, n)
 
   pub destination-told : {shared : Told} {connections c size : ℕ} {body : List ℕ} → k ≡ Destination → row ≡ rowOf s k i → shared ≡ sharedFault s Destination i
       → body ≡ bodyOf s Connection → c ≡ be 1 row 0 → size ≡ sizeIn 16 body c → connections ≡ rowsOf s Connection

@@ -15,7 +15,8 @@ use Rattle.table_layout.specs.declared.Kind.{Kind}
 use Rattle.table_layout.specs.declared.Kind.the-variants.{Group, Connection, Route, Destination}
 use Rattle.table_rows.specs.Rules.{sizeIn}
 use Rattle.table_scan.specs.Scan.{clearIn}
-use Rattle.table_fault.specs.Faults.{faultTold, noFault, passesTest, unless, groupFault, connectionFault, routeFault, destinationFault, sharesNothing, sharedFault, rowFault}
+use Rattle.table.specs.Table.{tcpOf}
+use Rattle.table_fault.specs.Faults.{faultTold, noFault, passesTest, unless, groupFault, connectionFault, mostMark, routeFault, destinationFault, sharesNothing, sharedFault, rowFault}
 use Rattle.table_fault.specs.Good.{SharesWith}
 use Rattle.table_fault.specs.declared.Fault.{Fault}
 use Rattle.table_fault.specs.declared.Fault.the-variants.{
@@ -30,6 +31,8 @@ use Rattle.table_fault.specs.declared.Fault.the-variants.{
   Trigger,
   Room,
   Shared,
+  Transfer,
+  NotTcp,
 }
 use Rattle.table_fault.specs.declared.Told.{Told}
 
@@ -89,13 +92,14 @@ connection-through groups row =
     (through SendSize _ _ 8 8 _ _ refl
     (through Zero _ _ 0 0 _ _ refl (λ e. refl))))
 
-route-through : (connections : ℕ) (shared : Told) (row : List ℕ) → routeFault connections shared row .fault ≡ Shared → routeFault connections shared row ≡ shared
+route-through : (connections most : ℕ) (shared : Told) (row : List ℕ) → routeFault connections most shared row .fault ≡ Shared → routeFault connections most shared row ≡ shared
 unfolding routeFault passesTest
-route-through connections shared row =
+route-through connections most shared row =
     through NoConnection _ _ 0 1 _ _ refl
-    (through Zero _ _ 0 0 _ _ refl
+    (through Transfer _ _ 0 0 _ _ refl
+    (through NotTcp _ _ 0 0 _ _ refl
     (through Longest _ _ 0 0 _ _ refl
-    (through Zero _ _ 0 0 _ _ refl (λ e. refl))))
+    (through Zero _ _ 0 0 _ _ refl (λ e. refl)))))
 
 destination-through : (connections size : ℕ) (shared : Told) (row : List ℕ) → destinationFault connections size shared row .fault ≡ Shared → destinationFault connections size shared row ≡ shared
 unfolding destinationFault passesTest
@@ -118,6 +122,6 @@ module _ (s : List ℕ) where
   unfolding rowFault
   told-shares Group i e = never _ (group-through (rowOf s Group i) e) e
   told-shares Connection i e = never _ (connection-through (rowsOf s Group) (rowOf s Connection i) e) e
-  told-shares Route i e = shared Route i _ (route-through (rowsOf s Connection) (sharedFault s Route i) (rowOf s Route i) e) e
+  told-shares Route i e = shared Route i _ (route-through (rowsOf s Connection) (mostMark (tcpOf s (be 1 (rowOf s Route i) 0))) (sharedFault s Route i) (rowOf s Route i) e) e
   told-shares Destination i e =
       shared Destination i _ (destination-through (rowsOf s Connection) (sizeIn 16 (bodyOf s Connection) (be 1 (rowOf s Destination i) 0)) (sharedFault s Destination i) (rowOf s Destination i) e) e

@@ -11,6 +11,7 @@ use Rattle.table_layout.specs.declared.Kind.{Kind}
 use Rattle.table_layout.specs.declared.Kind.the-variants.{Group, Connection, Route, Destination}
 use Rattle.table_rows.specs.Rules.{sizeIn}
 use Rattle.table_scan.specs.Scan.{share, clearIn}
+use Rattle.table.specs.Table.{tcpOf}
 use Rattle.table_fault.specs.Spots.{spotOf}
 use Rattle.table_fault.specs.declared.Spot.{Spot}
 use Rattle.table_fault.specs.declared.Spot.the-variants.{Head, Entry, Total, Row}
@@ -34,6 +35,8 @@ use Rattle.table_fault.specs.declared.Fault.the-variants.{
   Trigger,
   Room,
   Shared,
+  Transfer,
+  NotTcp,
 }
 use Rattle.table_fault.specs.declared.Told.{Told}
 use Rattle.table_fault.specs.declared.Reason.{Reason}
@@ -66,6 +69,8 @@ passesTest Longest found asked = leb found asked
 passesTest Trigger found asked = leb found asked
 passesTest Room found asked = leb (found + 8) asked
 passesTest Shared found asked = false
+passesTest Transfer found asked = leb found asked
+passesTest NotTcp found asked = leb found asked
 
 -- a fault with its numbers unless they pass its test; else the rest
 unfoldable pub unless : Fault → ℕ → ℕ → Told → Told
@@ -101,13 +106,18 @@ connectionFault groups row =
     (unless SendSize (be 2 row 8) 1472
     (unless Zero (be 2 row 10) 10 noFault)))
 
--- `shared` is told of a row whose fields are right
-unfoldable pub routeFault : ℕ → Told → List ℕ → Told
-routeFault connections shared row =
+-- R19.1: the highest transfer mark that a route may have, on a connection that is TCP or is not
+abbrev pub mostMark : Bool → ℕ
+mostMark tcp = cond tcp 1 0
+
+-- `most` is the highest mark of its connection; `shared` is told of a row whose fields are right
+unfoldable pub routeFault : ℕ → ℕ → Told → List ℕ → Told
+routeFault connections most shared row =
     unless NoConnection (be 1 row 0) connections
-    (unless Zero (be 1 row 1) 1
+    (unless Transfer (be 1 row 1) 1
+    (unless NotTcp (be 1 row 1) most
     (unless Longest (be 2 row 2) 1464
-    (unless Zero (be 2 row 10) 10 shared)))
+    (unless Zero (be 2 row 10) 10 shared))))
 
 unfoldable pub destinationFault : ℕ → ℕ → Told → List ℕ → Told
 destinationFault connections size shared row =
@@ -127,7 +137,9 @@ sharedFault s k i = cond (every (sharesNothing s k i) i) noFault (faultTold Shar
 unfoldable pub rowFault : List ℕ → Kind → ℕ → Told
 rowFault s Group i = groupFault (rowOf s Group i)
 rowFault s Connection i = connectionFault (rowsOf s Group) (rowOf s Connection i)
-rowFault s Route i = routeFault (rowsOf s Connection) (sharedFault s Route i) (rowOf s Route i)
+rowFault s Route i =
+    routeFault (rowsOf s Connection) (mostMark (tcpOf s (be 1 (rowOf s Route i) 0)))
+    (sharedFault s Route i) (rowOf s Route i)
 rowFault s Destination i =
     destinationFault (rowsOf s Connection) (sizeIn (rowBytes s Connection) (bodyOf s Connection) (be 1 (rowOf s Destination i) 0))
     (sharedFault s Destination i) (rowOf s Destination i)

@@ -7,6 +7,7 @@ ghost use Prim.Native.Nat.{_+_, _-_, _/_};
 ghost use lib.Dec.{leb};
 ghost use Rattle.lists.specs.Search.{firstBad};
 ghost use Rattle.table_layout.specs.Layout.{startOf, rowBytes, rowOf};
+ghost use Rattle.table.specs.Table.{tcpOf};
 ghost use Rattle.table_fault.specs.Spots.{rowSpot, spotOf};
 ghost use Rattle.table_fault.specs.Faults.{
   faultTold,
@@ -17,6 +18,7 @@ ghost use Rattle.table_fault.specs.Faults.{
   totalFault,
   groupFault,
   connectionFault,
+  mostMark,
   routeFault,
   destinationFault,
   sharesNothing,
@@ -35,6 +37,7 @@ use table_layout::row_bytes;
 use table_layout::row_in;
 use table_layout::rows_of;
 use table_layout::start_of;
+use table_rows::is_tcp;
 use table_rows::size_in;
 use table_scan::rows_share;
 use wire::be8;
@@ -67,6 +70,8 @@ pub enum Fault {
     Trigger,
     Room,
     Shared,
+    Transfer,
+    NotTcp,
 }
 
 // A fault, the number found, and the number asked (a limit, the value wanted, or the byte's place in its row). Of
@@ -180,6 +185,8 @@ fn passes(fault: Fault, found: usize, asked: usize) -> bool
         Fault::Trigger => found <= asked,
         Fault::Room => has_room(found, asked),
         Fault::Shared => false,
+        Fault::Transfer => found <= asked,
+        Fault::NotTcp => found <= asked,
     }
 }
 
@@ -238,13 +245,24 @@ fn connection_fault(row: &[u8], groups: usize) -> Told
     ask(Fault::NoGroup, be8(row, 0), groups, second)
 }
 
-// `shared` is told of a row whose fields are right.
-fn route_fault(row: &[u8], connections: usize, shared: Told) -> Told
-    ensures { λ r. ⌜ r ≡ routeFault connections shared (now (row .entry)) ⌝ }
+// The highest transfer mark that a route of connection c may have.
+fn most_mark(image: &[u8], c: usize) -> usize
+    ensures { λ r. ⌜ r ≡ mostMark (tcpOf (now (image .entry)) c) ⌝ }
 {
-    let fourth = ask(Fault::Zero, be16(row, 10), 10, shared);
-    let third = ask(Fault::Longest, be16(row, 2), 1464, fourth);
-    let second = ask(Fault::Zero, be8(row, 1), 1, third);
+    let connections = body_of(image, Kind::Connection);
+    let groups = body_of(image, Kind::Group);
+    if is_tcp(connections, groups, c) { 1 } else { 0 }
+}
+
+// `most` is the highest mark of its connection; `shared` is told of a row whose fields are right.
+fn route_fault(row: &[u8], connections: usize, most: usize, shared: Told) -> Told
+    ensures { λ r. ⌜ r ≡ routeFault connections most shared (now (row .entry)) ⌝ }
+{
+    let mark = be8(row, 1);
+    let fifth = ask(Fault::Zero, be16(row, 10), 10, shared);
+    let fourth = ask(Fault::Longest, be16(row, 2), 1464, fifth);
+    let third = ask(Fault::NotTcp, mark, most, fourth);
+    let second = ask(Fault::Transfer, mark, 1, third);
     ask(Fault::NoConnection, be8(row, 0), connections, second)
 }
 
@@ -300,7 +318,8 @@ fn row_fault(image: &[u8], k: Kind, i: usize) -> Told
         Kind::Connection => connection_fault(row, rows_of(image, Kind::Group)),
         Kind::Route => {
             let shared = shared_fault(image, Kind::Route, i);
-            route_fault(row, rows_of(image, Kind::Connection), shared)
+            let most = most_mark(image, be8(row, 0));
+            route_fault(row, rows_of(image, Kind::Connection), most, shared)
         }
         Kind::Destination => {
             let shared = shared_fault(image, Kind::Destination, i);

@@ -11,7 +11,8 @@ use wire::put32;
 use words::lay;
 use words::phrase;
 
-// ---- what the patterns speak of: found (4), asked (4), the shape of the spot (1), its kind of rows (1), its row (4), the fault (1)
+// ---- what the patterns speak of: found (4), asked (4), the shape of the spot (1), its kind of rows (1), its row (4), the fault (1),
+// the byte at the place (1), which is a route's connection
 
 fn low(n: usize) -> u32 {
     (n % 4294967296) as u32
@@ -53,6 +54,8 @@ fn fault_number(fault: Fault) -> u8 {
         Fault::Trigger => 15,
         Fault::Room => 16,
         Fault::Shared => 17,
+        Fault::Transfer => 20,
+        Fault::NotTcp => 21,
     }
 }
 
@@ -94,7 +97,9 @@ fn line(text: &mut [u8], place: usize, row: &[u8], found: usize) -> usize {
         longest payload %w00 and 8 header bytes do not fit the send size of %w04 bytes\n/\
         shares connection and header id with row %w00\n/\
         the image has %w00 bytes or more, its contents ask %w04 byte^\n/\
-        shares PDU and connection with row %w00\n/";
+        shares PDU and connection with row %w00\n/\
+        transfer mark %w00 is neither 0 nor 1\n/\
+        transfer mark %w00 on connection %b15, which is UDP\n/";
     let spot = lay(text, 0, phrase(spots, be8(row, 8)), place as u64, row, row);
     lay(
         text,
@@ -108,7 +113,7 @@ fn line(text: &mut [u8], place: usize, row: &[u8], found: usize) -> usize {
 
 // The line of an image that is refused at a place.
 pub fn refusal(text: &mut [u8], image: &[u8], place: usize) -> usize {
-    let mut row = [0u8; 15];
+    let mut row = [0u8; 16];
     let reason = reason_of(image, place);
     let spot = reason.spot;
     let told = reason.told;
@@ -117,5 +122,6 @@ pub fn refusal(text: &mut [u8], image: &[u8], place: usize) -> usize {
     put32(&mut row, 4, low(told.asked));
     spot_in(&mut row, spot);
     put8(&mut row, 14, fault_number(fault));
+    put8(&mut row, 15, be8(image, place) as u8);
     line(text, place, &row, told.found)
 }

@@ -61,6 +61,12 @@ has-room-requires c κs = search needs
 enum-told-18 : tie.Need-enum-told-18
 enum-told-18 c = search needs
 
+enum-told-19 : tie.Need-enum-told-19
+enum-told-19 c = search needs
+
+enum-told-20 : tie.Need-enum-told-20
+enum-told-20 c = search needs
+
 returns : tie.Need-returns
 unfolding passesTest
 returns c = rw (c .enum-told .given .1)
@@ -133,6 +139,14 @@ returns-18 : tie.Need-returns-18
 unfolding passesTest
 returns-18 c = rw (c .enum-told18 .given .1)
 
+returns-19 : tie.Need-returns-19
+unfolding passesTest
+returns-19 c = rw (c .enum-told19 .given .1)
+
+returns-20 : tie.Need-returns-20
+unfolding passesTest
+returns-20 c = rw (c .enum-told20 .given .1)
+
 pub passes-spec : {M : Type 1} → statement M
 passes-spec =
     tie.close
@@ -156,6 +170,8 @@ passes-spec =
     enum-told-17
     has-room-requires
     enum-told-18
+    enum-told-19
+    enum-told-20
     returns
     returns-2
     returns-3
@@ -173,4 +189,6 @@ passes-spec =
     returns-15
     returns-16
     returns-17
-    returns-18)
+    returns-18
+    returns-19
+    returns-20)

@@ -28,6 +28,12 @@ enum-told-3 c = search needs
 shared-fault-requires : tie.Need-shared-fault-requires
 shared-fault-requires c κs = search needs
 
+be8-requires : tie.Need-be8-requires
+be8-requires c κs = search needs
+
+most-mark-requires : tie.Need-most-mark-requires
+most-mark-requires c κs = search needs
+
 rows-of-requires-2 : tie.Need-rows-of-requires-2
 rows-of-requires-2 c κs = search needs
 
@@ -43,8 +49,8 @@ shared-fault-requires-2 c κs = search needs
 body-of-requires : tie.Need-body-of-requires
 body-of-requires c κs = search needs
 
-be8-requires : tie.Need-be8-requires
-be8-requires c κs = search needs
+be8-requires-2 : tie.Need-be8-requires-2
+be8-requires-2 c κs = search needs
 
 size-in-requires : tie.Need-size-in-requires
 size-in-requires c κs = search needs
@@ -63,13 +69,15 @@ returns-2 c = connection-told _ _ _ (c .before .before .enum-told2 .given .1) (c
 
 returns-3 : tie.Need-returns-3
 returns-3 c =
-    let t = c .before .before .before in
-    route-told _ _ _ (t .enum-told3 .given .1) (t .before .before .row-of .ensures) (c .before .before .shared-fault .ensures) (c .before .rows-of2 .ensures .0) (c .route-fault .ensures)
+    let m = c .before .before in
+    let t = m .before .before .before in
+    route-told _ _ _ (t .enum-told3 .given .1) (t .before .before .row-of .ensures) (m .before .before .shared-fault .ensures)
+    (m .before .be8 .ensures .is) (m .most-mark .ensures) (c .before .rows-of2 .ensures .0) (c .route-fault .ensures)
 
 returns-4 : tie.Need-returns-4
 returns-4 c =
     let t = c .before .before .before .before .before .before in
-    destination-told _ _ _ (t .enum-told4 .given .1) (t .before .before .row-of .ensures) (c .before .before .before .before .before .shared-fault2 .ensures) (c .before .before .before .before .body-of .ensures .0) (c .before .before .before .be8 .ensures .is) (c .before .before .size-in .ensures) (c .before .rows-of3 .ensures .0) (c .destination-fault .ensures)
+    destination-told _ _ _ (t .enum-told4 .given .1) (t .before .before .row-of .ensures) (c .before .before .before .before .before .shared-fault2 .ensures) (c .before .before .before .before .body-of .ensures .0) (c .before .before .before .be82 .ensures .is) (c .before .before .size-in .ensures) (c .before .rows-of3 .ensures .0) (c .destination-fault .ensures)
 
 pub row-fault-spec : {M : Type 1} → statement M
 row-fault-spec =
@@ -83,12 +91,14 @@ row-fault-spec =
     connection-fault-requires
     enum-told-3
     shared-fault-requires
+    be8-requires
+    most-mark-requires
     rows-of-requires-2
     route-fault-requires
     enum-told-4
     shared-fault-requires-2
     body-of-requires
-    be8-requires
+    be8-requires-2
     size-in-requires
     rows-of-requires-3
     destination-fault-requires
