@@ -15,7 +15,7 @@ use Rattle.table_layout.specs.declared.Kind.the-variants.{Connection as Connect
 use Rattle.connection.specs.declared.Connection.{Connection}
 use Rattle.connection.specs.Connection.{zeroRecord}
 use Rattle.connection.specs.Event.{receiving}
-use Rattle.reading.specs.Feed.{segmentRan as segmentOf}
+use Rattle.reading.specs.Feed.{segmentRan as segmentOf, finely}
 use Rattle.state.specs.declared.State.{State}
 use Rattle.state.specs.State.{recordAt}
 use Rattle.state.specs.Fresh.{configOf}
@@ -49,7 +49,7 @@ does-used T k (change e) h =
     step-used e (T .config k) (h .connection) ∙ ap (λ (b : Bool). cond b 0 (h .connection .used)) (sym (if-emptied (emptiedBy e (T .config k) (h .connection)) was-lost))
 does-used T k (segment bytes) h = go (T .config k .tcp && receiving (h .connection))
   where
-    go : (b : Bool) → cond b (streamed h (segmentOf (routesAt T k h) (cellAt h) bytes)) (acted h []) .to .connection .used ≡ h .connection .used
+    go : (b : Bool) → cond b (streamed h (finely (segmentOf (routesAt T k h) (cellAt h) bytes))) (acted h []) .to .connection .used ≡ h .connection .used
     go true = refl
     go false = refl
 does-used T k (walk d p) h = go (not (T .config k .tcp) && leb p (length d) && receiving (h .connection))

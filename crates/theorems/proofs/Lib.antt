@@ -1,4 +1,4 @@
--- The demands: 1 (Refusals, Refused, Numbers, Single), 2 (Waiting from Empties, Trip from Walking), 3 (Three from Runs, Ends); uniqueness (Unique).
+-- The demands: 1 (Refusals, Refused, Numbers, Single), 2 (Waiting from Empties, Trip from Walking), 3 (Three from Runs, Ends), pieces of transfers (Pieces); uniqueness (Unique).
 pub mod Runs
 pub mod Refused
 pub mod Refusals
@@ -12,3 +12,4 @@ pub mod Unique
 pub mod Ends
 pub mod Streams
 pub mod Three
+pub mod Pieces

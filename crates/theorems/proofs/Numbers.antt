@@ -36,7 +36,7 @@ use Rattle.entry_events.specs.declared.Counted.{Counted}
 use Rattle.entry_events.specs.Change.{refusedTold, toldOf, changeOf, eventOf}
 use Rattle.entry_events.specs.Module.{switchedAll, switchAllOf}
 use Rattle.entry_events.specs.Count.{countNumber, ofProtocol, readFrom, clearFrom, uncounted, readPast, clearPast, readOf, clearOf}
-use Rattle.entry_ticks.specs.Tick.{tickedTo, unticked, tickEvent}
+use Rattle.entry_ticks.specs.Tick.{tickedTo, unticked, tickedFrom, tickEvent}
 use Rattle.select.specs.declared.Arrived.{Arrived}
 use Rattle.select.specs.declared.Chosen.{Chosen}
 use Rattle.select.specs.declared.Chosen.the-variants.{Nobody, At}
@@ -311,7 +311,7 @@ module _ (image : List ℕ) (m : Machine) where
   number-for (on k (takeWaiting room)) = take-listed k (replicate room 0)
   number-for (onWhole (datagram group source)) = arrival-listed false group source
   number-for (onWhole (accept group source)) = arrival-listed true group source
-  number-for (onWhole tick) = gate-is (λ g. Listed (onWhole tick) (answerNumber (through g (unticked s) (record { answer = Done; state = tickedTo image (rowsOf image Connections) s }) .answer))) refl refl refl
+  number-for (onWhole tick) = gate-is (λ g. Listed (onWhole tick) (answerNumber (through g (unticked s) (tickedFrom (rowsOf image Connections) s (tickedTo image (rowsOf image Connections) s)) .answer))) refl refl refl
   number-for (onWhole (transmit pdu payload)) = transmit-listed pdu payload
   number-for (onWhole (switchAll n b)) = switches-listed n b
   number-for (onWhole (readCount p)) = count-listed (readFrom s) (λ b. refl) p

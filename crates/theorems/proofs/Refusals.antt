@@ -27,7 +27,7 @@ use Rattle.entry_events.specs.Change.{refusedTold, toldOf, changeOf, eventOf}
 use Rattle.entry_events.specs.Module.{switchedAll, switchAllOf}
 use Rattle.entry_events.specs.Count.{countNumber, ofProtocol, readFrom, clearFrom, uncounted, readPast, clearPast, readOf, clearOf}
 use Rattle.entry_ticks.specs.declared.Ticked.{Ticked}
-use Rattle.entry_ticks.specs.Tick.{tickedTo, ticksTo, unticked, tickEvent, ticksEvent}
+use Rattle.entry_ticks.specs.Tick.{tickedTo, ticksTo, unticked, tickedFrom, tickEvent, ticksEvent}
 use Rattle.select.specs.declared.Arrived.{Arrived}
 use Rattle.select.specs.declared.Chosen.{Chosen}
 use Rattle.select.specs.declared.Chosen.the-variants.{Nobody, At}
@@ -148,7 +148,7 @@ module _ (image : List ℕ) (m : Machine) where
   tick-stays : StaysTicked (tickEvent (lentTo image m))
   unfolding tickEvent
   tick-stays =
-      past-or StaysTicked (gateOf (lentTo image m)) (unticked s) (record { answer = Done; state = tickedTo image (rowsOf image Connections) s })
+      past-or StaysTicked (gateOf (lentTo image m)) (unticked s) (tickedFrom (rowsOf image Connections) s (tickedTo image (rowsOf image Connections) s))
       (λ r no-zero. refl) (λ _ no-zero. absurd (no-zero refl))
 
   -- many under one check, which are no event of a run: they write no lent memory
@@ -156,7 +156,7 @@ module _ (image : List ℕ) (m : Machine) where
       → ticksEvent (lentTo image m) count .state ≡ m .state
   unfolding ticksEvent
   ticks-stays count =
-      past-or StaysTicked (gateOf (lentTo image m)) (unticked s) (record { answer = Done; state = ticksTo image (rowsOf image Connections) count s })
+      past-or StaysTicked (gateOf (lentTo image m)) (unticked s) (tickedFrom (rowsOf image Connections) s (ticksTo image (rowsOf image Connections) count s))
       (λ r no-zero. refl) (λ _ no-zero. absurd (no-zero refl))
 
   switches-stay : (n : ℕ) (b : Bool) → StaysTold (switchAllOf (lentTo image m) n b)

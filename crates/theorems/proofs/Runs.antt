@@ -14,11 +14,14 @@ use Rattle.connection.specs.Sound.{Sound}
 use Rattle.state.specs.State.{recordAt}
 use Rattle.state.specs.Fresh.{configOf}
 use Rattle.gate.proofs.Records.{row-sound, record-at}
+use Rattle.reading.specs.Feed.{fine, compared}
+use Rattle.reading.proofs.Cut.{fine-append}
+use Rattle.reading.proofs.Compared.{compared-fine, compared-same}
 use Rattle.reading_lengths.specs.Listed.{Bytes}
 use Rattle.reading_lengths.proofs.Bytes.{bytes-append}
 use Rattle.model.specs.World.{Held, World, heldAt, cellAt}
 use Rattle.model.specs.Events.{Event}
-use Rattle.model.specs.Step.{run, heard, compared}
+use Rattle.model.specs.Step.{run, heard}
 use Rattle.model.proofs.View.{view-at}
 use Rattle.model_runs.specs.Same.{Same, swap, cut, join, same, later, both}
 use Rattle.model_runs.specs.Streams.{RunBytes, streamsOf, listedIn, Rests}
@@ -27,7 +30,7 @@ use Rattle.model_runs.proofs.Streams.{heard-listed}
 use Rattle.model_refines.specs.Table.{tableOf}
 use Rattle.model_refines.specs.Whole.{wholeOf}
 use Rattle.model_refines.specs.Machine.{Machine, seen}
-use Rattle.model_refines.specs.Run.{afterEvent, afterRun, givenIn, Good}
+use Rattle.model_refines.specs.Run.{afterEvent, afterRun, given, givenIn, Good}
 use Rattle.model_refines.proofs.Steps.{event-view, event-given}
 use Rattle.model_refines.proofs.Good.{event-good}
 use Rattle.model_refines.proofs.Gentle.{gentle}
@@ -47,12 +50,13 @@ module _ (image : List ℕ) where
   run-view m (e ∷ es) (b, bs) g =
       run-view (afterEvent image e m) es bs (event-good image m g e b) ∙ ap (λ (w : World). run (tableOf image) (wholeOf image) w es) (event-view image m g e b)
 
-  -- .. and what the caller is given is what the world hands out
-  pub run-given : (k : ℕ) (m : Machine) (es : List Event) → RunBytes es → Good image m → givenIn image k m es ≡ heard (tableOf image) (wholeOf image) k (seen m) es
-  unfolding givenIn heard
+  -- .. and what the caller is given is, byte by byte, what the world hands out
+  pub run-given : (k : ℕ) (m : Machine) (es : List Event) → RunBytes es → Good image m → fine (givenIn image k m es) ≡ heard (tableOf image) (wholeOf image) k (seen m) es
+  unfolding givenIn heard fine
   run-given k m [] b g = refl
   run-given k m (e ∷ es) (b, bs) g =
-      ap₂ _++_ (event-given image m g k e b)
+      fine-append (given image k e m) (givenIn image k (afterEvent image e m) es)
+      ∙ ap₂ _++_ (event-given image m g k e b)
       (run-given k (afterEvent image e m) es bs (event-good image m g e b) ∙ ap (λ (w : World). heard (tableOf image) (wholeOf image) k w es) (event-view image m g e b))
 
 -- swapped, cut and joined bytes are bytes
@@ -80,19 +84,19 @@ module _ (image : List ℕ) (m : Machine) (good : Good image m) {es fs : List Ev
   same-state =
       run-view image m es bytes good ∙ same-end (tableOf image) (wholeOf image) (seen m) alike ∙ sym (run-view image m fs (same-bytes alike bytes) good)
 
-  -- each connection has given the same outcomes in the same order, PDUs and drops ..
-  pub same-given : (k : ℕ) → givenIn image k m es ≡ givenIn image k m fs
+  -- each connection has given the same outcomes in the same order: PDUs, drops, and transfers byte by byte ..
+  pub same-given : (k : ℕ) → fine (givenIn image k m es) ≡ fine (givenIn image k m fs)
   same-given k =
       run-given image k m es bytes good
       ∙ same-heard (tableOf image) (wholeOf image) k (seen m) alike
       ∙ sym (run-given image k m fs (same-bytes alike bytes) good)
 
-  -- .. and so it has handed out the same PDUs
+  -- .. and so it has handed out the same PDUs and transfers
   pub same-pdus : (k : ℕ) → compared (givenIn image k m es) ≡ compared (givenIn image k m fs)
-  same-pdus k = ap compared (same-given k)
+  same-pdus k = compared-same (givenIn image k m es) (givenIn image k m fs) (same-given k)
 
 -- .. and that list is exactly demand 2's: of each online period's stream the PDUs that are complete, routed, switched on at their eighth
--- header byte and short enough, in order; the first stream begun with what the record holds
+-- header byte and short enough, and the transfers with their bytes so far, in order; the first stream begun with what the record holds
 module _ (image : List ℕ) (m : Machine) (good : Good image m) (es : List Event) (bytes : RunBytes es) (k : ℕ) (there : k < rowsOf image Connections) (tcp : configOf image k .tcp ≡ true) where
   rests : Rests (heldAt (seen m) k)
   rests =
@@ -102,4 +106,4 @@ module _ (image : List ℕ) (m : Machine) (good : Good image m) (es : List Event
 
   pub exact-list : compared (givenIn image k m es) ≡ listedIn (lookupOf (bodyOf image Routes) k) (cellAt (heldAt (seen m) k)) (streamsOf (tableOf image) (wholeOf image) k (seen m) es)
   exact-list =
-      ap compared (run-given image k m es bytes good) ∙ heard-listed (tableOf image) (wholeOf image) k tcp (gentle image k tcp) (seen m) es rests bytes
+      sym (compared-fine (givenIn image k m es)) ∙ ap compared (run-given image k m es bytes good) ∙ heard-listed (tableOf image) (wholeOf image) k tcp (gentle image k tcp) (seen m) es rests bytes

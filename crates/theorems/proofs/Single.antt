@@ -5,7 +5,7 @@ use mathlib.Core.Path.{_≡_, refl, sym, ap, ap₂, _∙_}
 use mathlib.Core.Bool.{Bool, true, false, cond}
 use mathlib.Core.List.{List, [], _∷_, _++_, append-nil}
 use native.Mathlib.Omega.{arith}
-use lib.Dec.{eqb}
+use lib.Dec.{eqb, ltb}
 use lib.ListN.{length, take, drop, length-append, length-drop, take-append-drop}
 use lib.Seq.{length-take-le, take-all, take-append-seam, take-append-le, drop-append-le, append-snoc}
 use native.Mathlib.Nat.{sub-zero}
@@ -14,14 +14,16 @@ use Rattle.lists.proofs.Both.{impossible}
 use Rattle.table_layout.specs.Layout.{bodyOf, partOf}
 use Rattle.table_layout.specs.declared.Kind.the-variants.{Route as RouteBody}
 use Rattle.reading.specs.declared.Decision.{Decision}
-use Rattle.reading.specs.declared.Decision.the-variants.{Accept, Refuse}
-use Rattle.reading.specs.Feed.{Routes, header, payload, skip, Cell, cell, Out, nothing, pdu, dropped, Fed, decided, pieceDone, feed, after, stops, Took, took, takeB, bytesRead, Ends, at-end, at-byte}
+use Rattle.reading.specs.declared.Decision.the-variants.{Accept, Refuse, Transfer}
+use Rattle.reading.specs.Feed.{Routes, header, payload, skip, Cell, cell, transfer, Out, nothing, pdu, dropped, start, piece, Fed, ready, decided, pieceDone, feed, after, stops, Took, took}
+use Rattle.reading.specs.Feed.{pieceBy, takeB, bytesRead, Ends, at-end, at-byte, at-seam, at-mark}
 use Rattle.reading.proofs.Cut.{take-ends, ends-take}
 use Rattle.wire.specs.Lay.{lay}
 use Rattle.receive_part.specs.declared.Part.{Part}
 use Rattle.receive_route.specs.Route.{lookupOf}
 use Rattle.receive_stream.specs.declared.Taken.{Taken}
 use Rattle.receive_stream.specs.Stream.{cellOf, partFrom, heldIn, noneHeld, inSegment, idOf, takeOutcome, answered, wrote, tookOf, takenOf, rxAfter}
+use Rattle.receive_stream.proofs.Leaves.{handed-piece}
 use Rattle.connection.specs.declared.Connection.{Connection}
 use Rattle.connection.specs.Connection.{withPart}
 use Rattle.state.specs.declared.State.{State}
@@ -43,9 +45,13 @@ front-is a r =
 
 -- the stream's take of just these is the same take, with nothing left
 front-ends : (R : Routes) (c : Cell) (bs : List ℕ) (t : Took) → Ends R c bs t → takeB R c (take (bytesRead bs t) bs) ≡ took (t .to) (t .out) []
-front-ends R c bs t (at-end _ e) = ap (takeB R c) (take-all (length bs - 0) bs (omega arith)) ∙ sym (ends-take R c bs (took (after R c bs) nothing []) (at-end bs e))
-front-ends R c bs t (at-byte a b rest f e is s) =
-    ap (takeB R c) (rw (sym (append-snoc a b rest)) (front-is (a ++ b ∷ []) rest)) ∙ sym (ends-take R c (a ++ b ∷ []) (took (f .to) (f .out) []) (at-byte a b [] f e is s))
+front-ends R c bs t (at-end _ _ e) = ap (takeB R c) (take-all (length bs - 0) bs (omega arith)) ∙ sym (ends-take R c bs (took (after R c bs) nothing []) (at-end c bs e))
+front-ends R c bs t (at-byte _ a b rest f e is s) =
+    ap (takeB R c) (rw (sym (append-snoc a b rest)) (front-is (a ++ b ∷ []) rest)) ∙ sym (ends-take R c (a ++ b ∷ []) (took (f .to) (f .out) []) (at-byte c a b [] f e is s))
+front-ends R c bs t (at-seam n r a pos lt) =
+    ap (takeB R (transfer n r)) (take-all (length a - 0) a (omega arith)) ∙ sym (ends-take R (transfer n r) a (took (transfer (n - length a) r) (piece r a false) []) (at-seam n r a pos lt))
+front-ends R c bs t (at-mark n r a rest pos e) =
+    ap (takeB R (transfer n r)) (front-is a rest ∙ sym (append-nil a)) ∙ sym (ends-take R (transfer n r) (a ++ []) (took ready (piece r a true) []) (at-mark n r a [] pos e))
 
 front-take : (R : Routes) (c : Cell) (bs : List ℕ) → takeB R c (take (bytesRead bs (takeB R c bs)) bs) ≡ took (takeB R c bs .to) (takeB R c bs .out) []
 front-take R c bs = front-ends R c bs (takeB R c bs) (take-ends R c bs)
@@ -60,6 +66,8 @@ size : Out → ℕ
 size nothing = 0
 size (pdu r p) = length p
 size (dropped k i n) = 0
+size (start r i n m) = 0
+size (piece r p m) = 0
 
 abbrev Fits : ℕ → Fed → Type 0
 Fits n f = (size (f .out) ≤ n) × (length (heldIn (f .to)) ≤ n)
@@ -70,6 +78,8 @@ decided-fits (Accept r) i zero m = (omega arith, omega arith)
 decided-fits (Accept r) i (suc n) m = (omega arith, omega arith)
 decided-fits (Refuse k) i zero m = (omega arith, omega arith)
 decided-fits (Refuse k) i (suc n) m = (omega arith, omega arith)
+decided-fits (Transfer r) i zero m = (omega arith, omega arith)
+decided-fits (Transfer r) i (suc n) m = (omega arith, omega arith)
 
 feed-fits : (R : Routes) (c : Cell) (b : ℕ) → Fits (length (heldIn c) + 1) (feed R c b)
 unfolding feed pieceDone size
@@ -80,12 +90,25 @@ feed-fits R (cell (suc zero) skip) b = (omega arith, omega arith)
 feed-fits R (cell (suc (suc n)) (header v)) b = (omega arith, omega arith)
 feed-fits R (cell (suc (suc n)) (payload r h)) b = (omega arith, omega (arith, length-append h (b ∷ [])))
 feed-fits R (cell (suc (suc n)) skip) b = (omega arith, omega arith)
+feed-fits R (transfer zero r) b = (omega arith, omega arith)
+feed-fits R (transfer (suc zero) r) b = (omega arith, omega arith)
+feed-fits R (transfer (suc (suc n)) r) b = (omega arith, omega arith)
+
+piece-fits : (t : Bool) (n r : ℕ) (bs : List ℕ) → size (pieceBy t n r bs .out) + length (pieceBy t n r bs .rest) ≤ length bs
+unfolding size
+piece-fits true n r bs = omega arith
+piece-fits false n r bs = omega (arith, length-drop n bs)
 
 take-fits : (R : Routes) (c : Cell) (bs : List ℕ) → size (takeB R c bs .out) + length (takeB R c bs .rest) ≤ length (heldIn c) + length bs
 unfolding takeB size
 take-fits R c [] = omega arith
-take-fits R c (b ∷ bs) = go (stops (feed R c b .out)) (feed-fits R c b) (take-fits R (feed R c b .to) bs)
+take-fits R (transfer zero r) (b ∷ bs) = omega (arith, take-fits R ready bs)
+take-fits R (transfer (suc n) r) (b ∷ bs) = omega (arith, piece-fits (ltb (length (b ∷ bs)) (suc n)) (suc n) r (b ∷ bs))
+take-fits R (cell n k) (b ∷ bs) = go (stops (feed R (cell n k) b .out)) (feed-fits R (cell n k) b) (take-fits R (feed R (cell n k) b .to) bs)
   where
+    c : Cell
+    c = cell n k
+
     u : Took
     u = takeB R (feed R c b .to) bs
 
@@ -145,17 +168,28 @@ module _ (routes : List ℕ) (k switches : ℕ) (part : Part) (st bs : List ℕ)
       ∙ part-front (take n bs) (drop n bs) l (omega (arith, front-long))
       ∙ ap₂ (λ (j : ℕ) (x : List ℕ). partOf x (j - l) l) front-long (take-append-drop n bs)
 
+  -- a piece is the same bytes of both
+  piece-front : (r : ℕ) (p : List ℕ) (x : Bool) → t .out ≡ piece r p x → partOf (take n bs) (n - length p) (length p) ≡ partOf bs (n - length p) (length p)
+  piece-front r p x e =
+      let u : Took = tookOf routes k switches part st (take n bs) in
+      let all : length (take n bs) - length (u .rest) ≡ n = ap₂ (λ (i : ℕ) (v : Took). i - length (v .rest)) front-long took-front ∙ sub-zero n in
+      ap (λ (j : ℕ). partOf (take n bs) (j - length p) (length p)) (sym all)
+      ∙ handed-piece routes k switches part st (take n bs) r p x (ap (λ (v : Took). v .out) took-front ∙ e)
+      ∙ sym (handed-piece routes k switches part st bs r p x e)
+
   -- the payload, of the bytes read as of the segment
   payload-front : (rx : List ℕ) → payloadOf (take n′ bs) rx k (takenOf routes k switches part st bs .outcome) ≡ payloadOf bs rx k (takenOf routes k switches part st bs .outcome)
   unfolding takenOf payloadOf size
-  payload-front rx = go (inSegment (cellOf part st)) refl (t .out) within
+  payload-front rx = go (inSegment (cellOf part st)) refl (t .out) refl within
     where
-      go : (s : Bool) → inSegment (cellOf part st) ≡ s → (o : Out) → size o + length (t .rest) ≤ length (heldIn (cellOf part st)) + length bs
+      go : (s : Bool) → inSegment (cellOf part st) ≡ s → (o : Out) → t .out ≡ o → size o + length (t .rest) ≤ length (heldIn (cellOf part st)) + length bs
           → payloadOf (take n bs) rx k (takeOutcome (idOf routes) s n o) ≡ payloadOf bs rx k (takeOutcome (idOf routes) s n o)
-      go s e nothing h = refl
-      go false e (pdu r p) h = refl
-      go true e (pdu r p) h = in-front (length p) (omega (arith, h, no-held (heldIn (cellOf part st)) e))
-      go s e (dropped q i l) h = refl
+      go s e nothing q h = refl
+      go false e (pdu r p) q h = refl
+      go true e (pdu r p) q h = in-front (length p) (omega (arith, h, no-held (heldIn (cellOf part st)) e))
+      go s e (dropped k i l) q h = refl
+      go s e (start r i l x) q h = refl
+      go s e (piece r p x) q h = piece-front r p x q
 
 -- ON THE MACHINE
 module _ (image : List ℕ) (k : ℕ) (m : Machine) (bs : List ℕ) where

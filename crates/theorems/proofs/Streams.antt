@@ -29,7 +29,7 @@ use Rattle.theorems.specs.Ends.{EndsBy}
 use Rattle.theorems.specs.Streams.{onlineAt, readsAt, endsAt, streamsIn}
 use Rattle.theorems.proofs.Runs.{exact-list}
 use Rattle.theorems.proofs.Ends.{ends-by}
-use Rattle.model.specs.Step.{compared}
+use Rattle.reading.specs.Feed.{compared}
 
 module _ (image : List ℕ) (k : ℕ) (there : k < rowsOf image Connections) (tcp : configOf image k .tcp ≡ true) where
   seen-c : (m : Machine) → heldAt (seen m) k .connection ≡ recordAt (m .state) k

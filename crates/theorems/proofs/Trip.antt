@@ -14,9 +14,10 @@ use Rattle.table_layout.specs.declared.Kind.the-variants.{Connection as Connect
 use Rattle.connection.specs.declared.Connection.{Connection}
 use Rattle.connection.specs.Event.{receiving}
 use Rattle.state.specs.State.{recordAt}
-use Rattle.reading.specs.Feed.{Pdu, asOut}
+use Rattle.reading.specs.Feed.{Out, fine, Pdu, asOut}
 use Rattle.frame.specs.Frame.{Sent, frames}
-use Rattle.reading.specs.Routed.{Routed}
+use Rattle.reading.specs.Routed.{Routed, Carried}
+use Rattle.reading.proofs.Trip.{pdus-alone}
 use Rattle.reading_walk.specs.Walk.{walks}
 use Rattle.reading_walk.proofs.Trip.{round-trip as walk-trip, then-the-end}
 use Rattle.receive_route.specs.Route.{lookupOf}
@@ -32,7 +33,7 @@ use Rattle.model.specs.Events.{Event}
 use Rattle.model.proofs.View.{view-at, view-record}
 use Rattle.model_runs.specs.Streams.{RunBytes}
 use Rattle.model_runs.specs.Trip.{Reads, asSegments}
-use Rattle.model_runs.proofs.Trip.{trip}
+use Rattle.model_runs.proofs.Trip.{trip, trip-pdus}
 use Rattle.model_refines.specs.Table.{tableOf}
 use Rattle.model_refines.specs.Whole.{wholeOf}
 use Rattle.model_refines.specs.Machine.{Machine, lentTo, loanTo, seen}
@@ -40,6 +41,7 @@ use Rattle.model_refines.specs.Run.{afterRun, givenIn, Good}
 use Rattle.theorems.specs.Waits.{sentIn}
 use Rattle.theorems.specs.Trip.{outgoing, Reader, Walker, asWalks}
 use Rattle.theorems.proofs.Runs.{run-good, run-given}
+use Rattle.theorems.proofs.Pieces.{given-solid}
 use Rattle.theorems.proofs.Waiting.{run-frames}
 use Rattle.theorems.proofs.Walking.{walks-more, walks-given}
 
@@ -76,8 +78,16 @@ module _ (image : List ℕ) (m : Machine) (good : Good image m) (k : ℕ) (reade
   pub read-back : {ss : List Sent} {ps : List Pdu} (pieces : List (List ℕ)) → Routed (routesIn image (m .state) k) ss ps → flatten pieces ≡ frames ss
       → RunBytes (asSegments k pieces) → givenIn image k m (asSegments k pieces) ≡ map asOut ps
   read-back {ss} {ps} pieces h e bytes =
+      pdus-alone (givenIn image k m (asSegments k pieces)) ps (given-solid image k m (asSegments k pieces))
+      (run-given image k m (asSegments k pieces) bytes good
+      ∙ trip-pdus (tableOf image) (wholeOf image) (seen m) k reads pieces (subst (λ (d : Connection). Routed (lookupOf (bodyOf image Route) k (d .switches)) ss ps) (sym seen-c) h) e)
+
+  -- .. and, where routes are marked, these PDUs and whole transfers, byte by byte
+  pub read-carried : {ss : List Sent} {os : List Out} (pieces : List (List ℕ)) → Carried (routesIn image (m .state) k) ss os → flatten pieces ≡ frames ss
+      → RunBytes (asSegments k pieces) → fine (givenIn image k m (asSegments k pieces)) ≡ fine os
+  read-carried {ss} {os} pieces h e bytes =
       run-given image k m (asSegments k pieces) bytes good
-      ∙ trip (tableOf image) (wholeOf image) (seen m) k reads pieces (subst (λ (d : Connection). Routed (lookupOf (bodyOf image Route) k (d .switches)) ss ps) (sym seen-c) h) e
+      ∙ trip (tableOf image) (wholeOf image) (seen m) k reads pieces (subst (λ (d : Connection). Carried (lookupOf (bodyOf image Route) k (d .switches)) ss os) (sym seen-c) h) e
 
 -- WHAT A WALK HANDS OUT, a step for each PDU; more steps meet the end and hand out nothing
 pub walk-back : (image : List ℕ) (m : Machine) → Good image m → (k : ℕ) → Walker image m k → {ss : List Sent} {ps : List Pdu} (datagram : List ℕ) → Routed (routesIn image (m .state) k) ss ps
@@ -104,6 +114,12 @@ module _ (image : List ℕ) (a : Machine) (good : Good image a) (j : ℕ) (there
       → Routed (routesIn image′ (b .state) k) (sentIn image j a es []) ps → (pieces : List (List ℕ)) → flatten pieces ≡ outgoing image (afterRun image a es) j out → RunBytes (asSegments k pieces)
       → givenIn image′ k b (asSegments k pieces) ≡ map asOut ps
   round-trip room image′ b good′ k reader routed pieces cut-is bytes′ = read-back image′ b good′ k reader pieces routed (cut-is ∙ sent-out room) bytes′
+
+  -- .. each on a marked route as one transfer with all its bytes
+  pub carried-trip : recordAt (afterRun image a es .state) j .used ≤ length out → (image′ : List ℕ) (b : Machine) → Good image′ b → (k : ℕ) → Reader image′ b k → {os : List Out}
+      → Carried (routesIn image′ (b .state) k) (sentIn image j a es []) os → (pieces : List (List ℕ)) → flatten pieces ≡ outgoing image (afterRun image a es) j out → RunBytes (asSegments k pieces)
+      → fine (givenIn image′ k b (asSegments k pieces)) ≡ fine os
+  carried-trip room image′ b good′ k reader carried pieces cut-is bytes′ = read-carried image′ b good′ k reader pieces carried (cut-is ∙ sent-out room) bytes′
 
   -- or walked over as one datagram, in as many steps or more
   pub datagram-trip : recordAt (afterRun image a es .state) j .used ≤ length out → (image′ : List ℕ) (b : Machine) → Good image′ b → (k : ℕ) → Walker image′ b k → {ps : List Pdu}

@@ -23,7 +23,7 @@ use Rattle.frame.specs.Frame.{frame, Sent, frames}
 use Rattle.send.specs.Verdict.{isStored}
 use Rattle.send.specs.Send.{destinations, checkOf}
 use Rattle.entry_ticks.specs.declared.Ticked.{Ticked}
-use Rattle.entry_ticks.specs.Tick.{tickedTo, unticked, tickEvent}
+use Rattle.entry_ticks.specs.Tick.{tickedTo, unticked, tickedFrom, tickEvent}
 use Rattle.entry_receive.specs.Answer.{isDone}
 use Rattle.send_waiting.specs.Waiting.{waitingOf}
 use Rattle.law_waits.specs.Waits.{waits, goesTo, framesFrom, addedTo, turned, afterAll, anyEmpties, since, was-closed, Emptied, not-emptied, emptied, isEmptied, onlyIf, turnBy}
@@ -122,7 +122,7 @@ module _ (image : List ℕ) (j : ℕ) (m : Machine) (good : Good image m) where
   unfolding afterEvent afterWhole tickEvent
   tick-after =
       ap (λ (t : Ticked). recordAt (t .state) j .used)
-      (past (loanTo image m) (unticked (m .state)) (record { answer = Done; state = tickedTo image (rowsOf image Connections) (m .state) }) (good .passed))
+      (past (loanTo image m) (unticked (m .state)) (tickedFrom (rowsOf image Connections) (m .state) (tickedTo image (rowsOf image Connections) (m .state))) (good .passed))
       ∙ ticked-used image (m .state) j rows-fit
       ∙ ap (λ (b : Bool). cond b 0 (c .used)) (sym (if-emptied (ltb j (rowsOf image Connections) && c .«close_wanted») was-closed))
 

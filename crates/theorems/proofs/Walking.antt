@@ -16,7 +16,7 @@ use Rattle.connection.specs.Event.{receiving}
 use Rattle.receive_route.specs.Route.{lookupOf}
 use Rattle.state.specs.State.{recordAt}
 use Rattle.reading.specs.declared.Decision.{Decision}
-use Rattle.reading.specs.declared.Decision.the-variants.{Accept, Refuse}
+use Rattle.reading.specs.declared.Decision.the-variants.{Accept, Refuse, Transfer}
 use Rattle.reading.specs.Feed.{Routes}
 use Rattle.reading_walk.specs.Walk.{Found, the-end, a-pdu, a-drop, Walked, walked, wholeAt, walkStep, walkAt, outsTold, walks, placeAfterSteps}
 use Rattle.reading_walk.proofs.Steps.{at-last, next-within}
@@ -56,6 +56,7 @@ then-later R f d p = go (headOf (drop p d))
     decided : (q : Decision) (i n : ℕ) → outsTold d (wholeAt q p i n .found) [] ++ walks R f d (wholeAt q p i n .next) ≡ outsTold d (wholeAt q p i n .found) (walks R f d (wholeAt q p i n .next))
     decided (Accept r) i n = refl
     decided (Refuse k) i n = refl
+    decided (Transfer r) i n = refl
 
     go : (h : Head) → outsTold d (walkStep R (length d) p h .found) [] ++ walks R f d (walkStep R (length d) p h .next)
         ≡ outsTold d (walkStep R (length d) p h .found) (walks R f d (walkStep R (length d) p h .next))

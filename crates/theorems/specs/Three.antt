@@ -9,7 +9,7 @@ use Rattle.receive_route.specs.Route.{lookupOf}
 use Rattle.state.specs.Fresh.{configOf}
 use Rattle.model.specs.World.{heldAt, cellAt}
 use Rattle.model.specs.Events.{Event}
-use Rattle.model.specs.Step.{compared}
+use Rattle.reading.specs.Feed.{compared}
 use Rattle.model_runs.specs.Streams.{listedIn}
 use Rattle.model_refines.specs.Machine.{Machine, seen}
 use Rattle.model_refines.specs.Run.{afterRun, givenIn}
@@ -18,7 +18,8 @@ use Rattle.theorems.specs.Streams.{streamsIn}
 pub record Demand3 (image : List ℕ) (m : Machine) (es fs : List Event) : Type 0 where
   -- the end state is the same: same numbers and same held bytes
   pub state : seen (afterRun image m es) ≡ seen (afterRun image m fs)
-  -- each connection has handed out the same PDUs in the same order
+  -- each connection has handed out the same PDUs and transfers in the same order: of a transfer its start, its joined bytes and its end mark
+  -- (R19.9)
   pub pdus : (k : ℕ) → compared (givenIn image k m es) ≡ compared (givenIn image k m fs)
   -- and, of a TCP connection, that list is exactly demand 2's: of each online period's stream, by lengths; the first stream begun with what
   -- the record holds
