@@ -232,7 +232,8 @@ pub event-moves : (e : Event) (g : Config) (c : Connection) → Sound g c
     → placeOf (stepOf e g c .connection) ≡ move (happeningOf e) (g .tcp) (g .automatic) (wildcard (c .remote)) (transferring (c .part)) (placeOf c)
 event-moves e g c s =
     step-effect e g c
-    ∙ moved (happeningOf e) (g .tcp) (g .automatic) (wildcard (c .remote)) (transferring (c .part)) (c .mode) (c .«open_wanted») (c .«close_wanted») (rules g c s)
+    ∙ moved (happeningOf e) (g .tcp) (g .automatic) (wildcard (c .remote)) (transferring (c .part)) (c .mode) (c .«open_wanted») (c .«close_wanted»)
+    (rules g c s)
 
 pub tick-moves : (g : Config) (c : Connection) → Sound g c
     → placeOf (tickOf g c) ≡ move ticks (g .tcp) (g .automatic) (wildcard (c .remote)) (transferring (c .part)) (placeOf c)

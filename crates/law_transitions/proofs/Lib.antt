@@ -1,2 +1,4 @@
 -- The laws of the crate.
 pub mod Effect
+pub mod Joined
+pub mod Transfers

@@ -1,2 +1,3 @@
 -- The definitions of the crate.
 pub mod Table
+pub mod Transfers
