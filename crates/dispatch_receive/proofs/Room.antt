@@ -43,7 +43,7 @@ use Rattle.event_answer.proofs.Short.{no-room, room-keeps}
 use Rattle.dispatch_receive.specs.Long.{longestBody, tooLong, ifFits}
 use Rattle.dispatch_receive.specs.Walk.{walkedEffect, walkEffect}
 use Rattle.dispatch_receive.specs.Segment.{lentNext, takeBytes, bytesIfDone, Progress, begun, takeAt, memoryAt, bytesAt, oneTake, takeFollows, takesUpTo, allTakes, eventBytes, takesEffect, answerRoom, segmentEffect}
-use Rattle.dispatch_receive.proofs.Size.{most, most-all, most-least, take-most, take-stops, spent-within, spent-stops}
+use Rattle.dispatch_receive.proofs.Size.{most, most-all, most-least, spent-within, spent-goes}
 
 -- what nothing refuses is done
 clear-done : (l : Lent) (k : ℕ) (allowed : Bool) → Clear l k allowed → isDone (judgedAnswer l k allowed) ≡ true
@@ -97,21 +97,21 @@ module _ (l : Loan) (k : ℕ) (seg : List ℕ) where
       go true e = ap (λ (t : SegmentTaken). isDone (t .answer)) (taken-is e) ∙ sym e
       go false e = ap (λ (t : SegmentTaken). isDone (t .answer)) (none-is e)
 
-  on-within : (from : ℕ) (m : List ℕ) → length (bytesFrom from m (takeOn image s rx k seg)) ≤ most (recordAt s k .part)
+  on-within : (from : ℕ) (m : List ℕ) → 9 * length (bytesFrom from m (takeOn image s rx k seg)) ≤ most (recordAt s k .part)
   unfolding takeOn takenOf tookOf
   on-within from m =
       spent-within from (length seg - length (takeB (lookupOf (bodyOf image RouteRows) k (recordAt s k .switches)) (cellOf (recordAt s k .part) (stretch 1464 k rx)) seg .rest)) seg m k
       (lookupOf (bodyOf image RouteRows) k (recordAt s k .switches)) (idOf (bodyOf image RouteRows)) (stretch 1464 k rx) (recordAt s k .part)
 
-  none-within : (from : ℕ) (m : List ℕ) → length (bytesFrom from m (noneTaken s answer)) ≤ most (recordAt s k .part)
+  none-within : (from : ℕ) (m : List ℕ) → 9 * length (bytesFrom from m (noneTaken s answer)) ≤ most (recordAt s k .part)
   none-within from m = omega (arith, bytes-of-within answer (takeBytes from 0 (noneTaken s answer .outcome) (payloadOf seg m k (noneTaken s answer .outcome))), length-found 0 0 0 0 0, most-least (recordAt s k .part))
 
-  pub take-within : (from : ℕ) (m : List ℕ) → length (bytesFrom from m (segmentOf l k seg)) ≤ most (recordAt s k .part)
+  pub take-within : (from : ℕ) (m : List ℕ) → 9 * length (bytesFrom from m (segmentOf l k seg)) ≤ most (recordAt s k .part)
   take-within from m = go (isDone answer) refl
     where
-      go : (b : Bool) → isDone answer ≡ b → length (bytesFrom from m (segmentOf l k seg)) ≤ most (recordAt s k .part)
-      go true e = subst (λ (t : SegmentTaken). length (bytesFrom from m t) ≤ most (recordAt s k .part)) (sym (taken-is e)) (on-within from m)
-      go false e = subst (λ (t : SegmentTaken). length (bytesFrom from m t) ≤ most (recordAt s k .part)) (sym (none-is e)) (none-within from m)
+      go : (b : Bool) → isDone answer ≡ b → 9 * length (bytesFrom from m (segmentOf l k seg)) ≤ most (recordAt s k .part)
+      go true e = subst (λ (t : SegmentTaken). 9 * length (bytesFrom from m t) ≤ most (recordAt s k .part)) (sym (taken-is e)) (on-within from m)
+      go false e = subst (λ (t : SegmentTaken). 9 * length (bytesFrom from m t) ≤ most (recordAt s k .part)) (sym (none-is e)) (none-within from m)
 
   -- the record's part after it
   part-after : isDone answer ≡ true → recordAt (takeOn image s rx k seg .state) k .part ≡ takenAt image s rx k seg .part
@@ -123,26 +123,24 @@ module _ (l : Loan) (k : ℕ) (seg : List ℕ) where
 
   -- where it left bytes there is enough for the next
   on-goes : (from : ℕ) (m : List ℕ) → isDone answer ≡ true → takeOn image s rx k seg .read < length seg
-      → length (bytesFrom from m (takeOn image s rx k seg)) + most (recordAt (takeOn image s rx k seg .state) k .part) + 3 * (length seg - takeOn image s rx k seg .read)
-      ≤ most (recordAt s k .part) + 3 * length seg
+      → 9 * length (bytesFrom from m (takeOn image s rx k seg)) + most (recordAt (takeOn image s rx k seg .state) k .part) + 32 * (length seg - takeOn image s rx k seg .read)
+      ≤ most (recordAt s k .part) + 32 * length seg
   unfolding takeOn takenOf tookOf
   on-goes from m e h =
       let R : Routes = lookupOf (bodyOf image RouteRows) k (recordAt s k .switches) in
       let c : Cell = cellOf (recordAt s k .part) (stretch 1464 k rx) in
-      let stopped = take-stops R c seg (omega arith) in
       omega (
         arith,
         ap most (part-after e),
-        take-most R c seg stopped,
-        spent-stops from (length seg - length (takeB R c seg .rest)) seg m k R (idOf (bodyOf image RouteRows)) (stretch 1464 k rx) (recordAt s k .part) stopped,
+        spent-goes from (length seg - length (takeB R c seg .rest)) seg m k R (idOf (bodyOf image RouteRows)) (stretch 1464 k rx) (recordAt s k .part) (omega arith),
       )
 
   pub take-goes : (from : ℕ) (m : List ℕ) → isDone (segmentOf l k seg .answer) ≡ true → segmentOf l k seg .read < length seg
-      → length (bytesFrom from m (segmentOf l k seg)) + most (recordAt (segmentOf l k seg .state) k .part) + 3 * (length seg - segmentOf l k seg .read)
-      ≤ most (recordAt s k .part) + 3 * length seg
+      → 9 * length (bytesFrom from m (segmentOf l k seg)) + most (recordAt (segmentOf l k seg .state) k .part) + 32 * (length seg - segmentOf l k seg .read)
+      ≤ most (recordAt s k .part) + 32 * length seg
   take-goes from m d =
       let e : isDone answer ≡ true = sym answer-is ∙ d in
-      subst (λ (t : SegmentTaken). t .read < length seg → length (bytesFrom from m t) + most (recordAt (t .state) k .part) + 3 * (length seg - t .read) ≤ most (recordAt s k .part) + 3 * length seg)
+      subst (λ (t : SegmentTaken). t .read < length seg → 9 * length (bytesFrom from m t) + most (recordAt (t .state) k .part) + 32 * (length seg - t .read) ≤ most (recordAt s k .part) + 32 * length seg)
       (sym (taken-is e)) (on-goes from m e)
 
   -- the next take is not refused
@@ -156,13 +154,13 @@ module _ (l : Loan) (k : ℕ) (seg : List ℕ) where
 
 -- THE TAKES OF AN EVENT
 module _ (l : Loan) (k : ℕ) (segment : List ℕ) (at : ℕ) where
-  pub bytes-within : length (bytesAt l k segment at) ≤ most (recordAt (l .state) k .part)
+  pub bytes-within : 9 * length (bytesAt l k segment at) ≤ most (recordAt (l .state) k .part)
   unfolding bytesAt
   bytes-within = take-within l k (drop at segment) at (memoryAt l k segment at)
 
   pub bytes-go : isDone (takeAt l k segment at .answer) ≡ true → at + takeAt l k segment at .read < length segment
-      → length (bytesAt l k segment at) + most (recordAt (takeAt l k segment at .state) k .part) + 3 * (length segment - (at + takeAt l k segment at .read))
-      ≤ most (recordAt (l .state) k .part) + 3 * (length segment - at)
+      → 9 * length (bytesAt l k segment at) + most (recordAt (takeAt l k segment at .state) k .part) + 32 * (length segment - (at + takeAt l k segment at .read))
+      ≤ most (recordAt (l .state) k .part) + 32 * (length segment - at)
   unfolding bytesAt
   bytes-go d h =
       let e = length-drop at segment in
@@ -174,16 +172,16 @@ module _ (l : Loan) (k : ℕ) (segment : List ℕ) (at : ℕ) where
 
 module _ (l : Loan) (k : ℕ) (segment : List ℕ) where
   -- from anywhere on
-  run-fits : (n : ℕ) (r : Progress) → length (takesUpTo l k segment n r .bytes) ≤ length (r .bytes) + most (recordAt (r .state) k .part) + 3 * (length segment - r .at)
+  run-fits : (n : ℕ) (r : Progress) → 9 * length (takesUpTo l k segment n r .bytes) ≤ 9 * length (r .bytes) + most (recordAt (r .state) k .part) + 32 * (length segment - r .at)
   unfolding takesUpTo oneTake
   run-fits zero r = omega (arith, length-append (r .bytes) (bytesAt (lentNext l k segment r) k segment (r .at)), bytes-within (lentNext l k segment r) k segment (r .at))
   run-fits (suc n) r = go (takeFollows l k segment (oneTake l k segment r)) refl (run-fits n (oneTake l k segment r))
     where
       go : (b : Bool) → takeFollows l k segment (oneTake l k segment r) ≡ b
-          → length (takesUpTo l k segment n (oneTake l k segment r) .bytes)
-          ≤ length (oneTake l k segment r .bytes) + most (recordAt (oneTake l k segment r .state) k .part) + 3 * (length segment - oneTake l k segment r .at)
-          → length (cond b (takesUpTo l k segment n (oneTake l k segment r)) (oneTake l k segment r) .bytes)
-          ≤ length (r .bytes) + most (recordAt (r .state) k .part) + 3 * (length segment - r .at)
+          → 9 * length (takesUpTo l k segment n (oneTake l k segment r) .bytes)
+          ≤ 9 * length (oneTake l k segment r .bytes) + most (recordAt (oneTake l k segment r .state) k .part) + 32 * (length segment - oneTake l k segment r .at)
+          → 9 * length (cond b (takesUpTo l k segment n (oneTake l k segment r)) (oneTake l k segment r) .bytes)
+          ≤ 9 * length (r .bytes) + most (recordAt (r .state) k .part) + 32 * (length segment - r .at)
       go true e h =
           omega (
             arith,

@@ -9,7 +9,7 @@ use lib.ListN.{length, take, drop, length-append, length-drop}
 use lib.Seq.{drop-at, length-take-le}
 use borrow.Author.Tests.{ltb-true, lt-ltb, le-ltb}
 use Rattle.reading.specs.Feed.{Routes, Cell, takeB}
-use Rattle.reading.proofs.Cut.{take-reads}
+use Rattle.reading.proofs.Cut.{take-less}
 use Rattle.lists.proofs.Both.{and-left, and-right, and-first, and-second, and-both}
 use Rattle.reading_lengths.specs.Listed.{Bytes}
 use Rattle.wire.specs.Lay.{lay}
@@ -44,7 +44,7 @@ use Rattle.dispatch_receive.proofs.Room.{none-is, memory-stays, answer-
 -- a take reads no more than there is, and of what is not empty a byte at least
 rest-less : (R : Routes) (c : Cell) (seg : List ℕ) → 0 < length seg → length (takeB R c seg .rest) < length seg
 rest-less R c [] h = absurd (omega arith)
-rest-less R c (b ∷ bs) h = omega (arith, take-reads R c b bs)
+rest-less R c (b ∷ bs) h = omega (arith, take-less R c (b ∷ bs))
 
 module _ (l : Loan) (connection : ℕ) (seg : List ℕ) where
   pub read-within : segmentOf l connection seg .read ≤ length seg
@@ -144,7 +144,7 @@ module _ (l : Loan) (connection : ℕ) (segment : List ℕ) where
     pub within : at ≤ length segment
     pub wrote : out ≡ lay out₀ 4 bytes
     pub placed : place ≡ 4 + length bytes
-    pub spare : place + most (recordAt s connection .part) + 3 * (length segment - at) ≤ length out₀
+    pub spare : 9 * place + most (recordAt s connection .part) + 32 * (length segment - at) ≤ 9 * length out₀
     pub clear : isDone (segmentAnswer (sizes (received l s rx)) connection) ≡ true
 
   pub going-start : (out : List ℕ) → answerRoom segment ≤ length out → isDone (segmentAnswer (sizes l) connection) ≡ true → Going out (l .state) (l .rx) out 4 0 0

@@ -1,119 +1,140 @@
--- HOW MANY BYTES A TAKE'S ANSWER HAS, against the bytes it reads. A take that stops leaves no header byte and no payload byte held, so
--- the next one that stops has read a whole header, and its PDU stands in the segment.
+-- HOW MANY BYTES A TAKE'S ANSWER HAS, against the bytes it reads. A take that leaves bytes leaves no header byte and no payload byte held,
+-- so the next one has read a whole header, and its PDU stands in the segment; or it has left a transfer running. A transfer of one byte
+-- has the most answer for its bytes: 14 for its start and 18 for its piece, of nine bytes. So all is counted in ninths of a byte.
 use Prim.Native.Nat.{ℕ, zero, suc, _+_, _-_, _*_, _/_, _%_, _^_, _≤_, _<_}
-use mathlib.Core.Path.{_≡_, refl, sym, ap, _∙_}
-use mathlib.Core.Bool.{Bool, true, false, cond, false≢true}
+use mathlib.Core.Path.{_≡_, refl, ap, _∙_, subst}
+use mathlib.Core.Bool.{Bool, true, false, cond, false≢true, true≢false}
 use mathlib.Core.List.{List, [], _∷_}
 use native.Mathlib.Omega.{arith}
-use lib.Dec.{leb}
+use lib.Dec.{leb, ltb}
 use lib.ListN.{length, take, drop, length-take, length-drop}
 use Rattle.reading.specs.declared.Decision.{Decision}
-use Rattle.reading.specs.declared.Decision.the-variants.{Accept, Refuse}
-use Rattle.reading.specs.Feed.{Routes, header, payload, skip, Cell, cell, Out, nothing, pdu, dropped, Fed, decided, pieceDone, feed, stops, Took, took, takeB, Ends, at-end, at-byte}
-use Rattle.reading.proofs.Cut.{take-ends}
+use Rattle.reading.specs.declared.Decision.the-variants.{Accept, Refuse, Transfer as Move}
+use Rattle.reading.specs.Feed.{Routes, PieceKind, header, payload, skip, Cell, cell, transfer, Out, nothing, pdu, dropped, start, piece, Fed, ready, decided, pieceDone, feed, after, stops, Took, took, pieceBy, takeB, Ends, at-end, at-byte, at-seam, at-mark}
+use Rattle.reading.proofs.Cut.{moves, take-ends, take-less}
 use Rattle.table_layout.specs.Layout.{partOf}
 use Rattle.receive_part.specs.declared.Part.{Part}
-use Rattle.receive_part.specs.declared.Part.the-variants.{Header, Payload, Skip}
+use Rattle.receive_part.specs.declared.Part.the-variants.{Header, Payload, Skip, Transfer}
 use Rattle.receive_stream.specs.declared.Outcome.{Outcome}
-use Rattle.receive_stream.specs.declared.Outcome.the-variants.{More, Pdu, Drop}
+use Rattle.receive_stream.specs.declared.Outcome.the-variants.{More, Pdu, Drop, Start, Piece}
 use Rattle.receive_stream.specs.Stream.{cellOf, partFrom, inSegment, takeOutcome}
 use Rattle.state.specs.Memory.{stretch}
 use Rattle.entry_receive.specs.Segment.{payloadOf}
 use Rattle.event_answer.proofs.Chain.{length-found}
 use Rattle.dispatch_receive.specs.Segment.{takeBytes}
-use Rattle.dispatch_receive.proofs.Written.{length-here, length-held}
+use Rattle.dispatch_receive.proofs.Written.{length-here, length-held, length-piece}
 
--- THE BYTES OF A TAKE on a connection with this part, and 19 for the next: 1,464 payload bytes and 15 more out of receive memory, but
--- 19 where nothing is held
+-- THE BYTES OF A TAKE on a connection with this part, and 19 for the next, in ninths of a byte: 1,464 payload bytes and 15 more out of
+-- receive memory, but 19 in all where nothing is held; while a transfer runs, 18 for its piece, less what the piece's own byte of the
+-- segment gives
 unfoldable pub most : Part → ℕ
-most (Header zero value) = 19
-most (Header (suc held) value) = 1498
-most (Payload route n held) = 1498
-most (Skip n) = 19
+most (Header zero value) = 171
+most (Header (suc held) value) = 13482
+most (Payload route n held) = 13482
+most (Skip n) = 171
+most (Transfer route left) = 301
 
-pub most-all : (p : Part) → most p ≤ 1498
+pub most-all : (p : Part) → most p ≤ 13482
 unfolding most
 most-all (Header zero value) = omega arith
 most-all (Header (suc held) value) = omega arith
 most-all (Payload route n held) = omega arith
 most-all (Skip n) = omega arith
+most-all (Transfer route left) = omega arith
 
-pub most-least : (p : Part) → 19 ≤ most p
+pub most-least : (p : Part) → 171 ≤ most p
 unfolding most
 most-least (Header zero value) = omega arith
 most-least (Header (suc held) value) = omega arith
 most-least (Payload route n held) = omega arith
 most-least (Skip n) = omega arith
+most-least (Transfer route left) = omega arith
 
 -- WHAT A TAKE READS AT LEAST BEFORE IT STOPS: the bytes that a header still wants; behind a skip a whole one
 abbrev wants : Cell → ℕ
 wants (cell n (header v)) = n
 wants (cell n (payload r h)) = 0
 wants (cell n skip) = 8
+wants (transfer n r) = 0
 
-stop-wants : (R : Routes) (c : Cell) (b : ℕ) → stops (feed R c b .out) ≡ true → wants c ≤ 1
+stop-wants : (R : Routes) (n : ℕ) (k : PieceKind) (b : ℕ) → stops (feed R (cell n k) b .out) ≡ true → wants (cell n k) ≤ 1
 unfolding feed pieceDone
-stop-wants R (cell zero (header v)) b s = omega arith
-stop-wants R (cell (suc zero) (header v)) b s = omega arith
-stop-wants R (cell (suc (suc n)) (header v)) b s = absurd (false≢true s)
-stop-wants R (cell n (payload r h)) b s = omega arith
-stop-wants R (cell zero skip) b s = absurd (false≢true s)
-stop-wants R (cell (suc zero) skip) b s = absurd (false≢true s)
-stop-wants R (cell (suc (suc n)) skip) b s = absurd (false≢true s)
+stop-wants R zero (header v) b s = omega arith
+stop-wants R (suc zero) (header v) b s = omega arith
+stop-wants R (suc (suc n)) (header v) b s = absurd (false≢true s)
+stop-wants R n (payload r h) b s = omega arith
+stop-wants R zero skip b s = absurd (false≢true s)
+stop-wants R (suc zero) skip b s = absurd (false≢true s)
+stop-wants R (suc (suc n)) skip b s = absurd (false≢true s)
 
-go-wants : (R : Routes) (c : Cell) (b : ℕ) → wants c ≤ 1 + wants (feed R c b .to)
+go-wants : (R : Routes) (n : ℕ) (k : PieceKind) (b : ℕ) → wants (cell n k) ≤ 1 + wants (feed R (cell n k) b .to)
 unfolding feed pieceDone
-go-wants R (cell zero (header v)) b = omega arith
-go-wants R (cell (suc zero) (header v)) b = omega arith
-go-wants R (cell (suc (suc n)) (header v)) b = omega arith
-go-wants R (cell n (payload r h)) b = omega arith
-go-wants R (cell zero skip) b = omega arith
-go-wants R (cell (suc zero) skip) b = omega arith
-go-wants R (cell (suc (suc n)) skip) b = omega arith
+go-wants R zero (header v) b = omega arith
+go-wants R (suc zero) (header v) b = omega arith
+go-wants R (suc (suc n)) (header v) b = omega arith
+go-wants R n (payload r h) b = omega arith
+go-wants R zero skip b = omega arith
+go-wants R (suc zero) skip b = omega arith
+go-wants R (suc (suc n)) skip b = omega arith
 
 take-wants : (R : Routes) (c : Cell) (bs : List ℕ) → stops (takeB R c bs .out) ≡ true → wants c + length (takeB R c bs .rest) ≤ length bs
 unfolding takeB
 take-wants R c [] s = absurd (false≢true s)
-take-wants R c (b ∷ bs) s = go (stops (feed R c b .out)) refl s (take-wants R (feed R c b .to) bs)
+take-wants R (transfer zero r) (b ∷ bs) s = omega (arith, take-wants R ready bs s)
+take-wants R (transfer (suc n) r) (b ∷ bs) s = omega (arith, take-less R (transfer (suc n) r) (b ∷ bs))
+take-wants R (cell n k) (b ∷ bs) s = go (stops (feed R (cell n k) b .out)) refl s (take-wants R (feed R (cell n k) b .to) bs)
   where
-    go : (x : Bool) → stops (feed R c b .out) ≡ x
-        → stops (cond x (took (feed R c b .to) (feed R c b .out) bs) (takeB R (feed R c b .to) bs) .out) ≡ true
-        → (stops (takeB R (feed R c b .to) bs .out) ≡ true → wants (feed R c b .to) + length (takeB R (feed R c b .to) bs .rest) ≤ length bs)
-        → wants c + length (cond x (took (feed R c b .to) (feed R c b .out) bs) (takeB R (feed R c b .to) bs) .rest) ≤ length (b ∷ bs)
-    go true e q h = omega (arith, stop-wants R c b e)
-    go false e q h = omega (arith, go-wants R c b, h q)
+    f : Fed
+    f = feed R (cell n k) b
 
--- WHERE A TAKE STOPPED nothing is held
-decided-most : (d : Decision) (i n : ℕ) → stops (decided d i n .out) ≡ true → most (partFrom (decided d i n .to)) ≡ 19
+    go : (x : Bool) → stops (f .out) ≡ x → stops (cond x (took (f .to) (f .out) bs) (takeB R (f .to) bs) .out) ≡ true
+        → (stops (takeB R (f .to) bs .out) ≡ true → wants (f .to) + length (takeB R (f .to) bs .rest) ≤ length bs)
+        → wants (cell n k) + length (cond x (took (f .to) (f .out) bs) (takeB R (f .to) bs) .rest) ≤ length (b ∷ bs)
+    go true e q h = omega (arith, stop-wants R n k b e)
+    go false e q h = omega (arith, go-wants R n k b, h q)
+
+-- WHAT A TAKE THAT LEFT BYTES LEAVES FOR THE NEXT, by its outcome: nothing is held, and a transfer runs behind a start alone
+abbrev leaves : Out → ℕ
+leaves nothing = 171
+leaves (pdu r p) = 171
+leaves (dropped k i n) = 171
+leaves (start r i n m) = 301
+leaves (piece r p m) = 171
+
+decided-most : (d : Decision) (i n : ℕ) → stops (decided d i n .out) ≡ true → most (partFrom (decided d i n .to)) ≤ leaves (decided d i n .out)
 unfolding most
-decided-most (Accept r) i zero s = refl
+decided-most (Accept r) i zero s = omega arith
 decided-most (Accept r) i (suc n) s = absurd (false≢true s)
-decided-most (Refuse k) i zero s = refl
-decided-most (Refuse k) i (suc n) s = refl
+decided-most (Refuse k) i zero s = omega arith
+decided-most (Refuse k) i (suc n) s = omega arith
+decided-most (Move r) i zero s = omega arith
+decided-most (Move r) i (suc n) s = omega arith
 
-stop-most : (R : Routes) (c : Cell) (b : ℕ) → stops (feed R c b .out) ≡ true → most (partFrom (feed R c b .to)) ≡ 19
+stop-most : (R : Routes) (c : Cell) (b : ℕ) → stops (feed R c b .out) ≡ true → most (partFrom (feed R c b .to)) ≤ leaves (feed R c b .out)
 unfolding feed pieceDone most
 stop-most R (cell zero k) b s = absurd (false≢true s)
 stop-most R (cell (suc zero) (header v)) b s = decided-most (R ((v * 256 + b) / 2 ^ 32) ((v * 256 + b) % 2 ^ 32)) ((v * 256 + b) / 2 ^ 32) ((v * 256 + b) % 2 ^ 32) s
-stop-most R (cell (suc zero) (payload r h)) b s = refl
+stop-most R (cell (suc zero) (payload r h)) b s = omega arith
 stop-most R (cell (suc zero) skip) b s = absurd (false≢true s)
 stop-most R (cell (suc (suc n)) k) b s = absurd (false≢true s)
+stop-most R (transfer zero r) b s = absurd (false≢true s)
+stop-most R (transfer (suc zero) r) b s = absurd (false≢true s)
+stop-most R (transfer (suc (suc n)) r) b s = absurd (false≢true s)
 
-ends-most : (R : Routes) (c : Cell) (bs : List ℕ) (t : Took) → Ends R c bs t → stops (t .out) ≡ true → most (partFrom (t .to)) ≡ 19
-ends-most R c bs t (at-end _ e) s = absurd (false≢true s)
-ends-most R c bs t (at-byte a b rest f e is q) s =
-    ap (λ (g : Fed). most (partFrom (g .to))) (sym is) ∙ stop-most R _ b (ap (λ (g : Fed). stops (g .out)) is ∙ q)
+ends-most : (R : Routes) (c : Cell) (bs : List ℕ) (t : Took) → Ends R c bs t → 0 < length (t .rest) → most (partFrom (t .to)) ≤ leaves (t .out)
+unfolding most
+ends-most R c bs t (at-end _ _ e) h = absurd (omega arith)
+ends-most R c bs t (at-byte _ a b rest f e is q) h =
+    subst (λ (g : Fed). most (partFrom (g .to)) ≤ leaves (g .out)) is (stop-most R (after R c a) b (ap (λ (g : Fed). stops (g .out)) is ∙ q))
+ends-most R c bs t (at-seam n r a _ _) h = absurd (omega arith)
+ends-most R c bs t (at-mark n r a rest _ _) h = omega arith
 
-pub take-most : (R : Routes) (c : Cell) (bs : List ℕ) → stops (takeB R c bs .out) ≡ true → most (partFrom (takeB R c bs .to)) ≡ 19
-take-most R c bs = ends-most R c bs (takeB R c bs) (take-ends R c bs)
-
--- a take that leaves bytes stopped
-ends-stops : (R : Routes) (c : Cell) (bs : List ℕ) (t : Took) → Ends R c bs t → 0 < length (t .rest) → stops (t .out) ≡ true
-ends-stops R c bs t (at-end _ e) h = absurd (omega arith)
-ends-stops R c bs t (at-byte a b rest f e is q) h = q
-
-pub take-stops : (R : Routes) (c : Cell) (bs : List ℕ) → 0 < length (takeB R c bs .rest) → stops (takeB R c bs .out) ≡ true
-take-stops R c bs = ends-stops R c bs (takeB R c bs) (take-ends R c bs)
+-- outside a transfer, a take that leaves bytes stopped
+ends-stops : (R : Routes) (c : Cell) (bs : List ℕ) (t : Took) → Ends R c bs t → moves c ≡ false → 0 < length (t .rest) → stops (t .out) ≡ true
+ends-stops R c bs t (at-end _ _ e) o h = absurd (omega arith)
+ends-stops R c bs t (at-byte _ a b rest f e is q) o h = q
+ends-stops R c bs t (at-seam n r a _ _) o h = absurd (true≢false o)
+ends-stops R c bs t (at-mark n r a rest _ _) o h = absurd (true≢false o)
 
 -- A TAKE'S BYTES: a payload out of receive memory is no longer than its stretch
 part-within : (s : List ℕ) (at n : ℕ) → length (partOf s at n) ≤ length s
@@ -131,38 +152,88 @@ module _ (from read : ℕ) (seg m : List ℕ) (k : ℕ) where
   abbrev bytes : Outcome → List ℕ
   bytes o = takeBytes from read o (payloadOf seg m k o)
 
-  any-size : (o : Outcome) → length (bytes o) ≤ 1479
+  any-size : (ids : ℕ → ℕ) (s : Bool) (o : Out) → 9 * length (bytes (takeOutcome ids s read o)) + leaves o ≤ 13482
   unfolding payloadOf
-  any-size More = omega (arith, length-found read 0 0 0 0)
-  any-size (Pdu route id true at n) = omega (arith, length-here read route id n from at)
-  any-size (Pdu route id false at n) = omega (arith, length-held read route id n (partOf (stretch 1464 k m) at n), part-within (stretch 1464 k m) at n, stretch-within k m)
-  any-size (Drop reason id n) = omega (arith, length-found read 2 reason id n)
+  any-size ids s nothing = omega (arith, length-found read 0 0 0 0)
+  any-size ids true (pdu r p) = omega (arith, length-here read r (ids r) (length p) from (read - length p))
+  any-size ids false (pdu r p) =
+      omega (arith, length-held read r (ids r) (length p) (partOf (stretch 1464 k m) 0 (length p)), part-within (stretch 1464 k m) 0 (length p), stretch-within k m)
+  any-size ids s (dropped reason id n) = omega (arith, length-found read 2 reason id n)
+  any-size ids s (start r i n b) = omega (arith, length-found read 3 r i n)
+  any-size ids s (piece r p b) = omega (arith, length-piece read r (ids r) (length p) b from (read - length p))
 
-  here-size : (ids : ℕ → ℕ) (o : Out) → length (bytes (takeOutcome ids true read o)) ≤ 19
+  here-size : (ids : ℕ → ℕ) (o : Out) → 9 * length (bytes (takeOutcome ids true read o)) ≤ 171
   here-size ids nothing = omega (arith, length-found read 0 0 0 0)
   here-size ids (pdu r p) = omega (arith, length-here read r (ids r) (length p) from (read - length p))
   here-size ids (dropped reason id n) = omega (arith, length-found read 2 reason id n)
+  here-size ids (start r i n b) = omega (arith, length-found read 3 r i n)
+  here-size ids (piece r p b) = omega (arith, length-piece read r (ids r) (length p) b from (read - length p))
 
-  -- what the part asks for is enough, and where the take stopped there is still enough for the next
-  module _ (R : Routes) (ids : ℕ → ℕ) (rx : List ℕ) where
-    abbrev took-of : Part → Took
-    took-of p = takeB R (cellOf p rx) seg
+  -- .. and what it leaves for the next: eight bytes of the segment pay for a start and the piece that follows it
+  here-leaves : (ids : ℕ → ℕ) (o : Out) → 9 * length (bytes (takeOutcome ids true read o)) + leaves o ≤ 427
+  here-leaves ids nothing = omega (arith, length-found read 0 0 0 0)
+  here-leaves ids (pdu r p) = omega (arith, length-here read r (ids r) (length p) from (read - length p))
+  here-leaves ids (dropped reason id n) = omega (arith, length-found read 2 reason id n)
+  here-leaves ids (start r i n b) = omega (arith, length-found read 3 r i n)
+  here-leaves ids (piece r p b) = omega (arith, length-piece read r (ids r) (length p) b from (read - length p))
 
-    abbrev spent : Part → ℕ
-    spent p = length (bytes (takeOutcome ids (inSegment (cellOf p rx)) read (took-of p .out)))
+  -- what the part asks for is enough, and where the take left bytes there is still enough for the next
+  module _ (R : Routes) (ids : ℕ → ℕ) where
+    abbrev spent-at : Cell → List ℕ → ℕ
+    spent-at c bs = 9 * length (bytes (takeOutcome ids true read (takeB R c bs .out)))
 
-    pub spent-within : (p : Part) → spent p ≤ most p
-    unfolding most
-    spent-within (Header zero value) = here-size ids (took-of (Header zero value) .out)
-    spent-within (Header (suc held) value) = omega (arith, any-size (takeOutcome ids true read (took-of (Header (suc held) value) .out)))
-    spent-within (Payload route n held) = omega (arith, any-size (takeOutcome ids (inSegment (cellOf (Payload route n held) rx)) read (took-of (Payload route n held) .out)))
-    spent-within (Skip n) = here-size ids (took-of (Skip n) .out)
+    -- a take that begins with a header or with bytes to skip
+    fresh-goes : (c : Cell) (bs : List ℕ) → moves c ≡ false → wants c ≡ 8 → 0 < length (takeB R c bs .rest)
+        → spent-at c bs + most (partFrom (takeB R c bs .to)) + 32 * length (takeB R c bs .rest) ≤ 171 + 32 * length bs
+    fresh-goes c bs o w h =
+        omega (
+          arith,
+          here-leaves ids (takeB R c bs .out),
+          ends-most R c bs (takeB R c bs) (take-ends R c bs) h,
+          take-wants R c bs (ends-stops R c bs (takeB R c bs) (take-ends R c bs) o h),
+        )
 
-    pub spent-stops : (p : Part) → stops (took-of p .out) ≡ true → spent p + 19 + 3 * length (took-of p .rest) ≤ most p + 3 * length seg
-    unfolding most
-    spent-stops (Header zero value) s = omega (arith, here-size ids (took-of (Header zero value) .out), take-wants R (cellOf (Header zero value) rx) seg s)
-    spent-stops (Header (suc held) value) s =
-        omega (arith, any-size (takeOutcome ids true read (took-of (Header (suc held) value) .out)), take-wants R (cellOf (Header (suc held) value) rx) seg s)
-    spent-stops (Payload route n held) s =
-        omega (arith, any-size (takeOutcome ids (inSegment (cellOf (Payload route n held) rx)) read (took-of (Payload route n held) .out)), take-wants R (cellOf (Payload route n held) rx) seg s)
-    spent-stops (Skip n) s = omega (arith, here-size ids (took-of (Skip n) .out), take-wants R (cellOf (Skip n) rx) seg s)
+    -- a running transfer's last piece, before which its start has paid
+    piece-goes : (n r : ℕ) (bs : List ℕ) → 0 < length (takeB R (transfer n r) bs .rest)
+        → spent-at (transfer n r) bs + most (partFrom (takeB R (transfer n r) bs .to)) + 32 * length (takeB R (transfer n r) bs .rest) ≤ 301 + 32 * length bs
+    unfolding takeB most
+    piece-goes n r [] h = absurd (omega arith)
+    piece-goes zero r (b ∷ bs) h = omega (arith, fresh-goes ready bs refl refl h)
+    piece-goes (suc n) r (b ∷ bs) h = go (ltb (length (b ∷ bs)) (suc n)) h
+      where
+        t : Bool → Took
+        t x = pieceBy x (suc n) r (b ∷ bs)
+
+        go : (x : Bool) → 0 < length (t x .rest)
+            → 9 * length (bytes (takeOutcome ids true read (t x .out))) + most (partFrom (t x .to)) + 32 * length (t x .rest) ≤ 301 + 32 * length (b ∷ bs)
+        go true q = absurd (omega arith)
+        go false q =
+            let p : List ℕ = take (suc n) (b ∷ bs) in
+            omega (arith, length-piece read r (ids r) (length p) true from (read - length p), length-drop (suc n) (b ∷ bs))
+
+    module _ (rx : List ℕ) where
+      abbrev took-of : Part → Took
+      took-of p = takeB R (cellOf p rx) seg
+
+      abbrev spent : Part → ℕ
+      spent p = 9 * length (bytes (takeOutcome ids (inSegment (cellOf p rx)) read (took-of p .out)))
+
+      pub spent-within : (p : Part) → spent p ≤ most p
+      unfolding most
+      spent-within (Header zero value) = here-size ids (took-of (Header zero value) .out)
+      spent-within (Header (suc held) value) = omega (arith, here-size ids (took-of (Header (suc held) value) .out))
+      spent-within (Payload route n held) = omega (arith, any-size ids (inSegment (cellOf (Payload route n held) rx)) (took-of (Payload route n held) .out))
+      spent-within (Skip n) = here-size ids (took-of (Skip n) .out)
+      spent-within (Transfer route left) = omega (arith, here-size ids (took-of (Transfer route left) .out))
+
+      pub spent-goes : (p : Part) → 0 < length (took-of p .rest) → spent p + most (partFrom (took-of p .to)) + 32 * length (took-of p .rest) ≤ most p + 32 * length seg
+      unfolding most
+      spent-goes (Header zero value) h = fresh-goes (cellOf (Header zero value) rx) seg refl refl h
+      spent-goes (Header (suc held) value) h =
+          let c : Cell = cellOf (Header (suc held) value) rx in
+          omega (arith, any-size ids true (takeB R c seg .out), ends-most R c seg (takeB R c seg) (take-ends R c seg) h, take-less R c seg)
+      spent-goes (Payload route n held) h =
+          let c : Cell = cellOf (Payload route n held) rx in
+          omega (arith, any-size ids (inSegment c) (takeB R c seg .out), ends-most R c seg (takeB R c seg) (take-ends R c seg) h, take-less R c seg)
+      spent-goes (Skip n) h = fresh-goes (cellOf (Skip n) rx) seg refl refl h
+      spent-goes (Transfer route left) h = piece-goes left route seg h

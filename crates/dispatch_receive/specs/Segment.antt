@@ -1,5 +1,5 @@
 -- A segment event (R5.14), the takes over one segment until all is read, one at least; and its answer as bytes (R16.2; docs/EVENTS.md).
-use Prim.Native.Nat.{ℕ, zero, suc, _+_, _*_}
+use Prim.Native.Nat.{ℕ, zero, suc, _+_, _*_, _/_}
 use mathlib.Core.Bool.{Bool, true, false, cond, _&&_}
 use mathlib.Core.List.{List, [], _++_}
 use lib.Dec.{ltb}
@@ -7,7 +7,7 @@ use lib.ListN.{length, drop}
 use Rattle.wire.specs.Lay.{spell}
 use Rattle.state.specs.declared.State.{State}
 use Rattle.receive_stream.specs.declared.Outcome.{Outcome}
-use Rattle.receive_stream.specs.declared.Outcome.the-variants.{More, Pdu, Drop}
+use Rattle.receive_stream.specs.declared.Outcome.the-variants.{More, Pdu, Drop, Start, Piece}
 use Rattle.entry_receive.specs.declared.Answer.{Answer}
 use Rattle.entry_receive.specs.declared.Answer.the-variants.{Done, Refused, NotReceiving}
 use Rattle.entry_receive.specs.declared.SegmentTaken.{SegmentTaken}
@@ -26,13 +26,23 @@ hereBytes read route id n from at = foundBytes read 1 route id n ++ spell 1 0 ++
 abbrev pub heldBytes : ℕ → ℕ → ℕ → ℕ → List ℕ → List ℕ
 heldBytes read route id n payload = foundBytes read 1 route id n ++ spell 1 1 ++ payload
 
--- a take: "bytes read (4), kind (1: 0 more wanted, 1 PDU, 2 drop), route or reason (1), id (4), length (4); for more wanted these three
--- are 0"
+-- R19.3, R19.4: a piece of a transfer: 4, or 5 for the last one, the piece's length, "then its place in the event's whole segment (4)"
+abbrev pub pieceKind : Bool → ℕ
+pieceKind true = 5
+pieceKind false = 4
+
+abbrev pub pieceBytes : ℕ → ℕ → ℕ → ℕ → Bool → ℕ → ℕ → List ℕ
+pieceBytes read route id n last from at = foundBytes read (pieceKind last) route id n ++ spell 4 (from + at)
+
+-- a take: "bytes read (4), kind (1: 0 more wanted, 1 PDU, 2 drop, 3 start, 4 piece, 5 last piece), route or reason (1), id (4), length (4);
+-- for more wanted these three are 0". A start's end mark is its length 0
 abbrev pub takeBytes : ℕ → ℕ → Outcome → List ℕ → List ℕ
 takeBytes from read More payload = foundBytes read 0 0 0 0
 takeBytes from read (Pdu route id true at n) payload = hereBytes read route id n from at
 takeBytes from read (Pdu route id false at n) payload = heldBytes read route id n payload
 takeBytes from read (Drop reason id n) payload = foundBytes read 2 reason id n
+takeBytes from read (Start route id n last) payload = foundBytes read 3 route id n
+takeBytes from read (Piece route id at n last) payload = pieceBytes read route id n last from at
 
 -- a refused take has none
 abbrev pub bytesIfDone : Answer → List ℕ → List ℕ
@@ -104,9 +114,9 @@ abbrev pub takesEffect : Progress → List ℕ → List ℕ → Effect
 takesEffect r tx out = answers (eventBytes (r .answer) (r .count) (r .bytes)) (r .state) (r .rx) tx out
 
 -- THE ROOM that the event's answer never exceeds, whatever the takes find (proofs/Room `event-fits`): a payload out of receive memory
--- and what comes with it once, and three bytes for each of the segment
+-- and what comes with it once, and 32 bytes for every nine of the segment, as a transfer of one byte has them: a start and a piece
 abbrev pub answerRoom : List ℕ → ℕ
-answerRoom segment = 1502 + 3 * length segment
+answerRoom segment = 1503 + 32 * length segment / 9
 
 -- WHAT A SEGMENT EVENT LEAVES
 unfoldable pub segmentEffect : Loan → List ℕ → ℕ → List ℕ → Effect

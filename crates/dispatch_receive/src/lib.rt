@@ -209,6 +209,40 @@ fn put_held(
     place + long
 }
 
+fn piece_kind(last: bool) -> u8
+    ensures { λ r. ⌜ r ≡ Seg.pieceKind last ⌝ }
+{
+    if last { 5 } else { 4 }
+}
+
+// A piece of a transfer: 18 bytes.
+fn put_piece(
+    out: &mut [u8],
+    place: usize,
+    read: usize,
+    route: u8,
+    id: u32,
+    n: usize,
+    last: bool,
+    from: usize,
+    at: usize,
+) -> usize
+    ensures { λ r. ⌜ r ≡ placeAfter (now (out .entry)) place (Seg.pieceBytes read route id n last from at) ⌝ }
+    ensures { λ _. ⌜ now (out .exit) ≡ lay (now (out .entry)) place (Seg.pieceBytes read route id n last from at) ⌝ }
+{
+    if out.len() < place {
+        return place;
+    }
+    if out.len() - place < 18 {
+        return place;
+    }
+    let kind = piece_kind(last);
+    let low = (n % 4294967296) as u32;
+    put_found(out, place, read, kind, route, id, low);
+    put_sum(out, place + 14, from, at);
+    place + 18
+}
+
 // The bytes of one take, that began at the place `from` of the segment.
 fn put_take(
     out: &mut [u8],
@@ -237,6 +271,19 @@ fn put_take(
             }
         }
         Outcome::Drop { reason, id, length } => put_row(out, place, read, 2, reason, id, length),
+        Outcome::Start {
+            route,
+            id,
+            length,
+            last: _,
+        } => put_row(out, place, read, 3, route, id, length),
+        Outcome::Piece {
+            route,
+            id,
+            at,
+            length,
+            last,
+        } => put_piece(out, place, read, route, id, length, last, from, at),
     }
 }
 

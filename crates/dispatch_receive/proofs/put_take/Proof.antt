@@ -30,6 +30,18 @@ enum-known-outcome-2 c = search needs
 put-row-requires-2 : tie.Need-put-row-requires-2
 put-row-requires-2 c κs = search needs
 
+enum-known-outcome-3 : tie.Need-enum-known-outcome-3
+enum-known-outcome-3 c = search needs
+
+put-row-requires-3 : tie.Need-put-row-requires-3
+put-row-requires-3 c κs = search needs
+
+enum-known-outcome-4 : tie.Need-enum-known-outcome-4
+enum-known-outcome-4 c = search needs
+
+put-piece-requires : tie.Need-put-piece-requires
+put-piece-requires c κs = search needs
+
 same-length : tie.Need-same-length
 same-length c = search needs
 
@@ -54,6 +66,18 @@ same-length-4 c = search needs
 returns-4 : tie.Need-returns-4
 returns-4 c = rw (c .before .before .before .before .before .outcome2 .given .1) (c .before .before .put-row2 .ensures)
 
+same-length-5 : tie.Need-same-length-5
+same-length-5 c = search needs
+
+returns-5 : tie.Need-returns-5
+returns-5 c = rw (c .before .before .before .before .before .outcome3 .given .1) (c .before .before .put-row3 .ensures)
+
+same-length-6 : tie.Need-same-length-6
+same-length-6 c = search needs
+
+returns-6 : tie.Need-returns-6
+returns-6 c = rw (c .before .before .before .before .before .outcome4 .given .1) (c .before .before .put-piece .ensures)
+
 pub put-take-spec : {M : Type 1} → statement M
 put-take-spec =
     tie.close
@@ -67,6 +91,10 @@ put-take-spec =
     put-held-requires
     enum-known-outcome-2
     put-row-requires-2
+    enum-known-outcome-3
+    put-row-requires-3
+    enum-known-outcome-4
+    put-piece-requires
     same-length
     returns
     same-length-2
@@ -74,4 +102,8 @@ put-take-spec =
     same-length-3
     returns-3
     same-length-4
-    returns-4)
+    returns-4
+    same-length-5
+    returns-5
+    same-length-6
+    returns-6)
