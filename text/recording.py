@@ -13,7 +13,7 @@ MEANINGS = ("done", "table refused", "not there", "not allowed", "not online", "
 REASONS = {20: "no route for this id", 21: "switched off", 22: "longer than its route allows",
            23: "cut off: no whole header, or a length beyond the end"}
 # Where the arguments of an event end: a fixed place, or where its length stands, with the bytes of that length behind it.
-ENDS = {1: 2, 2: 2, 3: 2, 4: 2, 5: 21, 6: 4, 9: 6, 10: 21, 11: 21, 13: 3, 14: 2, 15: 2}
+ENDS = {1: 2, 2: 2, 3: 2, 4: 2, 5: 21, 6: 4, 9: 6, 10: 21, 11: 21, 13: 3, 14: 2, 15: 2, 16: 2}
 LENGTHS = {7: 2, 8: 6, 12: 3}
 
 
@@ -37,7 +37,7 @@ def arguments_end(event, body):
 def event_words(event, body):
     """The event of arguments that fit, as run prints it (docs/EVENTS.md)."""
     one, rest = body[1], body[LENGTHS.get(event, 0) + 4:]
-    if event <= 4:
+    if event <= 4 or event == 16:
         return f"{NAMED[event][0]} connection {one}"
     if event == 5:
         return f"set remote of connection {one} to {remote(body)}"
@@ -59,9 +59,9 @@ def event_words(event, body):
 
 # ---- the answer: what decides its length is judged, all of it has words
 
-def found(data):
-    """The fields of a take or a walk after its first."""
-    kind = data.number("kind", 1, 2)
+def found(data, most):
+    """The fields of a take or a walk after its first; the kind is at most this."""
+    kind = data.number("kind", 1, most)
     number, header, length = data.number("route or reason", 1, 255), data.next("id", 4), data.number("length", 4, 2 ** 32 - 1)
     return kind, number, length, f"id 0x{header.hex()}, length {size(length)}"
 
@@ -78,11 +78,16 @@ def payload(data, field, length, within):
 
 def take(data, count, segment):
     front = f"; take {count} read {size(data.number('bytes read', 4, 2 ** 32 - 1))}: "
-    kind, number, length, header = found(data)
+    kind, number, length, header = found(data, 5)
     if kind == 0:
         return front + "more wanted"
     if kind == 2:
         return front + drop(number, header)
+    if kind == 3:
+        return f"{front}start of a transfer on route {number}, {header}" + ", the end" * (length == 0)
+    if kind in (4, 5):
+        place = payload(data, "place in the segment", length, segment)
+        return f"{front}{'last ' * (kind == 5)}piece of route {number}, {header.replace('length ', '')}, from the segment {place}"
     pdu = f"{front}PDU of route {number}, {header}, from "
     if data.number("mark", 1, 1) == 0:
         return f"{pdu}the segment {payload(data, 'place in the segment', length, segment)}"
@@ -91,7 +96,7 @@ def take(data, count, segment):
 
 def walk(data, datagram):
     place = data.number("next place", 4, 2 ** 32 - 1)
-    kind, number, length, header = found(data)
+    kind, number, length, header = found(data, 2)
     what = ["the end", f"PDU of route {number}, {header}", drop(number, header)][kind]
     at = f", {payload(data, 'place in the datagram', length, datagram)}" if kind == 1 else ""
     return f"; {what}{at}, next byte {place}"
@@ -106,16 +111,16 @@ def done(event, body, data):
     """What follows 0 done."""
     rest = body[LENGTHS.get(event, 0) + 4:]
     if event == 4:
-        data.next("failed", 1)
-    elif event == 7:
+        return "; a transfer failed" * any(data.next("failed", 1))
+    if event == 7:
         return "".join([take(data, count, rest) for count in range(1, data.number("number of takes", 2, 65535) + 1)])
-    elif event == 8:
+    if event == 8:
         return walk(data, rest)
-    elif event == 9:
+    if event == 9:
         return waiting(data)
-    elif event in (10, 11):
+    if event in (10, 11):
         return f"; connection {data.number('connection', 1, 255)}"
-    elif event in (14, 15):
+    if event in (14, 15):
         return f"; {counted(data.number('value', 4, 2 ** 32 - 1), 'drop')}"
     return ""
 
@@ -272,9 +277,11 @@ class Script:
 
 class Answer:
     """The bytes of an answer out of the words that run printed."""
-    takes = re.compile(r"; take \d+ read (\d+) bytes?: (more wanted|PDU [^;]*|drop [^;]*)")
+    takes = re.compile(r"; take \d+ read (\d+) bytes?: (more wanted|(?:PDU|drop|start|piece|last piece) [^;]*)")
     pdu = re.compile(r"PDU of route (\d+), id 0x([0-9a-f]{8}), length (\d+) bytes?, (?:from the segment )?(?:at byte (\d+)|from receive memory): ([0-9a-f]*|-)")
     drop = re.compile(r"drop (\d+), .*id 0x([0-9a-f]{8}), length (\d+) byte")
+    start = re.compile(r"start of a transfer on route (\d+), id 0x([0-9a-f]{8}), length (\d+) byte")
+    piece = re.compile(r"(last )?piece of route (\d+), id 0x([0-9a-f]{8}), (\d+) bytes?, from the segment at byte (\d+): ")
 
     def __init__(self, event, words):
         number = int(words.split(" ", 1)[0])
@@ -286,7 +293,7 @@ class Answer:
 
     def done(self, event, words):
         if event == 4:
-            return b"\0"
+            return bytes([words == "; a transfer failed"])
         if event == 7:
             all_takes = self.takes.findall(words)
             return struct.pack(">H", len(all_takes)) + b"".join(struct.pack(">I", int(read)) + self.found(what, True) for read, what in all_takes)
@@ -307,13 +314,18 @@ class Answer:
 
     def found(self, words, marked):
         """What a take or a walk found; of a take's PDU with the mark where it stood."""
-        pdu, drop_ = self.pdu.match(words), self.drop.match(words)
+        pdu, drop_, start, piece = (form.match(words) for form in (self.pdu, self.drop, self.start, self.piece))
         if pdu:
             route, header, length, place, data = pdu.groups()
             stood = self.hex(data) if place is None else struct.pack(">I", int(place))
             return bytes([1, int(route)]) + bytes.fromhex(header) + struct.pack(">I", int(length)) + bytes([place is None]) * marked + stood
         if drop_:
             return bytes([2, int(drop_[1])]) + bytes.fromhex(drop_[2]) + struct.pack(">I", int(drop_[3]))
+        if start:
+            return bytes([3, int(start[1])]) + bytes.fromhex(start[2]) + struct.pack(">I", int(start[3]))
+        if piece:
+            last, route, header, length, place = piece.groups()
+            return bytes([5 if last else 4, int(route)]) + bytes.fromhex(header) + struct.pack(">II", int(length), int(place))
         return bytes(10)
 
 

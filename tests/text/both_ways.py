@@ -90,8 +90,13 @@ def examples():
     there_and_back("table", "\n", empty, "# nothing\n", "the table without rows")
     other = contents("examples", "debarker-too-long.table")  # refused by the check, and not here
     same(table.to_image(table.to_text(other)), other, "examples/debarker-too-long.table: to text and back")
-    shift = contents("examples", "shift.txt")
-    there_and_back("script", bare(shift), script.to_bytes(shift.decode()), shift.decode(), "examples/shift")
+    text = contents("examples", "firmware-table.txt")
+    there_and_back("table", bare(text), table.to_image(text.decode()), text.decode(), "examples/firmware-table")
+    for name in ("shift", "firmware"):
+        text = contents("examples", name + ".txt")
+        there_and_back("script", bare(text), script.to_bytes(text.decode()), text.decode(), f"examples/{name}")
+    marked = rows.replace("0 UDP", "0 TCP").replace("connection 0 longest 2", "connection 0 tp longest 2", 1)
+    there_and_back("table", marked, whole[:36] + b"\2" + whole[37:55] + b"\1" + whole[56:], marked, "the image of R1.12 with a marked route")
     lines = "segment 2 000001010000000200b4\ntick 3\n"
     data = bytes.fromhex("0007000000000010" "0002" "0000000a" "000001010000000200b4" "000000000000000400000003")
     there_and_back("script", lines, data, lines, "two lines")
@@ -299,7 +304,7 @@ def damaged_images():
 def changed_state(data):
     """A start state with one byte changed where there is something to get wrong."""
     at = rand.randrange(8, 8 + 16 * 43)
-    return data[:at] + bytes([rand.choice([0, 1, 2, 3, 255])]) + data[at + 1:]
+    return data[:at] + bytes([rand.choice([0, 1, 2, 3, 4, 255])]) + data[at + 1:]
 
 
 def damaged_scripts():

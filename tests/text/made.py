@@ -64,17 +64,19 @@ def address(rand):
 
 # Tables that the rules accept.
 
-def connection_row(rand, groups, send):
-    group, automatic, switches = rand.randrange(groups), rand.randrange(2), number(rand, 4)
+def connection_row(rand, group, send):
+    automatic, switches = rand.randrange(2), number(rand, 4)
     words, data = remote(rand)
     return (["group", Num(group), ("manual", "automatic")[automatic], "remote", *words, "send", Num(send), "bytes", "switches", Num(switches, 8)],
             bytes([group, automatic]) + data + struct.pack(">HHI", send, 0, switches))
 
 
-def route_row(rand, connection, header):
+def route_row(rand, connection, header, tcp):
     longest, pdu, groups = rand.choice([0, 2, 1464, rand.randrange(1465)]), number(rand, 2), number(rand, 4)
-    return (["connection", Num(connection), "longest", Num(longest), "bytes", "id", Num(header, 8), "pdu", Num(pdu, 4), "groups", Num(groups, 8)],
-            struct.pack(">BBHIHHI", connection, 0, longest, header, pdu, 0, groups))
+    marked = tcp and rand.random() < 0.5
+    return (["connection", Num(connection), *["tp"] * marked, "longest", Num(longest), "bytes", "id", Num(header, 8), "pdu", Num(pdu, 4),
+             "groups", Num(groups, 8)],
+            struct.pack(">BBHIHHI", connection, marked, longest, header, pdu, 0, groups))
 
 
 def destination_row(rand, connection, pdu, send):
@@ -98,9 +100,10 @@ def table(rand, counts):
     groups, connections, routes, destinations = counts
     sends = [rand.choice([8, 1472, rand.randrange(8, 1473)]) for _ in range(connections)]
     protocols = [rand.randrange(2) for _ in range(groups)]
+    owners = [rand.randrange(groups) for _ in range(connections)]
     bodies = ([([("UDP", "TCP")[p]], bytes([p + 1, 0])) for p in protocols],
-              [connection_row(rand, groups, send) for send in sends],
-              [route_row(rand, *pair) for pair in pairs(rand, routes, connections, 4)],
+              [connection_row(rand, *row) for row in zip(owners, sends)],
+              [route_row(rand, *pair, protocols[owners[pair[0]]]) for pair in pairs(rand, routes, connections, 4)],
               [destination_row(rand, *pair, sends[pair[0]]) for pair in pairs(rand, destinations, connections, 2)])
     rows, image, body = [], struct.pack(">HH", 1, 4), b""
     for kind, made in enumerate(bodies):
@@ -157,6 +160,7 @@ EVENTS = {
     "switch-all": (13, lambda rand: [one(rand), position(rand)]),
     "count": (14, lambda rand: [one(rand)]),
     "clear": (15, lambda rand: [one(rand)]),
+    "cancel": (16, lambda rand: [one(rand)]),
 }
 
 
@@ -175,14 +179,16 @@ def event(rand, name):
 
 
 def part(rand):
-    kind = rand.randrange(3)
+    kind = rand.randrange(4)
     if kind == 0:
         held, value = number(rand, 1), number(rand, 8)
         return ["header", Num(held), Num(value)], struct.pack(">BBHQ", 0, 0, held, value)
     if kind == 1:
         route, held, length = number(rand, 1), number(rand, 2), number(rand, 2)
         return ["payload", Num(route), Num(held), Num(length)], struct.pack(">BBHQ", 1, route, held, length)
-    left = number(rand, 4)
+    route, left = number(rand, 1), number(rand, 4)
+    if kind == 3:
+        return ["transfer", Num(route), Num(left)], struct.pack(">BBHQ", 3, route, 0, left)
     return ["skip", Num(left)], struct.pack(">BBHQ", 2, 0, 0, left)
 
 
