@@ -176,19 +176,37 @@ def file(folder, name, text):
 
 
 def readme():
-    """README's lines of a run are among those that its command prints, in that order; check names the rows."""
-    command = re.search(r"^    \./soad run (\S+) (\S+)", contents("README.md").decode(), re.M)
-    lines = [line[4:] for line in contents("README.md").decode().splitlines() if line.startswith("    entry ")]
-    status, out, error = soad("run", command[1], command[2])
-    same((status, error, out.splitlines()[-1]), (0, "", "OK"), "README's run")
-    printed = iter(out.splitlines())
-    for line in lines:
-        true(line in printed, f"README's line `{line}` is printed")
-    true(len(lines) >= 8 and any(" bar" in line for line in lines), "README shows a run with its units")
+    """README's lines of a run, those behind its command, are among what that prints, in that order; check names the rows."""
+    _, *runs = re.split(r"(?m)^    \./soad run ", contents("README.md").decode())
+    for number, text in enumerate(runs):
+        command, *lines = text.splitlines()
+        lines = [line[4:] for line in lines if line.startswith("    entry ")]
+        status, out, error = soad("run", *command.split())
+        same((status, error, out.splitlines()[-1]), (0, "", "OK"), f"README's run {command}")
+        printed = iter(out.splitlines())
+        for line in lines:
+            true(line in printed, f"README's line `{line}` is printed")
+        true(len(lines) >= (8, 4)[number > 0] and any(" bar" in line for line in lines), f"README shows the run {command} with its units")
     status, out, error = soad("check", "examples/debarker.txt")
     same((status, error, out.splitlines()[-1]), (0, "", "OK"), "./soad check of a text")
     for name in re.findall(r'(?:name|unit) "[^"]*"', contents("examples", "debarker.txt").decode()):
         true(f", {name}" in out, f"./soad check prints {name}")
+
+
+def firmware():
+    """The run of a transfer: its start, pieces and last piece name their route, no unit stands behind a piece, and a failed one names its connection."""
+    status, out, error = soad("run", "examples/firmware-table.txt", "examples/firmware.txt")
+    same((status, error, out.splitlines()[-1]), (0, "", "OK"), "the run of examples/firmware.txt")
+    route = 'route 1 "firmware, front ring valve", id 0x00000121'
+    for line in (f"take 1 read 8 bytes: start of a transfer on {route}, length 12 bytes; "
+                 f"take 2 read 3 bytes: piece of {route}, 3 bytes, from the segment at byte 8: 464952",
+                 f"take 1 read 6 bytes: piece of {route}, 6 bytes, from the segment at byte 0: 4d5741524520",
+                 f"take 1 read 3 bytes: last piece of {route}, 3 bytes, from the segment at byte 0: 312e30; take 2 read 4 bytes: more wanted",
+                 'take 1 read 6 bytes: PDU of route 0 "setpoint", id 0x00000101, length 2 bytes, from the segment at byte 4: 00b4 = 180 bar',
+                 'cancel connection 0 "workshop": 0 done', 'tick 1 time: 0 done; a transfer failed on connection 0 "workshop"',
+                 'cancel connection 0 "workshop": 3 not allowed'):
+        true(re.search(f"(?m)^entry .*: {re.escape(line)}$", out), f"the run of examples/firmware.txt prints `{line}`")
+    true('name "firmware, front ring valve"' in soad("check", "examples/firmware-table.txt")[1], "./soad check lists the marked route")
 
 
 def scripts():
@@ -255,7 +273,7 @@ def pipes():
         same((done.returncode, done.stderr), (2, b"soad: the lines cannot be read or written: No space left on device\n"), "a full disk")
 
 
-for check in (texts, stored_lines, stored_run, values, readme, scripts, refusals, pipes):
+for check in (texts, stored_lines, stored_run, values, readme, firmware, scripts, refusals, pipes):
     try:
         check()
     except Exception:

@@ -12,6 +12,7 @@ from concurrent.futures import ThreadPoolExecutor
 
 ROOT = os.path.dirname(os.path.dirname(os.path.dirname(os.path.abspath(__file__))))
 TABLE, TEXT, SHIFT = "examples/debarker.table", "examples/debarker.txt", "examples/shift.txt"
+FIRMWARE_TABLE, FIRMWARE = "examples/firmware-table.txt", "examples/firmware.txt"
 LONG, RECORDING, CHANGED = "examples/long-shift.txt", "examples/long-shift.recording", "examples/long-shift-changed.recording"
 passed, failures, lock = 0, [], threading.Lock()
 
@@ -158,6 +159,38 @@ def changed():
     same((status, told[-1]), (0, "OK"), "the changed recording as a text")
 
 
+def transfers():
+    """The recording of a transfer, and what is told where its answers are others: another kind, place, mark or failed."""
+    out = os.path.join(FOLDER, "firmware")
+    same(soad("record", FIRMWARE_TABLE, FIRMWARE, out)[:2], (0, b""), f"record {FIRMWARE}")
+    whole = open(out, "rb").read()
+    same(lines("replay", FIRMWARE_TABLE, out)[1][0::4], ["entries run: 13 of 13", "SAME"], f"record {FIRMWARE}, then replay")
+    status, told = lines("recording", "to-text", out)
+    same((status, told[-1], sum("start of a transfer on route 1" in line for line in told)), (0, "OK", 2), "the recording of a transfer as a text")
+    told = lines("replay", FIRMWARE_TABLE, out, "--each")[1]
+    true('entry 9, stamp 1, after 0 ticks: cancel connection 0 "workshop": 0 done' in told, "a cancel is replayed")
+    piece = Parts(whole).bodies[2]  # the segment with the start and the first piece: 17 bytes of arguments, 4, a take of 14, one of 18
+    route = 'route 1 "firmware, front ring valve", id 0x00000121'
+    for name, at, byte, answer in (
+            ("a piece as the last one", 39, 5, f"last piece of {route}, 3 bytes, from the segment at byte 8: 464952"),
+            ("a piece at another place", 52, 7, f"piece of {route}, 3 bytes, from the segment at byte 7: 0c4649"),
+            ("a piece beyond the segment", 52, 9, f"piece of {route}, 3 bytes, from the segment at byte 9: -"),
+            ("a shorter piece", 48, 2, f"piece of {route}, 2 bytes, from the segment at byte 8: 4649"),
+            ("another length", 34, 13, f"start of a transfer on {route}, length 13 bytes; take 2")):
+        status, told = lines("replay", FIRMWARE_TABLE, file("other", Parts(whole).body(3, piece[:at] + bytes([byte]) + piece[at + 1:]).bytes()))
+        same((status, told[0][:26], answer in told[1], told[-1]), (1, "first difference: entry 3,", True, "DIFFERS"), f"{name}: {told[:3]}")
+    for name, at, byte, why in (("a take of kind 6", 25, 6, "kind: 6 is more than 5"), ("a start as a piece", 25, 4, "mark: is cut off")):
+        path = file("unfit", Parts(whole).body(3, piece[:at] + bytes([byte]) + piece[at + 1:]).bytes())
+        same(lines("replay", FIRMWARE_TABLE, path)[1][0], "refused: entry 3: body does not fit", f"the replay of {name}")
+        true(any(line.startswith("  refused at byte ") and why in line for line in lines("recording", "to-text", path)[1]), f"{name} as a text")
+    script = file("loss.txt", b"count 1\ntick 1\nconnected 0\nsegment 0 000001210000000200\nlost 0\nlost 0\n")
+    same(soad("record", FIRMWARE_TABLE, script, out), (0, b"", ""), "record a loss in a transfer")
+    loss = Parts(open(out, "rb").read())
+    same((loss.bodies[3], loss.bodies[4]), (bytes.fromhex("0000000001"), bytes.fromhex("0000000300000000")), "the loss that ends a transfer answers failed")
+    status, told = lines("replay", FIRMWARE_TABLE, file("kept", loss.body(4, bytes(5)).bytes()))
+    same((status, told[1:3], told[-1]), (1, ["  recorded: 0 done", "  today: 0 done; a transfer failed"], "DIFFERS"), "a loss that did not tell")
+
+
 # 3. Damaged recordings: the line of the replay, and what the text says of it
 
 def damaged():
@@ -178,8 +211,8 @@ def damaged():
             ("with a backward stamp", new().field(3, 0, 0).bytes(), "REFUSED",
              "refused: entry 3: stamp 0 is 4294967295 ticks after the one before, 65535 ticks are the most",
              "  refused at byte 28: stamp: 4294967295 ticks after the one before, 65535 ticks are the most"),
-            ("with event 16", new().field(2, 1, 16).bytes(), "REFUSED", "refused: entry 2: unknown event number 16",
-             "  refused at byte 20: event number: 16 is unknown"),
+            ("with event 17", new().field(2, 1, 17).bytes(), "REFUSED", "refused: entry 2: unknown event number 17",
+             "  refused at byte 20: event number: 17 is unknown"),
             ("with a tick", new().field(2, 1, 0).bytes(), "REFUSED", "refused: entry 2: unknown event number 0",
              "  refused at byte 20: event number: 0 is unknown"),
             ("with another zero", new().field(3, 2, 1).bytes(), "REFUSED", "refused: entry 3: zero field is not 0",
@@ -238,7 +271,7 @@ def refused_scripts():
             ("a stamp too large", file("large.txt", b"stamp 4294967296\n"),
              "script {}, line 1, column 7: stamp: 4294967296 is more than 4294967295\nREFUSED\n"),
             ("a text with a fault", file("bad.txt", b"tick one\n"), "script {}, line 1, column 6: ticks: `one` is no number"),
-            ("an unknown event", file("unknown", known + b"\0\x10" + bytes(6)), "script {}, entry 4, byte 32: entry: unknown event number 16\nREFUSED\n"),
+            ("an unknown event", file("unknown", known + b"\0\x11" + bytes(6)), "script {}, entry 4, byte 32: entry: unknown event number 17\nREFUSED\n"),
             ("an entry that is cut", file("cut", known[:-1]), "script {}: ends inside an entry\nCUT\n")):
         status, said, told = soad("record", TABLE, script, out)
         same((status, said, told.startswith(error.replace("{}", script))), (1, b"", True), f"record of {name}: {told}")
@@ -288,6 +321,6 @@ def tried(check):
 
 
 with tempfile.TemporaryDirectory() as FOLDER, ThreadPoolExecutor(os.cpu_count()) as pool:
-    list(pool.map(tried, (damaged, tables, arguments, refused_scripts, record_and_replay, recording_page, readme, same_end, changed)))
+    list(pool.map(tried, (damaged, tables, arguments, refused_scripts, record_and_replay, transfers, recording_page, readme, same_end, changed)))
 print(f"replay: {passed} passed, {len(failures)} failed")
 sys.exit(1 if failures else 0)
