@@ -6,7 +6,7 @@ use mathlib.Core.List.{List}
 use native.Mathlib.Omega.{arith}
 use lib.ListN.{length}
 use Rattle.lists.proofs.Both.{impossible}
-use Rattle.reading.specs.Feed.{Cell, cell, header, payload, skip, Out, nothing, pdu, dropped}
+use Rattle.reading.specs.Feed.{Cell, cell, transfer, header, payload, skip, Out, nothing, pdu, dropped, start, piece}
 use Rattle.reading_lengths.specs.Listed.{Bytes}
 use Rattle.reading_lengths.proofs.Bytes.{bytes-drop}
 use Rattle.table_layout.specs.Layout.{bodyOf}
@@ -14,7 +14,7 @@ use Rattle.table_layout.specs.declared.Kind.the-variants.{Route as Routes}
 use Rattle.table_rows.specs.Rows.{destinationOf}
 use Rattle.receive_route.specs.Route.{lookupOf}
 use Rattle.receive_part.specs.declared.Part.{Part}
-use Rattle.receive_part.specs.declared.Part.the-variants.{Header, Payload, Skip}
+use Rattle.receive_part.specs.declared.Part.the-variants.{Header, Payload, Skip, Transfer}
 use Rattle.connection.specs.declared.Connection.{Connection}
 use Rattle.state.specs.State.{recordAt}
 use Rattle.state.specs.Memory.{stretch}
@@ -42,31 +42,39 @@ use Rattle.theorem_writes.proofs.Segment.{isAnswered, takes-here, outco
 abbrev Short : ℕ → ℕ → Type 0
 Short r n = n ≤ 1464
 
+-- .. and nothing of a transfer's route
+abbrev Any : ℕ → Type 0
+Any r = Unit {0}
+
 -- the bytes held and those added are no more
-bound : (ids : ℕ → ℕ) (inside : Bool) (held read : ℕ) (out : Out) (to : Cell) → held ≤ 1464 → Sane Short to → Told Short out to
+bound : (ids : ℕ → ℕ) (inside : Bool) (held read : ℕ) (out : Out) (to : Cell) → held ≤ 1464 → Sane Short Any to → Told Short Any out to
     → held + addedBy (takeOutcome ids inside read out) held (heldBy (partFrom to)) ≤ 1464
 bound ids inside held read nothing (cell n (header v)) h s t = omega arith
 bound ids inside held read nothing (cell n (payload r p)) h s t = omega (arith, s .1)
 bound ids inside held read nothing (cell n skip) h s t = omega arith
+bound ids inside held read nothing (transfer n r) h s t = omega arith
 bound ids true held read (pdu r p) to h s t = omega arith
 bound ids false held read (pdu r p) to h s t = omega (arith, t .1)
 bound ids inside held read (dropped k i n) to h s t = omega arith
+bound ids inside held read (start r i n m) to h s t = omega arith
+bound ids inside held read (piece r p m) to h s t = omega arith
 
 module _ (routes : List ℕ) (k switches : ℕ) (part : Part) (st bytes : List ℕ) (fit : Fit routes part st) (small : Bytes bytes) where
-  short : (p : Part) → Fit routes p st → (heldBy p ≤ 1464) × (PartHolds Short p)
+  short : (p : Part) → Fit routes p st → (heldBy p ≤ 1464) × (PartHolds Short Any p)
   short (Header held value) f = (omega arith, tt)
   short (Payload route n held) f =
       let h : (held < n) × (n ≤ length st) = payload-fit routes (Payload route n held) st f route n held refl in
       (omega (arith, f .room), omega (arith, f .room))
   short (Skip n) f = (omega arith, tt)
+  short (Transfer route n) f = (omega arith, tt)
 
   added-fits : heldBy part + addedBy (takenOf routes k switches part st bytes .outcome) (heldBy part) (heldBy (takenOf routes k switches part st bytes .part)) ≤ 1464
   unfolding takenOf tookOf
   added-fits =
       let t = tookOf routes k switches part st bytes in
       let sane =
-      take-sane Short (lookupOf routes k switches) (λ i n r e. accepted-short routes k switches i n r e (fit .limits)) (cellOf part st) bytes small
-      (part-sane Short routes part st fit (short part fit .1)) in
+      take-sane Short Any (lookupOf routes k switches) (λ i n r e. accepted-short routes k switches i n r e (fit .limits)) (λ i n r e. tt) (cellOf part st) bytes small
+      (part-sane Short Any routes part st fit (short part fit .1)) in
       bound (idOf routes) (inSegment (cellOf part st)) (heldBy part) (length bytes - length (t .rest)) (t .out) (t .to) (short part fit .0) (sane .0) (sane .1)
 
 -- RECEIVE MEMORY: the bytes of a segment, on connection k

@@ -9,10 +9,10 @@ use lib.ListN.{length, take, drop, length-append}
 use lib.Seq.{length-take-le}
 use Rattle.wire.specs.Lay.{lay}
 use Rattle.wire.proofs.Lay.{lay-nothing}
-use Rattle.reading.specs.Feed.{Cell, cell, header, payload, skip, Out, nothing, pdu, dropped, Took, ready, takeB}
+use Rattle.reading.specs.Feed.{Cell, cell, transfer, header, payload, skip, Out, nothing, pdu, dropped, start, piece, Took, ready, takeB}
 use Rattle.reading.proofs.Laws.{rest-whole, rest-short}
 use Rattle.receive_part.specs.declared.Part.{Part}
-use Rattle.receive_part.specs.declared.Part.the-variants.{Header, Payload, Skip}
+use Rattle.receive_part.specs.declared.Part.the-variants.{Header, Payload, Skip, Transfer}
 use Rattle.receive_route.specs.Route.{lookupOf}
 use Rattle.receive_stream.specs.Stream.{partFrom, heldIn, inSegment, idOf, takeOutcome, wrote, tookOf, takenOf, rxAfter, Fit}
 use Rattle.receive_stream.proofs.Takes.{payload-fit}
@@ -36,12 +36,15 @@ module _ (ids : ℕ → ℕ) (st : List ℕ) where
   held-long (cell n (header v)) = refl
   held-long (cell n (payload r h)) = omega arith
   held-long (cell n skip) = refl
+  held-long (transfer n r) = refl
 
-  -- from a header or from bytes to skip: none is held
+  -- from a header, from bytes to skip or from a transfer: none is held
   fresh : (read : ℕ) (out : Out) (to : Cell) → Wrote true 0 read out to
   fresh read nothing to = (heldIn to, (held-long to, refl))
   fresh read (pdu r p) to = none-laid st 0
   fresh read (dropped k i n) to = none-laid st 0
+  fresh read (start r i n m) to = none-laid st 0
+  fresh read (piece r p m) to = none-laid st 0
 
   -- from an unfinished payload: it ends here, or not
   module _ (held : ℕ) (le : held ≤ length st) (r : ℕ) (x : List ℕ) where
@@ -65,6 +68,9 @@ take-lays routes k switches (Header held value) st bytes fit =
     fresh (idOf routes) st (length bytes - length (t .rest)) (t .out) (t .to)
 take-lays routes k switches (Skip n) st bytes fit =
     let t : Took = tookOf routes k switches (Skip n) st bytes in
+    fresh (idOf routes) st (length bytes - length (t .rest)) (t .out) (t .to)
+take-lays routes k switches (Transfer route n) st bytes fit =
+    let t : Took = tookOf routes k switches (Transfer route n) st bytes in
     fresh (idOf routes) st (length bytes - length (t .rest)) (t .out) (t .to)
 take-lays routes k switches (Payload route n held) st bytes fit = go (decLe (n - held) (length bytes))
   where

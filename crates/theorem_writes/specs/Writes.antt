@@ -1,5 +1,5 @@
 -- WHAT A CALL WRITES (R2.8): only the payload bytes that it adds to an unfinished payload, the last ones included but none of a payload
--- handed out from the segment, and the bytes that a transmit appends; all other lent bytes stay.
+-- handed out from the segment and none of a transfer, and the bytes that a transmit appends; all other lent bytes stay.
 use Prim.Native.Nat.{ℕ, _+_, _-_, _*_, _≤_, _<_}
 use mathlib.Core.Path.{_≡_}
 use mathlib.Core.Bool.{true, false}
@@ -9,7 +9,7 @@ use Rattle.wire.specs.Be.{byteAt}
 use Rattle.table_rows.specs.Rows.{destinationOf}
 use Rattle.state.specs.State.{recordAt}
 use Rattle.receive_stream.specs.declared.Outcome.{Outcome}
-use Rattle.receive_stream.specs.declared.Outcome.the-variants.{More, Pdu, Drop}
+use Rattle.receive_stream.specs.declared.Outcome.the-variants.{More, Pdu, Drop, Start, Piece}
 use Rattle.entry_receive.specs.Answer.{isDone}
 use Rattle.send.specs.Verdict.{isStored}
 use Rattle.send.specs.Send.{destinations, wantedAt}
@@ -25,12 +25,14 @@ Within at n i = (at ≤ i) × (i < at + n)
 
 -- RECEIVE MEMORY: the payload bytes added to an unfinished payload, by a take's outcome and by how many the record's part holds before
 -- and after it: those that it holds now and did not before; of a payload handed out from receive memory (false) the last ones included;
--- none of a payload handed out from the segment (true)
+-- none of a payload handed out from the segment (true); R19.3: none of a transfer
 abbrev pub addedBy : Outcome → ℕ → ℕ → ℕ
 addedBy More before after = after - before
 addedBy (Pdu route id false at n) before after = n - before
 addedBy (Pdu route id true at n) before after = 0
 addedBy (Drop reason id n) before after = 0
+addedBy (Start route id n last) before after = 0
+addedBy (Piece route id at n last) before after = 0
 
 -- how many payload bytes connection k holds in receive memory
 abbrev pub payloadHeld : ℕ → Machine → ℕ
