@@ -8,14 +8,14 @@ use mathlib.Core.List.{List, [], _∷_}
 use lib.Dec.{eqb}
 use lib.ListN.{replicate, take}
 use Rattle.receive_part.specs.declared.Part.{Part}
-use Rattle.receive_part.specs.declared.Part.the-variants.{Header, Payload, Skip}
+use Rattle.receive_part.specs.declared.Part.the-variants.{Header, Payload, Skip, Transfer}
 use Rattle.connection.specs.declared.Mode.{Mode}
 use Rattle.connection.specs.declared.Mode.the-variants.{Offline, Reconnect, Online}
 use Rattle.connection.specs.declared.Remote.{Remote}
 use Rattle.connection.specs.declared.Connection.{Connection}
 use Rattle.connection.specs.declared.Event.{Event}
-use Rattle.connection.specs.declared.Event.the-variants.{Open, Close, Connected, SetRemote, Switch}
-use Rattle.connection.specs.Connection.{withMode, withRemote, withSwitches, withSend, become}
+use Rattle.connection.specs.declared.Event.the-variants.{Open, Close, Connected, SetRemote, Switch, Cancel}
+use Rattle.connection.specs.Connection.{withMode, withPart, withRemote, withSwitches, withSend, become}
 use Rattle.state.specs.declared.State.{State}
 use Rattle.state.specs.State.{recordAt, withRecord, withCount}
 use Rattle.gate.specs.Sound.{soundState}
@@ -29,7 +29,7 @@ use Rattle.entry_receive.specs.Segment.{segmentOf}
 use Rattle.entry_receive.specs.Walk.{walkOf}
 use Rattle.entry_send.specs.Sending.{sendOf, takenWaiting}
 use Rattle.law_transitions.specs.Table.{modeNumber}
-use Rattle.example_edges.specs.Table.{image, fresh, waitingFor, used, exact, lends, loans}
+use Rattle.example_edges.specs.Table.{image, fresh, waitingFor, used, moving, exact, lends, loans}
 use Rattle.example_edges.specs.Edges.{framed}
 
 pub record Change : Type 0 where
@@ -73,9 +73,20 @@ abbrev pub headerBytes : Part → ℕ
 headerBytes (Header held value) = held
 headerBytes (Payload route length held) = 0
 headerBytes (Skip bytes) = 0
+headerBytes (Transfer route left) = 0
 
 abbrev pub headerHeld : ℕ → State → ℕ
 headerHeld k s = headerBytes (recordAt s k .part)
+
+-- the bytes of a transfer still to come
+abbrev pub partLeft : Part → ℕ
+partLeft (Header held value) = 0
+partLeft (Payload route length held) = 0
+partLeft (Skip bytes) = 0
+partLeft (Transfer route left) = left
+
+abbrev pub toCome : ℕ → State → ℕ
+toCome k s = partLeft (recordAt s k .part)
 
 -- the drop counts
 abbrev pub udpDrops : State → ℕ
@@ -97,6 +108,10 @@ stands k m o c = with k (withMode m o c)
 -- connection 2 online with ten bytes waiting, and a timer that runs
 abbrev pub running : ℕ → State
 running t = with 2 (λ c. withSend 10 t false (become Online c))
+
+-- connection 2 online with a transfer, and close wanted
+abbrev pub cancelled : State
+cancelled = with 2 (λ c. withPart (Transfer 3 5) (withMode Online false true c))
 
 -- connection 0, whose remote the table leaves open, online with one
 abbrev pub met : State
@@ -170,6 +185,12 @@ changes =
     ∷ changing (stands 2 Online false false) (segmentLeaves 2 (take 3 (framed 1 0 []))) (headerHeld 2) 0 3
     ∷ changing (stands 2 Online false false) (segmentLeaves 2 (framed 9 0 [])) tcpDrops 0 1
     ∷ changing met (walkLeaves 0 (take 7 (framed 1 0 []))) udpDrops 0 1
+    -- a transfer's start, and a piece of it; a cancel; a loss and a closing tick that end it
+    ∷ changing (stands 2 Online false false) (segmentLeaves 2 (framed 4 3 (7 ∷ []))) (toCome 2) 0 3
+    ∷ changing (moving 5) (segmentLeaves 2 (7 ∷ 8 ∷ [])) (toCome 2) 5 3
+    ∷ changing (moving 5) (happens 2 Cancel) (closeWanted 2) 0 1
+    ∷ changing (moving 5) (lossLeaves 2) (toCome 2) 5 0
+    ∷ changing cancelled tickLeaves (toCome 2) 5 0
     -- a transmit, and taking the waiting bytes
     ∷ changing (used 10) (transmitLeaves 9 (1 ∷ 2 ∷ [])) (usedBytes 2) 10 20
     ∷ changing (used 10) (takingLeaves 2 10) (usedBytes 2) 10 0

@@ -13,11 +13,11 @@ use Rattle.lists.specs.Fold.{foldFrom}
 use Rattle.lists.proofs.Both.{impossible, and-left, and-right}
 use Rattle.table_layout.specs.Layout.{rowsOf, bodyBytes, startOf, endOf, rowAt, partOf, bodyOf, rowIn}
 use Rattle.table_rows.specs.Rows.{groupRow, connectionRow, routeRow, destinationRow}
-use Rattle.table_rows.specs.Rules.{groupGood, connectionGood, routeGood, destinationGood, sizeIn, routesShare, destinationsShare}
+use Rattle.table_rows.specs.Rules.{groupGood, connectionGood, routeGood, destinationGood, sizeIn, tcpIn, routesShare, destinationsShare}
 use Rattle.table_scan.specs.Scan.{share, clearIn, goodIn}
 use Rattle.table.specs.Table.{headGood, entryGood, rule, thenCheck, entriesPlace, headPlace, allRowsPlace, checkTable}
 use Rattle.connection.specs.declared.Refusal.the-variants.{Memory, Unsound}
-use Rattle.connection.specs.declared.Event.the-variants.{Open, Close, Connected, Lost, SetRemote, Switch}
+use Rattle.connection.specs.declared.Event.the-variants.{Open, Close, Connected, Lost, SetRemote, Switch, Cancel}
 use Rattle.connection.specs.Event.{stepOf}
 use Rattle.connection.specs.Sound.{soundOf, zeroOf}
 use Rattle.state.specs.Fresh.{configOf, freshState}
@@ -47,7 +47,7 @@ use Rattle.theorems.proofs.Refused.{event-refused}
 use Rattle.example_numbers.specs.Reached.{kindOf, Reached, Example, example, examples, exampleHolds, examplesHold}
 
 examples-hold : examplesHold examples ≡ true
-unfolding image be badFrom every foldFrom rowsOf bodyBytes startOf endOf rowAt partOf bodyOf rowIn groupRow connectionRow routeRow destinationRow groupGood connectionGood routeGood destinationGood sizeIn routesShare destinationsShare share clearIn goodIn headGood entryGood rule thenCheck entriesPlace headPlace allRowsPlace checkTable stepOf soundOf zeroOf configOf freshState isOn soundAt recordsSound soundState gateOf gateAt toldOf changeOf eventOf switchAllOf ofProtocol readPast readOf clearPast clearOf tickEvent better chosenOf rankOf scoreOf scoreAt chosenIn deniedOf arriveOf arrivalOf judgedOf judgedAnswer takeOn segmentOf walkOn walkOf refusalOf lookOf verdictOf lookAt checkOf takingOf sendOf takenWaiting
+unfolding image be badFrom every foldFrom rowsOf bodyBytes startOf endOf rowAt partOf bodyOf rowIn groupRow connectionRow routeRow destinationRow groupGood connectionGood routeGood destinationGood sizeIn tcpIn routesShare destinationsShare share clearIn goodIn headGood entryGood rule thenCheck entriesPlace headPlace allRowsPlace checkTable stepOf soundOf zeroOf configOf freshState isOn soundAt recordsSound soundState gateOf gateAt toldOf changeOf eventOf switchAllOf ofProtocol readPast readOf clearPast clearOf tickEvent better chosenOf rankOf scoreOf scoreAt chosenIn deniedOf arriveOf arrivalOf judgedOf judgedAnswer takeOn segmentOf walkOn walkOf refusalOf lookOf verdictOf lookAt checkOf takingOf sendOf takenWaiting
 examples-hold = refl
 
 -- a table that holds: each of its rows does; past the last one stands the first
@@ -121,6 +121,7 @@ all-reached (onWhole (transmit p b)) =
 all-reached (onWhole (switchAll n b)) = let e : Event = onWhole (switchAll n b) in (eleven e, (twelve e, (at 43, (at 44, tt))))
 all-reached (onWhole (readCount p)) = let e : Event = onWhole (readCount p) in (eleven e, (twelve e, (at 45, (at 46, tt))))
 all-reached (onWhole (clearCount p)) = let e : Event = onWhole (clearCount p) in (eleven e, (twelve e, (at 47, (at 48, tt))))
+all-reached (on k (change Cancel)) = let e : Event = on k (change Cancel) in (eleven e, (twelve e, (at 49, (at 50, (at 51, tt)))))
 
 pub reached : (e : Event) (n : ℕ) → among n (numbersFor e) ≡ true → Reached (kindOf e) n
 reached e n h = pick (Reached (kindOf e)) n (numbersFor e) (all-reached e) h

@@ -7,12 +7,12 @@ use mathlib.Core.List.{List, [], _∷_}
 use lib.Dec.{eqb}
 use lib.ListN.{replicate, set}
 use Rattle.connection.specs.declared.Mode.the-variants.{Reconnect}
-use Rattle.connection.specs.declared.Event.the-variants.{Open, Close, Connected, Lost, SetRemote, Switch}
+use Rattle.connection.specs.declared.Event.the-variants.{Open, Close, Connected, Lost, SetRemote, Switch, Cancel}
 use Rattle.state.specs.declared.State.{State}
 use Rattle.model.specs.Events.{change, segment, walk, takeWaiting, datagram, accept, tick, transmit, switchAll, readCount, clearCount, Event, on, onWhole}
 use Rattle.model_refines.specs.Machine.{Machine, machine}
 use Rattle.theorems.specs.Numbers.{numberOf}
-use Rattle.example_edges.specs.Table.{image, fresh, waitingFor, used, exact, receiveMemory, sendMemory}
+use Rattle.example_edges.specs.Table.{image, fresh, waitingFor, used, moving, exact, receiveMemory, sendMemory}
 use Rattle.example_changes.specs.Changes.{stands, met, peer}
 
 -- the kind of an event, by its number in docs/EVENTS.md
@@ -33,6 +33,7 @@ kindOf (onWhole (transmit pdu payload)) = 12
 kindOf (onWhole (switchAll number position)) = 13
 kindOf (onWhole (readCount protocol)) = 14
 kindOf (onWhole (clearCount protocol)) = 15
+kindOf (on k (change Cancel)) = 16
 
 -- an event of a kind is answered a number
 pub record Reached (kind number : ℕ) : Type 0 where
@@ -55,7 +56,7 @@ example s e n = record { table = image; state = s; event = e; number = n }
 
 -- the edges' image with its destination under switch 0, which is off
 abbrev pub shut : List ℕ
-shut = set image 151 1
+shut = set image 167 1
 
 abbrev pub examples : List Example
 examples =
@@ -115,6 +116,10 @@ examples =
     ∷ example fresh (onWhole (readCount 1)) 0
     ∷ example fresh (onWhole (clearCount 3)) 3
     ∷ example fresh (onWhole (clearCount 2)) 0
+    -- cancel: 2, 3, 0
+    ∷ example fresh (on 3 (change Cancel)) 2
+    ∷ example (used 10) (on 2 (change Cancel)) 3
+    ∷ example (moving 5) (on 2 (change Cancel)) 0
     ∷ []
 
 abbrev pub exampleHolds : Example → Bool

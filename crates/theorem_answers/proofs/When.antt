@@ -33,7 +33,7 @@ use Rattle.entry_events.specs.Change.{refusedTold, toldOf, changeOf, eventOf}
 use Rattle.entry_events.specs.Module.{switchedAll, switchAllOf}
 use Rattle.entry_events.specs.Count.{countNumber, ofProtocol, readFrom, clearFrom, uncounted, readPast, clearPast, readOf, clearOf}
 use Rattle.entry_ticks.specs.declared.Ticked.{Ticked}
-use Rattle.entry_ticks.specs.Tick.{tickedTo, unticked, tickEvent}
+use Rattle.entry_ticks.specs.Tick.{tickedTo, unticked, tickedFrom, tickEvent}
 use Rattle.select.specs.declared.Arrived.{Arrived}
 use Rattle.select.specs.declared.Chosen.{Chosen}
 use Rattle.select.specs.declared.Chosen.the-variants.{Nobody, At}
@@ -339,7 +339,7 @@ module _ (image : List ℕ) (m : Machine) where
   exactly-when (onWhole (datagram group source)) = arrival-number false group source
   exactly-when (onWhole (accept group source)) = arrival-number true group source
   exactly-when (onWhole tick) =
-      gate-first (λ (t : Ticked). answerNumber (t .answer)) (unticked s) (record { answer = Done; state = tickedTo image (rowsOf image Connections) s }) [] (λ r. refl) refl
+      gate-first (λ (t : Ticked). answerNumber (t .answer)) (unticked s) (tickedFrom (rowsOf image Connections) s (tickedTo image (rowsOf image Connections) s)) [] (λ r. refl) refl
   exactly-when (onWhole (transmit pdu payload)) =
       gate-first (λ (t : Transmitted). transmissionNumber (t .answer)) (notSent s) (transmittedOf image s pdu payload (m .tx)) (transmits image m pdu (length payload)) (λ r. refl)
       (transmit-own pdu (length payload))
