@@ -10,8 +10,12 @@
 //       READ pdu ROUTE ID LENGTH segment AT xHEX
 //       READ pdu ROUTE ID LENGTH memory AT xHEX
 //       READ drop REASON ID LENGTH
+//       READ start ROUTE ID LENGTH
+//       READ piece ROUTE ID LENGTH segment AT xHEX
+//       READ last ROUTE ID LENGTH segment AT xHEX
 //       refused NUMBER
-//     AT counts from the take's first byte; HEX is the payload in lower case, or `-` where it is empty.
+//     AT counts from the take's first byte; HEX is the payload, or the piece's bytes, in lower case, or `-` where it is empty. `start`, `piece`
+//     and `last`, the last piece, are a transfer's; LENGTH of a start is the transfer's.
 //   Another kind, too long an image, or a record that is cut off ends the program.
 use connection::Connection;
 use connection::Mode;
@@ -130,7 +134,7 @@ fn found(row: &mut [u8], which: u8, id: u32, length: u32, at: usize) {
     put32(row, 13, (at % 4294967296) as u32);
 }
 
-// 0 more wanted, 1 a PDU in the segment, 2 a PDU in receive memory, 3 a drop.
+// 0 more wanted, 1 a PDU in the segment, 2 a PDU in receive memory, 3 a drop, 4 a start, 5 a piece, 6 the last piece.
 fn shape_of(row: &mut [u8], outcome: Outcome) -> usize {
     match outcome {
         Outcome::More => 0,
@@ -148,6 +152,25 @@ fn shape_of(row: &mut [u8], outcome: Outcome) -> usize {
             found(row, reason, id, length, 0);
             3
         }
+        Outcome::Start {
+            route,
+            id,
+            length,
+            last: _,
+        } => {
+            found(row, route, id, length, 0);
+            4
+        }
+        Outcome::Piece {
+            route,
+            id,
+            at,
+            length: _,
+            last,
+        } => {
+            found(row, route, id, 0, at);
+            if last { 6 } else { 5 }
+        }
     }
 }
 
@@ -157,7 +180,10 @@ fn tell(read: usize, outcome: Outcome, payload: &[u8]) {
         %w00 more\n/\
         %w00 pdu %b04 %w05 # segment %w13 x*\n/\
         %w00 pdu %b04 %w05 # memory %w13 x*\n/\
-        %w00 drop %b04 %w05 %w09\n/";
+        %w00 drop %b04 %w05 %w09\n/\
+        %w00 start %b04 %w05 %w09\n/\
+        %w00 piece %b04 %w05 # segment %w13 x*\n/\
+        %w00 last %b04 %w05 # segment %w13 x*\n/";
     let mut row = [0u8; 17];
     let mut line = io::buffer();
     put32(&mut row, 0, (read % 4294967296) as u32);
