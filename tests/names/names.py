@@ -205,7 +205,7 @@ def firmware():
                  'take 1 read 6 bytes: PDU of route 0 "setpoint", id 0x00000101, length 2 bytes, from the segment at byte 4: 00b4 = 180 bar',
                  'cancel connection 0 "workshop": 0 done', 'tick 1 time: 0 done; a transfer failed on connection 0 "workshop"',
                  'cancel connection 0 "workshop": 3 not allowed'):
-        true(re.search(f"(?m)^entry .*: {re.escape(line)}$", out), f"the run of examples/firmware.txt prints `{line}`")
+        true(re.search(f"(?m)^entry .*[:;] {re.escape(line)}$", out), f"the run of examples/firmware.txt prints `{line}`")
     true('name "firmware, front ring valve"' in soad("check", "examples/firmware-table.txt")[1], "./soad check lists the marked route")
 
 
@@ -241,6 +241,8 @@ def refusals():
                  'receive route row 1 "ring pressure": connection 7 is not there, the table has 4 connections'),
                 ("id 0x00000102 pdu 0x0102", "id 0x00000101 pdu 0x0102", 120, 16, 41,
                  'receive route row 1 "ring pressure": shares connection and header id with row 0 (line 15)'),
+                ("route 0 connection 3 longest", "route 0 connection 3 tp longest", 104, 15, 22,
+                 'receive route row 0 "ring pressure": transfer mark 1 on connection 3, which is UDP'),
                 ("send 64 bytes", "send 7 bytes", 88, 13, 69, 'connection row 3 "scanner": send size 7 is not within 8..1472 bytes'),
                 ("group 1 UDP  ", "\n".join(f"group {i} UDP" for i in range(1, 10)), 4, 14, 1,
                  "contents entry of kind 1, group: 10 rows are more than 8 rows")):
