@@ -5,7 +5,7 @@ use mathlib.Core.List.{List}
 use lib.ListN.{length, drop}
 use borrow.Author.Tests.{le-leb}
 use Rattle.reading.specs.declared.Decision.{Decision}
-use Rattle.reading.specs.declared.Decision.the-variants.{Accept, Refuse}
+use Rattle.reading.specs.declared.Decision.the-variants.{Accept, Refuse, Transfer}
 use Rattle.reading.specs.Feed.{Routes, Out}
 use Rattle.table_layout.specs.Layout.{partOf}
 use Rattle.reading_lengths.specs.Head.{Head, ended, short, beyond, whole, headOf}
@@ -25,6 +25,7 @@ told-is R d p later le = go (headOf (drop p d)) refl
     by : (q : Decision) (i n : ℕ) → p + 8 + n ≤ length d → tellOf d (walkOutcome (wholeAt q p i n .found)) later ≡ outsTold d (wholeAt q p i n .found) later
     by (Accept r) i n w = rw (le-leb (p + 8 + n) (length d) w)
     by (Refuse k) i n w = refl
+    by (Transfer r) i n w = rw (le-leb (p + 8 + n) (length d) w)
 
     go : (h : Head) → headOf (drop p d) ≡ h → tellOf d (walkOutcome (walkStep R (length d) p h .found)) later ≡ outsTold d (walkStep R (length d) p h .found) later
     go ended e = refl
