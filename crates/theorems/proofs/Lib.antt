@@ -13,3 +13,4 @@ pub mod Ends
 pub mod Streams
 pub mod Three
 pub mod Pieces
+pub mod Transfers

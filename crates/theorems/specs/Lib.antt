@@ -8,3 +8,4 @@ pub mod Streams
 pub mod Refused
 pub mod Three
 pub mod Trip
+pub mod Transfers
