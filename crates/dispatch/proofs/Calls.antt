@@ -9,7 +9,7 @@ use lib.Dec.{eqb, leb}
 use lib.ListN.{length, drop, length-drop}
 use Rattle.wire.specs.Be.{be}
 use Rattle.lists.proofs.Both.{and-right}
-use Rattle.connection.specs.declared.Event.the-variants.{Open, Close, Connected, SetRemote, Switch}
+use Rattle.connection.specs.declared.Event.the-variants.{Open, Close, Connected, SetRemote, Switch, Cancel}
 use Rattle.event_decode.specs.declared.Call.{Call}
 use Rattle.event_decode.specs.declared.Call.the-variants.{Unknown, Unfit, Ticks, Own, Lost, Segment, Walk, TakeWaiting, Datagram, Accept, Transmit, SwitchAll, ReadCount, ClearCount}
 use Rattle.event_decode.specs.Calls.{fitted, plain, lengthFits, addressed, remoteIn, positioned, callOf, bytesFrom}
@@ -76,7 +76,8 @@ call-short n b =
     (either b (eqb n 13) _ _ (fits-short b (positioned b 3 2) (SwitchAll (be 1 b 1) (eqb (be 1 b 2) 1)) (λ _. omega arith))
     (either b (eqb n 14) _ _ (fits-short b (plain b 2) (ReadCount (be 1 b 1)) (λ _. omega arith))
     (either b (eqb n 15) _ _ (fits-short b (plain b 2) (ClearCount (be 1 b 1)) (λ _. omega arith))
-    (omega arith))))))))))))))))
+    (either b (eqb n 16) _ _ (fits-short b (plain b 2) (Own (be 1 b 1) Cancel) (λ _. omega arith))
+    (omega arith)))))))))))))))))
 
 -- so they are not too long for an event
 pub segment-fits : (b : List ℕ) (c at : ℕ) → Short b (Segment c at) → length (bytesFrom b at) ≤ longestBody

@@ -35,7 +35,7 @@ use Rattle.send_waiting.specs.Waiting.{waitingOf, outOf}
 use Rattle.entry_send.specs.Sending.{takenOut}
 use Rattle.event_answer.specs.Answers.{refused, doneWith}
 use Rattle.event_answer.proofs.Chain.{length-waiting}
-use Rattle.dispatch_events.specs.Events.{toldBytes, lossBytes, ticksBytes, countBytes}
+use Rattle.dispatch_events.specs.Events.{toldBytes, failedByte, lossBytes, ticksBytes, countBytes}
 use Rattle.dispatch_receive.specs.Walk.{orRefused, walkBytes}
 use Rattle.dispatch_receive.proofs.Written.{length-step, length-pdu}
 use Rattle.dispatch_send.specs.Send.{arrivalBytes, transmissionBytes, takingBytes, roomOf}
@@ -50,13 +50,13 @@ pub told-size : (a : Answer) → length (toldBytes a) ≤ 6
 told-size Done = omega (arith, length-spell 2 0)
 told-size (Refused r) = omega (arith, refused-size (refusalNumber r) 0)
 
-pub loss-size : (a : Answer) → length (lossBytes a) ≤ 6
-loss-size Done = omega (arith, with-size 1 0)
-loss-size (Refused r) = omega (arith, refused-size (refusalNumber r) 0)
+pub loss-size : (a : Answer) (failed : Bool) → length (lossBytes a failed) ≤ 6
+loss-size Done failed = omega (arith, with-size 1 (failedByte failed))
+loss-size (Refused r) failed = omega (arith, refused-size (refusalNumber r) 0)
 
-pub ticks-size : (a : Answer) → length (ticksBytes a) ≤ 6
-ticks-size Done = omega (arith, with-size 2 0)
-ticks-size (Refused r) = omega (arith, refused-size (refusalNumber r) 0)
+pub ticks-size : (a : Answer) (failed : ℕ) → length (ticksBytes a failed) ≤ 6
+ticks-size Done failed = omega (arith, with-size 2 failed)
+ticks-size (Refused r) failed = omega (arith, refused-size (refusalNumber r) 0)
 
 pub count-size : (a : CountAnswer) → length (countBytes a) ≤ 6
 count-size (Count v) = omega (arith, with-size 4 v)

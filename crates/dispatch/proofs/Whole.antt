@@ -56,11 +56,11 @@ module _ (l : Loan) (out : List ℕ) (long : room ≤ length out) where
 
   lost-whole : (c : ℕ) → Told (lostEffect l out c)
   unfolding lostEffect
-  lost-whole c = past (lossEffect (lossOf (sizes l) c) (l .rx) (l .tx) out) (laid _ (omega (arith, loss-size (lossOf (sizes l) c .answer))))
+  lost-whole c = past (lossEffect (lossOf (sizes l) c) (l .rx) (l .tx) out) (laid _ (omega (arith, loss-size (lossOf (sizes l) c .answer) (lossOf (sizes l) c .failed))))
 
   ticks-whole : (n : ℕ) → Told (ticksEffect l out n)
   unfolding ticksEffect
-  ticks-whole n = past (ticked (ticksEvent (sizes l) n) (l .rx) (l .tx) out) (laid _ (omega (arith, ticks-size (ticksEvent (sizes l) n .answer))))
+  ticks-whole n = past (ticked (ticksEvent (sizes l) n) (l .rx) (l .tx) out) (laid _ (omega (arith, ticks-size (ticksEvent (sizes l) n .answer) (ticksEvent (sizes l) n .failed))))
 
   switch-all-whole : (number : ℕ) (on : Bool) → Told (switchAllEffect l out number on)
   unfolding switchAllEffect
