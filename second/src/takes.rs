@@ -7,7 +7,7 @@ use crate::generate::table::{mark, switches, table};
 use crate::random::Random;
 use crate::state::{Mode, World};
 use crate::stream::{Outcome, Stood, Take};
-use crate::table::{Remote, Table, TCP};
+use crate::table::{Remote, Table, LONGEST, TCP};
 
 /// The remote of the connection that a table record puts online.
 const PEER: Remote = Remote { address: 1, port: 1 };
@@ -124,9 +124,12 @@ fn tcp_table(random: &mut Random) -> (Table, u8) {
     (table, random.below(counts[1]) as u8)
 }
 
-/// A stream of frames, cut into segments anywhere; the switches change now and then.
+/// A stream of frames, cut into segments anywhere; the switches change now and then. A line of the program has room for the longest payload, so
+/// where pieces may come no segment is longer.
 pub fn random_case(random: &mut Random) -> Case {
     let (table, connection) = tcp_table(random);
+    let pieces = table.routes.iter().any(|route| route.connection == connection && route.transfer);
+    let most = if pieces { usize::from(LONGEST) } else { usize::MAX };
     let mut bits = switches(random);
     let mut case = vec![Item { segment: false, connection, switches: bits, bytes: table.image() }];
     let mut stream = frames(random, &table, connection.into(), 12);
@@ -135,7 +138,7 @@ pub fn random_case(random: &mut Random) -> Case {
         if random.one_in(8) {
             bits = switches(random);
         }
-        let bytes = stream.drain(..length.min(stream.len())).collect();
+        let bytes = stream.drain(..length.min(stream.len()).min(most)).collect();
         case.push(Item { segment: true, connection, switches: bits, bytes });
     }
     case
