@@ -1,5 +1,5 @@
 -- THE ANSWERS ARE READ BACK: what takes and walks find fits the widths that the answer spells it in, so a reader of the bytes gets exactly
--- the PDUs and drops that the call tells.
+-- the PDUs, drops, starts and pieces that the call tells.
 use Prim.Native.Nat.{ℕ, zero, suc, _+_, _-_, _/_, _≤_, _<_}
 use mathlib.Core.Path.{_≡_, refl, sym, ap, _∙_, subst}
 use mathlib.Core.Bool.{Bool, true, false, cond, true≢false}
@@ -18,16 +18,16 @@ use Rattle.table.specs.Accepts.{Accepts}
 use Rattle.table.proofs.Facts.{accepted-facts}
 use Rattle.reading.specs.declared.Decision.{Decision}
 use Rattle.reading.specs.declared.Decision.the-variants as Decided
-use Rattle.reading.specs.Feed.{Routes, Cell, Out, nothing, pdu, dropped, takeB}
+use Rattle.reading.specs.Feed.{Routes, Cell, Out, nothing, pdu, dropped, start, piece, takeB}
 use Rattle.reading_lengths.specs.Listed.{Bytes}
 use Rattle.reading_lengths.specs.Head.{Head, ended, short, beyond, whole, headOf}
 use Rattle.reading_lengths.proofs.Bytes.{bytes-drop}
 use Rattle.reading_lengths.proofs.Heads.{whole-fits}
 use Rattle.reading_walk.specs.Walk.{wholeAt, walkStep, walkAt}
 use Rattle.receive_part.specs.declared.Part.{Part}
-use Rattle.receive_part.specs.declared.Part.the-variants.{Header, Payload, Skip}
+use Rattle.receive_part.specs.declared.Part.the-variants.{Header, Payload, Skip, Transfer}
 use Rattle.receive_route.specs.Route.{rowsIn, lookupOf}
-use Rattle.receive_route.proofs.Decided.{route-accepted}
+use Rattle.receive_route.proofs.Decided.{route-accepted, route-transfers}
 use Rattle.state.specs.declared.State.{State}
 use Rattle.state.specs.State.{recordAt}
 use Rattle.state.specs.Fresh.{configOf}
@@ -35,7 +35,7 @@ use Rattle.state.specs.Memory.{stretch}
 use Rattle.gate.specs.Lent.{Lent, Loan, sizes}
 use Rattle.gate.proofs.Records.{row-routed, record-at}
 use Rattle.receive_stream.specs.Stream.{cellOf, inSegment, idOf, takeOutcome, tookOf, takenOf, Limits}
-use Rattle.receive_stream.proofs.Leaves.{PartHolds, Owns, Told, take-sane, part-sane, Sane}
+use Rattle.receive_stream.proofs.Leaves.{PartHolds, Owns, Moves, Told, take-sane, part-sane, Sane}
 use Rattle.receive_datagram.specs.declared.Outcome.the-variants as Met
 use Rattle.receive_datagram.specs.Datagram.{walkedOf}
 use Rattle.receive_datagram.specs.Datagram as met
@@ -65,11 +65,14 @@ use Rattle.dispatch_refines.specs.Answer.{takesOver, takesAnswer as answ
 use Rattle.dispatch_refines.specs.Read.{takesRead, segmentRead, walkRead, callRead}
 use Rattle.dispatch_refines.proofs.Answer.{takes-count}
 use Rattle.dispatch_refines.proofs.Read.{TakeFits, more-back, done-back, refused-back, StepFits, walk-read-back}
-use Rattle.dispatch_refines.proofs.Drops.{DropFits, reason-small, sane-heads, take-drops, head-small}
+use Rattle.dispatch_refines.proofs.Drops.{OutFits, reason-small, sane-heads, take-fits as outs-fit, head-small}
 
--- ROUTE AND LENGTH of each PDU that is handed out: a row of the table, and no more than it allows
+-- ROUTE AND LENGTH of each PDU that is handed out: a row of the table, and no more than it allows; and a transfer's route
 abbrev Within : ℕ → ℕ → Type 0
 Within r n = (r < 64) × (n ≤ 1464)
+
+abbrev Row : ℕ → Type 0
+Row r = r < 64
 
 few-rows : (routes : List ℕ) → rowsIn routes ≤ 64
 unfolding rowsIn
@@ -82,22 +85,28 @@ few-rows routes = go (leb (length routes / 16) 64) refl
 accepted-row : (routes : List ℕ) (k switches i n r : ℕ) → lookupOf routes k switches i n ≡ Decided.Accept r → r < 64
 accepted-row routes k switches i n r e = omega (arith, route-accepted routes k switches i n r e .bears .there, few-rows routes)
 
-owned-small : (routes : List ℕ) (k : ℕ) (p : Part) → Limits routes → PartHolds (Owns routes k) p → PartHolds Within p
+moved-row : (routes : List ℕ) (k switches i n r : ℕ) → lookupOf routes k switches i n ≡ Decided.Transfer r → Row r
+moved-row routes k switches i n r e = omega (arith, route-transfers routes k switches i n r e .bears .there, few-rows routes)
+
+owned-small : (routes : List ℕ) (k : ℕ) (p : Part) → Limits routes → PartHolds (Owns routes k) (Moves routes k) p → PartHolds Within Row p
 owned-small routes k (Header held value) limits o = tt
 owned-small routes k (Payload route n held) limits o = (omega (arith, o .there, few-rows routes), omega (arith, o .allows, limits route))
 owned-small routes k (Skip n) limits o = tt
+owned-small routes k (Transfer route n) limits o = omega (arith, o .there, few-rows routes)
 
-told-small : (o : Out) (c : Cell) → Told Within o c → (r : ℕ) (p : List ℕ) → o ≡ pdu r p → Within r (length p)
+told-small : (o : Out) (c : Cell) → Told Within Row o c → (r : ℕ) (p : List ℕ) → o ≡ pdu r p → Within r (length p)
 told-small nothing c t r p e = let z : _≡_ {A = ℕ} 0 1 = cc in absurd (omega arith)
 told-small (pdu r′ p′) c t r p e =
     let same : r′ ≡ r = cc in
     let long : p′ ≡ p = cc in
     (subst (λ (x : ℕ). x < 64) same (t .1 .0), subst (λ (l : List ℕ). length l ≤ 1464) long (t .1 .1))
 told-small (dropped k i n) c t r p e = let z : _≡_ {A = ℕ} 0 1 = cc in absurd (omega arith)
+told-small (start q i n m) c t r p e = let z : _≡_ {A = ℕ} 0 1 = cc in absurd (omega arith)
+told-small (piece q l m) c t r p e = let z : _≡_ {A = ℕ} 0 1 = cc in absurd (omega arith)
 
--- an outcome with such a PDU, or with a drop that fits, fits, where the take read no further than a segment that is not too long, and receive memory is as long as it is
+-- an outcome with such a PDU, or with a drop, a start or a piece that fits, fits, where the take read no further than a segment that is not too long, and receive memory is as long as it is
 outcome-fits : (ids : ℕ → ℕ) (s : Bool) (begins read : ℕ) (rest rx : List ℕ) (k : ℕ) (o : Out) → ((r : ℕ) (p : List ℕ) → o ≡ pdu r p → Within r (length p))
-    → DropFits o → begins + read ≤ longestBody → length (stretch 1464 k rx) ≡ 1464
+    → OutFits o → begins + read ≤ longestBody → length (stretch 1464 k rx) ≡ 1464
     → TakeFits begins (takeOutcome ids s read o) (payloadOf rest rx k (takeOutcome ids s read o))
 unfolding payloadOf
 outcome-fits ids s begins read rest rx k nothing small spelt within room = tt
@@ -109,6 +118,8 @@ outcome-fits ids false begins read rest rx k (pdu r p) small spelt within room =
     ap length (part-fits (stretch 1464 k rx) 0 (length p) (omega (arith, h .1, room))) ∙ length-take-le (length p) (drop 0 (stretch 1464 k rx)) (omega (arith, h .1, room)) in
     (omega (arith, h .0), (omega (arith, h .1), l))
 outcome-fits ids s begins read rest rx k (dropped j i n) small spelt within room = spelt
+outcome-fits ids s begins read rest rx k (start r i n m) small spelt within room = spelt
+outcome-fits ids s begins read rest rx k (piece r p m) small spelt within room = (spelt .0, (spelt .1, omega (arith, within)))
 
 -- A TAKE THAT IS DONE
 module _ (start : Loan) (k : ℕ) (seg : List ℕ) (bytes : Bytes seg) (notLong : length seg ≤ longestBody) where
@@ -148,7 +159,7 @@ module _ (start : Loan) (k : ℕ) (seg : List ℕ) (bytes : Bytes seg) (notLong 
         let facts : Accepts image = accepted-facts image (clear .passed .table) in
         omega (arith, body-rows image (facts .laid) RouteRows, facts .most RouteRows)
 
-    held : PartHolds Within (recordAt s k .part)
+    held : PartHolds Within Row (recordAt s k .part)
     held =
         owned-small routes k (recordAt s k .part) (takes .fit .limits)
         (routed-owns routes k (recordAt s k .part) few (row-routed image k (recordAt s k) (record-at image (s .connections) k (clear .passed .sound) (in-range s k (clear .receives))) (clear .there)))
@@ -158,14 +169,19 @@ module _ (start : Loan) (k : ℕ) (seg : List ℕ) (bytes : Bytes seg) (notLong 
         let allows = route-accepted routes k (recordAt s k .switches) i n r a in
         (accepted-row routes k (recordAt s k .switches) i n r a, omega (arith, allows .fits, takes .fit .limits r))
 
-    sane : Sane Within part
-    sane = part-sane Within routes (recordAt s k .part) (stretch 1464 k rx) (takes .fit) held
+    moves : (i n r : ℕ) → R i n ≡ Decided.Transfer r → Row r
+    moves i n r = moved-row routes k (recordAt s k .switches) i n r
+
+    sane : Sane Within Row part
+    sane = part-sane Within Row routes (recordAt s k .part) (stretch 1464 k rx) (takes .fit) held
 
     small : (r : ℕ) (p : List ℕ) → takeB R part rest .out ≡ pdu r p → Within r (length p)
-    small = told-small (takeB R part rest .out) (takeB R part rest .to) (take-sane Within R decides part rest (bytes-drop at seg bytes) sane .1)
+    small = told-small (takeB R part rest .out) (takeB R part rest .to) (take-sane Within Row R decides moves part rest (bytes-drop at seg bytes) sane .1)
 
-    spelt : DropFits (takeB R part rest .out)
-    spelt = take-drops R (reason-small routes k (recordAt s k .switches)) part rest (bytes-drop at seg bytes) (sane-heads Within part sane)
+    spelt : OutFits (takeB R part rest .out)
+    spelt =
+        outs-fit R (reason-small routes k (recordAt s k .switches)) (λ i n r e. omega (arith, moves i n r e)) part rest (bytes-drop at seg bytes)
+        (omega (arith, notLong, length-drop at seg)) (sane-heads Within Row (λ r low. omega (arith, low)) part sane)
 
     outcome-is : segmentOf l k rest .outcome ≡ takeOutcome (idOf routes) (inSegment part) (length rest - length (takeB R part rest .rest)) (takeB R part rest .out)
     unfolding segmentOf takeOn takenOf tookOf
@@ -230,6 +246,8 @@ walk-read l k datagram place bytes notLong = go (isDone (walkAnswer l k datagram
     decided : (d : Decision) (i n : ℕ) → R i n ≡ d → headOf (drop place datagram) ≡ whole i n → StepFits (met.walkOutcome (wholeAt d place i n .found))
     decided (Decided.Accept r) i n a e =
         (omega (arith, accepted-row (bodyOf (l .image) RouteRows) k (recordAt (l .state) k .switches) i n r a), (omega (arith, notLong, whole-fits (drop place datagram) i n e, length-drop place datagram), omega (arith, notLong, whole-fits (drop place datagram) i n e, length-drop place datagram)))
+    decided (Decided.Transfer r) i n a e =
+        (omega (arith, moved-row (bodyOf (l .image) RouteRows) k (recordAt (l .state) k .switches) i n r a), (omega (arith, notLong, whole-fits (drop place datagram) i n e, length-drop place datagram), omega (arith, notLong, whole-fits (drop place datagram) i n e, length-drop place datagram)))
     decided (Decided.Refuse j) i n a e =
         let h = head-small (drop place datagram) (bytes-drop place datagram bytes) (whole i n) e in
         (reason-small (bodyOf (l .image) RouteRows) k (recordAt (l .state) k .switches) i n j a, (h .0, h .1))

@@ -12,7 +12,7 @@ use Rattle.wire.specs.Be.{be}
 use Rattle.wire.specs.Lay.{spell}
 use Rattle.wire.proofs.Spell.{length-spell, be-spell}
 use Rattle.table_layout.specs.Layout.{partOf}
-use Rattle.reading.specs.Feed.{Out, pdu, dropped}
+use Rattle.reading.specs.Feed.{Out, pdu, dropped, start, piece}
 use Rattle.connection.specs.declared.Refusal.{Refusal}
 use Rattle.connection.specs.declared.Refusal.the-variants.{Memory, Unsound, Missing, Denied}
 use Rattle.connection.specs.Event.{refusalNumber}
@@ -25,9 +25,9 @@ use Rattle.entry_receive.specs.declared.Answer.the-variants.{Done, Refused, Not
 use Rattle.entry_receive.specs.Answer.{isDone}
 use Rattle.event_answer.specs.Answers.{refused, doneWith, foundBytes}
 use Rattle.event_answer.proofs.Chain.{length-found}
-use Rattle.dispatch_receive.specs.Segment.{hereBytes, heldBytes, takeBytes, eventBytes}
+use Rattle.dispatch_receive.specs.Segment.{hereBytes, heldBytes, pieceKind, pieceBytes, takeBytes, eventBytes}
 use Rattle.dispatch_receive.specs.Walk.{orRefused, stepBytes, walkBytes}
-use Rattle.dispatch_receive.proofs.Written.{length-here, length-held}
+use Rattle.dispatch_receive.proofs.Written.{length-here, length-held, length-piece}
 use Rattle.model_refines.specs.Run.{toldWalk}
 use Rattle.dispatch_refines.specs.Told.{Take, bytesIn, outIn, outsIn, tookThen}
 use Rattle.dispatch_refines.specs.Read.{payloadRead, takeRead, takeLong, takesRead, stepRead, ifDone, segmentRead, walkRead}
@@ -56,12 +56,18 @@ module _ (first kind which id n : ℕ) (r : List ℕ) {l : List ℕ} (is : l ≡
       number-at 4 n (spell 4 first ++ spell 1 kind ++ spell 1 which ++ spell 4 id) r 10 h (simp (length-append, length-spell)) (is ∙ simp append-assoc)
 
 -- what fits its width: route, length, and the place of the payload or the payload as long as it is said to be; of a drop reason, id and
--- length
+-- length; of a start route, id and length, and its mark is length 0; of a piece route, length and place
 abbrev pub TakeFits : ℕ → Outcome → List ℕ → Type 0
 TakeFits begins Found.More payload = Unit {0}
 TakeFits begins (Found.Pdu route id true at n) payload = (route < 256) × ((n < 256 ^ 4) × (begins + at < 256 ^ 4))
 TakeFits begins (Found.Pdu route id false at n) payload = (route < 256) × ((n < 256 ^ 4) × (length payload ≡ n))
 TakeFits begins (Found.Drop reason id n) payload = Spelt reason id n
+TakeFits begins (Found.Start route id n last) payload = Spelt route id n × (last ≡ eqb n 0)
+TakeFits begins (Found.Piece route id at n last) payload = (route < 256) × ((n < 256 ^ 4) × (begins + at < 256 ^ 4))
+
+pub kind-small : (last : Bool) → pieceKind last < 256
+kind-small true = omega arith
+kind-small false = omega arith
 
 -- A TAKE
 module _ (segment : List ℕ) where
@@ -73,6 +79,17 @@ module _ (segment : List ℕ) where
       → (takeRead segment l ≡ dropped reason id n ∷ []) × (takeLong l ≡ 14)
   unfolding takeRead takeLong
   drop-read l reason id n e w i m = (rw (e, w, i, m) refl, rw e refl)
+
+  start-read : (l : List ℕ) (route id n : ℕ) → be 1 l 4 ≡ 3 → be 1 l 5 ≡ route → be 4 l 6 ≡ id → be 4 l 10 ≡ n
+      → (takeRead segment l ≡ start route id n (eqb n 0) ∷ []) × (takeLong l ≡ 14)
+  unfolding takeRead takeLong
+  start-read l route id n e w i m = (rw (e, w, i, m) refl, rw e refl)
+
+  piece-read : (last : Bool) (l : List ℕ) (route place n : ℕ) → be 1 l 4 ≡ pieceKind last → be 1 l 5 ≡ route → be 4 l 14 ≡ place → be 4 l 10 ≡ n
+      → (takeRead segment l ≡ piece route (partOf segment place n) last ∷ []) × (takeLong l ≡ 18)
+  unfolding takeRead takeLong
+  piece-read true l route place n e w p m = (rw (e, w, p, m) refl, rw e refl)
+  piece-read false l route place n e w p m = (rw (e, w, p, m) refl, rw e refl)
 
   pdu-read : (l : List ℕ) (route : ℕ) (payload : List ℕ) → be 1 l 4 ≡ 1 → be 1 l 5 ≡ route → payloadRead segment l ≡ payload → takeRead segment l ≡ pdu route payload ∷ []
   unfolding takeRead
@@ -105,6 +122,24 @@ module _ (segment : List ℕ) where
       drop-read l reason id n (kind-at read 2 reason id n rest refl (omega arith)) (which-at read 2 reason id n rest refl (h .0))
       (id-at read 2 reason id n rest refl (h .1 .0)) (length-at read 2 reason id n rest refl (h .1 .1)) in
       (t .0, drop-at (foundBytes read 2 reason id n) rest (takeLong l) (length-found read 2 reason id n ∙ sym (t .1)))
+  take-back begins read (Found.Start route id n last) payload rest h =
+      let l : List ℕ = foundBytes read 3 route id n ++ rest in
+      let t =
+      start-read l route id n (kind-at read 3 route id n rest refl (omega arith)) (which-at read 3 route id n rest refl (h .0 .0))
+      (id-at read 3 route id n rest refl (h .0 .1 .0)) (length-at read 3 route id n rest refl (h .0 .1 .1)) in (
+        t .0 ∙ ap (λ (m : Bool). start route id n m ∷ []) (sym (h .1)),
+        drop-at (foundBytes read 3 route id n) rest (takeLong l) (length-found read 3 route id n ∙ sym (t .1)),
+      )
+  take-back begins read (Found.Piece route id at n last) payload rest h =
+      let kind : ℕ = pieceKind last in
+      let l : List ℕ = pieceBytes read route id n last begins at ++ rest in
+      let behind : List ℕ = spell 4 (begins + at) ++ rest in
+      let is : l ≡ foundBytes read kind route id n ++ behind = simp append-assoc in
+      let place : be 4 l 14 ≡ begins + at = number-at 4 (begins + at) (foundBytes read kind route id n) rest 14 (h .1 .1) (length-found read kind route id n) is in
+      let t =
+      piece-read last l route (begins + at) n (kind-at read kind route id n behind is (kind-small last)) (which-at read kind route id n behind is (h .0)) place
+      (length-at read kind route id n behind is (h .1 .0)) in
+      (t .0, drop-at (pieceBytes read route id n last begins at) rest (takeLong l) (length-piece read route id n last begins at ∙ sym (t .1)))
   take-back begins read (Found.Pdu route id true at n) payload rest h =
       let l : List ℕ = hereBytes read route id n begins at ++ rest in
       let behind : List ℕ = spell 1 0 ++ (spell 4 (begins + at) ++ rest) in

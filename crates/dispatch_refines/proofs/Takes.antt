@@ -1,5 +1,5 @@
--- THE ANSWER OF A SEGMENT EVENT TELLS ITS TAKES, one after the other, and the PDUs that they tell are those that the machine's segment event
--- hands out. Of any image, state, memory and segment.
+-- THE ANSWER OF A SEGMENT EVENT TELLS ITS TAKES, one after the other, and the outcomes that they tell are those that the machine's segment
+-- event hands out. Of any image, state, memory and segment.
 use Prim.Native.Nat.{ℕ, zero, suc, _+_}
 use mathlib.Core.Path.{_≡_, refl, sym, ap, ap₂, _∙_}
 use mathlib.Core.Bool.{Bool, true, false, cond, _&&_, true≢false}
@@ -9,7 +9,7 @@ use borrow.Author.Tests.{leb-true, leb-false}
 use lib.Dec.{leb, ltb}
 use lib.ListN.{length, take, drop, length-drop}
 use lib.Seq.{drop-drop}
-use Rattle.reading.specs.Feed.{Out, pdu}
+use Rattle.reading.specs.Feed.{Out, pdu, piece}
 use Rattle.state.specs.declared.State.{State}
 use Rattle.receive_stream.specs.declared.Outcome.{Outcome}
 use Rattle.receive_stream.specs.declared.Outcome.the-variants as Found
@@ -83,6 +83,8 @@ module _ (image : List ℕ) (k : ℕ) (seg : List ℕ) where
   pdu-told begins rx (Found.Pdu route id true at n) = ap (λ (l : List ℕ). pdu route l ∷ []) (part-rest seg begins at n)
   pdu-told begins rx (Found.Pdu route id false at n) = refl
   pdu-told begins rx (Found.Drop reason id n) = refl
+  pdu-told begins rx (Found.Start route id n last) = refl
+  pdu-told begins rx (Found.Piece route id at n last) = ap (λ (l : List ℕ). piece route l last ∷ []) (part-rest seg begins at n)
 
   last-told : (done : Bool) (ps : List Out) (t : Take) (ts : List Take) → (done ≡ false → ps ≡ []) → ps ≡ outIn seg (t .begins) (t .outcome) (t .payload)
       → ps ++ [] ≡ outsIn seg (tookThen done false t ts)

@@ -5,7 +5,7 @@ use mathlib.Core.Bool.{Bool, true, false, cond}
 use mathlib.Core.List.{List, [], _∷_, _++_, append-assoc, append-nil}
 use lib.Dec.{eqb, ltb}
 use lib.ListN.{length, replicate}
-use Rattle.reading.specs.Feed.{Out}
+use Rattle.reading.specs.Feed.{Out, compared}
 use Rattle.reading_lengths.specs.Listed.{Bytes}
 use Rattle.event_decode.specs.declared.Call.{Call}
 use Rattle.event_decode.specs.declared.Call.the-variants.{Unknown, Unfit, Ticks, Own, Lost, Segment, Walk, TakeWaiting, Datagram, Accept, Transmit, SwitchAll, ReadCount, ClearCount}
@@ -25,7 +25,6 @@ use Rattle.dispatch_refines.proofs.Takes.{segment-takes-told}
 use Rattle.dispatch_refines.proofs.Fits.{answers-read}
 use Rattle.dispatch_refines.proofs.Event.{dispatched-events}
 use Rattle.dispatch_refines.proofs.Calls.{calls-run, spelt-bytes}
-use Rattle.model.specs.Step.{compared}
 
 module _ (image : List ℕ) (k : ℕ) where
   ticks-tell : (n : ℕ) (m : Machine) → [] ≡ givenIn image k m (replicate n (onWhole tick))
@@ -91,8 +90,8 @@ module _ (image : List ℕ) (k : ℕ) where
   pub calls-told : (m : Machine) (cs : List Spoken) → CallBytes cs → toldIn image k m cs ≡ givenIn image k m (speltIn cs)
   calls-told m cs bytes = calls-read m cs bytes ∙ calls-tell m cs
 
--- DEMAND 3, of the dispatcher: calls that spell same runs end in the same state, and have told the same PDUs, exactly demand 2's: by the takes
--- and walks that they answer ..
+-- DEMAND 3, of the dispatcher: calls that spell same runs end in the same state, and have told the same PDUs and transfers, exactly demand
+-- 2's: by the takes and walks that they answer ..
 pub calls-alike : (image : List ℕ) (m : Machine) → Good image m → (cs ds : List Spoken) → CallBytes cs → Same (speltIn cs) (speltIn ds)
     → CallsAlike (tellsIn image) image m cs ds
 calls-alike image m good cs ds bytes alike = go (demand-3 image m good alike (spelt-bytes cs bytes))

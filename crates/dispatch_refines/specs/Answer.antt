@@ -23,7 +23,7 @@ use Rattle.gate.specs.Lent.{Loan, sizes}
 use Rattle.dispatch_refines.specs.Told.{Take, bytesIn, takesFrom}
 
 module _ (l : Loan) where
-  -- open, close, connected, set remote, switch
+  -- open, close, connected, set remote, switch, cancel
   abbrev pub ownAnswer : ℕ → Event → List ℕ
   ownAnswer c e = toldBytes (eventOf (sizes l) c e .answer)
 
@@ -43,9 +43,9 @@ module _ (l : Loan) where
   unfoldable pub answerOf : List ℕ → Call → List ℕ
   answerOf body Unknown = []
   answerOf body Unfit = []
-  answerOf body (Ticks n) = ticksBytes (ticksEvent (sizes l) n .answer)
+  answerOf body (Ticks n) = ticksBytes (ticksEvent (sizes l) n .answer) (ticksEvent (sizes l) n .failed)
   answerOf body (Own c e) = ownAnswer c e
-  answerOf body (Lost c) = lossBytes (lossOf (sizes l) c .answer)
+  answerOf body (Lost c) = lossBytes (lossOf (sizes l) c .answer) (lossOf (sizes l) c .failed)
   answerOf body (Segment c at) = takesAnswer c (bytesFrom body at)
   answerOf body (Walk c place at) = walkedBytes (walkOf (sizes l) c (bytesFrom body at) place)
   answerOf body (TakeWaiting c n) = takeAnswer c (take (roomOf n) (replicate 1472 0))

@@ -1,13 +1,13 @@
--- READING AN ANSWER (R16.3; docs/EVENTS.md, "The answer"): the PDUs and drops that a caller gets out of the bytes of an answer, with the
--- segment or datagram that he handed in, and by nothing else.
+-- READING AN ANSWER (R16.3; docs/EVENTS.md, "The answer"): the PDUs, drops, starts and pieces that a caller gets out of the bytes of an
+-- answer, with the segment or datagram that he handed in, and by nothing else.
 use Prim.Native.Nat.{ℕ, zero, suc, _+_}
-use mathlib.Core.Bool.{Bool, cond}
+use mathlib.Core.Bool.{Bool, cond, _||_}
 use mathlib.Core.List.{List, [], _∷_, _++_}
 use lib.Dec.{eqb, ltb}
 use lib.ListN.{length, take, drop}
 use Rattle.wire.specs.Be.{be}
 use Rattle.table_layout.specs.Layout.{partOf}
-use Rattle.reading.specs.Feed.{Out, pdu, dropped}
+use Rattle.reading.specs.Feed.{Out, pdu, dropped, start, piece}
 use Rattle.event_decode.specs.declared.Call.{Call}
 use Rattle.event_decode.specs.declared.Call.the-variants.{Unknown, Unfit, Ticks, Own, Lost, Segment, Walk, TakeWaiting, Datagram, Accept, Transmit, SwitchAll, ReadCount, ClearCount}
 use Rattle.event_decode.specs.Calls.{callOf, bytesFrom}
@@ -16,12 +16,22 @@ use Rattle.model_refines.specs.Machine.{Machine}
 use Rattle.dispatch_refines.specs.Spelt.{Spoken, afterDispatch}
 use Rattle.dispatch_refines.specs.Answer.{answerBy}
 
--- bytes of a take or a walk: "bytes read (4)" or "next place (4), kind (1: .. 1 PDU, 2 drop), route or reason (1), id (4), length (4)"
+-- bytes of a take or a walk: "bytes read (4)" or "next place (4), kind (1: .. 1 PDU, 2 drop), route or reason (1), id (4), length (4)"; of a
+-- take the kinds 3 start, 4 piece and 5 last piece, too
 abbrev pub isPdu : List ℕ → Bool
 isPdu l = eqb (be 1 l 4) 1
 
 abbrev pub isDrop : List ℕ → Bool
 isDrop l = eqb (be 1 l 4) 2
+
+abbrev pub isStart : List ℕ → Bool
+isStart l = eqb (be 1 l 4) 3
+
+abbrev pub isLast : List ℕ → Bool
+isLast l = eqb (be 1 l 4) 5
+
+abbrev pub isPiece : List ℕ → Bool
+isPiece l = eqb (be 1 l 4) 4 || isLast l
 
 abbrev pub whichRead : List ℕ → ℕ
 whichRead l = be 1 l 5
@@ -43,12 +53,24 @@ fromSegment l = eqb (be 1 l 14) 0
 unfoldable pub payloadRead : List ℕ → List ℕ → List ℕ
 payloadRead segment l = cond (fromSegment l) (partOf segment (be 4 l 15) (lengthRead l)) (take (lengthRead l) (drop 15 l))
 
+-- R19.2, R19.5, a start: its route, id and length, "its mark is length 0"
+abbrev pub startRead : List ℕ → Out
+startRead l = start (whichRead l) (idRead l) (lengthRead l) (eqb (lengthRead l) 0)
+
+-- R19.3, R19.4, a piece: "length is the piece's bytes, then its place in the event's whole segment (4)"; kind 5 has the end mark
+abbrev pub pieceRead : List ℕ → List ℕ → Out
+pieceRead segment l = piece (whichRead l) (partOf segment (be 4 l 14) (lengthRead l)) (isLast l)
+
 unfoldable pub takeRead : List ℕ → List ℕ → List Out
-takeRead segment l = cond (isPdu l) (pdu (whichRead l) (payloadRead segment l) ∷ []) (dropRead l)
+takeRead segment l =
+    cond (isPdu l) (pdu (whichRead l) (payloadRead segment l) ∷ [])
+    (cond (isStart l) (startRead l ∷ [])
+    (cond (isPiece l) (pieceRead segment l ∷ [])
+    (dropRead l)))
 
 -- .. and how many bytes it has
 unfoldable pub takeLong : List ℕ → ℕ
-takeLong l = cond (isPdu l) (cond (fromSegment l) 19 (15 + lengthRead l)) 14
+takeLong l = cond (isPdu l) (cond (fromSegment l) 19 (15 + lengthRead l)) (cond (isPiece l) 18 14)
 
 -- so many takes, one after the other
 unfoldable pub takesRead : List ℕ → ℕ → List ℕ → List Out

@@ -1,12 +1,12 @@
 -- THE TAKES WHOSE BYTES AN ANSWER IS (R16.3; docs/EVENTS.md, "The answer"): those of a segment event, each as its answer tells it, and
--- the outcomes that they tell, and that a walk's answer tells: PDUs and drops.
+-- the outcomes that they tell, and that a walk's answer tells: PDUs, drops, and of transfers the start and the pieces.
 use Prim.Native.Nat.{ℕ, zero, suc, _+_}
 use mathlib.Core.Bool.{Bool, true, false, cond}
 use mathlib.Core.List.{List, [], _∷_, _++_}
 use lib.Dec.{eqb, ltb}
 use lib.ListN.{length, drop}
 use Rattle.table_layout.specs.Layout.{partOf}
-use Rattle.reading.specs.Feed.{Out, pdu, dropped}
+use Rattle.reading.specs.Feed.{Out, pdu, dropped, start, piece}
 use Rattle.receive_stream.specs.declared.Outcome.{Outcome}
 use Rattle.receive_stream.specs.declared.Outcome.the-variants as Found
 use Rattle.gate.specs.Lent.{Loan}
@@ -34,13 +34,16 @@ unfoldable pub bytesIn : List Take → List ℕ
 bytesIn [] = []
 bytesIn (t ∷ ts) = takeBytes (t .begins) (t .read) (t .outcome) (t .payload) ++ bytesIn ts
 
--- what those bytes tell: a PDU, "0 and the place in the segment, or 1 and the payload's bytes", or a drop with its reason, id and length. "A
--- place in the segment counts from the front of the event's whole segment, whichever take found the PDU"
+-- what those bytes tell: a PDU, "0 and the place in the segment, or 1 and the payload's bytes", a drop with its reason, id and length, a
+-- transfer's start with its route, id and length (R19.2), or a piece of it (R19.3). "A place in the segment counts from the front of the
+-- event's whole segment, whichever take found" it
 abbrev pub outIn : List ℕ → ℕ → Outcome → List ℕ → List Out
 outIn segment begins Found.More payload = []
 outIn segment begins (Found.Pdu route id true at n) payload = pdu route (partOf segment (begins + at) n) ∷ []
 outIn segment begins (Found.Pdu route id false at n) payload = pdu route payload ∷ []
 outIn segment begins (Found.Drop reason id n) payload = dropped reason id n ∷ []
+outIn segment begins (Found.Start route id n last) payload = start route id n last ∷ []
+outIn segment begins (Found.Piece route id at n last) payload = piece route (partOf segment (begins + at) n) last ∷ []
 
 unfoldable pub outsIn : List ℕ → List Take → List Out
 outsIn segment [] = []
