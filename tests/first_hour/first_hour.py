@@ -83,12 +83,14 @@ def readme_commands():
             same(out.split("\n")[-2:], ["OK", ""], f"README: the last line of {command}")
         if command.startswith("./soad replay"):
             same(out.split("\n")[-2:], ["SAME", ""], f"README: the last line of {command}")
-    shift, example = (next((command for command in commands if command.startswith(f"./soad {verb} ")), "false") for verb in ("run", "bench-example"))
-    shown = [line for line in contents("README.md").decode().split("\n") if line.startswith("    entry ")]
-    true(len(shown) >= 5, "README shows lines of the shift")
-    printed = shell(shift)[1].split("\n")
-    for line in shown:
-        true(line.strip() in printed, f"README: {shift} prints `{line.strip()}`")
+    for text in re.split("(?m)^    (?=\\./soad run )", contents("README.md").decode())[1:]:
+        run, *lines = text.split("\n")
+        shown = [line.strip() for line in lines if line.startswith("    entry ")]
+        true(len(shown) >= 5, f"README shows lines of {run}")
+        printed = shell(run)[1].split("\n")
+        for line in shown:
+            true(line in printed, f"README: {run} prints `{line}`")
+    example = next((command for command in commands if command.startswith("./soad bench-example ")), "false")
     same(shell(example)[1], "".join(line + "\n" for line in said.get(example, [])), f"README: what {example} prints")
 
 
