@@ -1,4 +1,4 @@
-//! Sections 8 and 9 of the rules: what an event makes of one record, or the number of its refusal; and the tick.
+//! Sections 8 and 9 of the rules: what an event makes of one record, or the number of its refusal; and the tick. R19.6 and R19.7: cancel, failed.
 
 use crate::fault::{or, seeded, Fault};
 use crate::state::{Config, Mode, Record};

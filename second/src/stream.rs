@@ -1,4 +1,4 @@
-//! R5.8 to R5.14: the take, a byte at a time; and the pieces of a transfer.
+//! R5.8 to R5.14: the take, a byte at a time; and R19.2 to R19.5: the start and the pieces of a transfer.
 
 use crate::fault::{or, seeded, Fault};
 use crate::header::{lookup, Header};
