@@ -11,7 +11,7 @@ use Rattle.wire.proofs.Spell.{length-spell}
 use Rattle.event_answer.specs.Answers.{doneAlone, foundBytes}
 use Rattle.event_answer.proofs.Chain.{then, spell-low, length-found}
 use Rattle.dispatch_receive.specs.Walk.{stepBytes, pduBytes}
-use Rattle.dispatch_receive.specs.Segment.{hereBytes, heldBytes, pieceKind, pieceBytes}
+use Rattle.dispatch_receive.specs.Segment.{hereBytes, heldBytes, pieceKind, pieceSpelt}
 
 -- a walk's step, and a PDU with its place
 pub length-step : (next kind which id n : ℕ) → length (stepBytes next kind which id n) ≡ 16
@@ -59,12 +59,12 @@ held-laid d place read route id n payload p q r h =
     then d place (place + 15) (foundBytes read 1 route id n ++ spell 1 1) payload p₂ r (simp (length-append, length-spell)) (omega arith)
 
 -- a piece of a transfer
-pub length-piece : (read route id n : ℕ) (last : Bool) (from at : ℕ) → length (pieceBytes read route id n last from at) ≡ 18
+pub length-piece : (read route id n : ℕ) (last : Bool) (from at : ℕ) → length (pieceSpelt read route id n last from at) ≡ 18
 length-piece read route id n last from at = simp (length-append, length-spell)
 
 pub piece-laid : {e f : List ℕ} (d : List ℕ) (place read kind route id n : ℕ) (last : Bool) (from at : ℕ) → kind ≡ pieceKind last
     → e ≡ lay d place (foundBytes read kind route id (n % 4294967296)) → f ≡ lay e (place + 14) (spell 4 (from + at)) → place + 18 ≤ length d
-    → f ≡ lay d place (pieceBytes read route id n last from at)
+    → f ≡ lay d place (pieceSpelt read route id n last from at)
 piece-laid d place read kind route id n last from at ek p q h =
     let found : List ℕ → List ℕ = λ (l : List ℕ). spell 4 read ++ spell 1 (pieceKind last) ++ spell 1 route ++ spell 4 id ++ l in
     let told : foundBytes read kind route id (n % 4294967296) ≡ foundBytes read (pieceKind last) route id n =

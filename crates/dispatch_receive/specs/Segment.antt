@@ -31,8 +31,8 @@ abbrev pub pieceKind : Bool → ℕ
 pieceKind true = 5
 pieceKind false = 4
 
-abbrev pub pieceBytes : ℕ → ℕ → ℕ → ℕ → Bool → ℕ → ℕ → List ℕ
-pieceBytes read route id n last from at = foundBytes read (pieceKind last) route id n ++ spell 4 (from + at)
+abbrev pub pieceSpelt : ℕ → ℕ → ℕ → ℕ → Bool → ℕ → ℕ → List ℕ
+pieceSpelt read route id n last from at = foundBytes read (pieceKind last) route id n ++ spell 4 (from + at)
 
 -- a take: "bytes read (4), kind (1: 0 more wanted, 1 PDU, 2 drop, 3 start, 4 piece, 5 last piece), route or reason (1), id (4), length (4);
 -- for more wanted these three are 0". A start's end mark is its length 0
@@ -42,7 +42,7 @@ takeBytes from read (Pdu route id true at n) payload = hereBytes read route id n
 takeBytes from read (Pdu route id false at n) payload = heldBytes read route id n payload
 takeBytes from read (Drop reason id n) payload = foundBytes read 2 reason id n
 takeBytes from read (Start route id n last) payload = foundBytes read 3 route id n
-takeBytes from read (Piece route id at n last) payload = pieceBytes read route id n last from at
+takeBytes from read (Piece route id at n last) payload = pieceSpelt read route id n last from at
 
 -- a refused take has none
 abbrev pub bytesIfDone : Answer → List ℕ → List ℕ

@@ -227,8 +227,8 @@ fn put_piece(
     from: usize,
     at: usize,
 ) -> usize
-    ensures { λ r. ⌜ r ≡ placeAfter (now (out .entry)) place (Seg.pieceBytes read route id n last from at) ⌝ }
-    ensures { λ _. ⌜ now (out .exit) ≡ lay (now (out .entry)) place (Seg.pieceBytes read route id n last from at) ⌝ }
+    ensures { λ r. ⌜ r ≡ placeAfter (now (out .entry)) place (Seg.pieceSpelt read route id n last from at) ⌝ }
+    ensures { λ _. ⌜ now (out .exit) ≡ lay (now (out .entry)) place (Seg.pieceSpelt read route id n last from at) ⌝ }
 {
     if out.len() < place {
         return place;

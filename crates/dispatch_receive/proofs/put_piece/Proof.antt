@@ -6,7 +6,7 @@ use Prim.Native.Nat.{ℕ, _+_}
 use lib.ListN.{length}
 use Rattle.pieces.proofs.Pieces.{place-stays, moves}
 use Rattle.event_answer.proofs.Chain.{unlaid}
-use Rattle.dispatch_receive.specs.Segment.{pieceBytes}
+use Rattle.dispatch_receive.specs.Segment.{pieceSpelt}
 use Rattle.dispatch_receive.proofs.Written.{length-piece, piece-laid}
 use Rattle.dispatch_receive.proofs.put_piece.Statement.{statement}
 use Rattle.dispatch_receive.proofs.put_piece.Tie as tie
@@ -15,7 +15,7 @@ returns : tie.Need-returns
 returns c =
     let a = c .before .before .args in
     let n = length-piece (a .read) (a .route) (a .id) (a .n) (a .last) (a .from) (a .at) in
-    let b = pieceBytes (a .read) (a .route) (a .id) (a .n) (a .last) (a .from) (a .at) in
+    let b = pieceSpelt (a .read) (a .route) (a .id) (a .n) (a .last) (a .from) (a .at) in
     (place-stays (length (a .out .now)) (a .place) (length b) (omega (arith, n)), unlaid (a .out .now) (a .place) 18 b n (omega arith))
 
 sub-if2 : tie.Need-sub-if2
@@ -25,7 +25,7 @@ returns-2 : tie.Need-returns-2
 returns-2 c =
     let a = c .before .before .before .args in
     let n = length-piece (a .read) (a .route) (a .id) (a .n) (a .last) (a .from) (a .at) in
-    let b = pieceBytes (a .read) (a .route) (a .id) (a .n) (a .last) (a .from) (a .at) in
+    let b = pieceSpelt (a .read) (a .route) (a .id) (a .n) (a .last) (a .from) (a .at) in
     (place-stays (length (a .out .now)) (a .place) (length b) (omega (arith, n)), unlaid (a .out .now) (a .place) 18 b n (omega arith))
 
 piece-kind-requires : tie.Need-piece-kind-requires
@@ -55,7 +55,7 @@ returns-3 c =
     let k = f .before .before in
     let a = k .before .before .before .before .args in
     let n = length-piece (a .read) (a .route) (a .id) (a .n) (a .last) (a .from) (a .at) in
-    let b = pieceBytes (a .read) (a .route) (a .id) (a .n) (a .last) (a .from) (a .at) in (
+    let b = pieceSpelt (a .read) (a .route) (a .id) (a .n) (a .last) (a .from) (a .at) in (
       ap (λ (m : ℕ). a .place + m) (sym n) ∙ moves (length (a .out .now)) (a .place) (length b) (omega (arith, n)),
       piece-laid (a .out .now) (a .place) (a .read) _ (a .route) (a .id) (a .n) (a .last) (a .from) (a .at) (k .piece-kind .ensures) (f .put-found .ensures)
           (c .before .before .put-sum .ensures) (omega arith),
