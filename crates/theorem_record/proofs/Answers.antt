@@ -18,7 +18,7 @@ use Rattle.reading_lengths.proofs.Bytes.{bytes-drop}
 use Rattle.connection.specs.declared.Remote.{Remote}
 use Rattle.connection.specs.declared.Refusal.{Refusal}
 use Rattle.connection.specs.declared.Event.{Event}
-use Rattle.connection.specs.declared.Event.the-variants.{Open, Close, Connected, SetRemote, Switch}
+use Rattle.connection.specs.declared.Event.the-variants.{Open, Close, Connected, SetRemote, Switch, Cancel}
 use Rattle.connection.specs.declared.Answer.{Answer}
 use Rattle.connection.specs.declared.Answer.the-variants.{Done, Refused}
 use Rattle.connection.specs.Event.{refusalNumber}
@@ -53,11 +53,11 @@ use Rattle.event_decode.specs.declared.Call.the-variants.{Own, Lost, Segment, W
 use Rattle.event_decode.specs.Calls.{remoteIn, callOf, bytesFrom}
 use Rattle.event_answer.specs.Answers.{refused, refusal, doneAlone, doneWith, foundBytes, waiting}
 use Rattle.event_answer.proofs.Chain.{length-found, length-waiting}
-use Rattle.dispatch_events.specs.Events.{toldBytes, lossBytes, countBytes}
+use Rattle.dispatch_events.specs.Events.{toldBytes, failedByte, lossBytes, countBytes}
 use Rattle.dispatch_receive.specs.Long.{longestBody}
 use Rattle.dispatch_receive.specs.Walk.{orRefused, walkBytes}
-use Rattle.dispatch_receive.specs.Segment.{hereBytes, heldBytes, takeBytes, lentNext, Progress, begun, oneTake, allTakes}
-use Rattle.dispatch_receive.proofs.Written.{length-step, length-pdu, length-here, length-held}
+use Rattle.dispatch_receive.specs.Segment.{hereBytes, heldBytes, pieceKind, pieceBytes, takeBytes, lentNext, Progress, begun, oneTake, allTakes}
+use Rattle.dispatch_receive.proofs.Written.{length-step, length-pdu, length-here, length-held, length-piece}
 use Rattle.dispatch_receive.proofs.Run.{read-within, count-fits}
 use Rattle.dispatch_send.specs.Send.{arrivalBytes, transmissionBytes, takingBytes, roomOf}
 use Rattle.dispatch.proofs.Sizes.{taken-size, buffer-size}
@@ -68,9 +68,9 @@ use Rattle.theorems.proofs.Numbers.{refused-at}
 use Rattle.dispatch_refines.specs.Told.{Take, bytesIn, nextTake, tookThen, takesFrom}
 use Rattle.dispatch_refines.specs.Answer.{takesOver, takesAnswer, takeAnswer, answerOf}
 use Rattle.dispatch_refines.proofs.Answer.{takes-count}
-use Rattle.dispatch_refines.proofs.Read.{number-at, kind-at, length-at, some-number, TakeFits}
+use Rattle.dispatch_refines.proofs.Read.{number-at, kind-at, length-at, some-number, kind-small, TakeFits}
 use Rattle.dispatch_refines.proofs.Fits.{take-fits}
-use Rattle.recording.specs.Entry.{isRecorded, isSpelt, takeFits, takeNeeds, takesFit, segmentFits, stepFits, doneLong, doneFits, answerFits}
+use Rattle.recording.specs.Entry.{isRecorded, isSpelt, takeFits, pduNeeds, otherNeeds, takeNeeds, takesFit, segmentFits, stepFits, doneLong, doneFits, answerFits}
 use Rattle.theorem_record.proofs.Numbers.{by-call}
 
 -- A REFUSAL: its number, and four bytes more
@@ -107,9 +107,9 @@ module _ (n : ℕ) (plain : Plain n) where
   told-fits Done long = alone-fits n plain long
   told-fits (Refused r) long = refusal-fits n r
 
-  loss-fits : (a : Answer) → doneLong n ≡ 3 → answerFits n (lossBytes a) ≡ true
-  loss-fits Done long = with-fits n 1 0 plain long
-  loss-fits (Refused r) long = refusal-fits n r
+  loss-fits : (a : Answer) (failed : Bool) → doneLong n ≡ 3 → answerFits n (lossBytes a failed) ≡ true
+  loss-fits Done failed long = with-fits n 1 (failedByte failed) plain long
+  loss-fits (Refused r) failed long = refusal-fits n r
 
   counted-fits : (a : CountAnswer) → doneLong n ≡ 6 → answerFits n (countBytes a) ≡ true
   counted-fits (Counts.Count v) long = with-fits n 4 v plain long
@@ -205,16 +205,16 @@ or-fits n Received.NotReceiving bytes h = refused-fits n 4 0 (omega arith) refl
 
 -- A TAKE, and other bytes behind it: its kind and mark are known, and it has as many bytes as they say
 module _ (l : List ℕ) where
-  other-needs : (k : ℕ) → be 1 l 4 ≡ k → eqb k 1 ≡ false → leb k 2 ≡ true → (takeFits l ≡ true) × (takeNeeds l ≡ 14)
+  other-needs : (k n : ℕ) → be 1 l 4 ≡ k → eqb k 1 ≡ false → leb k 5 ≡ true → otherNeeds k ≡ n → (takeFits l ≡ true) × (takeNeeds l ≡ n)
   unfolding takeFits takeNeeds
-  other-needs k e no-pdu low = (rw (e, no-pdu) low, rw (e, no-pdu) refl)
+  other-needs k n e no-pdu low needs = (rw (e, no-pdu) low, rw (e, no-pdu) needs)
 
   here-needs : be 1 l 4 ≡ 1 → be 1 l 14 ≡ 0 → (takeFits l ≡ true) × (takeNeeds l ≡ 19)
-  unfolding takeFits takeNeeds
+  unfolding takeFits takeNeeds pduNeeds
   here-needs e mark = (rw (e, mark) refl, rw (e, mark) refl)
 
   held-needs : (n : ℕ) → be 1 l 4 ≡ 1 → be 1 l 14 ≡ 1 → be 4 l 10 ≡ n → (takeFits l ≡ true) × (takeNeeds l ≡ n + 15)
-  unfolding takeFits takeNeeds
+  unfolding takeFits takeNeeds pduNeeds
   held-needs n e mark long = (rw (e, mark) refl, rw (e, mark, long) refl)
 
 abbrev TakeStands : List ℕ → List ℕ → Type 0
@@ -223,12 +223,28 @@ TakeStands t rest = (takeFits (t ++ rest) ≡ true) × (takeNeeds (t ++ rest) �
 stands-by : (t rest : List ℕ) (n : ℕ) → (takeFits (t ++ rest) ≡ true) × (takeNeeds (t ++ rest) ≡ n) → length t ≡ n → TakeStands t rest
 stands-by t rest n h long = (h .0, h .1 ∙ sym long)
 
+-- a piece, the last or not
+piece-needs : (last : Bool) (l : List ℕ) → be 1 l 4 ≡ pieceKind last → (takeFits l ≡ true) × (takeNeeds l ≡ 18)
+unfolding otherNeeds
+piece-needs true l e = other-needs l 5 18 e refl refl refl
+piece-needs false l e = other-needs l 4 18 e refl refl refl
+
 take-stands : (begins read : ℕ) (o : Outcome) (payload rest : List ℕ) → TakeFits begins o payload → TakeStands (takeBytes begins read o payload) rest
+unfolding otherNeeds
 take-stands begins read Found.More payload rest h =
-    stands-by (foundBytes read 0 0 0 0) rest 14 (other-needs _ 0 (kind-at read 0 0 0 0 rest refl (omega arith)) refl refl) (length-found read 0 0 0 0)
+    stands-by (foundBytes read 0 0 0 0) rest 14 (other-needs _ 0 14 (kind-at read 0 0 0 0 rest refl (omega arith)) refl refl refl) (length-found read 0 0 0 0)
 take-stands begins read (Found.Drop reason id n) payload rest h =
     stands-by (foundBytes read 2 reason id n) rest 14
-    (other-needs _ 2 (kind-at read 2 reason id n rest refl (omega arith)) refl refl) (length-found read 2 reason id n)
+    (other-needs _ 2 14 (kind-at read 2 reason id n rest refl (omega arith)) refl refl refl) (length-found read 2 reason id n)
+take-stands begins read (Found.Start route id n last) payload rest h =
+    stands-by (foundBytes read 3 route id n) rest 14
+    (other-needs _ 3 14 (kind-at read 3 route id n rest refl (omega arith)) refl refl refl) (length-found read 3 route id n)
+take-stands begins read (Found.Piece route id at n last) payload rest h =
+    let l : List ℕ = pieceBytes read route id n last begins at ++ rest in
+    let behind : List ℕ = spell 4 (begins + at) ++ rest in
+    let is : l ≡ foundBytes read (pieceKind last) route id n ++ behind = simp append-assoc in
+    stands-by (pieceBytes read route id n last begins at) rest 18
+    (piece-needs last l (kind-at read (pieceKind last) route id n behind is (kind-small last))) (length-piece read route id n last begins at)
 take-stands begins read (Found.Pdu route id true at n) payload rest h =
     let l : List ℕ = hereBytes read route id n begins at ++ rest in
     let behind : List ℕ = spell 1 0 ++ (spell 4 (begins + at) ++ rest) in
@@ -310,7 +326,7 @@ module _ (l : Loan) (a : List ℕ) where
 
   lost-fits : (n c : ℕ) → Plain n → doneLong n ≡ 3 → Fitting n (Lost c)
   unfolding answerOf
-  lost-fits n c plain long short = loss-fits n plain (lossOf (sizes l) c .answer) long
+  lost-fits n c plain long short = loss-fits n plain (lossOf (sizes l) c .answer) (lossOf (sizes l) c .failed) long
 
   segment-fits : Bytes a → (c at : ℕ) → Fitting 7 (Segment c at)
   unfolding answerOf
@@ -368,6 +384,7 @@ call-fits =
     (λ a t l b. switches-fit l a 13 (be 1 a 1) (eqb (be 1 a 2) 1) (λ _. refl) refl)
     (λ a t l b. read-fits l a 14 (be 1 a 1) (λ _. refl) refl)
     (λ a t l b. clear-fits l a 15 (be 1 a 1) (λ _. refl) refl)
+    (λ a t l b. own-fits l a 16 (be 1 a 1) Cancel (λ _. refl) refl)
 
 -- THE ANSWER FITS, of any image, state and memory
 pub answer-fits : (n : ℕ) → isRecorded n ≡ true → (l : Loan) (a : List ℕ) → Bytes a → isSpelt (callOf n a) ≡ true

@@ -30,7 +30,7 @@ module _ (e : Noted) where
   pub number-back : Notable e → numberIn (noteRow e) ≡ e .number
   number-back n =
       number-at 2 (e .number) (spell 4 (e .stamp)) (spell 2 0 ++ spell 4 (length (noteBody e))) 4
-      (omega (arith, leb-true (e .number) 15 (and-right (ltb 0 (e .number)) (leb (e .number) 15) (n .event)))) (length-spell 4 (e .stamp)) (simp append-assoc)
+      (omega (arith, leb-true (e .number) 16 (and-right (ltb 0 (e .number)) (leb (e .number) 16) (n .event)))) (length-spell 4 (e .stamp)) (simp append-assoc)
 
   pub zero-back : zeroIn (noteRow e) ≡ 0
   zero-back =

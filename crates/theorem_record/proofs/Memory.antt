@@ -9,7 +9,7 @@ use lib.Seq.{take-take}
 use Rattle.table_layout.specs.Layout.{bodyOf}
 use Rattle.table.proofs.Facts.{accepted-facts}
 use Rattle.table_layout.specs.declared.Kind.the-variants.{Route as RouteRows}
-use Rattle.reading.specs.Feed.{Cell, Out, nothing, pdu, dropped, Took, takeB, emit}
+use Rattle.reading.specs.Feed.{Cell, Out, nothing, pdu, dropped, start, piece, Took, takeB, emit}
 use Rattle.reading_lengths.specs.Listed.{Bytes}
 use Rattle.reading_lengths.proofs.Bytes.{bytes-drop}
 use Rattle.receive_route.specs.Route.{lookupOf}
@@ -162,12 +162,16 @@ module _ (image : List ℕ) (k : ℕ) {m m′ : Machine} (same : HoldsAlike m m�
         payloadIn (nothing ∷ os) = []
         payloadIn (pdu r p ∷ os) = p
         payloadIn (dropped j i n ∷ os) = []
+        payloadIn (start r i n m ∷ os) = []
+        payloadIn (piece r p m ∷ os) = p
 
         one : (o : Outcome)
             → pduTold image k (payloadOf segment z k o) o ≡ pduTold image k (payloadOf segment z′ k o) o → payloadOf segment z k o ≡ payloadOf segment z′ k o
         one Found.More e = refl
         one (Found.Pdu route id inside at n) e = ap payloadIn e
         one (Found.Drop reason id n) e = refl
+        one (Found.Start route id n last) e = refl
+        one (Found.Piece route id at n last) e = ap payloadIn e
 
         go : (o o′ : Outcome) → o ≡ o′ → pduTold image k (payloadOf segment z k o) o ≡ pduTold image k (payloadOf segment z′ k o′) o′
             → payloadOf segment z k o ≡ payloadOf segment z′ k o′
@@ -299,9 +303,9 @@ module _ (image : List ℕ) {m m′ : Machine} (good : Good image m) (good′ : 
   unfolding answerOf
   answers-same a b Unknown = refl
   answers-same a b Unfit = refl
-  answers-same a b (Ticks n) = ap (λ (l : Lent). ticksBytes (ticksEvent l n .answer)) (lent-same image same)
+  answers-same a b (Ticks n) = ap (λ (l : Lent). ticksBytes (ticksEvent l n .answer) (ticksEvent l n .failed)) (lent-same image same)
   answers-same a b (Own c e) = ap (λ (l : Lent). toldBytes (eventOf l c e .answer)) (lent-same image same)
-  answers-same a b (Lost c) = ap (λ (l : Lent). lossBytes (lossOf l c .answer)) (lent-same image same)
+  answers-same a b (Lost c) = ap (λ (l : Lent). lossBytes (lossOf l c .answer) (lossOf l c .failed)) (lent-same image same)
   answers-same a b (Segment c at) = segment-same image c (bytesFrom a at) (bytes-drop at a b) m m′ same
   answers-same a b (Walk c place at) = ap (λ (l : Lent). walkedBytes (walkOf l c (bytesFrom a at) place)) (lent-same image same)
   answers-same a b (TakeWaiting c n) = waiting-same c (take (roomOf n) (replicate 1472 0))

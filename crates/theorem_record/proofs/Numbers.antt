@@ -13,21 +13,22 @@ use lib.Seq.{take-append-seam, drop-append-seam}
 use Rattle.wire.specs.Be.{be}
 use Rattle.wire.proofs.Part.{be-front}
 use Rattle.lists.proofs.Both.{impossible, and-left, and-right}
-use Rattle.connection.specs.declared.Event.the-variants.{Open, Close, Connected, SetRemote, Switch}
+use Rattle.connection.specs.declared.Event.the-variants.{Open, Close, Connected, SetRemote, Switch, Cancel}
 use Rattle.event_decode.specs.declared.Call.{Call}
 use Rattle.event_decode.specs.declared.Call.the-variants.{Own, Lost, Segment, Walk, TakeWaiting, Datagram, Accept, Transmit, SwitchAll, ReadCount, ClearCount}
 use Rattle.event_decode.specs.Calls.{fitted, plain, lengthFits, addressFits, addressed, remoteIn, positioned, callOf}
 use Rattle.recording.specs.Entry.{isRecorded, argumentsLong, argumentsIn, answerIn, isSpelt}
 
--- AN EVENT OF A RECORDING is one of fifteen
+-- AN EVENT OF A RECORDING is one of sixteen
 next-number : (P : ℕ → Type 0) (k n : ℕ) → P (suc k) → (n ≤ k → P n) → n ≤ suc k → P n
 next-number P k n here below h = ⊎-elim (λ e. subst P (sym e) here) (λ l. below (le-of-suc-le-suc l)) (eq-or-lt-of-le h)
 
-by-number : (P : ℕ → Type 0) → P 1 → P 2 → P 3 → P 4 → P 5 → P 6 → P 7 → P 8 → P 9 → P 10 → P 11 → P 12 → P 13 → P 14 → P 15
+by-number : (P : ℕ → Type 0) → P 1 → P 2 → P 3 → P 4 → P 5 → P 6 → P 7 → P 8 → P 9 → P 10 → P 11 → P 12 → P 13 → P 14 → P 15 → P 16
     → (n : ℕ) → isRecorded n ≡ true → P n
-by-number P p₁ p₂ p₃ p₄ p₅ p₆ p₇ p₈ p₉ p₁₀ p₁₁ p₁₂ p₁₃ p₁₄ p₁₅ n e =
-    let some : 0 < n = ltb-true 0 n (and-left (ltb 0 n) (leb n 15) e) in
-    next-number P 14 n p₁₅
+by-number P p₁ p₂ p₃ p₄ p₅ p₆ p₇ p₈ p₉ p₁₀ p₁₁ p₁₂ p₁₃ p₁₄ p₁₅ p₁₆ n e =
+    let some : 0 < n = ltb-true 0 n (and-left (ltb 0 n) (leb n 16) e) in
+    next-number P 15 n p₁₆
+    (next-number P 14 n p₁₅
     (next-number P 13 n p₁₄
     (next-number P 12 n p₁₃
     (next-number P 11 n p₁₂
@@ -41,7 +42,7 @@ by-number P p₁ p₂ p₃ p₄ p₅ p₆ p₇ p₈ p₉ p₁₀ p₁₁ p₁₂
     (next-number P 3 n p₄
     (next-number P 2 n p₃
     (next-number P 1 n p₂
-    (next-number P 0 n p₁ (λ none. absurd (omega arith)))))))))))))))) (leb-true n 15 (and-right (ltb 0 n) (leb n 15) e))
+    (next-number P 0 n p₁ (λ none. absurd (omega arith))))))))))))))))) (leb-true n 16 (and-right (ltb 0 n) (leb n 16) e))
 
 -- .. so what holds of the call of each number, of arguments that fit, holds of all that spell an event
 when-spelt : (P : Call → Type 0) (t : Bool) (call : Call) → isSpelt (fitted t call) ≡ true → (t ≡ true → P call) → P (fitted t call)
@@ -65,9 +66,10 @@ pub by-call : (P : ℕ → List ℕ → Call → Type 0)
     → ((a : List ℕ) → positioned a 3 2 ≡ true → P 13 a (SwitchAll (be 1 a 1) (eqb (be 1 a 2) 1)))
     → ((a : List ℕ) → plain a 2 ≡ true → P 14 a (ReadCount (be 1 a 1)))
     → ((a : List ℕ) → plain a 2 ≡ true → P 15 a (ClearCount (be 1 a 1)))
+    → ((a : List ℕ) → plain a 2 ≡ true → P 16 a (Own (be 1 a 1) Cancel))
     → (n : ℕ) → isRecorded n ≡ true → (a : List ℕ) → isSpelt (callOf n a) ≡ true → P n a (callOf n a)
 unfolding callOf
-by-call P p₁ p₂ p₃ p₄ p₅ p₆ p₇ p₈ p₉ p₁₀ p₁₁ p₁₂ p₁₃ p₁₄ p₁₅ =
+by-call P p₁ p₂ p₃ p₄ p₅ p₆ p₇ p₈ p₉ p₁₀ p₁₁ p₁₂ p₁₃ p₁₄ p₁₅ p₁₆ =
     by-number (λ n. (a : List ℕ) → isSpelt (callOf n a) ≡ true → P n a (callOf n a))
     (λ a e. when-spelt (P 1 a) (plain a 2) (Own (be 1 a 1) Open) e (p₁ a))
     (λ a e. when-spelt (P 2 a) (plain a 2) (Own (be 1 a 1) Close) e (p₂ a))
@@ -84,6 +86,7 @@ by-call P p₁ p₂ p₃ p₄ p₅ p₆ p₇ p₈ p₉ p₁₀ p₁₁ p₁₂ p
     (λ a e. when-spelt (P 13 a) (positioned a 3 2) (SwitchAll (be 1 a 1) (eqb (be 1 a 2) 1)) e (p₁₃ a))
     (λ a e. when-spelt (P 14 a) (plain a 2) (ReadCount (be 1 a 1)) e (p₁₄ a))
     (λ a e. when-spelt (P 15 a) (plain a 2) (ClearCount (be 1 a 1)) e (p₁₅ a))
+    (λ a e. when-spelt (P 16 a) (plain a 2) (Own (be 1 a 1) Cancel) e (p₁₆ a))
 
 -- so their length is fixed, or told by a length within them
 module _ (a : List ℕ) where
@@ -125,6 +128,7 @@ arguments-back =
     (λ a t r. addressed-long a t)
     (λ a t r. length-long a r 3 t)
     (λ a t r. positioned-long a 3 2 t)
+    (λ a t r. plain-long a 2 t)
     (λ a t r. plain-long a 2 t)
     (λ a t r. plain-long a 2 t)
 

@@ -1,5 +1,5 @@
 -- CALLS THAT CAN BE RECORDED: whatever is answered, arguments of so many bytes leave room for it in a body of 4,096 bytes.
-use Prim.Native.Nat.{ℕ, _+_, suc, _*_, _≤_}
+use Prim.Native.Nat.{ℕ, _+_, suc, _*_, _/_, _≤_}
 use mathlib.Core.Path.{_≡_, refl, ap}
 use mathlib.Core.Bool.{Bool, true}
 use mathlib.Core.List.{List, [], _∷_}
@@ -9,7 +9,7 @@ use lib.ListN.{length, take, drop, replicate, length-append, length-drop}
 use Rattle.wire.specs.Be.{be}
 use Rattle.connection.specs.declared.Event.{Event}
 use Rattle.connection.specs.declared.Remote.{Remote}
-use Rattle.connection.specs.declared.Event.the-variants.{Open, Close, Connected, SetRemote, Switch}
+use Rattle.connection.specs.declared.Event.the-variants.{Open, Close, Connected, SetRemote, Switch, Cancel}
 use Rattle.gate.specs.Lent.{Loan, sizes}
 use Rattle.entry_events.specs.Change.{eventOf, lossOf}
 use Rattle.entry_events.specs.Module.{switchAllOf}
@@ -33,12 +33,12 @@ use Rattle.theorem_record.specs.Record.{Notable, AllNotable, Near, Recor
 use Rattle.theorem_record.specs.Again.{Timed, afterTicks, afterNote, answerTo, recorded, recordedFresh, mostArguments, Callable, Followed, AllCallable}
 use Rattle.theorem_record.proofs.Numbers.{by-call, plain-long, told-long}
 
--- ANSWERS: of a segment event at most 1,502 bytes and three for each of the segment
+-- ANSWERS: of a segment event at most 1,503 bytes and 32 for every nine of the segment
 module _ (l : Loan) (a : List ℕ) where
   abbrev Below : ℕ → Call → Type 0
   Below k call = length (answerOf l a call) ≤ k
 
-  segment-below : (c at : ℕ) → Below (1502 + 3 * length (drop at a)) (Segment c at)
+  segment-below : (c at : ℕ) → Below (1503 + 32 * length (drop at a) / 9) (Segment c at)
   unfolding answerOf
   segment-below c at = omega (arith, event-fits l c (bytesFrom a at), ap length (segment-named l c (bytesFrom a at)))
 
@@ -58,7 +58,7 @@ module _ (l : Loan) (a : List ℕ) where
 
   lost-below : (c : ℕ) → Below 6 (Lost c)
   unfolding answerOf
-  lost-below c = loss-size (lossOf (sizes l) c .answer)
+  lost-below c = loss-size (lossOf (sizes l) c .answer) (lossOf (sizes l) c .failed)
 
   datagram-below : (group : ℕ) (source : Remote) → Below 6 (Datagram group source)
   unfolding answerOf
@@ -110,6 +110,7 @@ call-fills =
     (λ a t l h. six l a _ h (switches-below l a (be 1 a 1) (eqb (be 1 a 2) 1)))
     (λ a t l h. six l a _ h (read-below l a (be 1 a 1)))
     (λ a t l h. six l a _ h (clear-below l a (be 1 a 1)))
+    (λ a t l h. six l a _ h (own-below l a (be 1 a 1) Cancel))
 
 -- SO THE ENTRY OF SUCH A CALL can be recorded, from any machine
 module _ (image : List ℕ) where

@@ -67,9 +67,9 @@ module _ (image : List ℕ) where
   recordedFresh rx tx cs = recorded (firstAt cs) (machine (freshState image) rx tx) cs
 
 -- A CALL THAT CAN BE RECORDED, whatever its answer is: one with room for it in a body of 4,096 bytes. Arguments have so many bytes: of a
--- segment 653 at most, of any other event 4,076
+-- segment 574 at most, of any other event 4,076
 unfoldable pub mostArguments : ℕ → ℕ
-mostArguments n = cond (eqb n 7) 653 4076
+mostArguments n = cond (eqb n 7) 574 4076
 
 pub record Callable (c : Timed) : Type 0 where
   pub event : isRecorded (c .number) ≡ true

@@ -42,7 +42,7 @@ frontFor es = spell 2 1 ++ spell 2 (length es)
 abbrev pub recordingOf : List Noted → List ℕ
 recordingOf es = frontFor es ++ rowsFor es ++ bodiesFor es
 
--- WHAT CAN BE RECORDED: an event 1 to 15 with arguments that spell it, at a stamp of four bytes, with a body of 4,096 bytes at most
+-- WHAT CAN BE RECORDED: an event 1 to 16 with arguments that spell it, at a stamp of four bytes, with a body of 4,096 bytes at most
 pub record Notable (e : Noted) : Type 0 where
   pub event : isRecorded (e .number) ≡ true
   pub spells : isSpelt (callOf (e .number) (e .arguments)) ≡ true
