@@ -25,7 +25,7 @@ use Rattle.entry_receive.specs.declared.Answer.the-variants.{Done, Refused, Not
 use Rattle.entry_receive.specs.Answer.{isDone}
 use Rattle.event_answer.specs.Answers.{refused, doneWith, foundBytes}
 use Rattle.event_answer.proofs.Chain.{length-found}
-use Rattle.dispatch_receive.specs.Segment.{hereBytes, heldBytes, pieceKind, pieceBytes, takeBytes, eventBytes}
+use Rattle.dispatch_receive.specs.Segment.{hereBytes, heldBytes, pieceKind, pieceSpelt, takeBytes, eventBytes}
 use Rattle.dispatch_receive.specs.Walk.{orRefused, stepBytes, walkBytes}
 use Rattle.dispatch_receive.proofs.Written.{length-here, length-held, length-piece}
 use Rattle.model_refines.specs.Run.{toldWalk}
@@ -132,14 +132,14 @@ module _ (segment : List ℕ) where
       )
   take-back begins read (Found.Piece route id at n last) payload rest h =
       let kind : ℕ = pieceKind last in
-      let l : List ℕ = pieceBytes read route id n last begins at ++ rest in
+      let l : List ℕ = pieceSpelt read route id n last begins at ++ rest in
       let behind : List ℕ = spell 4 (begins + at) ++ rest in
       let is : l ≡ foundBytes read kind route id n ++ behind = simp append-assoc in
       let place : be 4 l 14 ≡ begins + at = number-at 4 (begins + at) (foundBytes read kind route id n) rest 14 (h .1 .1) (length-found read kind route id n) is in
       let t =
       piece-read last l route (begins + at) n (kind-at read kind route id n behind is (kind-small last)) (which-at read kind route id n behind is (h .0)) place
       (length-at read kind route id n behind is (h .1 .0)) in
-      (t .0, drop-at (pieceBytes read route id n last begins at) rest (takeLong l) (length-piece read route id n last begins at ∙ sym (t .1)))
+      (t .0, drop-at (pieceSpelt read route id n last begins at) rest (takeLong l) (length-piece read route id n last begins at ∙ sym (t .1)))
   take-back begins read (Found.Pdu route id true at n) payload rest h =
       let l : List ℕ = hereBytes read route id n begins at ++ rest in
       let behind : List ℕ = spell 1 0 ++ (spell 4 (begins + at) ++ rest) in

@@ -56,7 +56,7 @@ use Rattle.event_answer.proofs.Chain.{length-found, length-waiting}
 use Rattle.dispatch_events.specs.Events.{toldBytes, failedByte, lossBytes, countBytes}
 use Rattle.dispatch_receive.specs.Long.{longestBody}
 use Rattle.dispatch_receive.specs.Walk.{orRefused, walkBytes}
-use Rattle.dispatch_receive.specs.Segment.{hereBytes, heldBytes, pieceKind, pieceBytes, takeBytes, lentNext, Progress, begun, oneTake, allTakes}
+use Rattle.dispatch_receive.specs.Segment.{hereBytes, heldBytes, pieceKind, pieceSpelt, takeBytes, lentNext, Progress, begun, oneTake, allTakes}
 use Rattle.dispatch_receive.proofs.Written.{length-step, length-pdu, length-here, length-held, length-piece}
 use Rattle.dispatch_receive.proofs.Run.{read-within, count-fits}
 use Rattle.dispatch_send.specs.Send.{arrivalBytes, transmissionBytes, takingBytes, roomOf}
@@ -240,10 +240,10 @@ take-stands begins read (Found.Start route id n last) payload rest h =
     stands-by (foundBytes read 3 route id n) rest 14
     (other-needs _ 3 14 (kind-at read 3 route id n rest refl (omega arith)) refl refl refl) (length-found read 3 route id n)
 take-stands begins read (Found.Piece route id at n last) payload rest h =
-    let l : List ℕ = pieceBytes read route id n last begins at ++ rest in
+    let l : List ℕ = pieceSpelt read route id n last begins at ++ rest in
     let behind : List ℕ = spell 4 (begins + at) ++ rest in
     let is : l ≡ foundBytes read (pieceKind last) route id n ++ behind = simp append-assoc in
-    stands-by (pieceBytes read route id n last begins at) rest 18
+    stands-by (pieceSpelt read route id n last begins at) rest 18
     (piece-needs last l (kind-at read (pieceKind last) route id n behind is (kind-small last))) (length-piece read route id n last begins at)
 take-stands begins read (Found.Pdu route id true at n) payload rest h =
     let l : List ℕ = hereBytes read route id n begins at ++ rest in
