@@ -46,43 +46,39 @@ unmarked b l a t z h =
     go true = refl
     go false = refl
 
-none-third : (y q u : Bool) → y && false && q && u ≡ false
-none-third true q u = refl
-none-third false q u = refl
+-- where they are not, there is a mark of 1 or the row is bad
+none-second : (a w r z : Bool) → false ≡ a && false && w && r && z
+none-second true w r z = refl
+none-second false w r z = refl
 
-none-last : (y u : Bool) → y && true && false && u ≡ false
-none-last true u = refl
-none-last false u = refl
+none-fourth : (a m w z : Bool) → false ≡ a && m && w && false && z
+none-fourth true true true z = refl
+none-fourth true true false z = refl
+none-fourth true false w z = refl
+none-fourth false m w z = refl
 
-none-either : (y u : Bool) → y && true && false && u ≡ u && false && y
-none-either true true = refl
-none-either true false = refl
-none-either false true = refl
-none-either false false = refl
+turned : (a t z : Bool) → a && z && t ≡ a && true && t && true && z
+turned true true true = refl
+turned true true false = refl
+turned true false true = refl
+turned true false false = refl
+turned false t z = refl
 
-turned : (y u : Bool) → y && true && true && u ≡ u && true && y
-turned true true = refl
-turned true false = refl
-turned false true = refl
-turned false false = refl
+module _ (b l : ℕ) (a t z : Bool) (h : l < 65536) where
+  pub too-long : 1464 < b * 65536 + l → b * 65536 + l < 65536 → false ≡ a && leb b 1 && (not (eqb b 1) || t) && leb l 1464 && z
+  too-long g k = rw (lt-leb l 1464 (omega arith)) (none-fourth a (leb b 1) (not (eqb b 1) || t) z)
 
--- and where they are not, either there is one or the row is bad
-pub marked : (b l : ℕ) (a t z : Bool) → l < 65536 → 1464 < b * 65536 + l
-    → a && z && leb 65536 (b * 65536 + l) && leb (b * 65536 + l) 67000 && t ≡ a && leb b 1 && (not (eqb b 1) || t) && leb l 1464 && z
-marked b l a t z h m = go (ℕ-discrete b 0) (ℕ-discrete b 1) (decLe l 1464) a z t
-  where
-    go : Dec (b ≡ 0) → Dec (b ≡ 1) → Dec (l ≤ 1464) → (x y u : Bool)
-        → x && y && leb 65536 (b * 65536 + l) && leb (b * 65536 + l) 67000 && u ≡ x && leb b 1 && (not (eqb b 1) || u) && leb l 1464 && y
-    go p q r false y u = refl
-    go (yes e) q r true y u =
-        let w : b ≡ 1 → ⊥ = λ f. omega arith in
-        rw (lt-leb 65536 (b * 65536 + l) (omega arith), le-leb b 1 (omega arith), ne-eqb b 1 w, lt-leb l 1464 (omega arith)) (none-third y (leb (b * 65536 + l) 67000) u)
-    go (no n) (yes e) (yes r) true y u =
-        rw (le-leb 65536 (b * 65536 + l) (omega arith), le-leb (b * 65536 + l) 67000 (omega arith), le-leb b 1 (omega arith), eq-eqb b 1 e, le-leb l 1464 r) (turned y u)
-    go (no n) (yes e) (no r) true y u =
-        rw (le-leb 65536 (b * 65536 + l) (omega arith), lt-leb (b * 65536 + l) 67000 (omega arith), le-leb b 1 (omega arith), eq-eqb b 1 e, lt-leb l 1464 (omega arith)) (none-either y u)
-    go (no n) (no k) r true y u =
-        rw (le-leb 65536 (b * 65536 + l) (omega arith), lt-leb (b * 65536 + l) 67000 (omega arith), lt-leb b 1 (omega arith)) (none-last y u)
+  pub mark-above : 67000 < b * 65536 + l → false ≡ a && leb b 1 && (not (eqb b 1) || t) && leb l 1464 && z
+  mark-above g = go (decLe b 1)
+    where
+      go : Dec (b ≤ 1) → false ≡ a && leb b 1 && (not (eqb b 1) || t) && leb l 1464 && z
+      go (yes e) = rw (lt-leb l 1464 (omega arith)) (none-fourth a (leb b 1) (not (eqb b 1) || t) z)
+      go (no n) = rw (lt-leb b 1 (omega arith)) (none-second a (not (eqb b 1) || t) (leb l 1464) z)
+
+  pub marked : 65536 ≤ b * 65536 + l → b * 65536 + l ≤ 67000 → a && z && t ≡ a && leb b 1 && (not (eqb b 1) || t) && leb l 1464 && z
+  marked g k =
+      let one : b ≡ 1 = omega arith in
+      rw (le-leb b 1 (omega arith), eq-eqb b 1 one, le-leb l 1464 (omega arith)) (turned a t z)
 
 -- "trigger 1 (0 or 1), longest payload 2"
 pub trigger-and-longest : (b l : ℕ) → l < 65536
@@ -103,22 +99,34 @@ module _ (s : List ℕ) (bytes : (i : ℕ) → byteAt s i < 256) (h : ℕ) (is :
       let e : h / 16777216 ≡ be 1 s 0 = rw is (first-byte s bytes 0) in
       record { is = e; small = rw e (be-small s bytes 1 0) }
 
-  module _ (n z : ℕ) (tcp : ℕ → Bool) (ez : z ≡ be 4 s 8) where
-    pub route-unmarked : h % 16777216 ≤ 1464 → ltb (h / 16777216) n && eqb (z % 65536) 0 ≡ routeGood n tcp s
+  module _ (n : ℕ) (tcp : ℕ → Bool) where
+    low-is : h % 16777216 ≡ be 1 s 1 * 65536 + be 2 s 2
+    low-is = rw is (low-bytes s bytes 0)
+
+    pub route-unmarked : (z : ℕ) → z ≡ be 4 s 8 → h % 16777216 ≤ 1464 → ltb (h / 16777216) n && eqb (z % 65536) 0 ≡ routeGood n tcp s
     unfolding routeGood routeRow
-    route-unmarked l =
-        let g : be 1 s 1 * 65536 + be 2 s 2 ≤ 1464 = rw (is, low-bytes s bytes 0) at l in
+    route-unmarked z ez l =
+        let g : be 1 s 1 * 65536 + be 2 s 2 ≤ 1464 = rw low-is at l in
         rw (is, ez, first-byte s bytes 0, last-bytes s bytes 8)
         (unmarked (be 1 s 1) (be 2 s 2) (ltb (be 1 s 0) n) (tcp (be 1 s 0)) (eqb (be 2 s 10) 0) g)
 
-    pub route-marked : (t : Bool) → t ≡ tcp (h / 16777216) → 1464 < h % 16777216
-        → ltb (h / 16777216) n && eqb (z % 65536) 0 && leb 65536 (h % 16777216) && leb (h % 16777216) 67000 && t ≡ routeGood n tcp s
+    pub route-too-long : 1464 < h % 16777216 → h % 16777216 < 65536 → false ≡ routeGood n tcp s
     unfolding routeGood routeRow
-    route-marked t et l =
-        let g : 1464 < be 1 s 1 * 65536 + be 2 s 2 = rw (is, low-bytes s bytes 0) at l in
+    route-too-long l k = too-long (be 1 s 1) (be 2 s 2) (ltb (be 1 s 0) n) (tcp (be 1 s 0)) (eqb (be 2 s 10) 0) (be-small s bytes 2 2) (rw low-is at l) (rw low-is at k)
+
+    pub route-mark-above : 67000 < h % 16777216 → false ≡ routeGood n tcp s
+    unfolding routeGood routeRow
+    route-mark-above l = mark-above (be 1 s 1) (be 2 s 2) (ltb (be 1 s 0) n) (tcp (be 1 s 0)) (eqb (be 2 s 10) 0) (be-small s bytes 2 2) (rw low-is at l)
+
+    pub route-marked : (z : ℕ) (t : Bool) → z ≡ be 4 s 8 → t ≡ tcp (h / 16777216) → 65536 ≤ h % 16777216 → h % 16777216 ≤ 67000
+        → ltb (h / 16777216) n && eqb (z % 65536) 0 && t ≡ routeGood n tcp s
+    unfolding routeGood routeRow
+    route-marked z t ez et l k =
         let w : t ≡ tcp (be 1 s 0) = et ∙ ap tcp (ap (λ (x : ℕ). x / 16777216) is ∙ first-byte s bytes 0) in
-        rw (is, ez, first-byte s bytes 0, low-bytes s bytes 0, last-bytes s bytes 8, w)
-        (marked (be 1 s 1) (be 2 s 2) (ltb (be 1 s 0) n) (tcp (be 1 s 0)) (eqb (be 2 s 10) 0) (be-small s bytes 2 2) g)
+        let g : 65536 ≤ be 1 s 1 * 65536 + be 2 s 2 = rw low-is at l in
+        let m : be 1 s 1 * 65536 + be 2 s 2 ≤ 67000 = rw low-is at k in
+        rw (is, ez, first-byte s bytes 0, last-bytes s bytes 8, w)
+        (marked (be 1 s 1) (be 2 s 2) (ltb (be 1 s 0) n) (tcp (be 1 s 0)) (eqb (be 2 s 10) 0) (be-small s bytes 2 2) g m)
 
   module _ (connections : List ℕ) (n : ℕ) where
     pub destination-without : n ≤ h / 16777216 → false ≡ destinationGood n (sizeIn 16 connections) s

@@ -254,18 +254,25 @@ pub fn is_tcp(connections: &[u8], groups: &[u8], c: usize) -> bool
     be8(row_in(groups, 2, be8(row_in(connections, 16, c), 0)), 0) == 2
 }
 
-// Transfer mark (65,536) and longest payload are one number as well. The protocol is asked for only where there is a mark.
+// Transfer mark (65,536) and longest payload are one number as well. The protocol is asked for only where there is a mark; a row
+// without one is tested by itself, so that it costs what it would cost without marks.
 pub fn route_good(row: &[u8], connections: &[u8], groups: &[u8]) -> bool
     ensures { λ r. ⌜ r ≡ routeGood (length (now (connections .entry)) / 16) (tcpIn 2 (now (groups .entry)) 16 (now (connections .entry))) (now (row .entry)) ⌝ }
 {
     let head = be32(row, 0);
-    let connection = head / 16777216;
     let low = head % 16777216;
-    let good = (connection < connections.len() / 16) & (be32(row, 8) % 65536 == 0);
     if low <= 1464 {
-        return good;
+        return (head / 16777216 < connections.len() / 16) & (be32(row, 8) % 65536 == 0);
     }
-    good & (65536 <= low) & (low <= 67000) & is_tcp(connections, groups, connection)
+    if low < 65536 {
+        return false;
+    }
+    if 67000 < low {
+        return false;
+    }
+    (head / 16777216 < connections.len() / 16)
+        & (be32(row, 8) % 65536 == 0)
+        & is_tcp(connections, groups, head / 16777216)
 }
 
 // The send size of connection c, out of the body of connections.
