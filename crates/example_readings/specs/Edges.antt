@@ -30,8 +30,8 @@ unfoldable pub rows : ℕ → List ReadingRow → ℕ → Routes
 rows k [] w i n = Refuse 20
 rows k (r ∷ rs) w i n =
     cond (eqb (r .id) i)
-        (cond (isOn (r .groups) w) (cond (r .tp) (Transfer k) (cond (leb n (r .longest)) (Accept k) (Refuse 22))) (Refuse 21))
-        (rows (suc k) rs w i n)
+    (cond (isOn (r .groups) w) (cond (r .tp) (Transfer k) (cond (leb n (r .longest)) (Accept k) (Refuse 22))) (Refuse 21))
+    (rows (suc k) rs w i n)
 
 -- three routes: 0x101 to 2 bytes under switch 0, 0x102 to 3 bytes that no switch turns off, and 0x104, marked, under switch 0
 abbrev pub readingTable : ℕ → Routes
