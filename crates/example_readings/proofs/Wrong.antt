@@ -5,11 +5,13 @@ use mathlib.Core.Bool.{true, false, true≢false}
 use mathlib.Core.List.{List, [], _∷_, _++_, map}
 use native.Mathlib.Omega.{arith}
 use lib.ListN.{length, take, drop, length-drop}
-use Rattle.reading.specs.Feed.{Routes, Cell, cell, transfer, header, Out, nothing, pdu, dropped, start, piece, pieceDone, feed, ready, Took, takeB, bytesRead, Ran, takes, segmentRan, compared}
+use Rattle.reading.specs.Feed.{Routes, Cell, cell, transfer, header, Out, nothing, pdu, dropped, start, piece, pieceDone, feed, ready, Took, takeB, bytesRead}
+use Rattle.reading.specs.Feed.{Ran, takes, segmentRan, compared}
 use Rattle.switches.specs.Switches.{isOn}
 use Rattle.reading_lengths.specs.Listed.{mark, readOut}
 use Rattle.example_readings.specs.Edges.{rows, readingTable, frameBar, headerTwo, frameEmpty, frameUnknown, allFirmware}
-use Rattle.example_readings.specs.Wrong.{TakeReading, SegmentReading, StreamReading, IsTake, IsSegment, IsStream, AlwaysMore, FirstRoute, FreshHeader, ReadsAll, EmptyPiece, MarkEarly, WaitingPiece, LongestApplied, FirstOnly, Closing, TestedLate}
+use Rattle.example_readings.specs.Wrong.{TakeReading, SegmentReading, StreamReading, IsTake, IsSegment, IsStream, AlwaysMore, FirstRoute, FreshHeader}
+use Rattle.example_readings.specs.Wrong.{ReadsAll, EmptyPiece, MarkEarly, WaitingPiece, LongestApplied, FirstOnly, Closing, TestedLate}
 
 -- 1 where a PDU or a piece came out
 abbrev came : Out → ℕ
@@ -81,7 +83,8 @@ no-waiting-piece t is wrong =
 pub no-longest-applied : (t : TakeReading) → IsTake t → LongestApplied t → ⊥
 unfolding takeB feed pieceDone isOn rows
 no-longest-applied t is wrong =
-    let le : 4294967295 ≤ 1464 = wrong (readingTable 1) allFirmware 2 0x104 4294967295 false (ap (λ (x : Took). x .out) (is (readingTable 1) ready allFirmware)) in
+    let le : 4294967295 ≤ 1464 =
+    wrong (readingTable 1) allFirmware 2 0x104 4294967295 false (ap (λ (x : Took). x .out) (is (readingTable 1) ready allFirmware)) in
     absurd (omega (arith, le))
 
 -- at two PDUs in one segment

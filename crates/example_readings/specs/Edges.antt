@@ -2,12 +2,13 @@
 use Prim.Native.Nat.{ℕ, suc}
 use mathlib.Core.Path.{_≡_}
 use mathlib.Core.Bool.{Bool, true, false, cond}
-use mathlib.Core.List.{List, [], _∷_, _++_}
+use mathlib.Core.List.{List, [], _∷_, _++_, flatten}
 use lib.Dec.{eqb, leb}
 use lib.ListN.{take, drop}
 use Rattle.wire.specs.Be.{be}
 use Rattle.reading.specs.declared.Decision.the-variants.{Accept, Refuse, Transfer}
-use Rattle.reading.specs.Feed.{Routes, payload, skip, cell, transfer, pdu, dropped, nothing, start, piece, ready, took, takeB, Ran, ran, segmentRan, segments, began, middle, finished, compared}
+use Rattle.reading.specs.Feed.{Routes, payload, skip, cell, transfer, pdu, dropped, nothing, start, piece, ready, took, takeB, Ran, ran, segmentRan, segments}
+use Rattle.reading.specs.Feed.{began, middle, finished, compared, middleOf}
 use Rattle.switches.specs.Switches.{isOn}
 use Rattle.reading_walk.specs.Walk.{the-end, a-pdu, a-drop, walked, walkAt, listOf}
 
@@ -79,7 +80,8 @@ pub record TransferEdges : Type 0 where
   pub take-piece : takeB (readingTable 1) (transfer 3 2) (7 ∷ 8 ∷ []) ≡ took (transfer 1 2) (piece 2 (7 ∷ 8 ∷ []) false) []
   pub take-last : takeB (readingTable 1) (transfer 1 2) (9 ∷ frameBar) ≡ took ready (piece 2 (9 ∷ []) true) frameBar
   pub take-none : takeB (readingTable 1) (transfer 1 2) [] ≡ took (transfer 1 2) nothing []
-  pub uncut : segmentRan (readingTable 1) ready (firmware ++ frameBar) ≡ ran ready (start 2 0x104 3 false ∷ piece 2 (7 ∷ 8 ∷ 9 ∷ []) true ∷ pdu 0 (0 ∷ 180 ∷ []) ∷ [])
+  pub uncut : segmentRan (readingTable 1) ready (firmware ++ frameBar)
+      ≡ ran ready (start 2 0x104 3 false ∷ piece 2 (7 ∷ 8 ∷ 9 ∷ []) true ∷ pdu 0 (0 ∷ 180 ∷ []) ∷ [])
   -- cut inside the header, between the start and its first byte, in the middle, and before the last byte
   pub cut-3 : cutAt 3 ≡ ran ready (start 2 0x104 3 false ∷ piece 2 (7 ∷ 8 ∷ 9 ∷ []) true ∷ [])
   pub cut-8 : cutAt 8 ≡ ran ready (start 2 0x104 3 false ∷ piece 2 (7 ∷ 8 ∷ 9 ∷ []) true ∷ [])
@@ -93,11 +95,18 @@ pub record TransferEdges : Type 0 where
   pub none-yet : compared (segmentRan (readingTable 1) ready (take 8 firmware) .list) ≡ began 2 0x104 3 ∷ []
   -- R19.5: at length 0 the start carries the mark; two transfers one after the other stay two
   pub length-0 : segmentRan (readingTable 1) ready noFirmware ≡ ran ready (start 2 0x104 0 true ∷ [])
-  pub twice : compared (segmentRan (readingTable 1) ready (noFirmware ++ firmware) .list) ≡ began 2 0x104 0 ∷ finished 2 ∷ began 2 0x104 3 ∷ middle 2 (7 ∷ 8 ∷ 9 ∷ []) ∷ finished 2 ∷ []
+  pub twice : compared (segmentRan (readingTable 1) ready (noFirmware ++ firmware) .list)
+      ≡ began 2 0x104 0 ∷ finished 2 ∷ began 2 0x104 3 ∷ middle 2 (7 ∷ 8 ∷ 9 ∷ []) ∷ finished 2 ∷ []
   -- R19.2: a transfer of one byte, and the start of the longest; R5.5: switched off at the header it is dropped
   pub one-byte : segmentRan (readingTable 1) ready oneFirmware ≡ ran ready (start 2 0x104 1 false ∷ piece 2 (7 ∷ []) true ∷ [])
   pub longest-one : segmentRan (readingTable 1) ready allFirmware ≡ ran (transfer 4294967295 2) (start 2 0x104 4294967295 false ∷ [])
   pub off : segmentRan (readingTable 2) ready firmware ≡ ran ready (dropped 21 0x104 3 ∷ [])
+
+-- R19.2 to R19.4, THE LONGEST TRANSFER, its header in one segment and its bytes in any segments after it: they are handed out, each once and
+-- in order, then its end, and the connection is at a header's first byte
+pub record LongestTransfer (ss : List (List ℕ)) : Type 0 where
+  pub ends-ready : segments (readingTable 1) ready (allFirmware ∷ ss) .to ≡ ready
+  pub all-handed : compared (segments (readingTable 1) ready (allFirmware ∷ ss) .list) ≡ began 2 0x104 4294967295 ∷ middleOf 2 (flatten ss) (finished 2 ∷ [])
 
 pub record ReadingEdges : Type 0 where
   -- R12.2: PDU 0x101, payload 180

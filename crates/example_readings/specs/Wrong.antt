@@ -5,7 +5,8 @@ use mathlib.Core.Path.{_≡_}
 use mathlib.Core.Bool.{Bool, true, false}
 use mathlib.Core.List.{List, [], _∷_, _++_, map}
 use lib.ListN.{length}
-use Rattle.reading.specs.Feed.{Routes, Cell, transfer, Out, nothing, pdu, dropped, start, piece, ready, Took, takeB, bytesRead, Ran, segmentRan, Handed, compared}
+use Rattle.reading.specs.Feed.{Routes, Cell, transfer, Out, nothing, pdu, dropped, start, piece, ready, Took, takeB, bytesRead, Ran, segmentRan, Handed}
+use Rattle.reading.specs.Feed.{compared}
 use Rattle.reading_lengths.specs.Listed.{Marked, mark, readOut}
 
 abbrev pub TakeReading : Type 0
