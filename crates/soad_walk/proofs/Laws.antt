@@ -1,18 +1,23 @@
--- The walk by a table's own routes, by the tests that led there.
-use Prim.Native.Nat.{ℕ, _≤_, _<_}
+-- The walk by a table's own routes, by the tests that led there; it meets no transfer.
+use Prim.Native.Nat.{ℕ, _/_, _≤_, _<_}
 use mathlib.Core.Path.{_≡_, sym, ap, _∙_}
 use mathlib.Core.Bool.{Bool, true, false}
 use mathlib.Core.List.{List}
 use native.Mathlib.Omega.{arith}
-use borrow.Author.Tests.{le-leb, lt-leb, lt-ltb, le-ltb}
+use borrow.Author.Tests.{le-leb, lt-leb, lt-ltb, le-ltb, eq-eqb}
 use lib.ListN.{length}
+use Rattle.reading.specs.declared.Decision.the-variants.{Transfer}
+use Rattle.receive_route.specs.Route.{rowsIn, lookupOf}
+use Rattle.receive_route.proofs.Decided.{never-transfers}
 use Rattle.receive_datagram.specs.declared.Walked.{Walked}
 use Rattle.receive_datagram.specs.Datagram.{walkedOf}
 use Rattle.table_layout.specs.declared.Kind.the-variants.{Group, Connection, Route}
 use Rattle.table_layout.specs.Layout.{rowsOf, bodyOf}
+use Rattle.table_layout.proofs.Parts.{body-rows}
 use Rattle.table_rows.specs.Rules.{tcpIn}
 use Rattle.table.specs.declared.TableAnswer.{TableAnswer}
 use Rattle.table.specs.Table.{tcpOf, checkTable}
+use Rattle.table.specs.Accepts.{Accepts}
 use Rattle.soad_walk.specs.declared.TableWalk.the-variants.{Refused, Step}
 use Rattle.soad_walk.specs.TableWalk.{acceptedWalk, afterCheck, tableWalkOf}
 
@@ -52,3 +57,13 @@ pub checked : (image : List ℕ) (connection switches : ℕ) (datagram : List �
 unfolding tableWalkOf
 checked image connection switches datagram place answer e =
     ap (λ (a : TableAnswer). afterCheck a (acceptedWalk image connection switches datagram place)) (sym e)
+
+-- R19.1: by the routes of an accepted image no header is a transfer on a connection that is not TCP, and a walk is on none that is
+pub never-a-transfer : (image : List ℕ) → Accepts image → (connection switches id n route : ℕ) → tcpOf image connection ≡ false
+    → lookupOf (bodyOf image Route) connection switches id n ≡ Transfer route → ⊥
+unfolding rowsIn tcpIn
+never-a-transfer image a connection switches id n route udp e =
+    let few : length (bodyOf image Route) / 16 ≤ 64 = omega (arith, body-rows image (a .laid) Route, a .most Route) in
+    let all : rowsIn (bodyOf image Route) ≡ length (bodyOf image Route) / 16 = rw (le-leb (length (bodyOf image Route) / 16) 64 few) in
+    never-transfers (bodyOf image Route) (tcpOf image) connection switches id n route
+    (λ r h m. eq-eqb _ _ (a .marked r (omega (arith, h, all, body-rows image (a .laid) Route)) m)) udp e
