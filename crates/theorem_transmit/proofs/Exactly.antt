@@ -12,7 +12,7 @@ use borrow.Author.Tests.{eqb-true, eqb-false, eq-eqb, ne-eqb, ltb-true, ltb-fals
 use Rattle.lists.specs.Search.{firstBad, every}
 use Rattle.lists.proofs.Both.{impossible}
 use Rattle.lists.proofs.Search.{every-at, every-all, pass-failed, found-bad}
-use Rattle.law_first.proofs.First.{before-bad, bad-most, bad-only, bad-none}
+use Rattle.law_lists.proofs.First.{before-bad, bad-most, bad-only, bad-none}
 use Rattle.table_rows.specs.declared.DestinationRow.{DestinationRow}
 use Rattle.table_rows.specs.Rows.{connectionOf, destinationOf}
 use Rattle.switches.specs.Switches.{isOn}

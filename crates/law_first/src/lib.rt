@@ -1,1 +1,0 @@
-// The first of some numbers that is not good: laws of the search, no code.
