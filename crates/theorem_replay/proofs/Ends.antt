@@ -25,7 +25,7 @@ use Rattle.replay_whole.specs.declared.End.the-variants.{Whole, Table, Unread, 
 use Rattle.replay_whole.specs.Replay.{Left, underFront, replayOf}
 use Rattle.theorem_replay.specs.Entries.{ticksUpTo, isCut, faultOfEntry, isFine}
 use Rattle.theorem_replay.specs.Runs.{machineAfter, RanTo, FirstNotFine}
-use Rattle.theorem_replay.proofs.First.{before-bad, bad-only, bad-none}
+use Rattle.law_lists.proofs.First.{before-bad, bad-only, bad-none}
 use Rattle.theorem_replay.proofs.Fold.{endBy, endOf, Ended}
 use Rattle.theorem_replay.proofs.Replay.{under-accepted, long-ends}
 

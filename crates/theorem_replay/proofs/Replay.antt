@@ -22,7 +22,8 @@ use Rattle.replay_whole.specs.Replay.{Going, Left, isRun, endAt, stepAt, ongoin
 use Rattle.model_refines.specs.Run.{afterRun}
 use Rattle.theorem_replay.specs.Entries.{isNothing, entryBody, ticksBefore, ticksUpTo, eventsUpTo, isCut, faultOfEntry, isFine}
 use Rattle.theorem_replay.specs.Runs.{machineLeft, freshMachine, machineAfter, EntryRuns, goingAt}
-use Rattle.theorem_replay.proofs.First.{before-bad, bad-most, otherIn}
+use Rattle.law_lists.proofs.First.{before-bad, bad-most}
+use Rattle.theorem_replay.proofs.First.{otherIn}
 use Rattle.theorem_replay.proofs.Step.{no-fault-is, step-small}
 use Rattle.theorem_replay.proofs.Fold.{nothing-is, fine-whole, unlikeIn, Ended, runs, replay-ends, going-stands, going-left}
 

@@ -24,7 +24,7 @@ use Rattle.sheet.proofs.Pairs.{only-pair}
 use Rattle.sheet.proofs.Joins.{same-words, agreeing-from, words-full, words-agree, words-width, words-past}
 use Rattle.entry_sheet.specs.Apply.{forceAt, forcedRows, applyOf}
 use Rattle.theorem_sheets.specs.Switched.{tableRows, afterSwitches, Start, Proper}
-use Rattle.theorem_sheets.proofs.Each.{each-own}
+use Rattle.law_lists.proofs.Each.{each-own}
 use Rattle.theorem_sheets.proofs.Steps.{word-sound}
 use Rattle.theorem_sheets.proofs.Sheets.{applied, sheet-words}
 

@@ -42,7 +42,7 @@ use Rattle.sheet.proofs.Joins.{Full, no-at, join-at, add-there}
 use Rattle.sheet.proofs.Turns.{there-row, there-below}
 use Rattle.entry_sheet.specs.Apply.{forcedOf, forceAt, forcedRows}
 use Rattle.theorem_sheets.specs.Switched.{tableRows, afterSwitch}
-use Rattle.theorem_sheets.proofs.Each.{each-same, each-still, each-twice, each-more}
+use Rattle.law_lists.proofs.Each.{each-same, each-still, each-twice, each-more}
 
 -- other switches leave a row's record sound
 pub word-sound : (image : List ℕ) (n : ℕ) (c : Connection) (w : ℕ) → soundAt image n c ≡ true → n < rowsOf image Connections

@@ -1,0 +1,3 @@
+-- When each answer is given, in the rules' words.
+pub mod Image
+pub mod Calls

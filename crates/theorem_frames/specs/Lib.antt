@@ -1,0 +1,2 @@
+-- Calls of the framing function.
+pub mod Calls

@@ -1,0 +1,2 @@
+-- Matching and the best match.
+pub mod Match

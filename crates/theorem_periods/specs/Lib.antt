@@ -1,0 +1,2 @@
+-- The end of an online period.
+pub mod Periods

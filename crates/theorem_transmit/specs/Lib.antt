@@ -1,0 +1,2 @@
+-- When a transmit gets each answer.
+pub mod Exactly

@@ -1,0 +1,1 @@
+// When a transmit gets each of its answers, and which destination a refusal names: laws, no code.
