@@ -12,7 +12,8 @@ use lib.ListN.{length, length-take}
 use Rattle.wire.specs.Be.{byteAt, be}
 use Rattle.reading.specs.declared.Decision.{Decision}
 use Rattle.reading.specs.declared.Decision.the-variants.{Accept, Refuse, Transfer}
-use Rattle.reading.specs.Feed.{Routes, header, payload, skip, Cell, cell, transfer, ready, Out, nothing, pdu, dropped, start, piece, fed, decided, pieceDone, feed, Took, goes, pieceBy, takeB}
+use Rattle.reading.specs.Feed.{Routes, header, payload, skip, Cell, cell, transfer, ready, Out, nothing, pdu, dropped, start, piece}
+use Rattle.reading.specs.Feed.{fed, decided, pieceDone, feed, Took, goes, pieceBy, takeB}
 use Rattle.reading.proofs.Laws.{grow}
 use Rattle.reading_lengths.specs.Listed.{Bytes}
 use Rattle.reading_lengths.specs.Head.{Head, ended, short, beyond, whole, headOf}

@@ -104,7 +104,8 @@ told-small (dropped k i n) c t r p e = let z : _≡_ {A = ℕ} 0 1 = cc in absur
 told-small (start q i n m) c t r p e = let z : _≡_ {A = ℕ} 0 1 = cc in absurd (omega arith)
 told-small (piece q l m) c t r p e = let z : _≡_ {A = ℕ} 0 1 = cc in absurd (omega arith)
 
--- an outcome with such a PDU, or with a drop, a start or a piece that fits, fits, where the take read no further than a segment that is not too long, and receive memory is as long as it is
+-- an outcome with such a PDU, or with a drop, a start or a piece that fits, fits, where the take read no further than a segment that is not
+-- too long, and receive memory is as long as it is
 outcome-fits : (ids : ℕ → ℕ) (s : Bool) (begins read : ℕ) (rest rx : List ℕ) (k : ℕ) (o : Out) → ((r : ℕ) (p : List ℕ) → o ≡ pdu r p → Within r (length p))
     → OutFits o → begins + read ≤ longestBody → length (stretch 1464 k rx) ≡ 1464
     → TakeFits begins (takeOutcome ids s read o) (payloadOf rest rx k (takeOutcome ids s read o))
@@ -243,11 +244,15 @@ walk-read l k datagram place bytes notLong = go (isDone (walkAnswer l k datagram
     R : Routes
     R = lookupOf (bodyOf (l .image) RouteRows) k (recordAt (l .state) k .switches)
 
+    pdu-fits : (r i n : ℕ) → Row r → headOf (drop place datagram) ≡ whole i n → StepFits (Met.Pdu r i (place + 8) n)
+    pdu-fits r i n low e =
+        let w = whole-fits (drop place datagram) i n e in
+        let d = length-drop place datagram in
+        (omega (arith, low), (omega (arith, notLong, w, d), omega (arith, notLong, w, d)))
+
     decided : (d : Decision) (i n : ℕ) → R i n ≡ d → headOf (drop place datagram) ≡ whole i n → StepFits (met.walkOutcome (wholeAt d place i n .found))
-    decided (Decided.Accept r) i n a e =
-        (omega (arith, accepted-row (bodyOf (l .image) RouteRows) k (recordAt (l .state) k .switches) i n r a), (omega (arith, notLong, whole-fits (drop place datagram) i n e, length-drop place datagram), omega (arith, notLong, whole-fits (drop place datagram) i n e, length-drop place datagram)))
-    decided (Decided.Transfer r) i n a e =
-        (omega (arith, moved-row (bodyOf (l .image) RouteRows) k (recordAt (l .state) k .switches) i n r a), (omega (arith, notLong, whole-fits (drop place datagram) i n e, length-drop place datagram), omega (arith, notLong, whole-fits (drop place datagram) i n e, length-drop place datagram)))
+    decided (Decided.Accept r) i n a e = pdu-fits r i n (accepted-row (bodyOf (l .image) RouteRows) k (recordAt (l .state) k .switches) i n r a) e
+    decided (Decided.Transfer r) i n a e = pdu-fits r i n (moved-row (bodyOf (l .image) RouteRows) k (recordAt (l .state) k .switches) i n r a) e
     decided (Decided.Refuse j) i n a e =
         let h = head-small (drop place datagram) (bytes-drop place datagram bytes) (whole i n) e in
         (reason-small (bodyOf (l .image) RouteRows) k (recordAt (l .state) k .switches) i n j a, (h .0, h .1))

@@ -135,7 +135,8 @@ module _ (segment : List ℕ) where
       let l : List ℕ = pieceSpelt read route id n last begins at ++ rest in
       let behind : List ℕ = spell 4 (begins + at) ++ rest in
       let is : l ≡ foundBytes read kind route id n ++ behind = simp append-assoc in
-      let place : be 4 l 14 ≡ begins + at = number-at 4 (begins + at) (foundBytes read kind route id n) rest 14 (h .1 .1) (length-found read kind route id n) is in
+      let place : be 4 l 14 ≡ begins + at =
+      number-at 4 (begins + at) (foundBytes read kind route id n) rest 14 (h .1 .1) (length-found read kind route id n) is in
       let t =
       piece-read last l route (begins + at) n (kind-at read kind route id n behind is (kind-small last)) (which-at read kind route id n behind is (h .0)) place
       (length-at read kind route id n behind is (h .1 .0)) in

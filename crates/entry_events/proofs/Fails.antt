@@ -9,11 +9,11 @@ use Rattle.connection.specs.Connection.{zeroRecord, failedOf}
 use Rattle.state.specs.State.{recordAt}
 use Rattle.gate.specs.Lent.{Lent}
 use Rattle.entry_events.specs.declared.Told.{Told}
-use Rattle.entry_events.specs.declared.Loss.{Loss}
 use Rattle.entry_events.specs.Change.{lossFrom, eventOf, lossOf}
 
 module _ (l : Lent) (n : ℕ) (t : Told) (is : t ≡ eventOf l n Lost) where
-  pub loss-told : {f : Bool} → f ≡ failedOf (recordAt (l .state) n) (recordAt (t .state) n) → record { answer = t .answer; state = t .state; failed = f } ≡ lossOf l n
+  pub loss-told : {f : Bool} → f ≡ failedOf (recordAt (l .state) n) (recordAt (t .state) n)
+      → record { answer = t .answer; state = t .state; failed = f } ≡ lossOf l n
   unfolding lossOf
   loss-told e = ap (λ (b : Bool). record { answer = t .answer; state = t .state; failed = b }) e ∙ ap (lossFrom (l .state) n) is
 

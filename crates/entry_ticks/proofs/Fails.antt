@@ -26,10 +26,10 @@ use Rattle.lists.specs.Fold.{foldFrom}
 use Rattle.lists.proofs.Each.{each-length}
 use Rattle.lists.proofs.Fold.{fold-goes, fold-keeps, fold-alike}
 use Rattle.state.specs.declared.State.{State}
-use Rattle.state.specs.State.{recordAt, withRecords}
+use Rattle.state.specs.State.{recordAt}
 use Rattle.state.specs.Fresh.{configOf}
 use Rattle.entry_ticks.specs.Many.{manyOf}
-use Rattle.entry_ticks.specs.Tick.{tickAt, tickedTo, tickOnce, ticksTo, markedOf, failsAt, failedBit, failedTo}
+use Rattle.entry_ticks.specs.Tick.{tickedTo, ticksTo, markedOf, failsAt, failedBit, failedTo}
 use Rattle.entry_ticks.proofs.Many.{manyAt, ticks-each, ticks-one}
 
 -- ONE RECORD

@@ -1,7 +1,7 @@
 -- One turn of the loop over the records, as far as it marks whose transfers end.
 use Prim.Native.Nat.{ℕ, _+_, _<_, _≤_}
 use mathlib.Core.Path.{_≡_, refl, sym, ap, _∙_}
-use mathlib.Core.Bool.{Bool, false, true, cond, not, _&&_}
+use mathlib.Core.Bool.{Bool, false, true, not, _&&_}
 use mathlib.Core.List.{List}
 use borrow.Author.Tests.{not-true}
 use lib.ListN.{length}
@@ -25,7 +25,8 @@ use Rattle.entry_ticks.proofs.Fails.{kept-part, ticked-at}
 abbrev pub Marked : List ℕ → ℕ → ℕ → State → ℕ → ℕ → Type 0
 Marked image rows count s i w = Folded (failedBit s (ticksTo image rows count s)) rows 0 i w
 
-module _ (image : List ℕ) (rows count : ℕ) (s n : State) (i w : ℕ) (low : i < rows) (there : i < length (s .connections)) (upto : Upto (manyAt image count) s n i) (so : Marked image rows count s i w) where
+module _ (image : List ℕ) (rows count : ℕ) (s n : State) (i w : ℕ) (low : i < rows) (there : i < length (s .connections))
+    (upto : Upto (manyAt image count) s n i) (so : Marked image rows count s i w) where
   -- whether connection i fails, by the record that the loop has
   fails-is : (d : Connection) → d ≡ manyAt image count i (recordAt n i) → failedOf (recordAt n i) d ≡ failsAt s (ticksTo image rows count s) i
   fails-is d e =
@@ -45,7 +46,8 @@ module _ (image : List ℕ) (rows count : ℕ) (s n : State) (i w : ℕ) (low : 
   unfolding markedOf
   quiet-mark k =
       let d = manyAt image count i (recordAt n i) in
-      let none : failsAt s (ticksTo image rows count s) i ≡ false = sym (fails-is d refl) ∙ kept-fails (recordAt n i) d (kept-part (configOf image i) count (recordAt n i) k) in
+      let same = kept-part (configOf image i) count (recordAt n i) k in
+      let none : failsAt s (ticksTo image rows count s) i ≡ false = sym (fails-is d refl) ∙ kept-fails (recordAt n i) d same in
       fold-on (failedBit s (ticksTo image rows count s)) rows 0 i w w so low (sym (ap (λ (b : Bool). markedOf i b w) none))
 
   up : (b : Bool) → (not (recordAt n i .«close_wanted») && isOnline (recordAt n i .mode) && b) ≡ true → recordAt n i .«close_wanted» ≡ false
@@ -66,4 +68,5 @@ pub marks-whole : (image : List ℕ) (rows count : ℕ) (s n : State) (i w : ℕ
 unfolding failedTo
 marks-whole image rows count s n i w over so is =
     ap (λ (t : State). record { answer = Done; state = t; failed = w }) is
-    ∙ ap (λ (v : ℕ). record { answer = Done; state = ticksTo image rows count s; failed = v }) (fold-ended (failedBit s (ticksTo image rows count s)) rows 0 i w so over)
+    ∙ ap (λ (v : ℕ). record { answer = Done; state = ticksTo image rows count s; failed = v })
+    (fold-ended (failedBit s (ticksTo image rows count s)) rows 0 i w so over)

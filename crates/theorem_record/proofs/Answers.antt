@@ -70,7 +70,8 @@ use Rattle.dispatch_refines.specs.Answer.{takesOver, takesAnswer, takeAnswer, a
 use Rattle.dispatch_refines.proofs.Answer.{takes-count}
 use Rattle.dispatch_refines.proofs.Read.{number-at, kind-at, length-at, some-number, kind-small, TakeFits}
 use Rattle.dispatch_refines.proofs.Fits.{take-fits}
-use Rattle.recording.specs.Entry.{isRecorded, isSpelt, takeFits, pduNeeds, otherNeeds, takeNeeds, takesFit, segmentFits, stepFits, doneLong, doneFits, answerFits}
+use Rattle.recording.specs.Entry.{isRecorded, isSpelt, takeFits, pduNeeds, otherNeeds, takeNeeds, takesFit, segmentFits, stepFits}
+use Rattle.recording.specs.Entry.{doneLong, doneFits, answerFits}
 use Rattle.theorem_record.proofs.Numbers.{by-call}
 
 -- A REFUSAL: its number, and four bytes more

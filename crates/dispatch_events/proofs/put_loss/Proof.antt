@@ -22,7 +22,9 @@ same-length : tie.Need-same-length
 same-length c = search needs
 
 returns : tie.Need-returns
-returns c = rw (c .before .before .before .before .enum-told .given .1, ← c .before .before .before .before .before .before .failed-byte .ensures) (c .before .before .put-done1 .ensures)
+returns c =
+    let t = c .before .before .before .before in
+    rw (t .enum-told .given .1, ← t .before .before .failed-byte .ensures) (c .before .before .put-done1 .ensures)
 
 same-length-2 : tie.Need-same-length-2
 same-length-2 c = search needs

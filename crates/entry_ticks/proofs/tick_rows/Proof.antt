@@ -28,7 +28,9 @@ body-of-requires-2 : tie.Need-body-of-requires-2 Inv-loop μ-loop
 body-of-requires-2 c κs = search needs
 
 loop-holds : tie.Need-loop-holds Inv-loop μ-loop
-loop-holds c = (search needs, search needs, long _ (c .before .before .before .args .state .connections) (c .before .before .before .good .1 .1 .0 .1 .1 .0 .1 .0 .1), refl, fold-start _ _ _)
+loop-holds c =
+    let s = c .before .before .before in
+    (search needs, search needs, long _ (s .args .state .connections) (s .good .1 .1 .0 .1 .1 .0 .1 .0 .1), refl, fold-start _ _ _)
 
 mul-connection : tie.Need-mul-connection Inv-loop μ-loop
 mul-connection c = search needs
@@ -127,7 +129,8 @@ loop-again-3 c =
       b .loop .inv .1,
       b .loop .inv .2,
       many-turn _ _ _ _ _ h (b .loop .inv .3) _ _ config (m .tick-many .ensures),
-      many-mark _ _ _ _ _ _ _ (t .loop-test .taken) h (b .loop .inv .3) (b .loop .inv .4) _ _ _ _ config (m .tick-many .ensures) (c .before .failed .ensures) (c .marked .ensures),
+      many-mark _ _ _ _ _ _ _ (t .loop-test .taken) h (b .loop .inv .3) (b .loop .inv .4) _ _ _ _ config (m .tick-many .ensures)
+          (c .before .failed .ensures) (c .marked .ensures),
     )
 
 returns : tie.Need-returns Inv-loop μ-loop
