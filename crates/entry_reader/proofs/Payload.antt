@@ -1,12 +1,13 @@
 -- The payload that a reader hands out.
 use Prim.Native.Nat.{ℕ, _+_, _≤_}
 use mathlib.Core.Path.{_≡_, refl, sym, ap, _∙_}
-use mathlib.Core.List.{List}
-use lib.ListN.{length, drop}
+use mathlib.Core.Bool.{Bool, cond}
+use mathlib.Core.List.{List, [], _∷_}
+use lib.ListN.{length, take, drop}
 use borrow.Author.Tests.{le-leb}
 use Rattle.reading.specs.declared.Decision.{Decision}
 use Rattle.reading.specs.declared.Decision.the-variants.{Accept, Refuse}
-use Rattle.reading.specs.Feed.{Routes, Out}
+use Rattle.reading.specs.Feed.{Routes, Out, pdu}
 use Rattle.table_layout.specs.Layout.{partOf}
 use Rattle.reading_lengths.specs.Head.{Head, ended, short, beyond, whole, headOf}
 use Rattle.reading_walk.specs.Walk.{wholeAt, walkStep, walkAt, outsTold}
@@ -23,7 +24,7 @@ unfolding walkAt payloadIn partOf
 told-is R d p later le = go (headOf (drop p d)) refl
   where
     by : (q : Decision) (i n : ℕ) → p + 8 + n ≤ length d → tellOf d (walkOutcome (wholeAt q p i n .found)) later ≡ outsTold d (wholeAt q p i n .found) later
-    by (Accept r) i n w = rw (le-leb (p + 8 + n) (length d) w)
+    by (Accept r) i n w = ap (λ (b : Bool). pdu r (cond b (take n (drop (p + 8) d)) []) ∷ later) (le-leb (p + 8 + n) (length d) w)
     by (Refuse k) i n w = refl
 
     go : (h : Head) → headOf (drop p d) ≡ h → tellOf d (walkOutcome (walkStep R (length d) p h .found)) later ≡ outsTold d (walkStep R (length d) p h .found) later
