@@ -1,0 +1,2 @@
+-- What events leave of a record.
+pub mod Records

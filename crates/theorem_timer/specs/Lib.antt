@@ -1,0 +1,2 @@
+-- The PDUs that wait, by their age.
+pub mod Timer

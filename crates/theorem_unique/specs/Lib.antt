@@ -1,0 +1,2 @@
+-- The shapes of contracts.
+pub mod Shapes

@@ -1,0 +1,2 @@
+-- A table, and machines over it.
+pub mod Gauges

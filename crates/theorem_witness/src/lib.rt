@@ -1,0 +1,1 @@
+// Machines that meet what the theorems ask, and the theorems applied to them: laws, no code.
