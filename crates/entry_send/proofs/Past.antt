@@ -9,10 +9,11 @@ use Rattle.table_layout.specs.declared.Kind.the-variants.{Connection as Connect
 use Rattle.table_layout.proofs.Parts.{body-rows}
 use Rattle.table.specs.Accepts.{Accepts}
 use Rattle.table.proofs.Facts.{accepted-facts}
-use Rattle.gate.specs.Lent.{Lent}
+use Rattle.connection.specs.declared.Refusal.{Refusal}
+use Rattle.gate.specs.Lent.{Lent, Loan, sizes}
 use Rattle.gate.specs.declared.Gate.{Gate}
-use Rattle.gate.specs.declared.Gate.the-variants.{Pass}
-use Rattle.gate.specs.Gate.{gateOf}
+use Rattle.gate.specs.declared.Gate.the-variants.{Pass, Refused}
+use Rattle.gate.specs.Gate.{gateOf, gateAt}
 use Rattle.gate.proofs.Pass.{gate-passed}
 use Rattle.table_rows.specs.Rows.{destinationOf}
 use Rattle.send.specs.Send.{destinations, Ready}
@@ -22,7 +23,7 @@ use Rattle.state.specs.Fresh.{configOf}
 use Rattle.send_waiting.specs.declared.Drained.{Drained}
 use Rattle.send_waiting.specs.Waiting.{takingOf, takeOf}
 use Rattle.entry_send.specs.declared.Taken.{Taken}
-use Rattle.entry_send.specs.Sending.{takePast}
+use Rattle.entry_send.specs.Sending.{takePast, notTaken, takenWaiting, takenOut}
 
 counted : (image : List ℕ) → Accepts image → (i : ℕ) → i < destinations image → i < rowsOf image Destination
 counted image a i h = subst (λ (n : ℕ). i < n) (body-rows image (a .laid) Destination) h
@@ -52,3 +53,9 @@ module _ (image : List ℕ) (s : State) (n room : ℕ) where
       → from d ≡ takePast image s n room
   taken-is config d p q =
       ap from q ∙ ap (λ (g : Config). from (record { answer = takingOf room (recordAt s n); connection = takeOf g room (recordAt s n) })) p
+
+-- where the gate refuses, nothing is taken: the state and the out buffer stay
+pub not-taken : (l : Loan) (n : ℕ) (out : List ℕ) (g : Gate) (r : Refusal) → g ≡ gateAt (sizes l) n → g ≡ Refused r
+    → (notTaken (l .state) r ≡ takenWaiting l n out) × (out ≡ takenOut l n out)
+unfolding takenWaiting takenOut
+not-taken l n out g r e f = (rw (← e, f), rw (← e, f))

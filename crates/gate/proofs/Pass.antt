@@ -19,7 +19,7 @@ use Rattle.connection.specs.declared.Refusal.the-variants.{Memory, Unsound, Mis
 use Rattle.lists.proofs.Both.{and-left, and-right}
 use Rattle.state.specs.declared.State.{State}
 use Rattle.gate.specs.declared.Gate.{Gate}
-use Rattle.gate.specs.Lent.{Lent, next, Loan, sizes, received, lentAfter}
+use Rattle.gate.specs.Lent.{Lent, lent, next, Loan, sizes, received, lentAfter}
 use Rattle.gate.specs.declared.Gate.the-variants.{Pass, Refused}
 use Rattle.gate.specs.Sound.{recordsSound, isAccepted, soundState}
 use Rattle.gate.specs.Gate.{gateOf, gateAt, thenThere, Passed}
@@ -82,6 +82,11 @@ module _ (l : Lent) where
   pub passed-gate-at : (n : ℕ) → Passed l → n < rowsOf (l .image) Connections → gateAt l n ≡ Pass
   unfolding gateAt
   passed-gate-at n p h = rw (passed-gate p, lt-ltb _ _ h)
+
+-- either memory of another length: 11
+pub gate-memory : (image : List ℕ) (s : State) (rx tx : ℕ) → (not (eqb rx 23424) || not (eqb tx 23552)) ≡ true → Refused Memory ≡ gateOf (lent image s rx tx)
+unfolding gateOf
+gate-memory image s rx tx e = rw e
 
 -- past the gate there are at most sixteen rows, and the connection is one of the sixteen
 pub rows-in-sixteen : (l : Lent) → gateOf l ≡ Pass → rowsOf (l .image) Connections ≤ 16

@@ -9,6 +9,7 @@ use lib.ListN.{length}
 use borrow.Author.Tests.{eqb-true, eqb-false, eq-eqb, ne-eqb, ltb-true, ltb-false, leb-true, leb-false, lt-ltb, le-ltb, le-leb, lt-leb}
 use Rattle.table_layout.specs.Layout.{rowsOf, bodyOf}
 use Rattle.table_layout.specs.declared.Kind.the-variants.{Connection, Route}
+use Rattle.table_rows.specs.Rules.{tcpIn}
 use Rattle.table.specs.declared.TableAnswer.{TableAnswer}
 use Rattle.table.specs.declared.TableAnswer.the-variants.{Accepted, Refused as NotAccepted}
 use Rattle.table.specs.Table.{checkTable}
@@ -20,7 +21,7 @@ use Rattle.frame.specs.Framing.{framingOf}
 use Rattle.receive_datagram.specs.Datagram.{walkedOf}
 use Rattle.soad_walk.specs.declared.TableWalk.{TableWalk}
 use Rattle.soad_walk.specs.declared.TableWalk.the-variants.{Refused, Step}
-use Rattle.soad_walk.specs.TableWalk.{isTcp, acceptedWalk, afterCheck, tableWalkOf}
+use Rattle.soad_walk.specs.TableWalk.{acceptedWalk, afterCheck, tableWalkOf}
 use Rattle.theorem_calls.specs.Image.{MeetsAll, FirstFault, TableSays}
 use Rattle.theorem_calls.specs.Calls.{FramingSays, too-long, no-room, frames-it, MakeSays, made-fresh, made-empty, protocolNumber, WalkSays, bad-image, not-there, tcp, beyond, walks-on}
 use Rattle.theorem_calls.proofs.Image.{table-answer, table-given}
@@ -81,7 +82,7 @@ module _ (image : List ℕ) (connection switches : ℕ) (datagram : List ℕ) (p
   on = Step (walkedOf datagram place (bodyOf image Route) connection switches)
 
   past : MeetsAll image → Says (acceptedWalk image connection switches datagram place)
-  unfolding acceptedWalk isTcp
+  unfolding acceptedWalk tcpIn
   past all = there (leb (rowsOf image Connection) connection) refl
     where
       within : connection < rowsOf image Connection → (its ≡ 2 → ⊥) → (b : Bool) → ltb (length datagram) place ≡ b → Says (cond b (Refused 3) on)
@@ -106,7 +107,7 @@ module _ (image : List ℕ) (connection switches : ℕ) (datagram : List ℕ) (p
       go (NotAccepted p) fault = bad-image (λ all. fault .bad (all (fault .spot) (fault .there)))
 
   walk-given : (x : TableWalk) → Says x → walk ≡ x
-  unfolding tableWalkOf acceptedWalk isTcp
+  unfolding tableWalkOf acceptedWalk tcpIn
   walk-given _ (bad-image h) = go (checkTable image) (table-answer image (checkTable image) .0 refl)
     where
       go : (x : TableAnswer) → TableSays image x → afterCheck x (acceptedWalk image connection switches datagram place) ≡ Refused 1

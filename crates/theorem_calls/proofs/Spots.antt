@@ -1,7 +1,7 @@
 -- WHAT IS GOOD AT A SPOT, in words and by the check's own tests.
 use Prim.Native.Nat.{ℕ, _+_, _<_, _≤_}
 use mathlib.Core.Path.{_≡_, refl, sym, ap, _∙_}
-use mathlib.Core.Bool.{Bool, true, false, not, _&&_}
+use mathlib.Core.Bool.{Bool, true, false, not, _&&_, _||_}
 use mathlib.Core.List.{List}
 use lib.Dec.{eqb, leb, ltb}
 use lib.ListN.{length}
@@ -14,9 +14,9 @@ use Rattle.table_layout.specs.Layout.{number, mostRows, entryAt, rowsOf, startO
 use Rattle.table_layout.specs.declared.Kind.{Kind}
 use Rattle.table_layout.specs.declared.Kind.the-variants.{Group, Connection, Route, Destination}
 use Rattle.table_rows.specs.Rows.{groupRow, connectionRow, routeRow, destinationRow, routeOf, destinationOf}
-use Rattle.table_rows.specs.Rules.{groupGood, connectionGood, routeGood, destinationGood, sizeIn, routesShare, destinationsShare}
+use Rattle.table_rows.specs.Rules.{groupGood, connectionGood, routeGood, destinationGood, sizeIn, tcpIn, routesShare, destinationsShare}
 use Rattle.table_scan.specs.Scan.{share, clearIn, goodIn}
-use Rattle.table.specs.Table.{headGood, entryGood, rule, rowGood}
+use Rattle.table.specs.Table.{headGood, entryGood, tcpOf, rule, rowGood}
 use Rattle.table_fault.specs.declared.Spot.{Spot}
 use Rattle.table_fault.specs.declared.Spot.the-variants.{Head, Entry, Total, Row}
 use Rattle.table_fault.specs.Good.{goodAt}
@@ -30,6 +30,15 @@ not-to false e f = impossible f
 to-not : (b : Bool) → (b ≡ true → ⊥) → not b ≡ true
 to-not true h = absurd (h refl)
 to-not false h = refl
+
+-- what holds where the first does
+from-either : (a b : Bool) → (not a || b) ≡ true → a ≡ true → b ≡ true
+from-either true b e h = e
+from-either false b e h = impossible h
+
+to-either : (a b : Bool) → (a ≡ true → b ≡ true) → (not a || b) ≡ true
+to-either true b h = h refl
+to-either false b h = refl
 
 module _ (s : List ℕ) where
   -- THE HEAD, a contents entry
@@ -106,23 +115,32 @@ module _ (s : List ℕ) where
       test-row Connection i (rw (lt-ltb _ _ (g .group), le-leb _ 1 (g .automatic), le-leb 8 _ (g .low), le-leb _ 1472 (g .high), eq-eqb _ 0 (g .zeros))) (λ j h q. impossible q)
 
   route-words : (i : ℕ) → rowGood s Route i ≡ true → GoodRoute s i
-  unfolding rule routeGood routeRow share routesShare
+  unfolding rule routeGood routeRow tcpIn groupRow connectionRow share routesShare
   route-words i e =
       let row = rowOf s Route i in
       let t = row-test Route i e in
-      let f = and4 (ltb (be 1 row 0) (rowsOf s Connection)) (eqb (be 1 row 1) 0) (leb (be 2 row 2) 1464) (eqb (be 2 row 10) 0) (t .0) in
+      let a = ltb (be 1 row 0) (rowsOf s Connection) in
+      let b = leb (be 1 row 1) 1 in
+      let c = not (eqb (be 1 row 1) 1) || tcpOf s (be 1 row 0) in
+      let d = leb (be 2 row 2) 1464 in
+      let z = eqb (be 2 row 10) 0 in
+      let f = and4 a b c d (and-left (a && b && c && d) z (t .0)) in
       record {
         connection = ltb-true _ _ (f .0);
-        zero = eqb-true _ _ (f .1);
-        longest = leb-true _ _ (f .2);
-        zeros = eqb-true _ _ (f .3);
+        transfer = leb-true _ _ (f .1);
+        marked = λ m. eqb-true _ _ (from-either (eqb (be 1 row 1) 1) (tcpOf s (be 1 row 0)) (f .2) m);
+        longest = leb-true _ _ (f .3);
+        zeros = eqb-true _ _ (and-right (a && b && c && d) z (t .0));
         apart = λ j h p q. t .1 j h (and-both (eq-eqb _ _ p) (eq-eqb _ _ q));
       }
 
   words-route : (i : ℕ) → GoodRoute s i → rowGood s Route i ≡ true
-  unfolding rule routeGood routeRow share routesShare
+  unfolding rule routeGood routeRow tcpIn groupRow connectionRow share routesShare
   words-route i g =
-      test-row Route i (rw (lt-ltb _ _ (g .connection), eq-eqb _ 0 (g .zero), le-leb _ 1464 (g .longest), eq-eqb _ 0 (g .zeros)))
+      let row = rowOf s Route i in
+      let m : (not (eqb (be 1 row 1) 1) || tcpOf s (be 1 row 0)) ≡ true = to-either (eqb (be 1 row 1) 1) (tcpOf s (be 1 row 0)) (λ h. eq-eqb _ 2 (g .marked h)) in
+      test-row Route i
+      (and-both (and-both (and-both (and-both (lt-ltb _ _ (g .connection)) (le-leb _ 1 (g .transfer))) m) (le-leb _ 1464 (g .longest))) (eq-eqb _ 0 (g .zeros)))
       (λ j h q.
       let a = eqb (routeOf s j .connection) (routeOf s i .connection) in
       let b = eqb (routeOf s j .id) (routeOf s i .id) in

@@ -60,10 +60,12 @@ module _ (s : List ℕ) where
     pub high : connectionOf s i .size ≤ 1472
     pub zeros : be 2 (rowOf s Connection i) 10 ≡ 0
 
-  -- R1.5, R1.7 to R1.9: a route has a connection that is there, its zero bytes, longest payload 0..1,464, and shares connection and id with no earlier one
+  -- R1.5, R1.7 to R1.9, R19.1: a route has a connection that is there, transfer mark 0 or 1, and 1 only where its connection is TCP, longest
+  -- payload 0..1,464, its zero bytes, and shares connection and id with no earlier one
   pub record GoodRoute (i : ℕ) : Type 0 where
     pub connection : routeOf s i .connection < rowsOf s Connection
-    pub zero : be 1 (rowOf s Route i) 1 ≡ 0
+    pub transfer : be 1 (rowOf s Route i) 1 ≤ 1
+    pub marked : routeOf s i .transfer ≡ true → groupOf s (connectionOf s (routeOf s i .connection) .group) .protocol ≡ 2
     pub longest : routeOf s i .longest ≤ 1464
     pub zeros : be 2 (rowOf s Route i) 10 ≡ 0
     pub apart : (j : ℕ) → j < i → routeOf s j .connection ≡ routeOf s i .connection → routeOf s j .id ≡ routeOf s i .id → ⊥

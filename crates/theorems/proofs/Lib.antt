@@ -8,7 +8,6 @@ pub mod Empties
 pub mod Waiting
 pub mod Walking
 pub mod Trip
-pub mod Unique
 pub mod Ends
 pub mod Streams
 pub mod Three

@@ -8,7 +8,7 @@ use Rattle.dispatch.proofs.dispatch.Tie as tie
 
 returns : tie.Need-returns
 unfolding dispatchOf
-returns c = rw (lt-ltb _ _ (c .if1 .taken)) (refl, (refl, (refl, refl)))
+returns c = rw (lt-ltb _ 16384 (c .if1 .taken)) (refl, (refl, (refl, refl)))
 
 call-of-requires : tie.Need-call-of-requires
 call-of-requires c κs = search needs

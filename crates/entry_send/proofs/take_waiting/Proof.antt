@@ -8,7 +8,7 @@ use Rattle.state.specs.State.{recordAt}
 use Rattle.send_waiting.specs.Waiting.{outOf}
 use Rattle.entry_send.specs.Sending.{takenWaiting, takenOut}
 use Rattle.gate.proofs.Pass.{in-sixteen}
-use Rattle.entry_send.proofs.Past.{taken-is}
+use Rattle.entry_send.proofs.Past.{taken-is, not-taken}
 use borrow.Author.Needs.{needs}
 use Rattle.entry_send.proofs.take_waiting.Statement.{statement}
 use Rattle.entry_send.proofs.take_waiting.Tie as tie
@@ -48,8 +48,7 @@ element-set-from-next : tie.Need-element-set-from-next
 element-set-from-next c = small (c .before .before .before .before .before .before .before .before)
 
 returns : tie.Need-returns
-unfolding takenWaiting takenOut
-returns c = (rw (← c .before .before .before .ask-at .ensures, c .before .asked .given .1), rw (← c .before .before .before .ask-at .ensures, c .before .asked .given .1))
+returns c = not-taken _ _ _ _ _ (c .before .before .before .ask-at .ensures) (c .before .asked .given .1)
 
 same-length : tie.Need-same-length
 same-length c = search needs

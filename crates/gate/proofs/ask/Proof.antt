@@ -1,13 +1,13 @@
 -- `gate::ask` meets its contract.
 use Rattle.gate.specs.Gate.{gateOf}
 use Rattle.gate.specs.Sound.{soundState}
+use Rattle.gate.proofs.Pass.{gate-memory}
 use borrow.Author.Needs.{needs}
 use Rattle.gate.proofs.ask.Statement.{statement}
 use Rattle.gate.proofs.ask.Tie as tie
 
 returns : tie.Need-returns
-unfolding gateOf
-returns c = rw (c .if1 .taken)
+returns c = gate-memory _ _ _ _ (c .if1 .taken)
 
 check-table-requires : tie.Need-check-table-requires
 check-table-requires c κs = search needs

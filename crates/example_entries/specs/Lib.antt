@@ -1,0 +1,2 @@
+-- The starred edges through the entry points.
+pub mod Entries

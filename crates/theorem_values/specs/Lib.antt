@@ -1,0 +1,2 @@
+-- Answers as numbers and values.
+pub mod Values
