@@ -47,7 +47,7 @@ fn gate_alone(image: &[u8], state: State, rx: &[u8], tx: &[u8]) -> Turn {
     }
 }
 
-// What a take met: 0 more wanted, 1 a PDU, 2 a drop, 3 a start, 4 a piece, 5 a last piece.
+// What a take met: 0 more wanted, 1 a PDU, 2 a drop, 3 a start, 4 a piece. No arm branches, so that no copy of the state is asked for.
 fn kind_of(outcome: Outcome) -> u8 {
     match outcome {
         Outcome::More => 0,
@@ -74,13 +74,8 @@ fn kind_of(outcome: Outcome) -> u8 {
             id: _,
             at: _,
             length: _,
-            last,
-        } => {
-            if last {
-                return 5;
-            }
-            4
-        }
+            last: _,
+        } => 4,
     }
 }
 

@@ -7,7 +7,7 @@ ghost use mathlib.Core.List.{List};
 ghost use Prim.Native.Nat.{ℕ, _+_, _-_, _^_, _≤_, _<_};
 ghost use lib.ListN.{length, take};
 ghost use denote.Ref.{ptr};
-ghost use Rattle.reading.specs.Feed.{Routes, takeB, cell, transfer, header, payload, spelt, decided, resume};
+ghost use Rattle.reading.specs.Feed.{Routes, takeB, cell, transfer, header, payload, skip, spelt, decided, resume};
 ghost use Rattle.reading.specs.declared.Decision.the-variants.{Accept};
 ghost use Rattle.receive_route.specs.Route.{lookupOf};
 ghost use Rattle.table_rows.specs.Rows.{routeIn};
@@ -293,6 +293,39 @@ fn take_header(
     }
 }
 
+// Bytes to skip, one at least, and a header behind them.
+fn take_skip(
+    routes: &[u8],
+    connection: u8,
+    switches: u32,
+    n: u32,
+    rx: &mut [u8],
+    segment: &[u8],
+) -> Taken
+    requires { ⌜ Limits (now routes) × (length (now rx) ≡ 1464) × (0 < n) ⌝ }
+    ensures { λ r. ⌜ Answers (idOf (now (routes .entry))) true (length (now (segment .entry))) (takeB (lookupOf (now (routes .entry)) connection switches) (cell n skip) (now (segment .entry))) (now (rx .entry)) r (now (rx .exit)) ⌝ }
+{
+    let here = segment.len();
+    let left = n as usize;
+    if here < left {
+        return Taken {
+            read: here,
+            outcome: Outcome::More,
+            part: Part::Skip((left - here) as u32),
+        };
+    }
+    take_header(
+        routes,
+        connection,
+        switches,
+        0,
+        0,
+        rx,
+        &segment[left..],
+        here,
+    )
+}
+
 // A take: up to the end of the segment's first complete PDU, dropped header or transfer's start; or a piece of a running transfer.
 pub fn take(
     routes: &[u8],
@@ -321,29 +354,15 @@ pub fn take(
             route,
             length,
             held,
-        } => take_payload(routes, route, length, held, rx, segment),
-        Part::Skip(n) => {
-            let here = segment.len();
-            let left = n as usize;
-            if here < left {
-                return Taken {
-                    read: here,
-                    outcome: Outcome::More,
-                    part: Part::Skip((left - here) as u32),
-                };
-            }
-            take_header(
-                routes,
-                connection,
-                switches,
-                0,
-                0,
-                rx,
-                &segment[left..],
-                here,
-            )
+        } => {
+            return take_payload(routes, route, length, held, rx, segment);
         }
-        Part::Transfer { route, left } => take_piece(routes, route, left, segment),
+        Part::Skip(n) => {
+            return take_skip(routes, connection, switches, n, rx, segment);
+        }
+        Part::Transfer { route, left } => {
+            return take_piece(routes, route, left, segment);
+        }
     }
 }
 

@@ -1,8 +1,7 @@
 -- `receive_stream::take` meets its contract.
 use native.Mathlib.Omega.{arith}
 use borrow.Author.Needs.{needs}
-use Rattle.receive_stream.proofs.Takes.{header-fit, payload-fit, skip-fit, transfer-fit, skip-part, skip-over, at-part}
-use Rattle.receive_stream.specs.Stream.{idOf}
+use Rattle.receive_stream.proofs.Takes.{header-fit, payload-fit, skip-fit, transfer-fit, at-part}
 use Rattle.receive_route.specs.Route.{lookupOf}
 use Rattle.receive_stream.proofs.take.Statement.{statement}
 use Rattle.receive_stream.proofs.take.Tie as tie
@@ -26,36 +25,35 @@ take-payload-requires c κs =
     let s = k .before .before .before .before .before in
     payload-fit (s .args .routes .now) _ (s .args .rx .now) (s .pre) _ _ _ (k .part2 .given .1)
 
-enum-known-part-3 : tie.Need-enum-known-part-3
-enum-known-part-3 c = search needs
-
-cast-left : tie.Need-cast-left
-cast-left c = search needs
-
-sub-t25 : tie.Need-sub-t25
-sub-t25 c = search needs
-
-cast-t26 : tie.Need-cast-t26
-cast-t26 c = search needs
+same-length : tie.Need-same-length
+same-length c = search needs
 
 returns : tie.Need-returns
 returns c =
-    let k = c .before .before in
+    let b = c .before .before in
+    let k = b .before .before .before in
     let a = k .before .before .before .before .before .args in
-    at-part (a .routes .now) (a .connection) (a .switches) (a .rx .now) (a .segment .now) _ _ (k .part3 .given .1)
-    (skip-part (idOf (a .routes .now)) (lookupOf (a .routes .now) (a .connection) (a .switches)) _ (a .rx .now) (a .segment .now) (c .if1 .taken))
+    at-part (a .routes .now) (a .connection) (a .switches) (a .rx .now) (a .segment .now) _ _ (k .part2 .given .1)
+    (b .take-payload .ensures (lookupOf (a .routes .now) (a .connection) (a .switches)))
 
-sub-take-header : tie.Need-sub-take-header
-sub-take-header c = search needs
+enum-known-part-3 : tie.Need-enum-known-part-3
+enum-known-part-3 c = search needs
 
-part-take-header-start : tie.Need-part-take-header-start
-part-take-header-start c = search needs
+take-skip-requires : tie.Need-take-skip-requires
+take-skip-requires c κs =
+    let k = c .before .before in
+    let s = k .before .before .before .before .before in
+    (s .pre .limits, s .pre .room, skip-fit (s .args .routes .now) _ (s .args .rx .now) (s .pre) _ (k .part3 .given .1))
 
-part-take-header-end : tie.Need-part-take-header-end
-part-take-header-end c = search needs
+same-length-2 : tie.Need-same-length-2
+same-length-2 c = search needs
 
-take-header-requires-2 : tie.Need-take-header-requires-2
-take-header-requires-2 c κs = search needs
+returns-2 : tie.Need-returns-2
+returns-2 c =
+    let b = c .before .before in
+    let k = b .before .before .before in
+    let a = k .before .before .before .before .before .args in
+    at-part (a .routes .now) (a .connection) (a .switches) (a .rx .now) (a .segment .now) _ _ (k .part3 .given .1) (b .take-skip .ensures)
 
 enum-known-part-4 : tie.Need-enum-known-part-4
 enum-known-part-4 c = search needs
@@ -66,26 +64,12 @@ take-piece-requires c κs =
     let s = k .before .before .before .before .before in
     transfer-fit (s .args .routes .now) _ (s .args .rx .now) (s .pre) _ _ (k .part4 .given .1)
 
-same-length : tie.Need-same-length
-same-length c = search needs
-
-returns-2 : tie.Need-returns-2
-returns-2 c =
-    let b = c .before .before in
-    let k = b .before .before .before in
-    let a = k .before .before .before .before .before .args in
-    at-part (a .routes .now) (a .connection) (a .switches) (a .rx .now) (a .segment .now) _ _ (k .part .given .1) (b .take-header .ensures)
-
-same-length-2 : tie.Need-same-length-2
-same-length-2 c = search needs
-
 returns-3 : tie.Need-returns-3
 returns-3 c =
-    let b = c .before .before in
-    let k = b .before .before .before in
+    let k = c .before .before in
     let a = k .before .before .before .before .before .args in
-    at-part (a .routes .now) (a .connection) (a .switches) (a .rx .now) (a .segment .now) _ _ (k .part2 .given .1)
-    (b .take-payload .ensures (lookupOf (a .routes .now) (a .connection) (a .switches)))
+    at-part (a .routes .now) (a .connection) (a .switches) (a .rx .now) (a .segment .now) _ _ (k .part4 .given .1)
+    (c .take-piece .ensures (lookupOf (a .routes .now) (a .connection) (a .switches)) (a .rx .now))
 
 same-length-3 : tie.Need-same-length-3
 same-length-3 c = search needs
@@ -93,20 +77,9 @@ same-length-3 c = search needs
 returns-4 : tie.Need-returns-4
 returns-4 c =
     let b = c .before .before in
-    let i = b .before .before .before in
-    let k = i .before .before in
-    let s = k .before .before .before .before .before in
-    let a = s .args in
-    at-part (a .routes .now) (a .connection) (a .switches) (a .rx .now) (a .segment .now) _ _ (k .part3 .given .1)
-    (skip-over (idOf (a .routes .now)) (lookupOf (a .routes .now) (a .connection) (a .switches)) _ (a .rx .now) (a .segment .now) _ _
-    (skip-fit (a .routes .now) _ (a .rx .now) (s .pre) _ (k .part3 .given .1)) (i .if1 .left) (b .take-header2 .ensures))
-
-returns-5 : tie.Need-returns-5
-returns-5 c =
-    let k = c .before .before in
+    let k = b .before .before .before in
     let a = k .before .before .before .before .before .args in
-    at-part (a .routes .now) (a .connection) (a .switches) (a .rx .now) (a .segment .now) _ _ (k .part4 .given .1)
-    (c .take-piece .ensures (lookupOf (a .routes .now) (a .connection) (a .switches)) (a .rx .now))
+    at-part (a .routes .now) (a .connection) (a .switches) (a .rx .now) (a .segment .now) _ _ (k .part .given .1) (b .take-header .ensures)
 
 pub take-spec : {M : Type 1} → statement M
 take-spec =
@@ -116,21 +89,14 @@ take-spec =
     take-header-requires
     enum-known-part-2
     take-payload-requires
-    enum-known-part-3
-    cast-left
-    sub-t25
-    cast-t26
+    same-length
     returns
-    sub-take-header
-    part-take-header-start
-    part-take-header-end
-    take-header-requires-2
+    enum-known-part-3
+    take-skip-requires
+    same-length-2
+    returns-2
     enum-known-part-4
     take-piece-requires
-    same-length
-    returns-2
-    same-length-2
     returns-3
     same-length-3
-    returns-4
-    returns-5)
+    returns-4)
