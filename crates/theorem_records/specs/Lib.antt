@@ -1,2 +1,3 @@
--- What events leave of a record.
+-- What events leave of a record, and when they are allowed.
 pub mod Records
+pub mod Allowed
