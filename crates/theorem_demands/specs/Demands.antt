@@ -11,6 +11,7 @@ use Rattle.switches.specs.Switches.{isOn, Shared}
 use Rattle.reading.specs.declared.Decision.{Decision}
 use Rattle.reading.specs.Feed.{Out, Pdu, asOut}
 use Rattle.reading.specs.Routed.{Routed}
+use Rattle.receive_part.specs.Part.{transferring}
 use Rattle.connection.specs.declared.Connection.{Connection}
 use Rattle.connection.specs.declared.Config.{Config}
 use Rattle.connection.specs.declared.Remote.{Remote}
@@ -69,9 +70,11 @@ module _ (image : List ℕ) (m : Machine) where
     pub selection : (accept : Bool) (group : ℕ) (source : Remote) (x : Arrival) → (arrivalOf (lentTo image m) accept group source .answer ≡ x) ↔ Arrives (lentTo image m) accept group source x
     -- connection states: events and ticks move mode and wishes as the one table says
     pub states : (k : ℕ) → k < rowsOf image Connections → (e : Change)
-        → placeOf (stepOf e (demandedRow k) (demandedRecord k) .connection) ≡ move (happeningOf e) (demandedRow k .tcp) (demandedRow k .automatic) (wildcard (demandedRecord k .remote)) (placeOf (demandedRecord k))
+        → placeOf (stepOf e (demandedRow k) (demandedRecord k) .connection) ≡ move (happeningOf e) (demandedRow k .tcp) (demandedRow k .automatic) (wildcard (demandedRecord k .remote))
+        (transferring (demandedRecord k .part)) (placeOf (demandedRecord k))
     pub tick-states : (k : ℕ) → k < rowsOf image Connections
-        → placeOf (tickOf (demandedRow k) (demandedRecord k)) ≡ move ticks (demandedRow k .tcp) (demandedRow k .automatic) (wildcard (demandedRecord k .remote)) (placeOf (demandedRecord k))
+        → placeOf (tickOf (demandedRow k) (demandedRecord k)) ≡ move ticks (demandedRow k .tcp) (demandedRow k .automatic) (wildcard (demandedRecord k .remote))
+        (transferring (demandedRecord k .part)) (placeOf (demandedRecord k))
     -- send buffers: a transmit's answer, and what waits after any run
     pub transmits : (pdu : ℕ) (payload : List ℕ) (x : Transmission) → (sendOf (loanTo image m) pdu payload .answer ≡ x) ↔ ExactlyWhen (loanTo image m) pdu payload x
     pub waiting : (j : ℕ) (es : List Event) → RunBytes es

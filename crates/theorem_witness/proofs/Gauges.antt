@@ -24,7 +24,7 @@ use Rattle.gate.specs.Sound.{soundAt, recordsSound, soundState}
 use Rattle.gate.proofs.Pass.{sound-passed}
 use Rattle.switches.specs.Switches.{isOn}
 use Rattle.frame.specs.Frame.{Sent, frames}
-use Rattle.reading.specs.Feed.{Out, Pdu, pdu, ready, handed, asOut, pdus, Cell, cell, header}
+use Rattle.reading.specs.Feed.{Out, Pdu, pdu, ready, handed, asOut, pdus, compared, complete, Cell, cell, header}
 use Rattle.reading.specs.Routed.{Routed, routed-none, routed-one}
 use Rattle.reading.specs.declared.Decision.the-variants.{Accept}
 use Rattle.reading_lengths.specs.Head.{headOf}
@@ -39,7 +39,6 @@ use Rattle.law_keeps.proofs.Transmitted.{all-fit}
 use Rattle.entry_receive.specs.Routes.{routesIn}
 use Rattle.model.specs.World.{Held, heldAt, heldOf, cellAt}
 use Rattle.model.specs.Events.{change, segment, walk, takeWaiting, Event, on, onWhole}
-use Rattle.model.specs.Step.{compared}
 use Rattle.model.proofs.View.{view-at}
 use Rattle.model_runs.specs.Same.{Same, cut}
 use Rattle.model_runs.specs.Streams.{RunBytes, Streams, streams, longer, listedIn, listedLater}
@@ -185,7 +184,7 @@ isSegment (on k (takeWaiting room)) = false
 isSegment (onWhole e) = false
 
 -- its list, by lengths
-half-listed : listedIn (lookupOf (bodyOf gauges Routes) 1) (cell 5 (header 1)) (streams (map (mark 0) restRead) []) ≡ handed 1 pressure ∷ []
+half-listed : listedIn (lookupOf (bodyOf gauges Routes) 1) (cell 5 (header 1)) (streams (map (mark 0) restRead) []) ≡ complete 1 pressure ∷ []
 unfolding gauges be rowsOf bodyBytes startOf partOf bodyOf rowIn routeRow isOn rowsIn counts rowFor reasonIn reasonOf decisionOf lookupOf badFrom headOf splits split accepted listed listedFrom listedLater listedIn spell
 half-listed = refl
 
@@ -221,7 +220,7 @@ module _ (rx tx : List ℕ) (long : length rx ≡ 23424) (wide : length tx ≡ 2
   unfolding streamsIn freshState configOf connectionRow be rowIn bodyOf partOf startOf bodyBytes rowsOf gauges
   stream-half = ap (λ (b : Bool). longer b (readsAt gauges 1 h (on 1 (segment restRead))) (streams [] [])) goes-on
 
-  pub half-case : compared (givenIn gauges 1 h whole) ≡ handed 1 pressure ∷ []
+  pub half-case : compared (givenIn gauges 1 h whole) ≡ complete 1 pressure ∷ []
   half-case =
       own-list gauges 1 there-1 (protocols .1) h (good-half rx tx long wide) whole (bytes-rest, tt)
       ∙ ap₂ (listedIn (lookupOf (bodyOf gauges Routes) 1)) cell-half stream-half
@@ -231,7 +230,7 @@ module _ (rx tx : List ℕ) (long : length rx ≡ 23424) (wide : length tx ≡ 2
   pub cut-alike : Demand3 gauges h whole halves
   cut-alike = demand-3 gauges h (good-half rx tx long wide) (cut 1 (1 ∷ 0 ∷ []) (0 ∷ 0 ∷ 2 ∷ 0 ∷ 180 ∷ []) []) (bytes-rest, tt)
 
-  pub cut-case : compared (givenIn gauges 1 h halves) ≡ handed 1 pressure ∷ []
+  pub cut-case : compared (givenIn gauges 1 h halves) ≡ complete 1 pressure ∷ []
   cut-case = sym (cut-alike .pdus 1) ∙ half-case
 
 -- CLOSED: with memory that is all zero
