@@ -11,10 +11,10 @@ use Rattle.connection.specs.declared.Mode.the-variants.{Offline, Reconnect, Onl
 use Rattle.connection.specs.declared.Config.{Config}
 use Rattle.connection.specs.declared.Connection.{Connection}
 use Rattle.connection.specs.declared.Event.{Event}
-use Rattle.connection.specs.declared.Event.the-variants.{Open, Close, Connected, Lost, SetRemote, Switch}
+use Rattle.connection.specs.declared.Event.the-variants.{Open, Close, Connected, Lost, SetRemote, Switch, Cancel}
 use Rattle.connection.specs.Connection.{isOffline, isReconnect, isOnline, wildcard}
 use Rattle.connection.specs.Event.{allowed}
-use Rattle.theorem_records.specs.Allowed.{MayHappen, may-open, may-close-opening, may-close-up, may-connect, may-lose, may-set, may-switch}
+use Rattle.theorem_records.specs.Allowed.{MayHappen, may-open, may-close-opening, may-close-up, may-connect, may-lose, may-set, may-switch, may-cancel}
 
 -- modes by their tests
 is-offline : (m : Mode) → isOffline m ≡ true → m ≡ Offline
@@ -65,6 +65,7 @@ module _ (g : Config) (c : Connection) where
   told Lost e = may-lose (and-left (g .tcp) (isOnline (c .mode)) e) (is-online (c .mode) (and-right (g .tcp) (isOnline (c .mode)) e))
   told (SetRemote r) e = may-set r (λ q. false≢true (sym (off (isOnline (c .mode)) e) ∙ ap isOnline q))
   told (Switch n position) e = may-switch n position
+  told Cancel e = may-cancel e
 
   given : (e : Event) → MayHappen g c e → allowed e g c ≡ true
   given _ (may-open a m s) = rw (a, m, s)
@@ -78,6 +79,7 @@ module _ (g : Config) (c : Connection) where
   given _ (may-lose t m) = rw (t, m)
   given _ (may-set r m) = not-so (isOnline (c .mode)) (λ e. m (is-online (c .mode) e))
   given _ (may-switch n position) = refl
+  given _ (may-cancel t) = t
 
   -- EXACTLY WHEN
   pub allowed-exactly : (e : Event) → (allowed e g c ≡ true) ↔ MayHappen g c e

@@ -15,7 +15,7 @@ use Rattle.connection.specs.declared.Remote.{Remote}
 use Rattle.connection.specs.declared.Answer.the-variants.{Done}
 use Rattle.connection.specs.declared.Refusal.the-variants.{Missing, Denied}
 use Rattle.connection.specs.declared.Event.{Event as Change}
-use Rattle.connection.specs.declared.Event.the-variants.{Open, Close, Connected, Lost, SetRemote, Switch}
+use Rattle.connection.specs.declared.Event.the-variants.{Open, Close, Connected, Lost, SetRemote, Switch, Cancel}
 use Rattle.connection.specs.declared.Mode.the-variants.{Reconnect, Online}
 use Rattle.connection.specs.Connection.{wildcard, withMode, withRemote, withSend, become, metOf, tickOf, closedOf, isOffline, isReconnect, startedOf, reachOf, runOf}
 use Rattle.connection.specs.Event.{known, allowed, lostAllowed, remoteAllowed, recordAfter, refusedBy, stepOf}
@@ -43,7 +43,7 @@ use Rattle.model_refines.specs.Run.{afterEvent, Good}
 use Rattle.model_refines.specs.Table.{tableOf}
 use Rattle.model_refines.specs.Whole.{wholeOf}
 use Rattle.model_refines.proofs.Steps.{event-view}
-use Rattle.theorem_records.specs.Records.{RemoteAfter, lost-configured, lost-refused, set-given, set-refused, kept-open, kept-close, kept-connected, kept-switch, Drained, ServesAnyone, TakeLeaves, nothing-taken, back-to-reconnect, to-be-closed, stays-as-it-is}
+use Rattle.theorem_records.specs.Records.{RemoteAfter, lost-configured, lost-refused, set-given, set-refused, kept-open, kept-close, kept-connected, kept-switch, kept-cancel, Drained, ServesAnyone, TakeLeaves, nothing-taken, back-to-reconnect, to-be-closed, stays-as-it-is}
 
 -- A CONNECTION EVENT LEAVES EVERY OTHER CONNECTION AS IT WAS: its record, and the bytes that it holds
 others-step : (image : List ℕ) (w : World) (k : ℕ) (e : Own) (i : ℕ) → (i ≡ k → ⊥) → heldAt (step (tableOf image) (wholeOf image) w (on k e)) i ≡ heldAt w i
@@ -80,6 +80,7 @@ module _ (g : Config) (c : Connection) where
   step-remote Lost = stepped Lost (RemoteAfter g c Lost) lost-configured lost-refused refl
   step-remote (SetRemote r) = stepped (SetRemote r) (RemoteAfter g c (SetRemote r)) (set-given r) (set-refused r) refl
   step-remote (Switch n position) = switch-remote n position
+  step-remote Cancel = stepped Cancel (RemoteAfter g c Cancel) (λ _. kept-cancel) (λ _. kept-cancel) refl
 
   -- a tick: the configured one where it closes, else as it was
   tick-cases : (P : Remote → Type 0) → (c .«close_wanted» ≡ true → P (g .remote)) → (c .«close_wanted» ≡ false → P (c .remote)) → P (tickOf g c .remote)

@@ -2,12 +2,13 @@
 use Prim.Native.Nat.{ℕ}
 use mathlib.Core.Path.{_≡_}
 use mathlib.Core.Bool.{Bool, true, false}
+use Rattle.receive_part.specs.Part.{transferring}
 use Rattle.connection.specs.declared.Mode.the-variants.{Offline, Reconnect, Online}
 use Rattle.connection.specs.declared.Config.{Config}
 use Rattle.connection.specs.declared.Connection.{Connection}
 use Rattle.connection.specs.declared.Remote.{Remote}
 use Rattle.connection.specs.declared.Event.{Event}
-use Rattle.connection.specs.declared.Event.the-variants.{Open, Close, Connected, Lost, SetRemote, Switch}
+use Rattle.connection.specs.declared.Event.the-variants.{Open, Close, Connected, Lost, SetRemote, Switch, Cancel}
 
 pub data MayHappen (g : Config) (c : Connection) : Event → Type 0 where
   -- open: not automatic, offline, close not wanted
@@ -23,3 +24,5 @@ pub data MayHappen (g : Config) (c : Connection) : Event → Type 0 where
   may-set : (r : Remote) → (c .mode ≡ Online → ⊥) → MayHappen g c (SetRemote r)
   -- a switch: always
   may-switch : (n : ℕ) (position : Bool) → MayHappen g c (Switch n position)
+  -- cancel: a transfer runs
+  may-cancel : transferring (c .part) ≡ true → MayHappen g c Cancel

@@ -7,7 +7,7 @@ use Rattle.connection.specs.declared.Config.{Config}
 use Rattle.connection.specs.declared.Connection.{Connection}
 use Rattle.connection.specs.declared.Remote.{Remote}
 use Rattle.connection.specs.declared.Event.{Event}
-use Rattle.connection.specs.declared.Event.the-variants.{Open, Close, Connected, Lost, SetRemote, Switch}
+use Rattle.connection.specs.declared.Event.the-variants.{Open, Close, Connected, Lost, SetRemote, Switch, Cancel}
 use Rattle.connection.specs.Connection.{wildcard}
 use Rattle.connection.specs.Event.{lostAllowed, remoteAllowed}
 
@@ -21,6 +21,7 @@ pub data RemoteAfter (g : Config) (c : Connection) : Event → Remote → Type 0
   kept-close : RemoteAfter g c Close (c .remote)
   kept-connected : RemoteAfter g c Connected (c .remote)
   kept-switch : (n : ℕ) (position : Bool) → RemoteAfter g c (Switch n position) (c .remote)
+  kept-cancel : RemoteAfter g c Cancel (c .remote)
 
 -- WHAT A TAKE LEAVES, x of the record c, into an out buffer of so much room
 module _ (g : Config) (room : ℕ) (c x : Connection) where
