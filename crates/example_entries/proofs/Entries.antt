@@ -13,7 +13,7 @@ use Rattle.wire.specs.Be.{be}
 use Rattle.table_layout.specs.Layout.{rowsOf, bodyBytes, startOf, endOf, rowAt, partOf, bodyOf, rowIn}
 use Rattle.table_layout.specs.declared.Kind.the-variants.{Connection as Connections}
 use Rattle.table_rows.specs.Rows.{groupRow, connectionRow, routeRow, destinationRow}
-use Rattle.table_rows.specs.Rules.{groupGood, connectionGood, routeGood, destinationGood, sizeIn, routesShare, destinationsShare}
+use Rattle.table_rows.specs.Rules.{groupGood, connectionGood, routeGood, destinationGood, sizeIn, tcpIn, routesShare, destinationsShare}
 use Rattle.table_scan.specs.Scan.{share, clearIn, goodIn}
 use Rattle.table.specs.Table.{headGood, entryGood, rule, thenCheck, entriesPlace, headPlace, allRowsPlace, checkTable}
 use Rattle.connection.specs.Sound.{soundOf, zeroOf}
@@ -32,7 +32,7 @@ use Rattle.send.specs.Verdict.{verdictOf, transmissionNumber}
 use Rattle.send.specs.Send.{lookAt, checkOf, wantedAt}
 use Rattle.entry_send.specs.Sending.{sendOf}
 use Rattle.law_waits.specs.Waits.{waits}
-use Rattle.reading.specs.Feed.{ready, segmentRan}
+use Rattle.reading.specs.Feed.{pieceDone, feed, takeB, takes, ready, segmentRan, fine, Out}
 use Rattle.reading_lengths.specs.Listed.{Bytes}
 use Rattle.reading_walk.specs.Walk.{walkAt, outsTold}
 use Rattle.model.specs.World.{heldAt, cellAt, heldOf}
@@ -42,6 +42,7 @@ use Rattle.model.specs.Events.{segment, walk, transmit, Event, on, onWhole}
 use Rattle.model_runs.specs.Same.{cut}
 use Rattle.model_refines.specs.Run.{given, givenIn, afterEvent, Good}
 use Rattle.theorems.specs.Trip.{Reader, Walker}
+use Rattle.receive_route.specs.Route.{rowsIn, counts, rowFor, reasonIn, reasonOf, decisionOf, lookupOf}
 use Rattle.theorems.specs.Waits.{sentFrom, sentTo}
 use Rattle.theorems.proofs.Runs.{same-given}
 use Rattle.theorems.proofs.Refusals.{refusal-stays}
@@ -54,11 +55,11 @@ use Rattle.example_entries.proofs.Given.{reader-given, walker-given}
 
 -- the states are sound
 sound-tcp : (w : ℕ) → soundState image (tcpUp w) ≡ true
-unfolding image be badFrom every rowsOf bodyBytes startOf endOf rowAt partOf bodyOf rowIn groupRow connectionRow routeRow destinationRow groupGood connectionGood routeGood destinationGood sizeIn routesShare destinationsShare share clearIn goodIn headGood entryGood rule thenCheck entriesPlace headPlace allRowsPlace checkTable configOf freshState soundOf zeroOf soundAt recordsSound soundState
+unfolding image be badFrom every rowsOf bodyBytes startOf endOf rowAt partOf bodyOf rowIn groupRow connectionRow routeRow destinationRow groupGood connectionGood routeGood destinationGood sizeIn tcpIn routesShare destinationsShare share clearIn goodIn headGood entryGood rule thenCheck entriesPlace headPlace allRowsPlace checkTable configOf freshState soundOf zeroOf soundAt recordsSound soundState
 sound-tcp w = refl
 
 sound-others : (soundState image udpUp ≡ true) × (soundState image waitingFor ≡ true) × (soundState image fresh ≡ true) × (soundState image (used 1462) ≡ true) × (soundState image (used 1463) ≡ true)
-unfolding image be badFrom every rowsOf bodyBytes startOf endOf rowAt partOf bodyOf rowIn groupRow connectionRow routeRow destinationRow groupGood connectionGood routeGood destinationGood sizeIn routesShare destinationsShare share clearIn goodIn headGood entryGood rule thenCheck entriesPlace headPlace allRowsPlace checkTable configOf freshState soundOf zeroOf soundAt recordsSound soundState
+unfolding image be badFrom every rowsOf bodyBytes startOf endOf rowAt partOf bodyOf rowIn groupRow connectionRow routeRow destinationRow groupGood connectionGood routeGood destinationGood sizeIn tcpIn routesShare destinationsShare share clearIn goodIn headGood entryGood rule thenCheck entriesPlace headPlace allRowsPlace checkTable configOf freshState soundOf zeroOf soundAt recordsSound soundState
 sound-others = (refl, refl, refl, refl, refl)
 
 -- bytes that are bytes, by a test
@@ -79,6 +80,14 @@ three-rows = refl
 protocols : (configOf image 0 .tcp ≡ false) × (configOf image 2 .tcp ≡ true)
 unfolding image be rowsOf bodyBytes startOf partOf bodyOf rowIn groupRow connectionRow configOf
 protocols = (refl, refl)
+
+-- what comes of these segments has no piece of a transfer
+abbrev Plain : ℕ → List ℕ → Type 0
+Plain w bs = fine (segmentRan (routes 2 w) ready bs .list) ≡ segmentRan (routes 2 w) ready bs .list
+
+no-pieces : Plain 1 bar × Plain 1 (framed 2 2 (0x46 ∷ 0x50 ∷ [])) × Plain 1 (framed 1 0 []) × Plain 1 (framed 1 2 (7 ∷ 8 ∷ [])) × Plain 1 (framed 1 3 (7 ∷ 8 ∷ 9 ∷ [])) × Plain 0 (framed 2 1 (5 ∷ [])) × Plain 0 bar
+unfolding image be badFrom every rowsOf bodyBytes startOf partOf bodyOf rowIn routeRow pieceDone feed takeB takes segmentRan isOn rowsIn counts rowFor reasonIn reasonOf decisionOf lookupOf fine
+no-pieces = (refl, refl, refl, refl, refl, refl, refl)
 
 module _ (rx tx : List ℕ) (long : length rx ≡ 23424) (wide : length tx ≡ 23552) where
   good : (s : State) → soundState image s ≡ true → length (s .connections) ≡ 16 → Good image (over rx tx s)
@@ -118,10 +127,10 @@ module _ (rx tx : List ℕ) (long : length rx ≡ 23424) (wide : length tx ≡ 2
   walker = record { there = subst (λ (n : ℕ). 0 < n) (sym three-rows) (omega arith); udp = protocols .0; receives = udp-up }
 
   -- WHAT ONE SEGMENT GIVES
-  one-segment : (w : ℕ) (bs : List ℕ) → small bs ≡ true → segmentsGive rx tx w (on 2 (segment bs) ∷ []) ≡ numbers (segmentRan (routes 2 w) ready bs .list)
+  one-segment : (w : ℕ) (bs : List ℕ) → small bs ≡ true → segmentsGive rx tx w (on 2 (segment bs) ∷ []) ≡ numbers (fine (segmentRan (routes 2 w) ready bs .list))
   unfolding givenIn freshState
   one-segment w bs e =
-      ap numbers (append-nil (given image 2 (on 2 (segment bs)) (over rx tx (tcpUp w))) ∙ reader-given image (over rx tx (tcpUp w)) (tcp-good w) 2 (reader w) bs (small-bytes bs e))
+      ap numbers (ap fine (append-nil (given image 2 (on 2 (segment bs)) (over rx tx (tcpUp w)))) ∙ reader-given image (over rx tx (tcpUp w)) (tcp-good w) 2 (reader w) bs (small-bytes bs e))
 
   -- cut in two, the same
   two-segments : (w : ℕ) (x y : List ℕ) → small (x ++ y) ≡ true
@@ -132,7 +141,7 @@ module _ (rx tx : List ℕ) (long : length rx ≡ 23424) (wide : length tx ≡ 2
   one-walk : (d : List ℕ) → walkGives rx tx d ≡ numbers (outsTold d (walkAt (routes 0 0) d 0 .found) [])
   unfolding givenIn freshState image be rowsOf bodyBytes startOf partOf bodyOf rowIn groupRow connectionRow configOf
   one-walk d =
-      ap numbers (append-nil (given image 0 (on 0 (walk d 0)) (over rx tx udpUp)) ∙ walker-given image (over rx tx udpUp) udp-good 0 walker d 0 (omega arith))
+      ap numbers (ap fine (append-nil (given image 0 (on 0 (walk d 0)) (over rx tx udpUp))) ∙ walker-given image (over rx tx udpUp) udp-good 0 walker d 0 (omega arith))
 
   -- WHAT A DATAGRAM AND A TRANSMIT ARE ANSWERED, past the gate
   datagram-past : (s : State) → Good image (over rx tx s) → datagramGives rx tx s ≡ arrivedNumbers (arriveOf image s false 0 exact .answer)
@@ -186,23 +195,23 @@ module _ (rx tx : List ℕ) (long : length rx ≡ 23424) (wide : length tx ≡ 2
   entry-edges =
       record {
         rows = (
-          one-segment 1 bar refl ∙ each-edge 1,
+          one-segment 1 bar refl ∙ ap numbers (no-pieces .0) ∙ each-edge 1,
           (
-            two-segments 1 (take 3 bar) (drop 3 bar) refl ∙ one-segment 1 bar refl ∙ each-edge 1,
+            two-segments 1 (take 3 bar) (drop 3 bar) refl ∙ one-segment 1 bar refl ∙ ap numbers (no-pieces .0) ∙ each-edge 1,
             (
-              two-segments 1 (take 8 bar) (drop 8 bar) refl ∙ one-segment 1 bar refl ∙ each-edge 1,
+              two-segments 1 (take 8 bar) (drop 8 bar) refl ∙ one-segment 1 bar refl ∙ ap numbers (no-pieces .0) ∙ each-edge 1,
               (
-                one-segment 1 (framed 2 2 (0x46 ∷ 0x50 ∷ [])) refl ∙ each-edge 4,
+                one-segment 1 (framed 2 2 (0x46 ∷ 0x50 ∷ [])) refl ∙ ap numbers (no-pieces .1) ∙ each-edge 4,
                 (
-                  one-segment 1 (framed 1 0 []) refl ∙ each-edge 5,
+                  one-segment 1 (framed 1 0 []) refl ∙ ap numbers (no-pieces .2) ∙ each-edge 5,
                   (
-                    one-segment 1 (framed 1 2 (7 ∷ 8 ∷ [])) refl ∙ each-edge 6,
+                    one-segment 1 (framed 1 2 (7 ∷ 8 ∷ [])) refl ∙ ap numbers (no-pieces .3) ∙ each-edge 6,
                     (
-                      one-segment 1 (framed 1 3 (7 ∷ 8 ∷ 9 ∷ [])) refl ∙ each-edge 7,
+                      one-segment 1 (framed 1 3 (7 ∷ 8 ∷ 9 ∷ [])) refl ∙ ap numbers (no-pieces .4) ∙ each-edge 7,
                       (
-                        one-segment 0 (framed 2 1 (5 ∷ [])) refl ∙ each-edge 8,
+                        one-segment 0 (framed 2 1 (5 ∷ [])) refl ∙ ap numbers (no-pieces .5) ∙ each-edge 8,
                         (
-                          one-segment 0 bar refl ∙ each-edge 9,
+                          one-segment 0 bar refl ∙ ap numbers (no-pieces .6) ∙ each-edge 9,
                           (
                             datagram-past waitingFor waiting-good ∙ each-edge 10,
                             (

@@ -9,6 +9,7 @@ use Rattle.connection.specs.Connection.{become, withSwitches, metOf}
 use Rattle.state.specs.declared.State.{State}
 use Rattle.state.specs.State.{recordAt, withRecord}
 use Rattle.frame.specs.Frame.{frame}
+use Rattle.reading.specs.Feed.{fine}
 use Rattle.send.specs.Verdict.{transmissionNumber}
 use Rattle.entry_send.specs.Sending.{sendOf}
 use Rattle.entry_arrivals.specs.Arrivals.{datagramOf}
@@ -36,12 +37,12 @@ module _ (rx tx : List ℕ) where
   abbrev pub over : State → Machine
   over s = machine s rx tx
 
-  -- what the TCP connection gives at segments, and the UDP connection at a walk from the start
+  -- what the TCP connection gives at segments (a piece of a transfer by its single bytes), and the UDP connection at a walk from the start
   abbrev pub segmentsGive : ℕ → List Event → List ℕ
-  segmentsGive w es = numbers (givenIn image 2 (over (tcpUp w)) es)
+  segmentsGive w es = numbers (fine (givenIn image 2 (over (tcpUp w)) es))
 
   abbrev pub walkGives : List ℕ → List ℕ
-  walkGives d = numbers (givenIn image 0 (over udpUp) (on 0 (walk d 0) ∷ []))
+  walkGives d = numbers (fine (givenIn image 0 (over udpUp) (on 0 (walk d 0) ∷ [])))
 
   -- a datagram for group 0 from the exact source; a transmit of two bytes
   abbrev pub datagramGives : State → List ℕ
