@@ -13,7 +13,7 @@ use table_layout::rows_of;
 use wire::be8;
 use words::lay;
 use words::phrase;
-use words_refusal::refusal;
+use words_refusal::refuse;
 
 // A line out of a pattern, a number and a row.
 fn say(pattern: &[u8], n: usize, row: &[u8]) {
@@ -74,14 +74,7 @@ fn list(image: &[u8]) {
     say(b"OK\n", 0, b"");
 }
 
-// ---- the refusal
-
-fn refuse(image: &[u8], place: usize) {
-    let mut text = [0u8; 512];
-    let end = refusal(&mut text, image, place);
-    io::write_all(1, front(&text, end));
-    say(b"REFUSED\n", 0, b"");
-}
+// ---- the whole
 
 fn report(image: &[u8]) {
     let answer = check_table(image);

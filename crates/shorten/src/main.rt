@@ -23,7 +23,7 @@ use wire::copy_in;
 use wire::put32;
 use words::lay;
 use words::phrase;
-use words_refusal::refusal;
+use words_refusal::refuse;
 
 // A line out of a pattern, a number and a row.
 fn say(pattern: &[u8], n: usize, row: &[u8]) {
@@ -202,13 +202,6 @@ fn read_sheet(image: &[u8], rows: usize) {
         return;
     }
     report(image, rows, front(&sheet, n));
-}
-
-fn refuse(image: &[u8], place: usize) {
-    let mut text = [0u8; 512];
-    let end = refusal(&mut text, image, place);
-    io::write_all(1, front(&text, end));
-    say(b"REFUSED\n", 0, b"");
 }
 
 fn main() {

@@ -188,8 +188,15 @@ fn record_of(
 }
 
 // Sixteen records have some 98,000 characters at most.
-pub fn records(text: &mut [u8], table: &[u8], state: State, rx: &[u8], tx: &[u8]) -> usize {
-    let mut next: usize = 0;
+pub fn records(
+    text: &mut [u8],
+    at: usize,
+    table: &[u8],
+    state: State,
+    rx: &[u8],
+    tx: &[u8],
+) -> usize {
+    let mut next: usize = at;
     let mut k: u8 = 0;
     while k < 16 {
         let c = state.connections[k as usize];

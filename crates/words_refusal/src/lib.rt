@@ -1,5 +1,6 @@
 // Why a table image is refused, as a line of text: the byte, the spot, and the first test that fails there with the numbers found and asked (the
 // patterns are those of crate words). Spot and test are proved (crate table_fault); the words are tried by stored output.
+use pieces::front;
 use table_fault::Fault;
 use table_fault::Spot;
 use table_fault::reason_of;
@@ -124,4 +125,12 @@ pub fn refusal(text: &mut [u8], image: &[u8], place: usize) -> usize {
     put8(&mut row, 14, fault_number(fault));
     put8(&mut row, 15, be8(image, place) as u8);
     line(text, place, &row, told.found)
+}
+
+// A refused image ends a program: its line, and the last word.
+pub fn refuse(image: &[u8], place: usize) {
+    let mut text = [0u8; 512];
+    let end = refusal(&mut text, image, place);
+    let last = lay(&mut text, end, b"REFUSED\n", 0, b"", b"");
+    io::write_all(1, front(&text, last));
 }

@@ -15,8 +15,11 @@ abbrev μ-loop : tie.MeasureT-loop
 μ-loop table contents count rx₀ tx₀ kept₀ text₀ going₀ i₀ rx tx kept text going i =
     count - i
 
-begun-requires : tie.Need-begun-requires Inv-loop μ-loop
-begun-requires c κs = search needs
+fresh-state-requires : tie.Need-fresh-state-requires Inv-loop μ-loop
+fresh-state-requires c κs = search needs
+
+untold-requires : tie.Need-untold-requires Inv-loop μ-loop
+untold-requires c κs = search needs
 
 loop-holds : tie.Need-loop-holds Inv-loop μ-loop
 loop-holds c = (refl, (refl, (refl, refl)))
@@ -72,7 +75,8 @@ entries-spec =
     (tie.spec
     Inv-loop
     μ-loop
-    begun-requires
+    fresh-state-requires
+    untold-requires
     loop-holds
     add-i
     entry-requires

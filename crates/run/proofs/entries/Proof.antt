@@ -8,10 +8,10 @@ use Rattle.run.proofs.entries.Statement.{statement}
 use Rattle.run.proofs.entries.Tie as tie
 
 abbrev Inv-loop : tie.InvT-loop
-Inv-loop table rx₀ tx₀ body₀ text₀ out₀ state₀ n₀ rx tx body text out state n = (length rx ≡ length rx₀) × ((length tx ≡ length tx₀) × ((length body ≡ length body₀) × ((length text ≡ length text₀) × (length out ≡ length out₀))))
+Inv-loop table rx₀ tx₀ room₀ text₀ out₀ state₀ n₀ rx tx room text out state n = (length rx ≡ length rx₀) × ((length tx ≡ length tx₀) × ((length room ≡ length room₀) × ((length text ≡ length text₀) × (length out ≡ length out₀))))
 
 abbrev μ-loop : tie.MeasureT-loop
-μ-loop table rx₀ tx₀ body₀ text₀ out₀ state₀ n₀ rx tx body text out state n = 18446744073709551615 - n
+μ-loop table rx₀ tx₀ room₀ text₀ out₀ state₀ n₀ rx tx room text out state n = 18446744073709551615 - n
 
 fresh-state-requires : tie.Need-fresh-state-requires Inv-loop μ-loop
 fresh-state-requires c κs = search needs
@@ -52,6 +52,9 @@ loop-less c = omega arith
 loop-again : tie.Need-loop-again Inv-loop μ-loop
 loop-again c = (omega arith, (omega arith, (omega arith, (omega arith, omega arith))))
 
+ran-to-requires : tie.Need-ran-to-requires Inv-loop μ-loop
+ran-to-requires c κs = search needs
+
 same-length-6 : tie.Need-same-length-6 Inv-loop μ-loop
 same-length-6 c = omega arith
 
@@ -89,6 +92,7 @@ entries-spec =
     add-n
     loop-less
     loop-again
+    ran-to-requires
     same-length-6
     same-length-7
     same-length-8

@@ -8,10 +8,10 @@ use Rattle.words_record.proofs.records.Statement.{statement}
 use Rattle.words_record.proofs.records.Tie as tie
 
 abbrev Inv-loop : tie.InvT-loop
-Inv-loop text₀ table rx tx state next₀ k₀ text next k = (k ≤ 16) × (length text ≡ length text₀)
+Inv-loop text₀ at table rx tx state next₀ k₀ text next k = (k ≤ 16) × (length text ≡ length text₀)
 
 abbrev μ-loop : tie.MeasureT-loop
-μ-loop text₀ table rx tx state next₀ k₀ text next k = 16 - k
+μ-loop text₀ at table rx tx state next₀ k₀ text next k = 16 - k
 
 loop-holds : tie.Need-loop-holds Inv-loop μ-loop
 loop-holds c = (omega arith, refl)

@@ -1,9 +1,9 @@
--- `replay::long_contents` meets its contract.
+-- `input_recording::long_contents` meets its contract.
 use Prim.Native.Nat.{_≤_, _-_}
 use native.Mathlib.Omega.{arith}
 use borrow.Author.Needs.{needs}
-use Rattle.replay.proofs.long_contents.Statement.{statement}
-use Rattle.replay.proofs.long_contents.Tie as tie
+use Rattle.input_recording.proofs.long_contents.Statement.{statement}
+use Rattle.input_recording.proofs.long_contents.Tie as tie
 
 abbrev Inv-loop : tie.InvT-loop
 Inv-loop entries i₀ i = i ≤ 65535
