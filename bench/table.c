@@ -24,11 +24,6 @@ static bool good_connection(const uint8_t *row, size_t groups)
     return row[0] < groups && row[1] <= 1 && send_size >= 8 && send_size <= 1472 && be16(row + 10) == 0;
 }
 
-bool is_tcp(const struct layout *table, size_t connection)
-{
-    return table->body[GROUP][table->body[CONNECTION][connection * ROW] * 2] == 2;
-}
-
 /* Connection, mark and longest payload as one word. A marked row's connection is TCP. */
 static bool good_route(const uint8_t *row, const struct layout *table)
 {

@@ -22,7 +22,10 @@ struct layout {
 bool check(const uint8_t *image, size_t image_length, struct layout *table, size_t *place);
 
 /* Whether a connection of the table is TCP. */
-bool is_tcp(const struct layout *table, size_t connection);
+static inline bool is_tcp(const struct layout *table, size_t connection)
+{
+    return table->body[GROUP][table->body[CONNECTION][connection * ROW] * 2] == 2;
+}
 
 /* The row number of the route for a header, or the reason of its drop. */
 uint32_t look_up(const struct layout *table, size_t connection, uint32_t switches, uint32_t id, uint32_t length, bool *dropped);
