@@ -1,11 +1,11 @@
--- THE EVENTS, as data (R8.1): nine of one connection, and those of a whole group or of the whole module.
+-- THE EVENTS, as data (R8.1): ten of one connection, and those of a whole group or of the whole module.
 use Prim.Native.Nat.{ℕ}
 use mathlib.Core.Bool.{Bool}
 use mathlib.Core.List.{List}
 use Rattle.connection.specs.declared.Remote.{Remote}
 use Rattle.connection.specs.declared.Event.{Event as Change}
 
--- R8.1, the nine connection events: six that concern the record alone (open, close, connected, lost, set remote, switch); a segment's
+-- R8.1, the ten connection events: seven that concern the record alone (open, close, connected, lost, set remote, switch, cancel); a segment's
 -- bytes; a walk over a datagram from a place; taking the waiting bytes into an out buffer of so much room
 pub data Own : Type 0 where
   change : Change → Own
