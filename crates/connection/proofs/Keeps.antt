@@ -1,10 +1,11 @@
 -- Each method leaves a sound record sound.
-use Prim.Native.Nat.{ℕ, _-_}
+use Prim.Native.Nat.{ℕ, _-_, _≤_}
 use lib.Dec.{eqb, leb, ltb, leb·zero}
 use mathlib.Core.Path.{_≡_, refl, sym, ap, _∙_}
 use mathlib.Core.Bool.{Bool, true, false, cond, not, _&&_, _||_, or-true}
-use borrow.Author.Tests.{eqb-true, eq-eqb, not-true}
+use borrow.Author.Tests.{eqb-true, eq-eqb, leb-true, le-leb, lt-ltb, not-true}
 use native.Mathlib.Omega.{arith}
+use native.Mathlib.Decide.{ℕ-discrete}
 use Rattle.receive_part.specs.declared.Part.{Part}
 use Rattle.receive_part.specs.declared.Part.the-variants.{Header, Payload, Skip, Transfer}
 use Rattle.receive_part.specs.Part.{shaped, emptyPart, transferring}
@@ -12,11 +13,12 @@ use Rattle.lists.proofs.Both.{impossible, and-left, and-right, and3}
 use Rattle.connection.specs.declared.Mode.{Mode}
 use Rattle.connection.specs.declared.Mode.the-variants.{Offline, Reconnect, Online}
 use Rattle.connection.specs.declared.Remote.{Remote}
+use Rattle.connection.specs.declared.Watch.{Watch}
 use Rattle.connection.specs.declared.Connection.{Connection}
 use Rattle.connection.specs.declared.Config.{Config}
 use Rattle.connection.specs.declared.Event.{Event}
 use Rattle.connection.specs.declared.Event.the-variants.{Open, Close, Connected, Lost, SetRemote, Switch, Cancel}
-use Rattle.connection.specs.Connection.{isOffline, isReconnect, isOnline, wildcard, withMode, withSwitches, withPart, withSend, freshOf, become, openOf, closeOf, connectedOf, lostOf, remoteOf, metOf, closedOf, startedOf, reachOf, runOf, tickOf}
+use Rattle.connection.specs.Connection.{isOffline, isReconnect, isOnline, wildcard, withMode, withRemote, withSwitches, withPart, withSend, withWatch, freshOf, become, openOf, closeOf, connectedOf, lostOf, remoteOf, aliveAfter, metOf, closedOf, startedOf, reachOf, runOf, expires, letGoOf, sunkOf, onward, tickOf}
 use Rattle.connection.specs.Event.{openAllowed, closeAllowed, connectedAllowed, lostAllowed, remoteAllowed, cancelAllowed, allowed, recordAfter, stepOf}
 use Rattle.connection.specs.Sound.{Sound}
 use Rattle.connection.proofs.Ticks.{step-either, started}
@@ -53,6 +55,48 @@ online-too true o t p = refl
 online-too false true t p = p
 online-too false false t p = impossible p
 
+-- a watched record that goes online is watched
+online-watched : (z o u l : Bool) → (z || (o && u && l)) ≡ true → (z || (true && u && l)) ≡ true
+online-watched true o u l p = refl
+online-watched false true u l p = p
+online-watched false false u l p = impossible p
+
+-- what is not TCP has no receive part in any mode
+no-tcp : (e o t : Bool) → t ≡ false → (e || (o && t)) ≡ true → (e || (false && t)) ≡ true
+no-tcp true o t n p = refl
+no-tcp false true t n p = impossible (sym n ∙ p)
+no-tcp false false t n p = impossible p
+
+-- an alive timer that runs is on an online connection that is not TCP
+watched-by : (z o u l : Bool) → z ≡ false → (z || (o && u && l)) ≡ true → (o ≡ true) × (u ≡ true) × (l ≡ true)
+watched-by true o u l n p = impossible (sym n)
+watched-by false o u l n p = and3 o u l p
+
+-- one that has fallen by 1 is within the limit all the same
+sunk-watched : (a n : ℕ) (o u : Bool) → (eqb a 0 || (o && u && leb a n)) ≡ true → (eqb (a - 1) 0 || (o && u && leb (a - 1) n)) ≡ true
+sunk-watched a n o u p = go (ℕ-discrete a 0) (eqb a 0) refl
+  where
+    go : Dec (a ≡ 0) → (z : Bool) → eqb a 0 ≡ z → (eqb (a - 1) 0 || (o && u && leb (a - 1) n)) ≡ true
+    go (yes e) z q = let none : a - 1 ≡ 0 = omega arith in rw (eq-eqb (a - 1) 0 none)
+    go (no m) true q = absurd (m (eqb-true a 0 q))
+    go (no m) false q =
+        let w = watched-by (eqb a 0) o u (leb a n) q p in
+        let least : a ≤ n = leb-true a n (w .2) in
+        rw (w .0, w .1, le-leb (a - 1) n (omega arith)) (or-true (eqb (a - 1) 0))
+
+-- an alive timer that a source has started again, or left
+met-watched : (t w : Bool) (a n : ℕ) → (t ≡ true → n ≡ 0) → (eqb (cond (w || ltb 0 a) n a) 0 || (true && not t && leb (cond (w || ltb 0 a) n a) n)) ≡ true
+met-watched t w a n h = go t w (ℕ-discrete a 0) refl
+  where
+    self : (t′ : Bool) → t ≡ t′ → (eqb n 0 || (true && not t′ && leb n n)) ≡ true
+    self true e = rw (eq-eqb n 0 (h e))
+    self false e = rw (le-leb n n (omega arith)) (or-true (eqb n 0))
+
+    go : (t′ w′ : Bool) → Dec (a ≡ 0) → t ≡ t′ → (eqb (cond (w′ || ltb 0 a) n a) 0 || (true && not t′ && leb (cond (w′ || ltb 0 a) n a) n)) ≡ true
+    go t′ true d e = self t′ e
+    go t′ false (yes z) e = rw z
+    go t′ false (no m) e = rw (lt-ltb 0 a (omega arith)) (self t′ e)
+
 -- a transfer is no empty part
 pub moving : (p : Part) → transferring p ≡ true → emptyPart p ≡ false
 moving (Header h v) t = impossible t
@@ -73,6 +117,7 @@ bare-sound g h =
       reached = refl;
       opening = refl;
       closing = refl;
+      watching = refl;
     }
 
 pub fresh-sound : (g : Config) → Sound g (freshOf g)
@@ -93,6 +138,7 @@ module _ (g : Config) (c : Connection) (s : Sound g c) where
         reached = s .reached;
         opening = p;
         closing = q;
+        watching = s .watching;
       }
 
   pub open-keeps : openAllowed g c ≡ true → Sound g (openOf c)
@@ -113,8 +159,9 @@ module _ (g : Config) (c : Connection) (s : Sound g c) where
       wishes-keep false true refl (rw (and-right (isOnline (c .mode)) (g .tcp) up, off) (or-true (not (g .automatic))))
 
   -- a record that is not offline goes online: no open is wanted, and no close that was not
-  up-keeps : (r : Remote) → isOffline (c .mode) ≡ false → not (c .«close_wanted») ≡ true → wildcard r ≡ false → Sound g (metOf r c)
-  up-keeps r off k w =
+  up-keeps : (r : Remote) (v : Watch) → isOffline (c .mode) ≡ false → not (c .«close_wanted») ≡ true → wildcard r ≡ false
+      → (eqb (v .alive) 0 || (true && not (g .tcp) && leb (v .alive) (g .alive))) ≡ true → Sound g (withWatch v (become Online (withRemote r c)))
+  up-keeps r v off k w a =
       record {
         fits = s .fits;
         shape = s .shape;
@@ -125,17 +172,25 @@ module _ (g : Config) (c : Connection) (s : Sound g c) where
         reached = ap not w;
         opening = rw off at (s .opening);
         closing = or-left (not (c .«close_wanted»)) (not (g .automatic)) (g .tcp && true) k;
+        watching = a;
       }
+
+  still-watched : (eqb (c .watch .alive) 0 || (true && not (g .tcp) && leb (c .watch .alive) (g .alive))) ≡ true
+  still-watched = online-watched (eqb (c .watch .alive) 0) (isOnline (c .mode)) (not (g .tcp)) (leb (c .watch .alive) (g .alive)) (s .watching)
 
   pub connected-keeps : connectedAllowed g c ≡ true → Sound g (connectedOf c)
   connected-keeps a =
       let t = and3 (g .tcp && isReconnect (c .mode)) (not (c .«close_wanted»)) (not (wildcard (c .remote))) a in
       let m : c .mode ≡ Reconnect = reconnect-is (c .mode) (and-right (g .tcp) _ (t .0)) in
-      up-keeps (c .remote) (ap isOffline m) (t .1) (not-true _ (t .2))
+      up-keeps (c .remote) (c .watch) (ap isOffline m) (t .1) (not-true _ (t .2)) still-watched
 
-  -- a datagram or an accept, of a member that is reconnect or online without close wanted
-  pub met-keeps : (r : Remote) → (not (isOffline (c .mode)) && not (c .«close_wanted»)) ≡ true → wildcard r ≡ false → Sound g (metOf r c)
-  met-keeps r a w = up-keeps r (not-true _ (and-left (not (isOffline (c .mode))) _ a)) (and-right (not (isOffline (c .mode))) _ a) w
+  -- a datagram or an accept, of a member that is reconnect or online without close wanted, under a row that limits no TCP connection
+  pub met-keeps : (r : Remote) → (g .tcp ≡ true → g .alive ≡ 0) → (not (isOffline (c .mode)) && not (c .«close_wanted»)) ≡ true → wildcard r ≡ false
+      → Sound g (metOf g r c)
+  unfolding aliveAfter
+  met-keeps r n a w =
+      up-keeps r _ (not-true _ (and-left (not (isOffline (c .mode))) _ a)) (and-right (not (isOffline (c .mode))) _ a) w
+      (met-watched (g .tcp) (wildcard (c .remote)) (c .watch .alive) (g .alive) n)
 
   pub lost-keeps : lostAllowed g c ≡ true → Sound g (lostOf g c)
   lost-keeps a =
@@ -150,6 +205,7 @@ module _ (g : Config) (c : Connection) (s : Sound g c) where
         reached = refl;
         opening = rw off at (s .opening);
         closing = rw off at (s .closing);
+        watching = refl;
       }
 
   pub remote-keeps : (r : Remote) → remoteAllowed c ≡ true → Sound g (remoteOf r c)
@@ -164,6 +220,7 @@ module _ (g : Config) (c : Connection) (s : Sound g c) where
         reached = rw a;
         opening = s .opening;
         closing = s .closing;
+        watching = s .watching;
       }
 
   pub switches-keep : (w : ℕ) → Sound g (withSwitches w c)
@@ -178,6 +235,7 @@ module _ (g : Config) (c : Connection) (s : Sound g c) where
         reached = s .reached;
         opening = s .opening;
         closing = s .closing;
+        watching = s .watching;
       }
 
   -- an online TCP record has any receive part that is shaped
@@ -193,6 +251,7 @@ module _ (g : Config) (c : Connection) (s : Sound g c) where
         reached = s .reached;
         opening = s .opening;
         closing = s .closing;
+        watching = s .watching;
       }
 
   -- an online record has any send bytes within its size, timed by the rules
@@ -208,6 +267,7 @@ module _ (g : Config) (c : Connection) (s : Sound g c) where
         reached = s .reached;
         opening = s .opening;
         closing = s .closing;
+        watching = s .watching;
       }
 
   -- every event that is allowed
@@ -244,6 +304,7 @@ module _ (g : Config) (c : Connection) (s : Sound g c) where
             reached = refl;
             opening = refl;
             closing = weaken (not (c .«close_wanted») || not (g .automatic)) (g .tcp) (rw off at (s .closing));
+            watching = rw on at (s .watching);
           }
 
   pub reach-keeps : c .«close_wanted» ≡ false → Sound g (reachOf g c)
@@ -255,7 +316,7 @@ module _ (g : Config) (c : Connection) (s : Sound g c) where
       go true e =
           let t = and3 (isReconnect (c .mode)) (not (g .tcp)) (not (wildcard (c .remote))) e in
           let m : c .mode ≡ Reconnect = reconnect-is (c .mode) (t .0) in
-          up-keeps (c .remote) (ap isOffline m) (ap not k) (not-true _ (t .2))
+          up-keeps (c .remote) (c .watch) (ap isOffline m) (ap not k) (not-true _ (t .2)) still-watched
 
   pub run-keeps : Sound g (runOf c)
   unfolding runOf
@@ -275,10 +336,49 @@ module _ (g : Config) (c : Connection) (s : Sound g c) where
           let quiet : c .due ≡ false = not-true _ (rw e at (s .once)) in
           send-keeps (c .used) (c .timer - 1) (eqb (c .timer) 1 || c .due) (s .fits) (s .sending) (rw waiting (or-true (eqb (c .timer - 1) 0 && not (eqb (c .timer) 1 || c .due)))) (last (eqb (c .timer) 1) (c .due) refl quiet)
 
+  -- the alive part of a tick
+  pub sink-keeps : Sound g (sunkOf c)
+  sink-keeps =
+      record {
+        fits = s .fits;
+        shape = s .shape;
+        receiving = s .receiving;
+        sending = s .sending;
+        timing = s .timing;
+        once = s .once;
+        reached = s .reached;
+        opening = s .opening;
+        closing = s .closing;
+        watching = sunk-watched (c .watch .alive) (g .alive) (isOnline (c .mode)) (not (g .tcp)) (s .watching);
+      }
+
+  -- it is no TCP connection, and so holds no receive part
+  pub let-go-keeps : expires c ≡ true → Sound g (letGoOf g c)
+  let-go-keeps e =
+      let one : c .watch .alive ≡ 1 = eqb-true _ _ (and-left (eqb (c .watch .alive) 1) _ e) in
+      let w = watched-by (eqb (c .watch .alive) 0) (isOnline (c .mode)) (not (g .tcp)) (leb (c .watch .alive) (g .alive)) (rw one) (s .watching) in
+      let off : isOffline (c .mode) ≡ false = online-not-offline (c .mode) (w .0) in
+      let udp : g .tcp ≡ false = not-true _ (w .1) in
+      record {
+        fits = leb·zero (g .size);
+        shape = s .shape;
+        receiving = no-tcp (emptyPart (c .part)) (isOnline (c .mode)) (g .tcp) udp (s .receiving);
+        sending = refl;
+        timing = refl;
+        once = refl;
+        reached = refl;
+        opening = rw off at (s .opening);
+        closing = rw off at (s .closing);
+        watching = refl;
+      }
+
 pub tick-keeps : (g : Config) (c : Connection) → Sound g c → Sound g (tickOf g c)
 unfolding tickOf
-tick-keeps g c s = go (c .«close_wanted») refl
+tick-keeps g c s = go (c .«close_wanted») (expires c) refl refl
   where
-    go : (b : Bool) → c .«close_wanted» ≡ b → Sound g (cond b (closedOf g c) (runOf (reachOf g (startedOf g c))))
-    go true e = switches-keep g (freshOf g) (fresh-sound g) (c .switches)
-    go false e = run-keeps g (reachOf g (startedOf g c)) (reach-keeps g (startedOf g c) (start-keeps g c s) (started g c .wish ∙ e))
+    go : (b e : Bool) → c .«close_wanted» ≡ b → expires c ≡ e → Sound g (cond b (closedOf g c) (cond e (letGoOf g c) (onward g c)))
+    go true e p q = switches-keep g (freshOf g) (fresh-sound g) (c .switches)
+    go false true p q = let-go-keeps g c s q
+    go false false p q =
+        run-keeps g (reachOf g (startedOf g (sunkOf c)))
+        (reach-keeps g (startedOf g (sunkOf c)) (start-keeps g (sunkOf c) (sink-keeps g c s)) (started g (sunkOf c) .wish ∙ p))

@@ -5,3 +5,4 @@ pub mod Rules
 pub mod Fails
 pub mod Keeps
 pub mod Leaves
+pub mod Watches

@@ -12,27 +12,28 @@ use Rattle.connection.specs.declared.Mode.the-variants.{Offline, Reconne
 use Rattle.connection.specs.declared.Connection.{Connection}
 use Rattle.connection.specs.declared.Config.{Config}
 use Rattle.connection.specs.Connection.{isOffline, wildFields, zeroRecord}
-use Rattle.connection.specs.Sound.{usedFits, partShaped, receives, sends, timed, neverBoth, onlineRemote, openRule, closeRule, soundOf, Sound, zeroOf}
+use Rattle.connection.specs.Sound.{usedFits, partShaped, receives, sends, timed, neverBoth, onlineRemote, openRule, closeRule, watched, soundOf, Sound, zeroOf}
 
--- nine tests that hold together hold each
-nine : (a b c d e f g h i : Bool) → (a && b && c && d && e && f && g && h && i) ≡ true
-    → (a ≡ true) × (b ≡ true) × (c ≡ true) × (d ≡ true) × (e ≡ true) × (f ≡ true) × (g ≡ true) × (h ≡ true) × (i ≡ true)
-nine false b c d e f g h i p = impossible p
-nine true false c d e f g h i p = impossible p
-nine true true false d e f g h i p = impossible p
-nine true true true false e f g h i p = impossible p
-nine true true true true false f g h i p = impossible p
-nine true true true true true false g h i p = impossible p
-nine true true true true true true false h i p = impossible p
-nine true true true true true true true false i p = impossible p
-nine true true true true true true true true false p = impossible p
-nine true true true true true true true true true p = (refl, refl, refl, refl, refl, refl, refl, refl, refl)
+-- ten tests that hold together hold each
+ten : (a b c d e f g h i j : Bool) → (a && b && c && d && e && f && g && h && i && j) ≡ true
+    → (a ≡ true) × (b ≡ true) × (c ≡ true) × (d ≡ true) × (e ≡ true) × (f ≡ true) × (g ≡ true) × (h ≡ true) × (i ≡ true) × (j ≡ true)
+ten false b c d e f g h i j p = impossible p
+ten true false c d e f g h i j p = impossible p
+ten true true false d e f g h i j p = impossible p
+ten true true true false e f g h i j p = impossible p
+ten true true true true false f g h i j p = impossible p
+ten true true true true true false g h i j p = impossible p
+ten true true true true true true false h i j p = impossible p
+ten true true true true true true true false i j p = impossible p
+ten true true true true true true true true false j p = impossible p
+ten true true true true true true true true true false p = impossible p
+ten true true true true true true true true true true p = (refl, refl, refl, refl, refl, refl, refl, refl, refl, refl)
 
 module _ (g : Config) (c : Connection) where
   pub sound-from : soundOf g c ≡ true → Sound g c
   unfolding soundOf
   sound-from p =
-      let n = nine (usedFits g c) (partShaped c) (receives g c) (sends c) (timed c) (neverBoth c) (onlineRemote c) (openRule g c) (closeRule g c) p in
+      let n = ten (usedFits g c) (partShaped c) (receives g c) (sends c) (timed c) (neverBoth c) (onlineRemote c) (openRule g c) (closeRule g c) (watched g c) p in
       record {
         fits = n .0;
         shape = n .1;
@@ -43,11 +44,12 @@ module _ (g : Config) (c : Connection) where
         reached = n .6;
         opening = n .7;
         closing = n .8;
+        watching = n .9;
       }
 
   pub sound-to : Sound g c → soundOf g c ≡ true
   unfolding soundOf
-  sound-to s = rw (s .fits, s .shape, s .receiving, s .sending, s .timing, s .once, s .reached, s .opening, s .closing)
+  sound-to s = rw (s .fits, s .shape, s .receiving, s .sending, s .timing, s .once, s .reached, s .opening, s .closing, s .watching)
 
 offline-is : (m : Mode) → isOffline m ≡ true → m ≡ Offline
 offline-is Offline p = refl
@@ -68,7 +70,9 @@ empty-is (Transfer r n) e = impossible e
 pub zero-is : (c : Connection) → zeroOf c ≡ true → c ≡ zeroRecord
 unfolding zeroOf
 zero-is c p =
-    let n = nine (isOffline (c .mode)) (not (c .«open_wanted»)) (not (c .«close_wanted»)) (wildFields (c .remote) .address && wildFields (c .remote) .port) (eqb (c .switches) 0) (emptyPart (c .part)) (eqb (c .used) 0) (eqb (c .timer) 0) (not (c .due)) p in
+    let n =
+    ten (isOffline (c .mode)) (not (c .«open_wanted»)) (not (c .«close_wanted»)) (wildFields (c .remote) .address && wildFields (c .remote) .port)
+    (eqb (c .switches) 0) (emptyPart (c .part)) (eqb (c .used) 0) (eqb (c .timer) 0) (not (c .due)) (eqb (c .watch .alive) 0 && not (c .watch .«remote_set»)) p in
     rw (
       offline-is (c .mode) (n .0),
       not-true (c .«open_wanted») (n .1),
@@ -80,6 +84,8 @@ zero-is c p =
       eqb-true (c .used) 0 (n .6),
       eqb-true (c .timer) 0 (n .7),
       not-true (c .due) (n .8),
+      eqb-true (c .watch .alive) 0 (and-left (eqb (c .watch .alive) 0) _ (n .9)),
+      not-true (c .watch .«remote_set») (and-right (eqb (c .watch .alive) 0) _ (n .9)),
     )
 
 -- and the zero record does

@@ -1,4 +1,6 @@
 -- The two ways of an event, and of a tick.
+use Prim.Native.Nat.{ℕ, _-_}
+use native.Mathlib.Omega.{arith}
 use mathlib.Core.Path.{_≡_, refl, sym, ap, _∙_}
 use mathlib.Core.Bool.{Bool, true, false, cond, not, _&&_, _||_}
 use lib.Dec.{eqb}
@@ -11,7 +13,7 @@ use Rattle.connection.specs.declared.Config.{Config}
 use Rattle.connection.specs.declared.Refusal.the-variants.{Missing, Denied}
 use Rattle.connection.specs.declared.Answer.the-variants.{Done}
 use Rattle.connection.specs.declared.Event.{Event}
-use Rattle.connection.specs.Connection.{isReconnect, isOnline, wildcard, closedOf, startedOf, reachOf, runOf, tickOf}
+use Rattle.connection.specs.Connection.{isReconnect, isOnline, wildcard, withWatch, closedOf, startedOf, reachOf, runOf, expires, letGoOf, sunkOf, onward, tickOf}
 use Rattle.connection.specs.Event.{known, allowed, recordAfter, refusedBy, stepOf}
 
 -- AN EVENT leaves the record, or, where it is known and allowed, makes of it what its own sentence says
@@ -25,15 +27,28 @@ step-either e g c P p q = go (known e) (allowed e g c) refl p
     go true false x p = p refl
     go true true x p = q x
 
-pub tick-closes : (g : Config) (c : Connection) → c .«close_wanted» ≡ true → closedOf g c ≡ tickOf g c
-unfolding tickOf
-tick-closes g c h = sym (ap (λ (b : Bool). cond b (closedOf g c) (runOf (reachOf g (startedOf g c)))) h)
+module _ (g : Config) (c : Connection) where
+  pub tick-closes : c .«close_wanted» ≡ true → closedOf g c ≡ tickOf g c
+  unfolding tickOf
+  tick-closes h = sym (ap (λ (b : Bool). cond b (closedOf g c) (cond (expires c) (letGoOf g c) (onward g c))) h)
 
-pub tick-goes-on : (g : Config) (c : Connection) → c .«close_wanted» ≡ false → runOf (reachOf g (startedOf g c)) ≡ tickOf g c
-unfolding tickOf
-tick-goes-on g c h = sym (ap (λ (b : Bool). cond b (closedOf g c) (runOf (reachOf g (startedOf g c)))) h)
+  tick-open : c .«close_wanted» ≡ false → cond (expires c) (letGoOf g c) (onward g c) ≡ tickOf g c
+  unfolding tickOf
+  tick-open h = sym (ap (λ (b : Bool). cond b (closedOf g c) (cond (expires c) (letGoOf g c) (onward g c))) h)
 
--- A TICK THAT DOES NOT CLOSE leaves part, send bytes, switches and the wish to close, and a TCP connection online or not, as they were
+  pub tick-lets-go : c .«close_wanted» ≡ false → expires c ≡ true → letGoOf g c ≡ tickOf g c
+  tick-lets-go h e = sym (ap (λ (b : Bool). cond b (letGoOf g c) (onward g c)) e) ∙ tick-open h
+
+  pub tick-goes-on : c .«close_wanted» ≡ false → expires c ≡ false → onward g c ≡ tickOf g c
+  tick-goes-on h e = sym (ap (λ (b : Bool). cond b (letGoOf g c) (onward g c)) e) ∙ tick-open h
+
+-- an alive timer that does not run stays so
+pub sunk-none : (c : Connection) → c .watch .alive ≡ 0 → c ≡ sunkOf c
+sunk-none c e =
+    let same : c .watch .alive ≡ c .watch .alive - 1 = omega arith in
+    ap (λ (a : ℕ). withWatch (record { alive = a; «remote_set» = c .watch .«remote_set» }) c) same
+
+-- A TICK THAT NEITHER CLOSES NOR LETS GO leaves part, send bytes, switches and the wish to close, and a TCP connection online or not, as they were
 pub record GoesOn (g : Config) (c d : Connection) : Type 0 where
   pub part : d .part ≡ c .part
   pub used : d .used ≡ c .used
@@ -41,7 +56,10 @@ pub record GoesOn (g : Config) (c d : Connection) : Type 0 where
   pub wish : d .«close_wanted» ≡ c .«close_wanted»
   pub online : g .tcp ≡ true → isOnline (d .mode) ≡ isOnline (c .mode)
 
--- its three steps
+-- its four steps
+sunk : (g : Config) (c : Connection) → GoesOn g c (sunkOf c)
+sunk g c = record { part = refl; used = refl; switches = refl; wish = refl; online = λ _. refl }
+
 pub started : (g : Config) (c : Connection) → GoesOn g c (startedOf g c)
 unfolding startedOf
 started g c = go (c .mode) refl (c .«open_wanted» || g .automatic) refl
@@ -78,21 +96,25 @@ one-more : (g : Config) (c d e : Connection) → GoesOn g d e → GoesOn g c d �
 one-more g c d e t u =
     record { part = t .part ∙ u .part; used = t .used ∙ u .used; switches = t .switches ∙ u .switches; wish = t .wish ∙ u .wish; online = λ p. t .online p ∙ u .online p }
 
--- and one that closes: the fresh record except switches
+-- and one that closes: the fresh record except switches; and one that lets go
 pub data Tick (g : Config) (c : Connection) : Connection → Type 0 where
   closes-wanted : c .«close_wanted» ≡ true → Tick g c (closedOf g c)
-  goes-on : (d : Connection) → c .«close_wanted» ≡ false → GoesOn g c d → Tick g c d
+  lets-go : c .«close_wanted» ≡ false → expires c ≡ true → Tick g c (letGoOf g c)
+  goes-on : (d : Connection) → c .«close_wanted» ≡ false → expires c ≡ false → GoesOn g c d → Tick g c d
 
 pub tick-is : (g : Config) (c : Connection) → Tick g c (tickOf g c)
 unfolding tickOf
-tick-is g c = go (c .«close_wanted») refl
+tick-is g c = go (c .«close_wanted») (expires c) refl refl
   where
-    all : GoesOn g c (runOf (reachOf g (startedOf g c)))
-    all = one-more g c (reachOf g (startedOf g c)) _ (run g (reachOf g (startedOf g c))) (one-more g c (startedOf g c) _ (reached g (startedOf g c)) (started g c))
+    all : GoesOn g c (onward g c)
+    all =
+        let d = startedOf g (sunkOf c) in
+        one-more g c (reachOf g d) _ (run g (reachOf g d)) (one-more g c d _ (reached g d) (one-more g c (sunkOf c) _ (started g (sunkOf c)) (sunk g c)))
 
-    go : (b : Bool) → c .«close_wanted» ≡ b → Tick g c (cond b (closedOf g c) (runOf (reachOf g (startedOf g c))))
-    go true e = closes-wanted e
-    go false e = goes-on (runOf (reachOf g (startedOf g c))) e all
+    go : (b x : Bool) → c .«close_wanted» ≡ b → expires c ≡ x → Tick g c (cond b (closedOf g c) (cond x (letGoOf g c) (onward g c)))
+    go true x e f = closes-wanted e
+    go false true e f = lets-go e f
+    go false false e f = goes-on (onward g c) e f all
 
 -- A TICK LEAVES of the receive part nothing where it closes, and all of it otherwise; and no wish to close
 pub tick-part : (g : Config) (c : Connection) → tickOf g c .part ≡ cond (c .«close_wanted») readyPart (c .part)
@@ -100,11 +122,13 @@ tick-part g c = go (tickOf g c) (tick-is g c)
   where
     go : (d : Connection) → Tick g c d → d .part ≡ cond (c .«close_wanted») readyPart (c .part)
     go _ (closes-wanted k) = rw k
-    go d (goes-on _ k t) = rw k (t .part)
+    go _ (lets-go k x) = rw k
+    go d (goes-on _ k x t) = rw k (t .part)
 
 pub tick-wish : (g : Config) (c : Connection) → tickOf g c .«close_wanted» ≡ false
 tick-wish g c = go (tickOf g c) (tick-is g c)
   where
     go : (d : Connection) → Tick g c d → d .«close_wanted» ≡ false
     go _ (closes-wanted k) = refl
-    go d (goes-on _ k t) = t .wish ∙ k
+    go _ (lets-go k x) = k
+    go d (goes-on _ k x t) = t .wish ∙ k

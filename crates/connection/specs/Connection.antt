@@ -9,6 +9,7 @@ use Rattle.connection.specs.declared.Mode.{Mode}
 use Rattle.connection.specs.declared.Mode.the-variants.{Offline, Reconnect, Online}
 use Rattle.connection.specs.declared.Remote.{Remote}
 use Rattle.connection.specs.declared.Fields.{Fields}
+use Rattle.connection.specs.declared.Watch.{Watch}
 use Rattle.connection.specs.declared.Connection.{Connection}
 use Rattle.connection.specs.declared.Config.{Config}
 
@@ -39,7 +40,11 @@ wildFields r = record { address = eqb (r .address) 0; port = eqb (r .port) 0 }
 abbrev pub wildcard : Remote → Bool
 wildcard r = wildFields r .address || wildFields r .port
 
--- The record with some fields replaced: what events make of it is said through these five.
+-- no alive timer runs, and the upper layer has not set the remote
+abbrev pub unwatched : Watch
+unwatched = record { alive = 0; «remote_set» = false }
+
+-- The record with some fields replaced: what events make of it is said through these six.
 
 -- another mode, other wishes (open, close)
 abbrev pub withMode : Mode → Bool → Bool → Connection → Connection
@@ -54,6 +59,7 @@ withMode m o k c =
       used = c .used;
       timer = c .timer;
       due = c .due;
+      watch = c .watch;
     }
 
 abbrev pub withRemote : Remote → Connection → Connection
@@ -68,6 +74,7 @@ withRemote r c =
       used = c .used;
       timer = c .timer;
       due = c .due;
+      watch = c .watch;
     }
 
 abbrev pub withSwitches : ℕ → Connection → Connection
@@ -82,6 +89,7 @@ withSwitches w c =
       used = c .used;
       timer = c .timer;
       due = c .due;
+      watch = c .watch;
     }
 
 abbrev pub withPart : Part → Connection → Connection
@@ -96,6 +104,7 @@ withPart p c =
       used = c .used;
       timer = c .timer;
       due = c .due;
+      watch = c .watch;
     }
 
 -- other send bytes, timer, due mark
@@ -111,6 +120,23 @@ withSend u t d c =
       used = u;
       timer = t;
       due = d;
+      watch = c .watch;
+    }
+
+-- another alive timer, another mark that the upper layer set the remote
+abbrev pub withWatch : Watch → Connection → Connection
+withWatch w c =
+    record {
+      mode = c .mode;
+      «open_wanted» = c .«open_wanted»;
+      «close_wanted» = c .«close_wanted»;
+      remote = c .remote;
+      switches = c .switches;
+      part = c .part;
+      used = c .used;
+      timer = c .timer;
+      due = c .due;
+      watch = w;
     }
 
 -- R2.12: a fresh record is offline, wants and holds nothing, and has remote and switches from the table
@@ -126,12 +152,13 @@ freshOf g =
       used = 0;
       timer = 0;
       due = false;
+      watch = unwatched;
     }
 
 -- the record that is all zero: fresh, with nothing from a table
 abbrev pub zeroRecord : Connection
 zeroRecord =
-    freshOf (record { tcp = false; automatic = false; remote = record { address = 0; port = 0 }; size = 0; switches = 0 })
+    freshOf (record { tcp = false; automatic = false; remote = record { address = 0; port = 0 }; size = 0; alive = 0; switches = 0 })
 
 -- the wishes stay, the mode changes
 abbrev pub become : Mode → Connection → Connection
@@ -153,17 +180,25 @@ closeOf c = withMode (c .mode) false true c
 abbrev pub connectedOf : Connection → Connection
 connectedOf c = become Online c
 
+-- R20.6: the configured remote is back, so the upper layer's is gone and nobody is watched
+abbrev pub resetOf : Config → Connection → Connection
+resetOf g c = withWatch unwatched (withRemote (g .remote) c)
+
 -- R8.6: lost becomes reconnect, drops what it holds, and takes the configured remote
 abbrev pub lostOf : Config → Connection → Connection
-lostOf g c = become Reconnect (withRemote (g .remote) (emptied c))
+lostOf g c = become Reconnect (resetOf g (emptied c))
 
--- R8.7: set remote
+-- R8.7, R20.5: set remote, with the mark that the upper layer did
 abbrev pub remoteOf : Remote → Connection → Connection
-remoteOf r c = withRemote r c
+remoteOf r c = withWatch (record { alive = c .watch .alive; «remote_set» = true }) (withRemote r c)
 
--- R7.6: it becomes online with the source as remote
-abbrev pub metOf : Remote → Connection → Connection
-metOf source c = become Online (withRemote source c)
+-- R20.3: a source that replaces a wildcard starts the alive timer at the limit, and while it runs every source starts it again
+unfoldable pub aliveAfter : Config → Connection → ℕ
+aliveAfter g c = cond (wildcard (c .remote) || ltb 0 (c .watch .alive)) (g .alive) (c .watch .alive)
+
+-- R7.6: it becomes online with the source as remote; the mark stays
+abbrev pub metOf : Config → Remote → Connection → Connection
+metOf g source c = withWatch (record { alive = aliveAfter g c; «remote_set» = c .watch .«remote_set» }) (become Online (withRemote source c))
 
 -- R2.3: switch n is the bit worth 2 to the n; a number above 31 is no switch
 unfoldable pub worth : ℕ → ℕ
@@ -193,9 +228,25 @@ reachOf g c = cond (isReconnect (c .mode) && not (g .tcp) && not (wildcard (c .r
 unfoldable pub runOf : Connection → Connection
 runOf c = cond (eqb (c .timer) 0) c (withSend (c .used) (c .timer - 1) (eqb (c .timer) 1 || c .due) c)
 
--- R9.1, a tick: with close wanted R9.2 and nothing more; otherwise R9.3, R9.4, R9.5
+-- R20.4: the alive timer ends with the next tick, and the upper layer has not set the remote
+abbrev pub expires : Connection → Bool
+expires c = eqb (c .watch .alive) 1 && not (c .watch .«remote_set»)
+
+-- R20.4, let go: reconnect, the send bytes dropped, the configured remote
+abbrev pub letGoOf : Config → Connection → Connection
+letGoOf g c = become Reconnect (resetOf g (withSend 0 0 false c))
+
+-- R20.4: else a running alive timer falls by 1; at 0 it has stopped
+abbrev pub sunkOf : Connection → Connection
+sunkOf c = withWatch (record { alive = c .watch .alive - 1; «remote_set» = c .watch .«remote_set» }) c
+
+-- what a tick does where it neither closes nor lets go: R9.3, R9.4, R9.5
+abbrev pub onward : Config → Connection → Connection
+onward g c = runOf (reachOf g (startedOf g (sunkOf c)))
+
+-- R9.1, a tick: with close wanted R9.2 and nothing more; then R20.4, and nothing more where it lets go; otherwise R9.3, R9.4, R9.5
 unfoldable pub tickOf : Config → Connection → Connection
-tickOf g c = cond (c .«close_wanted») (closedOf g c) (runOf (reachOf g (startedOf g c)))
+tickOf g c = cond (c .«close_wanted») (closedOf g c) (cond (expires c) (letGoOf g c) (onward g c))
 
 -- R19.7: what a connection had before an event that takes nothing, and has after it: a transfer that ran has failed when none runs now
 abbrev pub failedOf : Connection → Connection → Bool

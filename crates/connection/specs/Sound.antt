@@ -43,7 +43,11 @@ openRule g c = not (c .«open_wanted») || (not (g .automatic) && isOffline (c .
 abbrev pub closeRule : Config → Connection → Bool
 closeRule g c = not (c .«close_wanted») || not (g .automatic) || (g .tcp && not (isOffline (c .mode)))
 
--- R3.2, R3.3, R3.5 to R3.11: all of them
+-- R20.2: the alive timer runs only on an online UDP connection, and is at most the limit
+abbrev pub watched : Config → Connection → Bool
+watched g c = eqb (c .watch .alive) 0 || (isOnline (c .mode) && not (g .tcp) && leb (c .watch .alive) (g .alive))
+
+-- R3.2, R3.3, R3.5 to R3.11, R20.2: all of them
 unfoldable pub soundOf : Config → Connection → Bool
 soundOf g c =
     usedFits g c
@@ -55,6 +59,7 @@ soundOf g c =
     && onlineRemote c
     && openRule g c
     && closeRule g c
+    && watched g c
 
 -- these rules as facts, each by its name
 pub record Sound (g : Config) (c : Connection) : Type 0 where
@@ -67,6 +72,7 @@ pub record Sound (g : Config) (c : Connection) : Type 0 where
   pub reached : onlineRemote c ≡ true
   pub opening : openRule g c ≡ true
   pub closing : closeRule g c ≡ true
+  pub watching : watched g c ≡ true
 
 -- R2.14, R3.1: records past the row count are all zero
 unfoldable pub zeroOf : Connection → Bool
@@ -80,3 +86,4 @@ zeroOf c =
     && eqb (c .used) 0
     && eqb (c .timer) 0
     && not (c .due)
+    && (eqb (c .watch .alive) 0 && not (c .watch .«remote_set»))

@@ -24,6 +24,12 @@ pub struct Fields {
     pub port: bool,
 }
 
+// Who is watched: the alive timer in ticks, 0 when it is stopped; and whether the upper layer set the remote.
+pub struct Watch {
+    pub alive: u16,
+    pub remote_set: bool,
+}
+
 pub struct Connection {
     pub mode: Mode,
     pub open_wanted: bool,
@@ -34,6 +40,7 @@ pub struct Connection {
     pub used: u16,
     pub timer: u16,
     pub due: bool,
+    pub watch: Watch,
 }
 
 // What the table says of a connection.
@@ -42,6 +49,7 @@ pub struct Config {
     pub automatic: bool,
     pub remote: Remote,
     pub size: u16,
+    pub alive: u16,
     pub switches: u32,
 }
 
@@ -133,11 +141,22 @@ pub fn has_wildcard(remote: Remote) -> bool
     wild.address | wild.port
 }
 
+// No alive timer runs, and the upper layer has not set the remote.
+fn unwatched() -> Watch
+    ensures { λ r. ⌜ r ≡ Is.unwatched ⌝ }
+{
+    Watch {
+        alive: 0,
+        remote_set: false,
+    }
+}
+
 // The record that a table row starts with.
 pub fn fresh(config: Config) -> Connection
     ensures { λ r. ⌜ r ≡ Is.freshOf config ⌝ }
 {
     let remote = config.remote;
+    let watch = unwatched();
     Connection {
         mode: Mode::Offline,
         open_wanted: false,
@@ -148,6 +167,7 @@ pub fn fresh(config: Config) -> Connection
         used: 0,
         timer: 0,
         due: false,
+        watch: watch,
     }
 }
 
@@ -199,19 +219,52 @@ impl Connection {
     pub fn set_remote(self, remote: Remote) -> Connection
         ensures { λ r. ⌜ r ≡ Is.remoteOf remote self ⌝ }
     {
+        let watch = Watch {
+            alive: self.watch.alive,
+            remote_set: true,
+        };
         Connection {
             remote: remote,
+            watch: watch,
             ..self
         }
     }
 
-    // Met by a source: online, with the source as remote.
-    pub fn met(self, source: Remote) -> Connection
-        ensures { λ r. ⌜ r ≡ Is.metOf source self ⌝ }
+    // The alive timer after a source has met the record: started where the source replaces a wildcard, and again while it runs.
+    fn alive_after(self, config: Config) -> u16
+        ensures { λ r. ⌜ r ≡ Is.aliveAfter config self ⌝ }
     {
+        let remote = self.remote;
+        let alive = self.watch.alive;
+        let starts = has_wildcard(remote) | (0 < alive);
+        if starts { config.alive } else { alive }
+    }
+
+    // Met by a source: online, with the source as remote.
+    pub fn met(self, config: Config, source: Remote) -> Connection
+        ensures { λ r. ⌜ r ≡ Is.metOf config source self ⌝ }
+    {
+        let watch = Watch {
+            alive: self.alive_after(config),
+            remote_set: self.watch.remote_set,
+        };
         Connection {
             mode: Mode::Online,
             remote: source,
+            watch: watch,
+            ..self
+        }
+    }
+
+    // The configured remote is back, and nobody is watched.
+    pub fn reset(self, config: Config) -> Connection
+        ensures { λ r. ⌜ r ≡ Is.resetOf config self ⌝ }
+    {
+        let remote = config.remote;
+        let watch = unwatched();
+        Connection {
+            remote: remote,
+            watch: watch,
             ..self
         }
     }
@@ -220,13 +273,42 @@ impl Connection {
     pub fn lost(self, config: Config) -> Connection
         ensures { λ r. ⌜ r ≡ Is.lostOf config self ⌝ }
     {
-        let remote = config.remote;
         let sent = self.with_send(0, 0, false);
+        let back = sent.reset(config);
         Connection {
             mode: Mode::Reconnect,
-            remote: remote,
             part: Part::Header { held: 0, value: 0 },
-            ..sent
+            ..back
+        }
+    }
+
+    // Let go at a tick: reconnect, send bytes dropped, remote as configured.
+    pub fn let_go(self, config: Config) -> Connection
+        ensures { λ r. ⌜ r ≡ Is.letGoOf config self ⌝ }
+    {
+        let sent = self.with_send(0, 0, false);
+        let back = sent.reset(config);
+        Connection {
+            mode: Mode::Reconnect,
+            ..back
+        }
+    }
+
+    // A running alive timer falls by 1.
+    fn sink(self) -> Connection
+        ensures { λ r. ⌜ r ≡ Is.sunkOf self ⌝ }
+    {
+        let alive = self.watch.alive;
+        if alive == 0 {
+            return self;
+        }
+        let watch = Watch {
+            alive: alive - 1,
+            remote_set: self.watch.remote_set,
+        };
+        Connection {
+            watch: watch,
+            ..self
         }
     }
 
@@ -252,6 +334,16 @@ impl Connection {
         self.timer = timer;
         self.due = due;
         self
+    }
+
+    // Another alive timer, another mark that the upper layer set the remote.
+    pub fn with_watch(self, watch: Watch) -> Connection
+        ensures { λ r. ⌜ r ≡ Is.withWatch watch self ⌝ }
+    {
+        Connection {
+            watch: watch,
+            ..self
+        }
     }
 
     // A wanted close at a tick: the fresh record except switches.
@@ -309,7 +401,11 @@ impl Connection {
         if self.close_wanted {
             return self.closed(config);
         }
-        let started = self.start(config);
+        if (self.watch.alive == 1) & !self.watch.remote_set {
+            return self.let_go(config);
+        }
+        let sunk = self.sink();
+        let started = sunk.start(config);
         let reached = started.reach(config);
         reached.run()
     }
@@ -428,6 +524,8 @@ impl Connection {
             & (!online | !wild)
             & (!self.open_wanted | (!config.automatic & offline & !self.close_wanted))
             & (!self.close_wanted | !config.automatic | (config.tcp & !offline))
+            & ((self.watch.alive == 0)
+                | (online & !config.tcp & (self.watch.alive <= config.alive)))
     }
 
     // A record that is all zero.
@@ -449,5 +547,6 @@ impl Connection {
             & (self.used == 0)
             & (self.timer == 0)
             & !self.due
+            & ((self.watch.alive == 0) & !self.watch.remote_set)
     }
 }

@@ -1,7 +1,7 @@
--- MANY TICKS BY JUMPS. Where the next change is n ticks away or more, n ticks of a record only lower its timer (`quiet-ticks`); and many
+-- MANY TICKS BY JUMPS. Where the next change is n ticks away or more, n ticks of a record only lower its timers (`quiet-ticks`); and many
 -- ticks of the whole module are as many of each record (`ticks-each`).
 use Prim.Native.Nat.{ℕ, zero, suc, _+_, _-_, _<_, _≤_}
-use mathlib.Core.Path.{_≡_, refl, sym, ap, _∙_}
+use mathlib.Core.Path.{_≡_, refl, sym, ap, ap₂, _∙_}
 use mathlib.Core.Bool.{Bool, true, false, cond, not, _&&_, _||_}
 use mathlib.Core.List.{List, [], _∷_}
 use lib.Dec.{eqb, ltb}
@@ -9,7 +9,7 @@ use native.Mathlib.Omega.{arith}
 use borrow.Author.Tests.{eqb-true, eq-eqb, ne-eqb, ltb-true, ltb-false}
 use Rattle.connection.specs.declared.Config.{Config}
 use Rattle.connection.specs.declared.Connection.{Connection}
-use Rattle.connection.specs.Connection.{isOffline, isReconnect, wildcard, withSend, startedOf, reachOf, runOf, tickOf}
+use Rattle.connection.specs.Connection.{isOffline, isReconnect, wildcard, withSend, withWatch, startedOf, reachOf, runOf, expires, sunkOf, tickOf}
 use Rattle.connection.proofs.Ticks.{tick-goes-on}
 use Rattle.lists.specs.Each.{eachTo}
 use Rattle.lists.specs.Fold.{foldFrom}
@@ -31,30 +31,42 @@ module _ (g : Config) (c : Connection) where
   unfolding reachOf
   reach-stays p = rw p
 
-  -- a tick that does not close, start or reach lets the timer run and does no more
-  pub only-runs : turnsNext g c ≡ false → tickOf g c ≡ runOf c
-  only-runs p =
-      let t = neither (c .«close_wanted» || (isOffline (c .mode) && (c .«open_wanted» || g .automatic))) _ p in
-      let u = neither (c .«close_wanted») _ (t .0) in
-      sym (tick-goes-on g c (u .0)) ∙ ap (λ (x : Connection). runOf (reachOf g x)) (start-stays (u .1)) ∙ ap runOf (reach-stays (t .1))
+-- a tick that does not close, let go, start or reach lets the timers run and does no more
+pub only-runs : (g : Config) (c : Connection) → turnsNext g c ≡ false → expires c ≡ false → tickOf g c ≡ runOf (sunkOf c)
+only-runs g c p x =
+    let t = neither (c .«close_wanted» || (isOffline (c .mode) && (c .«open_wanted» || g .automatic))) _ p in
+    let u = neither (c .«close_wanted») _ (t .0) in
+    sym (tick-goes-on g c (u .0) x) ∙ ap (λ (d : Connection). runOf (reachOf g d)) (start-stays g (sunkOf c) (u .1)) ∙ ap runOf (reach-stays g (sunkOf c) (t .1))
 
--- the same record with another timer
-timed : (c : Connection) {t u : ℕ} → t ≡ u → withSend (c .used) t (c .due) c ≡ withSend (c .used) u (c .due) c
-timed c e = ap (λ (t : ℕ). withSend (c .used) t (c .due) c) e
+-- the same record with other timers
+abbrev timed : Connection → ℕ → ℕ → Connection
+timed c t a = withWatch (record { alive = a; «remote_set» = c .watch .«remote_set» }) (withSend (c .used) t (c .due) c)
+
+retimed : (c : Connection) {t u a b : ℕ} → t ≡ u → a ≡ b → timed c t a ≡ timed c u b
+retimed c {t} {u} {a} {b} e f = ap (λ (x : ℕ). timed c x a) e ∙ ap (timed c u) f
 
 -- a running timer that does not end falls by 1, and one that does not run stays
-run-ages : (c : Connection) → 1 ≤ beforeEnd (c .timer) → runOf c ≡ agedBy 1 c
+run-ages : (c : Connection) → 1 ≤ beforeEnd (c .timer) → runOf (sunkOf c) ≡ agedBy 1 c
 unfolding beforeEnd runOf
 run-ages c h = go (eqb (c .timer) 0) refl h
   where
     go : (b : Bool) → eqb (c .timer) 0 ≡ b → 1 ≤ cond b 4294967295 (c .timer - 1)
-        → cond b c (withSend (c .used) (c .timer - 1) (eqb (c .timer) 1 || c .due) c) ≡ agedBy 1 c
+        → cond b (sunkOf c) (withSend (c .used) (c .timer - 1) (eqb (c .timer) 1 || c .due) (sunkOf c)) ≡ agedBy 1 c
     go true e l =
         let z : c .timer ≡ 0 = eqb-true _ _ e in
-        timed c (omega arith)
+        retimed c (omega arith) refl
     go false e l =
         let n : eqb (c .timer) 1 ≡ false = ne-eqb _ _ (λ (q : c .timer ≡ 1). omega arith) in
-        ap (λ (b : Bool). withSend (c .used) (c .timer - 1) (b || c .due) c) n
+        ap (λ (b : Bool). withSend (c .used) (c .timer - 1) (b || c .due) (sunkOf c)) n
+
+-- an alive timer that does not end with the next tick lets nobody go
+pub not-yet : (c : Connection) → 1 ≤ beforeEnd (c .watch .alive) → expires c ≡ false
+unfolding beforeEnd
+not-yet c h = go (eqb (c .watch .alive) 0) refl h
+  where
+    go : (b : Bool) → eqb (c .watch .alive) 0 ≡ b → 1 ≤ cond b 4294967295 (c .watch .alive - 1) → expires c ≡ false
+    go true e l = let z : c .watch .alive ≡ 0 = eqb-true _ _ e in rw z
+    go false e l = rw (ne-eqb (c .watch .alive) 1 (λ (q : c .watch .alive ≡ 1). omega arith))
 
 -- after one quiet tick the end is one tick nearer
 nearer : (n t : ℕ) → suc n ≤ beforeEnd t → n ≤ beforeEnd (t - 1)
@@ -67,35 +79,14 @@ nearer n t h = go (eqb t 0) refl h
         rw (eq-eqb (t - 1) 0 (omega arith)) (omega arith)
     go false e l = rw (ne-eqb (t - 1) 0 (λ (q : t - 1 ≡ 0). omega arith)) (omega arith)
 
--- a record that does not turn: up to its timer's end
-pub quiet-runs : (g : Config) (n : ℕ) (c : Connection) → turnsNext g c ≡ false → n ≤ beforeEnd (c .timer) → manyOf g n c ≡ agedBy n c
+-- a record that does not turn: up to the end of either timer
+pub quiet-runs : (g : Config) (n : ℕ) (c : Connection) → turnsNext g c ≡ false → n ≤ beforeEnd (c .timer) → n ≤ beforeEnd (c .watch .alive) → manyOf g n c ≡ agedBy n c
 unfolding manyOf
-quiet-runs g zero c p h = timed c (omega arith)
-quiet-runs g (suc n) c p h =
-    ap (manyOf g n) (only-runs g c p ∙ run-ages c (omega arith))
-    ∙ quiet-runs g n (agedBy 1 c) p (nearer n (c .timer) h)
-    ∙ timed c (omega arith)
-
--- UP TO THE NEXT CHANGE n ticks lower the timer by n, and do nothing else
-pub quiet-ticks : (g : Config) (n : ℕ) (c : Connection) → n ≤ quietFor g c → manyOf g n c ≡ agedBy n c
-unfolding quietFor manyOf
-quiet-ticks g n c h = go (turnsNext g c) refl h
-  where
-    go : (b : Bool) → turnsNext g c ≡ b → n ≤ cond b 0 (beforeEnd (c .timer)) → manyOf g n c ≡ agedBy n c
-    go false e l = quiet-runs g n c e l
-    go true e l =
-        let z : n ≡ 0 = omega arith in
-        rw z (timed c (omega arith))
-
--- what a test of the next tick says of that time
-module _ (g : Config) (c : Connection) {t : Bool} where
-  pub quiet-none : t ≡ true → t ≡ turnsNext g c → 0 ≡ quietFor g c
-  unfolding quietFor
-  quiet-none p e = rw (sym e ∙ p)
-
-  pub quiet-until : t ≡ false → {n : ℕ} → n ≡ beforeEnd (c .timer) → t ≡ turnsNext g c → n ≡ quietFor g c
-  unfolding quietFor
-  quiet-until p q e = rw (sym e ∙ p) q
+quiet-runs g zero c p h a = retimed c (omega arith) (omega arith)
+quiet-runs g (suc n) c p h a =
+    ap (manyOf g n) (only-runs g c p (not-yet c (omega arith)) ∙ run-ages c (omega arith))
+    ∙ quiet-runs g n (agedBy 1 c) p (nearer n (c .timer) h) (nearer n (c .watch .alive) a)
+    ∙ retimed c (omega arith) (omega arith)
 
 -- the smaller is at most either
 pub smaller-both : (m n : ℕ) → (smallerOf m n ≤ m) × (smallerOf m n ≤ n)
@@ -105,6 +96,29 @@ smaller-both m n = go (ltb m n) refl
     go : (b : Bool) → ltb m n ≡ b → (cond b m n ≤ m) × (cond b m n ≤ n)
     go true e = (omega arith, omega (arith, ltb-true m n e))
     go false e = (omega (arith, ltb-false m n e), omega arith)
+
+-- UP TO THE NEXT CHANGE n ticks lower the timers by n, and do nothing else
+pub quiet-ticks : (g : Config) (n : ℕ) (c : Connection) → n ≤ quietFor g c → manyOf g n c ≡ agedBy n c
+unfolding quietFor manyOf
+quiet-ticks g n c h = go (turnsNext g c) refl h
+  where
+    go : (b : Bool) → turnsNext g c ≡ b → n ≤ cond b 0 (smallerOf (beforeEnd (c .timer)) (beforeEnd (c .watch .alive))) → manyOf g n c ≡ agedBy n c
+    go false e l =
+        let w = smaller-both (beforeEnd (c .timer)) (beforeEnd (c .watch .alive)) in
+        quiet-runs g n c e (omega (arith, w .0)) (omega (arith, w .1))
+    go true e l =
+        let z : n ≡ 0 = omega arith in
+        rw z (retimed c (omega arith) (omega arith))
+
+-- what a test of the next tick says of that time
+module _ (g : Config) (c : Connection) {t : Bool} where
+  pub quiet-none : t ≡ true → t ≡ turnsNext g c → 0 ≡ quietFor g c
+  unfolding quietFor
+  quiet-none p e = rw (sym e ∙ p)
+
+  pub quiet-until : t ≡ false → {m n q : ℕ} → q ≡ smallerOf m n → m ≡ beforeEnd (c .timer) → n ≡ beforeEnd (c .watch .alive) → t ≡ turnsNext g c → q ≡ quietFor g c
+  unfolding quietFor
+  quiet-until p f d a e = rw (sym e ∙ p) (f ∙ ap₂ smallerOf d a)
 
 -- THE LOOP that jumps to the next change and ticks there: the ticks that are left lead to the whole's end
 

@@ -1,10 +1,10 @@
--- R9.6: many ticks of one record, and the time to the next change: how many ticks from now on do no more than lower its timer.
+-- R9.6: many ticks of one record, and the time to the next change: how many ticks from now on do no more than lower its timers.
 use Prim.Native.Nat.{ℕ, zero, suc, _-_}
 use mathlib.Core.Bool.{Bool, cond, not, _&&_, _||_}
 use lib.Dec.{eqb, ltb}
 use Rattle.connection.specs.declared.Config.{Config}
 use Rattle.connection.specs.declared.Connection.{Connection}
-use Rattle.connection.specs.Connection.{isOffline, isReconnect, wildcard, withSend, tickOf}
+use Rattle.connection.specs.Connection.{isOffline, isReconnect, wildcard, withSend, withWatch, tickOf}
 
 -- n ticks of one record, one after the other
 unfoldable pub manyOf : Config → ℕ → Connection → Connection
@@ -22,14 +22,15 @@ turnsNext g c =
 unfoldable pub beforeEnd : ℕ → ℕ
 beforeEnd timer = cond (eqb timer 0) 4294967295 (timer - 1)
 
--- THE TIME TO THE NEXT CHANGE: a second timer would be one more term here, the smallest counting
-unfoldable pub quietFor : Config → Connection → ℕ
-quietFor g c = cond (turnsNext g c) 0 (beforeEnd (c .timer))
-
 -- of two numbers of ticks the smaller
 unfoldable pub smallerOf : ℕ → ℕ → ℕ
 smallerOf m n = cond (ltb m n) m n
 
--- what so many quiet ticks leave: the timer has fallen by as many
+-- THE TIME TO THE NEXT CHANGE: up to the end of the timer that ends first
+unfoldable pub quietFor : Config → Connection → ℕ
+quietFor g c = cond (turnsNext g c) 0 (smallerOf (beforeEnd (c .timer)) (beforeEnd (c .watch .alive)))
+
+-- what so many quiet ticks leave: both timers have fallen by as many
 abbrev pub agedBy : ℕ → Connection → Connection
-agedBy n c = withSend (c .used) (c .timer - n) (c .due) c
+agedBy n c =
+    withWatch (record { alive = c .watch .alive - n; «remote_set» = c .watch .«remote_set» }) (withSend (c .used) (c .timer - n) (c .due) c)

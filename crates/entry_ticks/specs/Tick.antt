@@ -24,13 +24,13 @@ use Rattle.entry_ticks.specs.Many.{beforeEnd}
 abbrev pub tickAt : List ℕ → ℕ → Connection → Connection
 tickAt image i c = tickOf (configOf image i) c
 
--- an online connection, not to be closed, whose timer does not run: a tick finds nothing to do
+-- an online connection, not to be closed, with no timer that runs: a tick finds nothing to do
 abbrev pub restsOf : Connection → Bool
-restsOf c = not (c .«close_wanted») && isOnline (c .mode) && eqb (c .timer) 0
+restsOf c = not (c .«close_wanted») && isOnline (c .mode) && (eqb (c .timer) 0 && eqb (c .watch .alive) 0)
 
--- an online connection, not to be closed, whose timer does not end within n ticks: they lower it, and find nothing else to do
+-- an online connection, not to be closed, with no timer that ends within n ticks: they lower both, and find nothing else to do
 abbrev pub coastsOf : ℕ → Connection → Bool
-coastsOf n c = not (c .«close_wanted») && isOnline (c .mode) && leb n (beforeEnd (c .timer))
+coastsOf n c = not (c .«close_wanted») && isOnline (c .mode) && (leb n (beforeEnd (c .timer)) && leb n (beforeEnd (c .watch .alive)))
 
 -- R9.1: each connection in order, of the first `rows` records; the records past them stay
 unfoldable pub tickedTo : List ℕ → ℕ → State → State

@@ -7,6 +7,7 @@ ghost use Rattle.entry_ticks.specs.Tick.{restsOf, coastsOf, ticksTo, mar
 use connection::Answer;
 use connection::Config;
 use connection::Connection;
+use connection::Watch;
 use connection::has_wildcard;
 use connection::is_offline;
 use connection::is_online;
@@ -30,7 +31,7 @@ fn rests(c: Connection) -> bool
     ensures { λ r. ⌜ r ≡ restsOf c ⌝ }
 {
     let mode = c.mode;
-    !c.close_wanted & is_online(mode) & (c.timer == 0)
+    !c.close_wanted & is_online(mode) & ((c.timer == 0) & (c.watch.alive == 0))
 }
 
 // How many ticks lower a timer and do not end it; any number where it does not run.
@@ -43,15 +44,16 @@ fn before_end(timer: u16) -> u32
     timer as u32 - 1
 }
 
-// Whether `count` ticks do no more than lower the timer, whatever the row says.
+// Whether `count` ticks do no more than lower the timers, whatever the row says.
 fn coasts(c: Connection, count: u32) -> bool
     ensures { λ r. ⌜ r ≡ coastsOf count c ⌝ }
 {
     let mode = c.mode;
-    !c.close_wanted & is_online(mode) & (count <= before_end(c.timer))
+    let alive = before_end(c.watch.alive);
+    !c.close_wanted & is_online(mode) & ((count <= before_end(c.timer)) & (count <= alive))
 }
 
-// The time to the next change: so many ticks from now on do no more than lower the timer.
+// The time to the next change: so many ticks from now on do no more than lower the timers.
 fn quiet_for(config: Config, c: Connection) -> u32
     ensures { λ r. ⌜ r ≡ quietFor config c ⌝ }
 {
@@ -62,7 +64,7 @@ fn quiet_for(config: Config, c: Connection) -> u32
     if c.close_wanted | starts | reaches {
         return 0;
     }
-    before_end(c.timer)
+    smaller(before_end(c.timer), before_end(c.watch.alive))
 }
 
 // A timer that falls by n, and not below 0.
@@ -79,7 +81,12 @@ fn fallen(timer: u16, n: u32) -> u16
 fn aged(c: Connection, n: u32) -> Connection
     ensures { λ r. ⌜ r ≡ agedBy n c ⌝ }
 {
-    c.with_send(c.used, fallen(c.timer, n), c.due)
+    let watch = Watch {
+        alive: fallen(c.watch.alive, n),
+        remote_set: c.watch.remote_set,
+    };
+    let sent = c.with_send(c.used, fallen(c.timer, n), c.due);
+    sent.with_watch(watch)
 }
 
 fn smaller(a: u32, b: u32) -> u32

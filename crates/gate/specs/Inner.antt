@@ -22,6 +22,7 @@ rulesFrom row group =
       automatic = row .automatic;
       remote = record { address = 0; port = 0 };
       size = row .size;
+      alive = row .alive;
       switches = 0;
     }
 
@@ -34,9 +35,10 @@ abbrev pub soundIn : ℕ → List ℕ → List ℕ → List ℕ → ℕ → Conn
 soundIn rows connections groups routes n c =
     cond (ltb n rows) (soundOf (configIn connections groups n) c && routed routes n (c .part)) (zeroOf c)
 
--- a record that has received nothing and wants nothing: of the rules those on its send bytes are left, and "an online remote has no wildcard"
+-- a record that has received nothing, wants nothing and is not watched: of the rules those on its send bytes are left, and "an online
+-- remote has no wildcard"
 abbrev pub idle : Connection → Bool
-idle c = emptyPart (c .part) && not (c .«open_wanted») && not (c .«close_wanted»)
+idle c = emptyPart (c .part) && not (c .«open_wanted») && not (c .«close_wanted») && eqb (c .watch .alive) 0
 
 abbrev pub idleSound : ℕ → Connection → Bool
 idleSound size c = leb (c .used) size && sends c && timed c && neverBoth c && onlineRemote c

@@ -73,6 +73,7 @@ fn rules_from(row: ConnectionBrief, group: GroupRow) -> Config
         automatic: row.automatic,
         remote: none,
         size: row.size,
+        alive: row.alive,
         switches: 0,
     }
 }
@@ -95,12 +96,12 @@ fn is_reached(c: Connection) -> bool
     !is_online(mode) | !has_wildcard(remote)
 }
 
-// Whether a record has received nothing and wants nothing: then the rules ask of its row the send size alone.
+// Whether a record has received nothing, wants nothing and is not watched: then the rules ask of its row the send size alone.
 fn is_idle(c: Connection) -> bool
     ensures { λ r. ⌜ r ≡ idle c ⌝ }
 {
     let part = c.part;
-    receive_part::is_empty(part) & !c.open_wanted & !c.close_wanted
+    receive_part::is_empty(part) & !c.open_wanted & !c.close_wanted & (c.watch.alive == 0)
 }
 
 // The rules that are left of such a record: without send bytes no timer and no due mark; with them online, not both, and within the size.

@@ -10,11 +10,13 @@ use Rattle.table_layout.specs.declared.Kind.the-variants.{Group}
 use Rattle.table_rows.specs.declared.GroupRow.{GroupRow}
 use Rattle.table_rows.specs.Rows.{groupOf}
 use Rattle.connection.specs.declared.Connection.{Connection}
+use Rattle.connection.specs.declared.Config.{Config}
 use Rattle.connection.specs.declared.Remote.{Remote}
 use Rattle.connection.specs.declared.Refusal.the-variants.{Missing, Denied}
 use Rattle.connection.specs.Connection.{wildcard, metOf}
 use Rattle.state.specs.declared.State.{State}
 use Rattle.state.specs.State.{recordAt, withRecord}
+use Rattle.state.specs.Fresh.{configOf}
 use Rattle.select.specs.declared.Chosen.{Chosen}
 use Rattle.select.specs.declared.Chosen.the-variants.{Nobody, At}
 use Rattle.select.specs.declared.Arrival.the-variants.{Met, Unmatched}
@@ -39,14 +41,15 @@ module _ (image : List ℕ) (s : State) (accept : Bool) (group : ℕ) (source : 
     arrive-denied t = rw (← eg, lt-leb _ _ there, ← denied-is, t)
 
     module _ (t : (not (eqb (row .protocol) protocol) || wild) ≡ false) (x : Chosen) (ex : x ≡ chosenIn image s accept group source) where
-      past : meet s source x ≡ arriveOf image s accept group source
+      past : meet image s source x ≡ arriveOf image s accept group source
       unfolding arriveOf
       past = rw (← eg, lt-leb _ _ there, ← denied-is, t, ex)
 
       pub arrive-nobody : x ≡ Nobody → _≡_ {A = Arrived} (record { answer = Unmatched; state = s }) (arriveOf image s accept group source)
-      arrive-nobody e = sym (ap (meet s source) e) ∙ past
+      arrive-nobody e = sym (ap (meet image s source) e) ∙ past
 
-      pub arrive-met : (k : ℕ) (c : Connection) → x ≡ At k → c ≡ metOf source (recordAt s k)
+      pub arrive-met : (k : ℕ) (g : Config) (c : Connection) → x ≡ At k → g ≡ configOf image k → c ≡ metOf g source (recordAt s k)
           → _≡_ {A = Arrived} (record { answer = Met k; state = withRecord k c s }) (arriveOf image s accept group source)
-      arrive-met k c e m =
-          ap (λ (d : Connection). record { answer = Met k; state = withRecord k d s }) m ∙ sym (ap (meet s source) e) ∙ past
+      arrive-met k g c e f m =
+          ap (λ (d : Connection). record { answer = Met k; state = withRecord k d s }) (m ∙ ap (λ (h : Config). metOf h source (recordAt s k)) f)
+          ∙ sym (ap (meet image s source) e) ∙ past

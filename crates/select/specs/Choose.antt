@@ -15,6 +15,7 @@ use Rattle.connection.specs.Connection.{isReconnect, isOnline, equalFields, wil
 use Rattle.connection.specs.Event.{refusalNumber}
 use Rattle.state.specs.declared.State.{State}
 use Rattle.state.specs.State.{recordAt, withRecord}
+use Rattle.state.specs.Fresh.{configOf}
 use Rattle.select.specs.Best.{chosenOf}
 use Rattle.select.specs.declared.Chosen.{Chosen}
 use Rattle.select.specs.declared.Chosen.the-variants.{Nobody, At}
@@ -57,11 +58,11 @@ module _ (image : List ℕ) (s : State) (accept : Bool) (group : ℕ) (source : 
   unfoldable pub chosenIn : Chosen
   chosenIn = chosenOf scoreAt 16
 
--- R7.6: it becomes online with the source as remote, and the answer names it
-abbrev pub meet : State → Remote → Chosen → Arrived
-meet s source Nobody = record { answer = Unmatched; state = s }
-meet s source (At k) =
-    record { answer = Met k; state = withRecord k (metOf source (recordAt s k)) s }
+-- R7.6, R20.3: it becomes online with the source as remote, and the answer names it
+abbrev pub meet : List ℕ → State → Remote → Chosen → Arrived
+meet image s source Nobody = record { answer = Unmatched; state = s }
+meet image s source (At k) =
+    record { answer = Met k; state = withRecord k (metOf (configOf image k) source (recordAt s k)) s }
 
 abbrev pub arrivalRefused : State → Refusal → Arrived
 arrivalRefused s r = record { answer = Refused r; state = s }
@@ -79,7 +80,7 @@ unfoldable pub arriveOf : List ℕ → State → Bool → ℕ → Remote → Arr
 arriveOf image s accept group source =
     cond (leb (rowsOf image Group) group) (arrivalRefused s Missing)
     (cond (deniedOf image accept group source) (arrivalRefused s Denied)
-    (meet s source (chosenIn image s accept group source)))
+    (meet image s source (chosenIn image s accept group source)))
 
 -- R4.1: the number of an answer
 abbrev pub arrivalNumber : Arrival → ℕ

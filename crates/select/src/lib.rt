@@ -8,6 +8,7 @@ use connection::Fields;
 use connection::Refusal;
 use connection::Remote;
 use state::State;
+use state::config_of;
 use table_layout::Kind;
 
 pub enum Chosen {
@@ -131,7 +132,8 @@ pub fn arrive(image: &[u8], mut s: State, accept: bool, group: u8, source: Remot
         },
         Chosen::At(k) => {
             let c = s.connections[k];
-            let met = c.met(source);
+            let config = config_of(image, k);
+            let met = c.met(config, source);
             s.connections[k] = met;
             Arrived {
                 answer: Arrival::Met(k as u8),

@@ -13,7 +13,7 @@ use Rattle.lists.proofs.Both.{impossible, neither}
 use Rattle.connection.specs.declared.Mode.the-variants.{Reconnect}
 use Rattle.connection.specs.declared.Config.{Config}
 use Rattle.connection.specs.declared.Connection.{Connection}
-use Rattle.connection.specs.Connection.{wildcard, withMode, withRemote, withSend, become}
+use Rattle.connection.specs.Connection.{wildcard, withMode, resetOf, withSend, become}
 use Rattle.wire.specs.Lay.{lay}
 use Rattle.send_waiting.specs.declared.Taking.the-variants.{Bytes, Short}
 use Rattle.send_waiting.specs.declared.Drained.{Drained}
@@ -40,7 +40,7 @@ module _ (tx : List ℕ) (k used : ℕ) where
 -- what follows a take
 module _ (g : Config) (c : Connection) (wild : Bool) (e : wild ≡ wildcard (g .remote)) where
   abbrev follows : Connection
-  follows = cond (g .tcp) (withMode (c .mode) (c .«open_wanted») true c) (become Reconnect (withRemote (g .remote) c))
+  follows = cond (g .tcp) (withMode (c .mode) (c .«open_wanted») true c) (become Reconnect (resetOf g c))
 
   after-is : cond (g .automatic && wild) follows c ≡ afterTake g c
   after-is = ap (λ (b : Bool). cond (g .automatic && b) follows c) e
@@ -52,10 +52,10 @@ module _ (g : Config) (c : Connection) (wild : Bool) (e : wild ≡ wildcard (g .
   leaving t = sym (ap (λ (b : Bool). cond b follows c) (not-false (g .automatic && wild) t)) ∙ after-is
 
   pub after-tcp : not (g .automatic && wild) ≡ false → g .tcp ≡ true → withMode (c .mode) (c .«open_wanted») true c ≡ afterTake g c
-  after-tcp t q = sym (ap (λ (b : Bool). cond b (withMode (c .mode) (c .«open_wanted») true c) (become Reconnect (withRemote (g .remote) c))) q) ∙ leaving t
+  after-tcp t q = sym (ap (λ (b : Bool). cond b (withMode (c .mode) (c .«open_wanted») true c) (become Reconnect (resetOf g c))) q) ∙ leaving t
 
-  pub after-udp : not (g .automatic && wild) ≡ false → g .tcp ≡ false → become Reconnect (withRemote (g .remote) c) ≡ afterTake g c
-  after-udp t q = sym (ap (λ (b : Bool). cond b (withMode (c .mode) (c .«open_wanted») true c) (become Reconnect (withRemote (g .remote) c))) q) ∙ leaving t
+  pub after-udp : not (g .automatic && wild) ≡ false → g .tcp ≡ false → become Reconnect (resetOf g c) ≡ afterTake g c
+  after-udp t q = sym (ap (λ (b : Bool). cond b (withMode (c .mode) (c .«open_wanted») true c) (become Reconnect (resetOf g c))) q) ∙ leaving t
 
 -- the take
 module _ (g : Config) (c : Connection) (waiting out : List ℕ) where
@@ -77,10 +77,10 @@ module _ (g : Config) (c : Connection) (waiting out : List ℕ) where
 
 -- what follows a take, in its three ways
 pub after-either : (g : Config) (d : Connection) (P : Connection → Type 0) → P d → (g .automatic ≡ true → g .tcp ≡ true → P (withMode (d .mode) (d .«open_wanted») true d))
-    → (g .automatic ≡ true → g .tcp ≡ false → P (become Reconnect (withRemote (g .remote) d))) → P (afterTake g d)
+    → (g .automatic ≡ true → g .tcp ≡ false → P (become Reconnect (resetOf g d))) → P (afterTake g d)
 after-either g d P p q r = go (g .automatic) refl (wildcard (g .remote)) (g .tcp) refl
   where
-    go : (a : Bool) → g .automatic ≡ a → (w t : Bool) → g .tcp ≡ t → P (cond (a && w) (cond t (withMode (d .mode) (d .«open_wanted») true d) (become Reconnect (withRemote (g .remote) d))) d)
+    go : (a : Bool) → g .automatic ≡ a → (w t : Bool) → g .tcp ≡ t → P (cond (a && w) (cond t (withMode (d .mode) (d .«open_wanted») true d) (become Reconnect (resetOf g d))) d)
     go false e w t f = p
     go true e false t f = p
     go true e true true f = q e f

@@ -7,7 +7,7 @@ use lib.ListN.{length, take, drop}
 use Rattle.connection.specs.declared.Mode.the-variants.{Reconnect}
 use Rattle.connection.specs.declared.Config.{Config}
 use Rattle.connection.specs.declared.Connection.{Connection}
-use Rattle.connection.specs.Connection.{wildcard, withMode, withRemote, withSend, become}
+use Rattle.connection.specs.Connection.{wildcard, withMode, withSend, become, resetOf}
 use Rattle.connection.specs.Event.{refusalNumber}
 use Rattle.wire.specs.Lay.{lay}
 use Rattle.send_waiting.specs.declared.Taking.{Taking}
@@ -25,12 +25,12 @@ takingOf room c = cond (ltb room (c .used)) Short (Bytes (c .used) (c .remote))
 unfoldable pub outOf : Connection → List ℕ → List ℕ → List ℕ
 outOf c waiting out = cond (ltb (length out) (c .used)) out (lay out 0 waiting)
 
--- R10.9, an automatic connection whose configured remote has a wildcard: UDP becomes reconnect with that remote (00582); TCP gets close
--- wanted (00644)
+-- R10.9, R20.6, an automatic connection whose configured remote has a wildcard: UDP becomes reconnect with that remote (00582); TCP gets
+-- close wanted (00644)
 abbrev pub afterTake : Config → Connection → Connection
 afterTake g c =
     cond (g .automatic && wildcard (g .remote))
-    (cond (g .tcp) (withMode (c .mode) (c .«open_wanted») true c) (become Reconnect (withRemote (g .remote) c)))
+    (cond (g .tcp) (withMode (c .mode) (c .«open_wanted») true c) (become Reconnect (resetOf g c)))
     c
 
 -- R10.6: used, timer and due are cleared, and R10.9 follows; R10.7: nothing waiting changes nothing; nor does a refusal

@@ -54,10 +54,10 @@ fn after_take(c: Connection, config: Config) -> Connection
         next.close_wanted = true;
         return next;
     }
+    let back = c.reset(config);
     Connection {
         mode: Mode::Reconnect,
-        remote: remote,
-        ..c
+        ..back
     }
 }
 

@@ -20,6 +20,7 @@ configFrom row group =
       automatic = row .automatic;
       remote = record { address = row .address; port = row .port };
       size = row .size;
+      alive = row .alive;
       switches = row .switches;
     }
 

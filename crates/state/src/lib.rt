@@ -71,6 +71,7 @@ pub fn config_from(row: ConnectionRow, group: GroupRow) -> Config
         automatic: row.automatic,
         remote: remote,
         size: row.size,
+        alive: row.alive,
         switches: row.switches,
     }
 }
@@ -106,6 +107,7 @@ pub fn empty_state() -> State
         automatic: false,
         remote: remote,
         size: 0,
+        alive: 0,
         switches: 0,
     };
     let zero = connection::fresh(config);

@@ -7,7 +7,7 @@ use Rattle.wire.specs.Be.{be}
 use Rattle.lists.specs.Search.{badFrom, every}
 use Rattle.table_layout.specs.Layout.{rowsOf, bodyBytes, startOf, endOf, rowAt, partOf, bodyOf, rowIn}
 use Rattle.table_rows.specs.Rows.{groupRow, connectionRow, routeRow, destinationRow}
-use Rattle.table_rows.specs.Rules.{groupGood, connectionGood, routeGood, destinationGood, sizeIn, tcpIn, routesShare, destinationsShare}
+use Rattle.table_rows.specs.Rules.{groupGood, connectionGood, routeGood, destinationGood, sizeIn, groupTcp, tcpIn, routesShare, destinationsShare}
 use Rattle.table_scan.specs.Scan.{share, clearIn, goodIn}
 use Rattle.table.specs.Table.{headGood, entryGood, rule, thenCheck, entriesPlace, headPlace, allRowsPlace, checkTable}
 use Rattle.table.specs.declared.TableAnswer.the-variants.{Accepted, Refused}
@@ -37,12 +37,17 @@ twice =
     ∷ 0 ∷ 1 ∷ 0 ∷ 2 ∷ 0 ∷ 0 ∷ 2 ∷ 3 ∷ 0 ∷ 9 ∷ 0 ∷ 0 ∷ 0 ∷ 0 ∷ 0 ∷ 0 ∷ []
 
 pub image-whole : checkTable exampleImage ≡ Accepted
-unfolding exampleImage be badFrom every rowsOf bodyBytes startOf endOf rowAt partOf bodyOf rowIn groupRow connectionRow routeRow destinationRow groupGood connectionGood routeGood destinationGood sizeIn tcpIn routesShare destinationsShare share clearIn goodIn headGood entryGood rule thenCheck entriesPlace headPlace allRowsPlace checkTable
+unfolding exampleImage be badFrom every rowsOf bodyBytes startOf endOf rowAt partOf bodyOf rowIn groupRow connectionRow routeRow destinationRow groupGood connectionGood routeGood destinationGood sizeIn groupTcp tcpIn routesShare destinationsShare share clearIn goodIn headGood entryGood rule thenCheck entriesPlace headPlace allRowsPlace checkTable
 image-whole = refl
+
+-- R20.1: a UDP connection may have any alive limit
+pub image-limited : checkTable (set (set exampleImage 48 255) 49 255) ≡ Accepted
+unfolding exampleImage be badFrom every rowsOf bodyBytes startOf endOf rowAt partOf bodyOf rowIn groupRow connectionRow routeRow destinationRow groupGood connectionGood routeGood destinationGood sizeIn groupTcp tcpIn routesShare destinationsShare share clearIn goodIn headGood entryGood rule thenCheck entriesPlace headPlace allRowsPlace checkTable
+image-limited = refl
 
 -- R19.1: with its group TCP, its route may be marked
 pub image-marked : checkTable (set (set exampleImage 36 2) 55 1) ≡ Accepted
-unfolding exampleImage be badFrom every rowsOf bodyBytes startOf endOf rowAt partOf bodyOf rowIn groupRow connectionRow routeRow destinationRow groupGood connectionGood routeGood destinationGood sizeIn tcpIn routesShare destinationsShare share clearIn goodIn headGood entryGood rule thenCheck entriesPlace headPlace allRowsPlace checkTable
+unfolding exampleImage be badFrom every rowsOf bodyBytes startOf endOf rowAt partOf bodyOf rowIn groupRow connectionRow routeRow destinationRow groupGood connectionGood routeGood destinationGood sizeIn groupTcp tcpIn routesShare destinationsShare share clearIn goodIn headGood entryGood rule thenCheck entriesPlace headPlace allRowsPlace checkTable
 image-marked = refl
 
 pub places :
@@ -55,6 +60,8 @@ pub places :
     ∷ (exampleImage ++ (0 ∷ [])) ∷ take 85 exampleImage
     -- the row: protocol 3; no group 1; send size 7; longest payload 1,465; trigger 2; 8 more than the longest payload do not fit
     ∷ set exampleImage 36 3 ∷ set exampleImage 38 1 ∷ set (set exampleImage 46 0) 47 7 ∷ set (set exampleImage 56 5) 57 0xB9 ∷ set exampleImage 71 2 ∷ set (set exampleImage 46 0) 47 8
+    -- alive limits: 1 on TCP
+    ∷ set (set exampleImage 36 2) 49 1
     -- transfer marks: 2 on TCP; 1 on UDP; 1 on TCP with a longest payload of 1,465
     ∷ set (set exampleImage 36 2) 55 2 ∷ set exampleImage 55 1 ∷ set (set (set (set exampleImage 36 2) 55 1) 56 5) 57 0xB9
     -- the later of two rows that share
@@ -64,7 +71,8 @@ pub places :
     ∷ Refused 4 ∷ Refused 12 ∷ Refused 20 ∷ Refused 28
     ∷ Refused 2 ∷ Refused 2
     ∷ Refused 36 ∷ Refused 38 ∷ Refused 38 ∷ Refused 54 ∷ Refused 70 ∷ Refused 70
+    ∷ Refused 38
     ∷ Refused 54 ∷ Refused 54 ∷ Refused 54
     ∷ Refused 70 ∷ Refused 102 ∷ []
-unfolding exampleImage twice be badFrom every rowsOf bodyBytes startOf endOf rowAt partOf bodyOf rowIn groupRow connectionRow routeRow destinationRow groupGood connectionGood routeGood destinationGood sizeIn tcpIn routesShare destinationsShare share clearIn goodIn headGood entryGood rule thenCheck entriesPlace headPlace allRowsPlace checkTable
+unfolding exampleImage twice be badFrom every rowsOf bodyBytes startOf endOf rowAt partOf bodyOf rowIn groupRow connectionRow routeRow destinationRow groupGood connectionGood routeGood destinationGood sizeIn groupTcp tcpIn routesShare destinationsShare share clearIn goodIn headGood entryGood rule thenCheck entriesPlace headPlace allRowsPlace checkTable
 places = refl

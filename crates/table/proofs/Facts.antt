@@ -1,6 +1,6 @@
 -- An accepted image keeps the rules of the table.
 use Prim.Native.Nat.{ℕ, _+_, _<_, _≤_}
-use mathlib.Core.Path.{_≡_}
+use mathlib.Core.Path.{_≡_, refl}
 use mathlib.Core.Bool.{Bool, true, false, not, _&&_, _||_}
 use mathlib.Core.List.{List}
 use native.Mathlib.Omega.{arith}
@@ -14,9 +14,9 @@ use Rattle.table_layout.specs.Layout.{number, mostRows, entryAt, rowsOf, startO
 use Rattle.table_layout.specs.declared.Kind.{Kind}
 use Rattle.table_layout.specs.declared.Kind.the-variants.{Group, Connection, Route, Destination}
 use Rattle.table_rows.specs.Rows.{groupRow, connectionRow, routeRow, destinationRow}
-use Rattle.table_rows.specs.Rules.{groupGood, connectionGood, routeGood, destinationGood, sizeIn, tcpIn, routesShare, destinationsShare}
+use Rattle.table_rows.specs.Rules.{groupGood, connectionGood, routeGood, destinationGood, sizeIn, groupTcp, tcpIn, routesShare, destinationsShare}
 use Rattle.table_scan.specs.Scan.{share, clearIn, goodIn}
-use Rattle.table.specs.Table.{entryGood, tcpOf, rule, rowGood, badRow, demand, rowsPlace, entriesPlace, headPlace, allRowsPlace, checkTable}
+use Rattle.table.specs.Table.{entryGood, groupTcpOf, tcpOf, rule, rowGood, badRow, demand, rowsPlace, entriesPlace, headPlace, allRowsPlace, checkTable}
 use Rattle.table.specs.Accepts.{Accepts}
 use Rattle.table.specs.declared.TableAnswer.the-variants.{Accepted}
 use Rattle.table.proofs.Answers.{then-first, then-second, demand-held}
@@ -87,7 +87,7 @@ module _ (s : List ℕ) (e : checkTable s ≡ Accepted) where
   unfolding rule
   group-rule i h = ruled Group i h
 
-  connection-rule : (i : ℕ) → i < rowsOf s Connection → connectionGood (rowsOf s Group) (rowOf s Connection i) ≡ true
+  connection-rule : (i : ℕ) → i < rowsOf s Connection → connectionGood (rowsOf s Group) (groupTcpOf s) (rowOf s Connection i) ≡ true
   unfolding rule
   connection-rule i h = ruled Connection i h
 
@@ -103,11 +103,12 @@ pub record GroupFacts (row : List ℕ) : Type 0 where
   pub low : 1 ≤ be 1 row 0
   pub high : be 1 row 0 ≤ 2
 
-pub record ConnectionFacts (groups : ℕ) (row : List ℕ) : Type 0 where
+pub record ConnectionFacts (groups : ℕ) (tcp : ℕ → Bool) (row : List ℕ) : Type 0 where
   pub group : be 1 row 0 < groups
   pub automatic : be 1 row 1 ≤ 1
   pub low : 8 ≤ be 2 row 8
   pub high : be 2 row 8 ≤ 1472
+  pub unlimited : tcp (be 1 row 0) ≡ true → be 2 row 10 ≡ 0
 
 pub record RouteFacts (connections : ℕ) (tcp : ℕ → Bool) (row : List ℕ) : Type 0 where
   pub connection : be 1 row 0 < connections
@@ -127,20 +128,32 @@ group-facts row e =
     let f = and3 (leb 1 (be 1 row 0)) (leb (be 1 row 0) 2) (eqb (be 1 row 1) 0) e in
     record { low = leb-true _ _ (f .0); high = leb-true _ _ (f .1) }
 
-connection-facts : (groups : ℕ) (row : List ℕ) → connectionGood groups row ≡ true → ConnectionFacts groups row
+-- what holds where the first does not fail, and where the second does
+where-first : (a b : Bool) → (not a || b) ≡ true → a ≡ true → b ≡ true
+where-first true b e h = e
+where-first false b e h = impossible h
+
+where-second : (a b : Bool) → (a || not b) ≡ true → b ≡ true → a ≡ true
+where-second true b e h = refl
+where-second false true e h = e
+where-second false false e h = impossible h
+
+connection-facts : (groups : ℕ) (tcp : ℕ → Bool) (row : List ℕ) → connectionGood groups tcp row ≡ true → ConnectionFacts groups tcp row
 unfolding connectionGood connectionRow
-connection-facts groups row e =
+connection-facts groups tcp row e =
     let a = ltb (be 1 row 0) groups in
     let b = leb (be 1 row 1) 1 in
     let c = leb 8 (be 2 row 8) in
     let d = leb (be 2 row 8) 1472 in
-    let f = and4 a b c d (and-left (a && b && c && d) (eqb (be 2 row 10) 0) e) in
-    record { group = ltb-true _ _ (f .0); automatic = leb-true _ _ (f .1); low = leb-true _ _ (f .2); high = leb-true _ _ (f .3) }
-
--- what holds where the first does not fail
-where-first : (a b : Bool) → (not a || b) ≡ true → a ≡ true → b ≡ true
-where-first true b e h = e
-where-first false b e h = impossible h
+    let z = eqb (be 2 row 10) 0 || not (tcp (be 1 row 0)) in
+    let f = and4 a b c d (and-left (a && b && c && d) z e) in
+    record {
+      group = ltb-true _ _ (f .0);
+      automatic = leb-true _ _ (f .1);
+      low = leb-true _ _ (f .2);
+      high = leb-true _ _ (f .3);
+      unlimited = λ t. eqb-true _ _ (where-second _ _ (and-right (a && b && c && d) z e) t);
+    }
 
 route-facts : (connections : ℕ) (tcp : ℕ → Bool) (row : List ℕ) → routeGood connections tcp row ≡ true → RouteFacts connections tcp row
 unfolding routeGood routeRow
@@ -162,8 +175,8 @@ module _ (s : List ℕ) (e : checkTable s ≡ Accepted) (i : ℕ) where
   groups-keep : i < rowsOf s Group → GroupFacts (rowOf s Group i)
   groups-keep h = group-facts (rowOf s Group i) (group-rule s e i h)
 
-  connections-keep : i < rowsOf s Connection → ConnectionFacts (rowsOf s Group) (rowOf s Connection i)
-  connections-keep h = connection-facts (rowsOf s Group) (rowOf s Connection i) (connection-rule s e i h)
+  connections-keep : i < rowsOf s Connection → ConnectionFacts (rowsOf s Group) (groupTcpOf s) (rowOf s Connection i)
+  connections-keep h = connection-facts (rowsOf s Group) (groupTcpOf s) (rowOf s Connection i) (connection-rule s e i h)
 
   routes-keep : i < rowsOf s Route → RouteFacts (rowsOf s Connection) (tcpOf s) (rowOf s Route i)
   routes-keep h = route-facts (rowsOf s Connection) (tcpOf s) (rowOf s Route i) (route-rule s e i h)
@@ -177,7 +190,7 @@ apart-of share f t = let z : _≡_ {A = ℕ} 0 1 = cc in omega arith
 
 -- the rules of the table, as facts of its rows
 pub accepted-facts : (s : List ℕ) → checkTable s ≡ Accepted → Accepts s
-unfolding groupRow connectionRow routeRow destinationRow sizeIn tcpIn share routesShare destinationsShare
+unfolding groupRow connectionRow routeRow destinationRow sizeIn groupTcp tcpIn share routesShare destinationsShare
 accepted-facts s e =
     record {
       laid = accepted-laid s e;
@@ -186,6 +199,7 @@ accepted-facts s e =
       owned = λ i h. connections-keep s e i h .group;
       automatic = λ i h. connections-keep s e i h .automatic;
       sized = λ i h. (connections-keep s e i h .low, connections-keep s e i h .high);
+      unlimited = λ i h t. connections-keep s e i h .unlimited (eq-eqb _ _ t);
       routed = λ i h. routes-keep s e i h .connection;
       transfer = λ i h. routes-keep s e i h .transfer;
       marked = λ i h m. eqb-true _ _ (routes-keep s e i h .marked m);

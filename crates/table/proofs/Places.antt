@@ -13,8 +13,8 @@ use Rattle.table_layout.specs.declared.Kind.{Kind}
 use Rattle.table_layout.specs.declared.Kind.the-variants.{Group, Connection, Route, Destination}
 use Rattle.table_rows.specs.Rules.{groupGood, connectionGood, routeGood, destinationGood, sizeIn}
 use Rattle.table_scan.specs.declared.BadRows.{BadRows}
-use Rattle.table_scan.specs.Scan.{share, goodIn, badRoute, badRows}
-use Rattle.table.specs.Table.{tcpOf, rule, demand, thenCheck, rowsPlace}
+use Rattle.table_scan.specs.Scan.{share, goodIn, connectionRule, badRoute, badRows}
+use Rattle.table.specs.Table.{groupTcpOf, tcpOf, rule, demand, thenCheck, rowsPlace}
 use Rattle.table.specs.declared.TableAnswer.{TableAnswer}
 use Rattle.table.specs.declared.TableAnswer.the-variants.{Accepted, Refused}
 
@@ -40,14 +40,15 @@ module _ (s : List ℕ) (l : Laid s) (r : TableAnswer) (bad : ℕ) where
   unfolding rule
   groups-place body b e f = place Group (e ∙ ap (λ (x : List ℕ). firstBad (goodIn groupGood (share Group) 2 x) (length x / 2)) b) f
 
-  pub connections-place : (body : List ℕ) (groups : ℕ) → body ≡ bodyOf s Connection → groups ≡ rowsOf s Group
-      → bad ≡ firstBad (goodIn (connectionGood groups) (share Connection) 16 body) (length body / 16)
+  pub connections-place : (body groups : List ℕ) → body ≡ bodyOf s Connection → groups ≡ bodyOf s Group
+      → bad ≡ firstBad (goodIn (connectionRule groups) (share Connection) 16 body) (length body / 16)
       → r ≡ demand (leb (rowsOf s Connection) bad) (rowAt s Connection bad) → r ≡ rowsPlace s Connection
   unfolding rule
   connections-place body groups b g e f =
       place Connection
-      (e ∙ ap (λ (x : List ℕ). firstBad (goodIn (connectionGood groups) (share Connection) 16 x) (length x / 16)) b
-      ∙ ap (λ (n : ℕ). firstBad (goodIn (connectionGood n) (share Connection) 16 (bodyOf s Connection)) (length (bodyOf s Connection) / 16)) g)
+      (e ∙ ap (λ (x : List ℕ). firstBad (goodIn (connectionRule groups) (share Connection) 16 x) (length x / 16)) b
+      ∙ ap (λ (x : List ℕ). firstBad (goodIn (connectionRule x) (share Connection) 16 (bodyOf s Connection)) (length (bodyOf s Connection) / 16)) g
+      ∙ ap (λ (n : ℕ). firstBad (goodIn (connectionGood n (groupTcpOf s)) (share Connection) 16 (bodyOf s Connection)) (length (bodyOf s Connection) / 16)) (body-rows s l Group))
       f
 
   pub routes-place : (body connections groups : List ℕ) → body ≡ bodyOf s Route → connections ≡ bodyOf s Connection → groups ≡ bodyOf s Group

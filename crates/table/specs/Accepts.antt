@@ -15,10 +15,11 @@ pub record Accepts (s : List ℕ) : Type 0 where
   pub most : (k : Kind) → rowsOf s k ≤ mostRows k
   -- groups: protocol 1 or 2
   pub protocol : (i : ℕ) → i < rowsOf s Group → (1 ≤ groupOf s i .protocol) × (groupOf s i .protocol ≤ 2)
-  -- connections: the group exists; automatic 0 or 1; send size 8..1,472
+  -- connections: the group exists; automatic 0 or 1; send size 8..1,472; R20.1, no alive limit on a TCP connection
   pub owned : (i : ℕ) → i < rowsOf s Connection → connectionOf s i .group < rowsOf s Group
   pub automatic : (i : ℕ) → i < rowsOf s Connection → be 1 (rowOf s Connection i) 1 ≤ 1
   pub sized : (i : ℕ) → i < rowsOf s Connection → (8 ≤ connectionOf s i .size) × (connectionOf s i .size ≤ 1472)
+  pub unlimited : (i : ℕ) → i < rowsOf s Connection → groupOf s (connectionOf s i .group) .protocol ≡ 2 → connectionOf s i .alive ≡ 0
   -- routes: the connection exists; transfer 0 or 1, and a marked route's connection is TCP; longest payload 0..1,464; no two share
   -- connection and id
   pub routed : (i : ℕ) → i < rowsOf s Route → routeOf s i .connection < rowsOf s Connection

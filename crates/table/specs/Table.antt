@@ -9,7 +9,7 @@ use Rattle.lists.specs.Search.{firstBad}
 use Rattle.table_layout.specs.Layout.{number, mostRows, entryAt, rowBytes, rowsOf, startOf, endOf, rowAt, bodyOf, bodyAt}
 use Rattle.table_layout.specs.declared.Kind.{Kind}
 use Rattle.table_layout.specs.declared.Kind.the-variants.{Group, Connection, Route, Destination}
-use Rattle.table_rows.specs.Rules.{groupGood, connectionGood, routeGood, destinationGood, sizeIn, tcpIn}
+use Rattle.table_rows.specs.Rules.{groupGood, connectionGood, routeGood, destinationGood, sizeIn, groupTcp, tcpIn}
 use Rattle.table_scan.specs.Scan.{share, goodIn}
 use Rattle.table.specs.declared.TableAnswer.{TableAnswer}
 use Rattle.table.specs.declared.TableAnswer.the-variants.{Accepted, Refused}
@@ -25,14 +25,17 @@ entryGood s k =
     && leb (rowsOf s k) (mostRows k)
     && eqb (be 4 s (entryAt k + 4)) (startOf s k)
 
--- R2.11: connection c of an image is TCP
+-- R2.11: group g of an image is TCP, and connection c
+abbrev pub groupTcpOf : List ℕ → ℕ → Bool
+groupTcpOf s g = groupTcp (rowBytes s Group) (bodyOf s Group) g
+
 abbrev pub tcpOf : List ℕ → ℕ → Bool
 tcpOf s c = tcpIn (rowBytes s Group) (bodyOf s Group) (rowBytes s Connection) (bodyOf s Connection) c
 
 -- R1.6, R1.7: each kind's row rule, with the row counts of groups and connections
 unfoldable pub rule : List ℕ → Kind → List ℕ → Bool
 rule s Group row = groupGood row
-rule s Connection row = connectionGood (rowsOf s Group) row
+rule s Connection row = connectionGood (rowsOf s Group) (groupTcpOf s) row
 rule s Route row = routeGood (rowsOf s Connection) (tcpOf s) row
 rule s Destination row = destinationGood (rowsOf s Connection) (sizeIn (rowBytes s Connection) (bodyOf s Connection)) row
 

@@ -128,7 +128,7 @@ fn after_groups(image: &[u8]) -> TableAnswer
 {
     let bad = first_bad_connection(
         body_of(image, Kind::Connection),
-        rows_of(image, Kind::Group),
+        body_of(image, Kind::Group),
     );
     let connections = place_of(image, Kind::Connection, bad);
     match connections {

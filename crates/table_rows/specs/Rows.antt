@@ -15,7 +15,7 @@ use Rattle.table_rows.specs.declared.DestinationRow.{DestinationRow}
 unfoldable pub groupRow : List ℕ → GroupRow
 groupRow row = record { protocol = be 1 row 0 }
 
--- group 1, automatic 1 (0 or 1), IPv4 4, port 2, send size 2 (8..1,472), zero 2, start switches 4
+-- group 1, automatic 1 (0 or 1), IPv4 4, port 2, send size 2 (8..1,472), alive limit 2 (in ticks), start switches 4
 unfoldable pub connectionRow : List ℕ → ConnectionRow
 connectionRow row =
     record {
@@ -24,6 +24,7 @@ connectionRow row =
       address = be 4 row 2;
       port = be 2 row 6;
       size = be 2 row 8;
+      alive = be 2 row 10;
       switches = be 4 row 12;
     }
 
@@ -59,13 +60,14 @@ groupIn body i = groupRow (rowIn 2 body i)
 abbrev pub connectionIn : List ℕ → ℕ → ConnectionRow
 connectionIn body i = connectionRow (rowIn 16 body i)
 
--- of row i of a body of connections: group, automatic, send size
+-- of row i of a body of connections: group, automatic, send size, alive limit
 abbrev pub briefIn : List ℕ → ℕ → ConnectionBrief
 briefIn body i =
     record {
       group = connectionIn body i .group;
       automatic = connectionIn body i .automatic;
       size = connectionIn body i .size;
+      alive = connectionIn body i .alive;
     }
 
 -- row i of an image

@@ -14,17 +14,21 @@ groupGood row =
     leb 1 (be 1 row 0) && leb (be 1 row 0) 2
     && eqb (be 1 row 1) 0
 
--- R1.7, the group exists; automatic 0 or 1; send size 8..1,472; zero bytes 0
-unfoldable pub connectionGood : ℕ → List ℕ → Bool
-connectionGood groups row =
+-- R2.11: group g is TCP, out of the body of groups, whose rows have m bytes: protocol 2
+unfoldable pub groupTcp : ℕ → List ℕ → ℕ → Bool
+groupTcp m groups g = eqb (groupRow (rowIn m groups g) .protocol) 2
+
+-- R1.7, the group exists; automatic 0 or 1; send size 8..1,472; R20.1, an alive limit only where the group is not TCP
+unfoldable pub connectionGood : ℕ → (ℕ → Bool) → List ℕ → Bool
+connectionGood groups tcp row =
     ltb (connectionRow row .group) groups
     && leb (be 1 row 1) 1
     && leb 8 (connectionRow row .size) && leb (connectionRow row .size) 1472
-    && eqb (be 2 row 10) 0
+    && (eqb (connectionRow row .alive) 0 || not (tcp (connectionRow row .group)))
 
--- R2.11: connection c is TCP, out of the bodies of groups and connections, whose rows have m and n bytes: protocol 2
+-- R2.11: connection c is TCP, out of the bodies of groups and connections, whose rows have m and n bytes
 unfoldable pub tcpIn : ℕ → List ℕ → ℕ → List ℕ → ℕ → Bool
-tcpIn m groups n connections c = eqb (groupRow (rowIn m groups (connectionRow (rowIn n connections c) .group)) .protocol) 2
+tcpIn m groups n connections c = groupTcp m groups (connectionRow (rowIn n connections c) .group)
 
 -- R1.7, the connection exists; R19.1, transfer 0 or 1, and 1 only on a TCP connection; R1.8, longest payload 0..1,464; zero bytes 0
 unfoldable pub routeGood : ℕ → (ℕ → Bool) → List ℕ → Bool

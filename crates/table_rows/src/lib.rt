@@ -21,6 +21,7 @@ ghost use Rattle.table_rows.specs.Rows.{
 };
 ghost use Rattle.table_rows.specs.Rules.{
   sizeIn,
+  groupTcp,
   tcpIn,
   groupGood,
   connectionGood,
@@ -47,6 +48,7 @@ pub struct ConnectionRow {
     pub address: u32,
     pub port: u16,
     pub size: u16,
+    pub alive: u16,
     pub switches: u32,
 }
 
@@ -55,6 +57,7 @@ pub struct ConnectionBrief {
     pub group: u8,
     pub automatic: bool,
     pub size: u16,
+    pub alive: u16,
 }
 
 pub struct RouteRow {
@@ -115,6 +118,7 @@ pub fn connection_value(row: &[u8]) -> ConnectionRow
         address: four_bytes(row, 2),
         port: two_bytes(row, 6),
         size: two_bytes(row, 8),
+        alive: two_bytes(row, 10),
         switches: four_bytes(row, 12),
     }
 }
@@ -171,6 +175,7 @@ pub fn brief_in(body: &[u8], i: usize) -> ConnectionBrief
         group: one_byte(row, 0),
         automatic: be8(row, 1) == 1,
         size: two_bytes(row, 8),
+        alive: two_bytes(row, 10),
     }
 }
 
@@ -229,15 +234,24 @@ pub fn group_good(row: &[u8]) -> bool
     (1 <= protocol) & (protocol <= 2) & (be8(row, 1) == 0)
 }
 
-pub fn connection_good(row: &[u8], groups: usize) -> bool
-    ensures { λ r. ⌜ r ≡ connectionGood groups (now (row .entry)) ⌝ }
+// Group g is TCP, out of the body of groups.
+pub fn is_group_tcp(groups: &[u8], g: usize) -> bool
+    ensures { λ r. ⌜ r ≡ groupTcp 2 (now (groups .entry)) g ⌝ }
+{
+    be8(row_in(groups, 2, g), 0) == 2
+}
+
+// The protocol is asked for only where there is an alive limit.
+pub fn connection_good(row: &[u8], groups: &[u8]) -> bool
+    ensures { λ r. ⌜ r ≡ connectionGood (length (now (groups .entry)) / 2) (groupTcp 2 (now (groups .entry))) (now (row .entry)) ⌝ }
 {
     let size = be16(row, 8);
-    (be8(row, 0) < groups)
-        & (be8(row, 1) <= 1)
-        & (8 <= size)
-        & (size <= 1472)
-        & (be16(row, 10) == 0)
+    let group = be8(row, 0);
+    let good = (group < groups.len() / 2) & (be8(row, 1) <= 1) & (8 <= size) & (size <= 1472);
+    if be16(row, 10) == 0 {
+        return good;
+    }
+    good & !is_group_tcp(groups, group)
 }
 
 // The connection of a route or a destination: the rules read a row's first four bytes as one number.
@@ -251,7 +265,7 @@ pub fn owner_of(row: &[u8]) -> usize
 pub fn is_tcp(connections: &[u8], groups: &[u8], c: usize) -> bool
     ensures { λ r. ⌜ r ≡ tcpIn 2 (now (groups .entry)) 16 (now (connections .entry)) c ⌝ }
 {
-    be8(row_in(groups, 2, be8(row_in(connections, 16, c), 0)), 0) == 2
+    is_group_tcp(groups, be8(row_in(connections, 16, c), 0))
 }
 
 // Transfer mark (65,536) and longest payload are one number as well. The protocol is asked for only where there is a mark; a row

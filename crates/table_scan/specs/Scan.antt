@@ -7,7 +7,7 @@ use Rattle.lists.specs.Search.{every, firstBad}
 use Rattle.table_layout.specs.Layout.{rowIn}
 use Rattle.table_layout.specs.declared.Kind.{Kind}
 use Rattle.table_layout.specs.declared.Kind.the-variants.{Group, Connection, Route, Destination}
-use Rattle.table_rows.specs.Rules.{routeGood, destinationGood, sizeIn, tcpIn, routesShare, destinationsShare}
+use Rattle.table_rows.specs.Rules.{connectionGood, routeGood, destinationGood, sizeIn, groupTcp, tcpIn, routesShare, destinationsShare}
 use Rattle.table_scan.specs.declared.BadRows.{BadRows}
 
 -- two rows of a kind share what they may not; groups and connections share freely
@@ -24,6 +24,10 @@ clearIn shares n body i j = not (shares (rowIn n body j) (rowIn n body i))
 -- R1.6, R1.9: row i is good by itself and shares with no earlier row what it may not, so that the later row is the bad one
 unfoldable pub goodIn : (List ℕ → Bool) → (List ℕ → List ℕ → Bool) → ℕ → List ℕ → ℕ → Bool
 goodIn good shares n body i = good (rowIn n body i) && every (clearIn shares n body i) i
+
+-- a connection by itself, under the body of groups
+abbrev pub connectionRule : List ℕ → List ℕ → Bool
+connectionRule groups = connectionGood (length groups / 2) (groupTcp 2 groups)
 
 -- a route by itself, under the bodies of connections and groups
 abbrev pub routeRule : List ℕ → List ℕ → List ℕ → Bool

@@ -4,8 +4,8 @@ ghost use mathlib.Core.Path.{_≡_};
 ghost use Prim.Native.Nat.{ℕ, _/_, _<_, _≤_};
 ghost use lib.ListN.{length};
 ghost use Rattle.lists.specs.Search.{firstBad, every};
-ghost use Rattle.table_rows.specs.Rules.{groupGood, connectionGood};
-ghost use Rattle.table_scan.specs.Scan.{share, clearIn, goodIn, routeRule, destinationRule, badRoute, badDestination, badRows};
+ghost use Rattle.table_rows.specs.Rules.{groupGood};
+ghost use Rattle.table_scan.specs.Scan.{share, clearIn, goodIn, connectionRule, routeRule, destinationRule, badRoute, badDestination, badRows};
 ghost use Rattle.table_scan.specs.Marks.{markOf, routeMark, destinationMark, Come, Struck};
 use table_layout::Kind;
 use table_rows::connection_good;
@@ -42,8 +42,8 @@ pub fn first_bad_group(body: &[u8]) -> usize
 }
 
 // The first bad connection, or the row count where there is none.
-pub fn first_bad_connection(body: &[u8], groups: usize) -> usize
-    ensures { λ r. ⌜ r ≡ firstBad (goodIn (connectionGood groups) (share Kind.Connection) 16 (now (body .entry))) (length (now (body .entry)) / 16) ⌝ }
+pub fn first_bad_connection(body: &[u8], groups: &[u8]) -> usize
+    ensures { λ r. ⌜ r ≡ firstBad (goodIn (connectionRule (now (groups .entry))) (share Kind.Connection) 16 (now (body .entry))) (length (now (body .entry)) / 16) ⌝ }
 {
     let n = body.len() / 16;
     let mut i = 0;

@@ -19,8 +19,14 @@ returns c = quiet-none _ _ (c .if1 .taken) cc
 before-end-requires : tie.Need-before-end-requires
 before-end-requires c κs = search needs
 
+before-end-requires-2 : tie.Need-before-end-requires-2
+before-end-requires-2 c κs = search needs
+
+smaller-requires : tie.Need-smaller-requires
+smaller-requires c κs = search needs
+
 returns-2 : tie.Need-returns-2
-returns-2 c = quiet-until _ _ (c .before .if1 .left) (c .before-end .ensures) cc
+returns-2 c = quiet-until _ _ (c .before .before .before .if1 .left) (c .smaller .ensures) (c .before .before .before-end .ensures) (c .before .before-end2 .ensures) cc
 
 pub quiet-for-spec : {M : Type 1} → statement M
 quiet-for-spec =
@@ -31,4 +37,6 @@ quiet-for-spec =
     has-wildcard-requires
     returns
     before-end-requires
+    before-end-requires-2
+    smaller-requires
     returns-2)

@@ -48,17 +48,20 @@ mul-c c = omega (arith, small c)
 element-copy-out-c : tie.Need-element-copy-out-c
 element-copy-out-c c = small c
 
+config-of-requires : tie.Need-config-of-requires
+config-of-requires c κs = search needs
+
 met-requires : tie.Need-met-requires
 met-requires c κs = search needs
 
 mul-met : tie.Need-mul-met
-mul-met c = omega (arith, small (c .before .before))
+mul-met c = omega (arith, small (c .before .before .before))
 
 element-set-from-met : tie.Need-element-set-from-met
-element-set-from-met c = small (c .before .before)
+element-set-from-met c = small (c .before .before .before)
 
-cast-t36 : tie.Need-cast-t36
-cast-t36 c = omega (arith, small (c .before .before))
+cast-t37 : tie.Need-cast-t37
+cast-t37 c = omega (arith, small (c .before .before .before))
 
 returns-3 : tie.Need-returns-3
 returns-3 c =
@@ -69,11 +72,11 @@ returns-3 c =
 
 returns-4 : tie.Need-returns-4
 returns-4 c =
-    let m = c .before .before .before in
+    let m = c .before .before .before .before in
     let x = m .before .before in
     let k = x .before .before in
     let r = k .before .before .before .before .before in
-    arrive-met _ _ _ _ _ _ (r .rows-of .ensures .0) (k .before .before .before .before .if1 .left) _ (k .before .before .before .group-row .ensures) _ (k .before .before .protocol-of .ensures) _ (k .has-wildcard .ensures) (x .before .if2 .left) _ (x .choose .ensures) _ _ (m .chosen .given .1) (c .met .ensures)
+    arrive-met _ _ _ _ _ _ (r .rows-of .ensures .0) (k .before .before .before .before .if1 .left) _ (k .before .before .before .group-row .ensures) _ (k .before .before .protocol-of .ensures) _ (k .has-wildcard .ensures) (x .before .if2 .left) _ (x .choose .ensures) _ _ _ (m .chosen .given .1) (c .before .config-of .ensures) (c .met .ensures)
 
 pub arrive-spec : {M : Type 1} → statement M
 arrive-spec =
@@ -90,9 +93,10 @@ arrive-spec =
     enum-known-chosen
     mul-c
     element-copy-out-c
+    config-of-requires
     met-requires
     mul-met
     element-set-from-met
-    cast-t36
+    cast-t37
     returns-3
     returns-4)

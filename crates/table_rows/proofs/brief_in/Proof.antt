@@ -16,10 +16,20 @@ be8-requires c κs = search needs
 two-bytes-requires : tie.Need-two-bytes-requires
 two-bytes-requires c κs = search needs
 
+two-bytes-requires-2 : tie.Need-two-bytes-requires-2
+two-bytes-requires-2 c κs = search needs
+
 returns : tie.Need-returns
 unfolding connectionRow
 returns c = cc
 
 pub brief-in-spec : {M : Type 1} → statement M
 brief-in-spec =
-    tie.close (tie.spec row-in-requires one-byte-requires be8-requires two-bytes-requires returns)
+    tie.close
+    (tie.spec
+    row-in-requires
+    one-byte-requires
+    be8-requires
+    two-bytes-requires
+    two-bytes-requires-2
+    returns)

@@ -19,6 +19,9 @@ two-bytes-requires c κs = search needs
 two-bytes-requires-2 : tie.Need-two-bytes-requires-2
 two-bytes-requires-2 c κs = search needs
 
+two-bytes-requires-3 : tie.Need-two-bytes-requires-3
+two-bytes-requires-3 c κs = search needs
+
 four-bytes-requires-2 : tie.Need-four-bytes-requires-2
 four-bytes-requires-2 c κs = search needs
 
@@ -35,5 +38,6 @@ connection-value-spec =
     four-bytes-requires
     two-bytes-requires
     two-bytes-requires-2
+    two-bytes-requires-3
     four-bytes-requires-2
     returns)

@@ -1,7 +1,6 @@
 -- `table_scan::first_bad_connection` meets its contract. The loop's invariant: what is left of the search has the whole one's answer.
 use Rattle.table_scan.proofs.Rows.{At, bad-row, good-row, free, connections-free}
-use Rattle.table_scan.specs.Scan.{share}
-use Rattle.table_rows.specs.Rules.{connectionGood}
+use Rattle.table_scan.specs.Scan.{share, connectionRule}
 use Rattle.table_layout.proofs.Parts.{row-in, row-range}
 use Rattle.table_layout.specs.declared.Kind.the-variants.{Connection}
 use Rattle.lists.proofs.Search.{search-start, search-ended}
@@ -15,7 +14,7 @@ use Rattle.table_scan.proofs.first_bad_connection.Statement.{statement}
 use Rattle.table_scan.proofs.first_bad_connection.Tie as tie
 
 abbrev Inv-loop : tie.InvT-loop
-Inv-loop body groups n i₀ i = At (connectionGood groups) (share Connection) 16 body i
+Inv-loop body groups n i₀ i = At (connectionRule groups) (share Connection) 16 body i
 
 abbrev μ-loop : tie.MeasureT-loop
 μ-loop body groups n i₀ i = length body / 16 - i
@@ -36,7 +35,7 @@ part-row-start : tie.Need-part-row-start Inv-loop μ-loop
 part-row-start c = omega arith
 
 part-row-end : tie.Need-part-row-end Inv-loop μ-loop
-part-row-end c = let b = c .before .before .before in omega (arith, row-in 16 (b .args .body .now) (c .before .loop .i) (c .loop-test .taken))
+part-row-end c = let b = c .before .before .before .before in omega (arith, row-in 16 (b .args .body .now) (c .before .loop .i) (c .loop-test .taken))
 
 connection-good-requires : tie.Need-connection-good-requires Inv-loop μ-loop
 connection-good-requires c κs = search needs
@@ -44,7 +43,7 @@ connection-good-requires c κs = search needs
 returns : tie.Need-returns Inv-loop μ-loop
 returns c =
     let l = c .before .before .before in
-    let b = l .before .before .before .args .body .now in
+    let b = l .before .before .before .before .args .body .now in
     bad-row _ _ 16 b (l .before .loop .i) _ (l .before .loop .inv) (l .loop-test .taken) (row-range 16 b (l .before .loop .i) (l .loop-test .taken)) (c .before .connection-good .ensures) (not-true _ (c .if1 .taken))
 
 add-i : tie.Need-add-i Inv-loop μ-loop
@@ -56,7 +55,7 @@ loop-less c = omega arith
 loop-again : tie.Need-loop-again Inv-loop μ-loop
 loop-again c =
     let l = c .before .before .before in
-    let b = l .before .before .before .args .body .now in
+    let b = l .before .before .before .before .args .body .now in
     good-row _ _ 16 b (l .before .loop .i) _ (l .before .loop .inv) (l .loop-test .taken) (row-range 16 b (l .before .loop .i) (l .loop-test .taken)) (c .before .connection-good .ensures) (not-false _ (c .if1 .left)) (free Connection 16 b (l .before .loop .i) connections-free) refl
 
 returns-2 : tie.Need-returns-2 Inv-loop μ-loop

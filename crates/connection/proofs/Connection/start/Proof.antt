@@ -9,7 +9,7 @@ is-offline-requires c κs = search needs
 
 returns : tie.Need-returns
 unfolding startedOf
-returns c = rw (← c .before .before .before .before .is-offline .ensures, c .before .if1 .taken)
+returns c = rw (← c .before .before .before .before .before .is-offline .ensures, c .before .before .if1 .taken)
 
 returns-2 : tie.Need-returns-2
 unfolding startedOf
