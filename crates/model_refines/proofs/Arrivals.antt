@@ -40,18 +40,19 @@ arrive-is image s accept group source = go (leb (rowsOf image Group) group) (den
     go false false = meets image s source (chosenIn image s accept group source)
 
 -- it holds no more than before
-module _ (image : List ℕ) (s t : State) (source : Remote) where
-  pub meeting-fewer : Meeting image s source t → Fewer (t .connections) (s .connections)
-  meeting-fewer nobody = fewer-same (s .connections)
-  meeting-fewer (meeting-one j) = fewer-set (s .connections) j (metOf (configOf image j) source (recordAt s j)) (met-less (configOf image j) source (recordAt s j))
+module _ (image : List ℕ) (s : State) (source : Remote) where
+  pub meeting-fewer : (t : State) → Meeting image s source t → Fewer (t .connections) (s .connections)
+  meeting-fewer t nobody = fewer-same (s .connections)
+  meeting-fewer t (meeting-one j) =
+      fewer-set (s .connections) j (metOf (configOf image j) source (recordAt s j)) (met-less (configOf image j) source (recordAt s j))
 
-  pub meeting-length : Meeting image s source t → length (t .connections) ≡ length (s .connections)
-  meeting-length nobody = refl
-  meeting-length (meeting-one j) = length-set (s .connections) j (metOf (configOf image j) source (recordAt s j))
+  pub meeting-length : (t : State) → Meeting image s source t → length (t .connections) ≡ length (s .connections)
+  meeting-length t nobody = refl
+  meeting-length t (meeting-one j) = length-set (s .connections) j (metOf (configOf image j) source (recordAt s j))
 
   -- each record is met, or as it was
-  pub meeting-at : (P : Connection → Type 0) (k : ℕ) → Meeting image s source t → P (metOf (configOf image k) source (recordAt s k)) → P (recordAt s k) → P (recordAt t k)
-  meeting-at P k nobody p q = q
-  meeting-at P k (meeting-one j) p q =
+  pub meeting-at : (t : State) (P : Connection → Type 0) (k : ℕ) → Meeting image s source t → P (metOf (configOf image k) source (recordAt s k)) → P (recordAt s k) → P (recordAt t k)
+  meeting-at t P k nobody p q = q
+  meeting-at t P k (meeting-one j) p q =
       one-at zeroRecord (s .connections) j k (metOf (configOf image j) source (recordAt s j)) P
       (λ e. subst (λ (i : ℕ). P (metOf (configOf image i) source (recordAt s i))) (sym e) p) q

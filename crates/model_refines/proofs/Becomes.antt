@@ -157,8 +157,8 @@ module _ (image : List ℕ) (k : ℕ) (w : World) where
   arrived e is a group source =
       let m = arrive-is image (stateOf w) a group source in
       let t : State = arriveOf image (stateOf w) a group source .state in
-      left e t (meeting-length image (stateOf w) t source m)
-      (meeting-at image (stateOf w) t source (By e) k m (by-record e (metOf (configOf image k) source) (becomes-met e source is)) (by-same e))
+      left e t (meeting-length image (stateOf w) source t m)
+      (meeting-at image (stateOf w) source t (By e) k m (by-record e (metOf (configOf image k) source) (becomes-met e source is)) (by-same e))
 
   each : (e : Whole) (f : ℕ → Connection → Connection) (n : ℕ) → By e (f k (h .connection)) → By e (getD (eachTo f 0 n (stateOf w .connections)) k zeroRecord)
   each e f n p =
