@@ -87,6 +87,6 @@ module _ (image : List ℕ) (k : ℕ) where
   RunsThrough m (e ∷ es) = (0 < aliveOf m) × RunsThrough (afterEvent image e m) es
 
   -- at some place of a run it was started, and has run since
-  pub data StartedIn (m : Machine) : List Event → Type 0 where
-    started-here : (e : Event) (es : List Event) → Starts m e → RunsThrough (afterEvent image e m) es → StartedIn m (e ∷ es)
-    started-later : (e : Event) (es : List Event) → StartedIn (afterEvent image e m) es → StartedIn m (e ∷ es)
+  pub data StartedIn : Machine → List Event → Type 0 where
+    started-here : (m : Machine) (e : Event) (es : List Event) → Starts m e → RunsThrough (afterEvent image e m) es → StartedIn m (e ∷ es)
+    started-later : (m : Machine) (e : Event) (es : List Event) → StartedIn (afterEvent image e m) es → StartedIn m (e ∷ es)
