@@ -1,20 +1,24 @@
 -- THE WHOLE ANSWER OF A SEGMENT EVENT FITS: whatever the takes find, it has no more bytes than `answerRoom` says, and an out buffer that is
--- not refused has so many. A take after another is never refused. And what is refused for its length.
-use Prim.Native.Nat.{ℕ, zero, suc, _+_, _-_, _*_, _≤_, _<_}
+-- not refused has so many; and no more than `plainRoom` where no route is marked. A take after another is never refused. And what is
+-- refused for its length.
+use Prim.Native.Nat.{ℕ, zero, suc, _+_, _-_, _*_, _/_, _≤_, _<_}
 use mathlib.Core.Path.{_≡_, refl, sym, ap, ap₂, _∙_, subst}
-use mathlib.Core.Bool.{Bool, true, false, cond}
+use mathlib.Core.Bool.{Bool, true, false, cond, not, false≢true}
 use mathlib.Core.List.{List}
 use native.Mathlib.Omega.{arith}
-use lib.Dec.{ltb}
+use lib.Dec.{eqb, leb, ltb}
 use lib.ListN.{length, getD, drop, length-drop, length-append}
 use lib.Seq.{getD-set-same}
-use borrow.Author.Tests.{ltb-true, lt-ltb, le-ltb}
-use Rattle.lists.proofs.Both.{and-left, and-right}
+use borrow.Author.Tests.{leb-false, ltb-true, lt-ltb, le-ltb}
+use Rattle.lists.proofs.Both.{and-left, and-right, and3}
+use Rattle.lists.proofs.Search.{every-at}
 use Rattle.wire.specs.Lay.{spell}
 use Rattle.wire.proofs.Spell.{length-spell}
 use Rattle.table_layout.specs.Layout.{bodyOf}
 use Rattle.table_layout.specs.declared.Kind.the-variants.{Route as RouteRows}
+use Rattle.table_rows.specs.Rows.{routeIn}
 use Rattle.reading.specs.Feed.{Routes, Cell, takeB}
+use Rattle.reading.proofs.Cut.{take-less}
 use Rattle.reading_lengths.specs.Listed.{Bytes}
 use Rattle.reading_lengths.proofs.Bytes.{bytes-drop}
 use Rattle.connection.specs.declared.Connection.{Connection}
@@ -23,9 +27,15 @@ use Rattle.connection.specs.Event.{refusalNumber}
 use Rattle.state.specs.declared.State.{State}
 use Rattle.state.specs.State.{recordAt, withRecord}
 use Rattle.state.specs.Fresh.{configOf}
-use Rattle.receive_route.specs.Route.{lookupOf}
+use Rattle.receive_part.specs.declared.Part.{Part}
+use Rattle.receive_part.specs.declared.Part.the-variants.{Header, Payload, Skip, Transfer}
+use Rattle.receive_part.specs.Part.{transferring}
+use Rattle.receive_route.specs.Route.{rowsIn, lookupOf}
+use Rattle.receive_route.proofs.Decided.{route-transfers}
 use Rattle.gate.specs.Lent.{Lent, Loan, sizes, received}
+use Rattle.gate.specs.Sound.{routed}
 use Rattle.gate.proofs.Pass.{passed-gate-at}
+use Rattle.gate.proofs.Records.{row-routed, record-at}
 use Rattle.receive_stream.specs.Stream.{cellOf, idOf, tookOf, takenOf}
 use Rattle.state.specs.Memory.{stretch}
 use Rattle.entry_receive.specs.declared.Answer.{Answer}
@@ -42,8 +52,8 @@ use Rattle.event_answer.proofs.Chain.{length-found}
 use Rattle.event_answer.proofs.Short.{no-room, room-keeps}
 use Rattle.dispatch_receive.specs.Long.{longestBody, tooLong, ifFits}
 use Rattle.dispatch_receive.specs.Walk.{walkedEffect, walkEffect}
-use Rattle.dispatch_receive.specs.Segment.{lentNext, takeBytes, bytesIfDone, Progress, begun, takeAt, memoryAt, bytesAt, oneTake, takeFollows, takesUpTo, allTakes, eventBytes, takesEffect, answerRoom, segmentEffect}
-use Rattle.dispatch_receive.proofs.Size.{most, most-all, most-least, spent-within, spent-goes}
+use Rattle.dispatch_receive.specs.Segment.{lentNext, takeBytes, bytesIfDone, Progress, begun, takeAt, memoryAt, bytesAt, oneTake, takeFollows, takesUpTo, allTakes, eventBytes, takesEffect, answerRoom, noneMarked, plainRoom, segmentEffect}
+use Rattle.dispatch_receive.proofs.Size.{NoneMarked, Pays, whole, most, most-all, most-least, spent-within, spent-goes}
 
 -- what nothing refuses is done
 clear-done : (l : Lent) (k : ℕ) (allowed : Bool) → Clear l k allowed → isDone (judgedAnswer l k allowed) ≡ true
@@ -54,6 +64,41 @@ bytes-of-within : (a : Answer) (x : List ℕ) → length (bytesIfDone a x) ≤ l
 bytes-of-within Done x = omega arith
 bytes-of-within (Refused r) x = omega arith
 bytes-of-within NotReceiving x = omega arith
+
+rows-within : (routes : List ℕ) → rowsIn routes ≤ length routes / 16
+unfolding rowsIn
+rows-within routes = go (leb (length routes / 16) 64) refl
+  where
+    go : (b : Bool) → leb (length routes / 16) 64 ≡ b → cond b (length routes / 16) 64 ≤ length routes / 16
+    go true e = omega arith
+    go false e = omega (arith, leb-false (length routes / 16) 64 e)
+
+-- WHAT A BYTE OF THE SEGMENT PAYS under an image, in ninths: 32; and 27 where no route of it is marked
+pub data Rate (image : List ℕ) : ℕ → Type 0 where
+  any : Rate image 32
+  plain : noneMarked image ≡ true → Rate image 27
+
+module _ (image : List ℕ) (none : noneMarked image ≡ true) where
+  abbrev routes : List ℕ
+  routes = bodyOf image RouteRows
+
+  unmarked-at : (r : ℕ) → r < length routes / 16 → routeIn routes r .transfer ≡ true → ⊥
+  unfolding noneMarked
+  unmarked-at r h e =
+      false≢true (ap not (sym e) ∙ every-at (λ (i : ℕ). not (routeIn routes i .transfer)) (length routes / 16) r none h)
+
+  none-given : (k switches : ℕ) → NoneMarked (lookupOf routes k switches)
+  none-given k switches i n r e =
+      let t = route-transfers routes k switches i n r e in
+      unmarked-at r (omega (arith, t .bears .there, rows-within routes)) (t .marked)
+
+  none-runs : (k : ℕ) (p : Part) → routed routes k p ≡ true → transferring p ≡ false
+  none-runs k (Header held value) h = refl
+  none-runs k (Payload route n held) h = refl
+  none-runs k (Skip n) h = refl
+  none-runs k (Transfer route left) h =
+      let t = and3 (ltb route (length routes / 16)) (eqb (routeIn routes route .connection) k) (routeIn routes route .transfer) h in
+      absurd (unmarked-at route (ltb-true route (length routes / 16) (t .0)) (t .2))
 
 -- ONE TAKE over what is left of the segment
 module _ (l : Loan) (k : ℕ) (seg : List ℕ) where
@@ -121,27 +166,38 @@ module _ (l : Loan) (k : ℕ) (seg : List ℕ) where
       ∙ ap (λ (c : Connection). c .part) (getD-set-same (s .connections) k (withPart (takenAt image s rx k seg .part) (recordAt s k)) zeroRecord
       (in-range s k (done-clear (sizes l) k (configOf image k .tcp) e .receives)))
 
+  -- what a byte pays, where the gate has passed: in a sound state a transfer has a marked route
+  pays-here : {pay : ℕ} → Rate image pay → isDone answer ≡ true → Pays (lookupOf (bodyOf image RouteRows) k (recordAt s k .switches)) (recordAt s k .part) pay
+  pays-here Rate.any e = Pays.any
+  pays-here (plain none) e =
+      let c = done-clear (sizes l) k (configOf image k .tcp) e in
+      whole (none-given image none k (recordAt s k .switches))
+      (none-runs image none k (recordAt s k .part)
+      (row-routed image k (recordAt s k) (record-at image (s .connections) k (c .passed .sound) (in-range s k (c .receives))) (c .there)))
+
   -- where it left bytes there is enough for the next
-  on-goes : (from : ℕ) (m : List ℕ) → isDone answer ≡ true → takeOn image s rx k seg .read < length seg
-      → 9 * length (bytesFrom from m (takeOn image s rx k seg)) + most (recordAt (takeOn image s rx k seg .state) k .part) + 32 * (length seg - takeOn image s rx k seg .read)
-      ≤ most (recordAt s k .part) + 32 * length seg
+  on-goes : {pay : ℕ} (from : ℕ) (m : List ℕ) → Rate image pay → isDone answer ≡ true → takeOn image s rx k seg .read < length seg
+      → 9 * length (bytesFrom from m (takeOn image s rx k seg)) + most (recordAt (takeOn image s rx k seg .state) k .part) + pay * (length seg - takeOn image s rx k seg .read)
+      ≤ most (recordAt s k .part) + pay * length seg
   unfolding takeOn takenOf tookOf
-  on-goes from m e h =
+  on-goes {pay} from m rate e h =
       let R : Routes = lookupOf (bodyOf image RouteRows) k (recordAt s k .switches) in
       let c : Cell = cellOf (recordAt s k .part) (stretch 1464 k rx) in
+      let left : length seg - (length seg - length (takeB R c seg .rest)) ≡ length (takeB R c seg .rest) = omega (arith, take-less R c seg) in
       omega (
         arith,
         ap most (part-after e),
-        spent-goes from (length seg - length (takeB R c seg .rest)) seg m k R (idOf (bodyOf image RouteRows)) (stretch 1464 k rx) (recordAt s k .part) (omega arith),
+        ap (λ (n : ℕ). pay * n) left,
+        spent-goes from (length seg - length (takeB R c seg .rest)) seg m k R (idOf (bodyOf image RouteRows)) (stretch 1464 k rx) (recordAt s k .part) (pays-here rate e) (omega arith),
       )
 
-  pub take-goes : (from : ℕ) (m : List ℕ) → isDone (segmentOf l k seg .answer) ≡ true → segmentOf l k seg .read < length seg
-      → 9 * length (bytesFrom from m (segmentOf l k seg)) + most (recordAt (segmentOf l k seg .state) k .part) + 32 * (length seg - segmentOf l k seg .read)
-      ≤ most (recordAt s k .part) + 32 * length seg
-  take-goes from m d =
+  pub take-goes : {pay : ℕ} (from : ℕ) (m : List ℕ) → Rate image pay → isDone (segmentOf l k seg .answer) ≡ true → segmentOf l k seg .read < length seg
+      → 9 * length (bytesFrom from m (segmentOf l k seg)) + most (recordAt (segmentOf l k seg .state) k .part) + pay * (length seg - segmentOf l k seg .read)
+      ≤ most (recordAt s k .part) + pay * length seg
+  take-goes {pay} from m rate d =
       let e : isDone answer ≡ true = sym answer-is ∙ d in
-      subst (λ (t : SegmentTaken). t .read < length seg → 9 * length (bytesFrom from m t) + most (recordAt (t .state) k .part) + 32 * (length seg - t .read) ≤ most (recordAt s k .part) + 32 * length seg)
-      (sym (taken-is e)) (on-goes from m e)
+      subst (λ (t : SegmentTaken). t .read < length seg → 9 * length (bytesFrom from m t) + most (recordAt (t .state) k .part) + pay * (length seg - t .read) ≤ most (recordAt s k .part) + pay * length seg)
+      (sym (taken-is e)) (on-goes from m rate e)
 
   -- the next take is not refused
   pub take-next : Bytes seg → isDone (segmentOf l k seg .answer) ≡ true → isDone (segmentAnswer (sizes (received l (segmentOf l k seg .state) (memoryOf l k seg))) k) ≡ true
@@ -158,13 +214,19 @@ module _ (l : Loan) (k : ℕ) (segment : List ℕ) (at : ℕ) where
   unfolding bytesAt
   bytes-within = take-within l k (drop at segment) at (memoryAt l k segment at)
 
-  pub bytes-go : isDone (takeAt l k segment at .answer) ≡ true → at + takeAt l k segment at .read < length segment
-      → 9 * length (bytesAt l k segment at) + most (recordAt (takeAt l k segment at .state) k .part) + 32 * (length segment - (at + takeAt l k segment at .read))
-      ≤ most (recordAt (l .state) k .part) + 32 * (length segment - at)
+  pub bytes-go : {pay : ℕ} → Rate (l .image) pay → isDone (takeAt l k segment at .answer) ≡ true → at + takeAt l k segment at .read < length segment
+      → 9 * length (bytesAt l k segment at) + most (recordAt (takeAt l k segment at .state) k .part) + pay * (length segment - (at + takeAt l k segment at .read))
+      ≤ most (recordAt (l .state) k .part) + pay * (length segment - at)
   unfolding bytesAt
-  bytes-go d h =
+  bytes-go {pay} rate d h =
       let e = length-drop at segment in
-      omega (arith, take-goes l k (drop at segment) at (memoryAt l k segment at) d (omega arith))
+      let left : length (drop at segment) - takeAt l k segment at .read ≡ length segment - (at + takeAt l k segment at .read) = omega arith in
+      omega (
+        arith,
+        take-goes l k (drop at segment) at (memoryAt l k segment at) rate d (omega arith),
+        ap (λ (n : ℕ). pay * n) left,
+        ap (λ (n : ℕ). pay * n) e,
+      )
 
   pub bytes-next : Bytes segment → isDone (takeAt l k segment at .answer) ≡ true
       → isDone (segmentAnswer (sizes (received l (takeAt l k segment at .state) (memoryAt l k segment at))) k) ≡ true
@@ -172,37 +234,49 @@ module _ (l : Loan) (k : ℕ) (segment : List ℕ) (at : ℕ) where
 
 module _ (l : Loan) (k : ℕ) (segment : List ℕ) where
   -- from anywhere on
-  run-fits : (n : ℕ) (r : Progress) → 9 * length (takesUpTo l k segment n r .bytes) ≤ 9 * length (r .bytes) + most (recordAt (r .state) k .part) + 32 * (length segment - r .at)
+  run-fits : {pay : ℕ} → Rate (l .image) pay → (n : ℕ) (r : Progress)
+      → 9 * length (takesUpTo l k segment n r .bytes) ≤ 9 * length (r .bytes) + most (recordAt (r .state) k .part) + pay * (length segment - r .at)
   unfolding takesUpTo oneTake
-  run-fits zero r = omega (arith, length-append (r .bytes) (bytesAt (lentNext l k segment r) k segment (r .at)), bytes-within (lentNext l k segment r) k segment (r .at))
-  run-fits (suc n) r = go (takeFollows l k segment (oneTake l k segment r)) refl (run-fits n (oneTake l k segment r))
+  run-fits rate zero r = omega (arith, length-append (r .bytes) (bytesAt (lentNext l k segment r) k segment (r .at)), bytes-within (lentNext l k segment r) k segment (r .at))
+  run-fits {pay} rate (suc n) r = go (takeFollows l k segment (oneTake l k segment r)) refl (run-fits rate n (oneTake l k segment r))
     where
       go : (b : Bool) → takeFollows l k segment (oneTake l k segment r) ≡ b
           → 9 * length (takesUpTo l k segment n (oneTake l k segment r) .bytes)
-          ≤ 9 * length (oneTake l k segment r .bytes) + most (recordAt (oneTake l k segment r .state) k .part) + 32 * (length segment - oneTake l k segment r .at)
+          ≤ 9 * length (oneTake l k segment r .bytes) + most (recordAt (oneTake l k segment r .state) k .part) + pay * (length segment - oneTake l k segment r .at)
           → 9 * length (cond b (takesUpTo l k segment n (oneTake l k segment r)) (oneTake l k segment r) .bytes)
-          ≤ 9 * length (r .bytes) + most (recordAt (r .state) k .part) + 32 * (length segment - r .at)
+          ≤ 9 * length (r .bytes) + most (recordAt (r .state) k .part) + pay * (length segment - r .at)
       go true e h =
           omega (
             arith,
             h,
             length-append (r .bytes) (bytesAt (lentNext l k segment r) k segment (r .at)),
-            bytes-go (lentNext l k segment r) k segment (r .at) (and-left (isDone (takeAt (lentNext l k segment r) k segment (r .at) .answer)) (ltb (r .at + takeAt (lentNext l k segment r) k segment (r .at) .read) (length segment)) e)
+            bytes-go (lentNext l k segment r) k segment (r .at) rate (and-left (isDone (takeAt (lentNext l k segment r) k segment (r .at) .answer)) (ltb (r .at + takeAt (lentNext l k segment r) k segment (r .at) .read) (length segment)) e)
                 (ltb-true (r .at + takeAt (lentNext l k segment r) k segment (r .at) .read) (length segment) (and-right (isDone (takeAt (lentNext l k segment r) k segment (r .at) .answer)) (ltb (r .at + takeAt (lentNext l k segment r) k segment (r .at) .read) (length segment)) e)),
           )
       go false e h = omega (arith, length-append (r .bytes) (bytesAt (lentNext l k segment r) k segment (r .at)), bytes-within (lentNext l k segment r) k segment (r .at))
 
-  -- THE WHOLE ANSWER
+  -- THE WHOLE ANSWER, of any takes; and where no route is marked
   pub takes-fit : 4 + length (allTakes l k segment .bytes) ≤ answerRoom segment
-  takes-fit = omega (arith, run-fits (length segment) (begun (l .state) (l .rx)), most-all (recordAt (l .state) k .part))
+  takes-fit = omega (arith, run-fits any (length segment) (begun (l .state) (l .rx)), most-all (recordAt (l .state) k .part))
 
-  event-size : (a : Answer) (count : ℕ) (bytes : List ℕ) → 4 + length bytes ≤ answerRoom segment → length (eventBytes a count bytes) ≤ answerRoom segment
-  event-size Done count bytes h = omega (arith, h, length-append (doneWith 2 count) bytes, length-append (spell 2 0) (spell 2 count), length-spell 2 0, length-spell 2 count)
-  event-size (Refused r) count bytes h = omega (arith, length-append (spell 2 (refusalNumber r)) (spell 4 0), length-spell 2 (refusalNumber r), length-spell 4 0)
-  event-size NotReceiving count bytes h = omega (arith, length-append (spell 2 4) (spell 4 0), length-spell 2 4, length-spell 4 0)
+  plain-takes : noneMarked (l .image) ≡ true → 4 + length (allTakes l k segment .bytes) ≤ plainRoom segment
+  plain-takes none = omega (arith, run-fits (plain none) (length segment) (begun (l .state) (l .rx)), most-all (recordAt (l .state) k .part))
 
-  pub event-fits : length (eventBytes (allTakes l k segment .answer) (allTakes l k segment .count) (allTakes l k segment .bytes)) ≤ answerRoom segment
-  event-fits = event-size (allTakes l k segment .answer) (allTakes l k segment .count) (allTakes l k segment .bytes) takes-fit
+  event-size : (room : ℕ) (a : Answer) (count : ℕ) (bytes : List ℕ) → 6 ≤ room → 4 + length bytes ≤ room → length (eventBytes a count bytes) ≤ room
+  event-size room Done count bytes six h =
+      omega (arith, h, length-append (doneWith 2 count) bytes, length-append (spell 2 0) (spell 2 count), length-spell 2 0, length-spell 2 count)
+  event-size room (Refused r) count bytes six h =
+      omega (arith, six, length-append (spell 2 (refusalNumber r)) (spell 4 0), length-spell 2 (refusalNumber r), length-spell 4 0)
+  event-size room NotReceiving count bytes six h = omega (arith, six, length-append (spell 2 4) (spell 4 0), length-spell 2 4, length-spell 4 0)
+
+  abbrev whole-bytes : List ℕ
+  whole-bytes = eventBytes (allTakes l k segment .answer) (allTakes l k segment .count) (allTakes l k segment .bytes)
+
+  pub event-fits : length whole-bytes ≤ answerRoom segment
+  event-fits = event-size _ (allTakes l k segment .answer) (allTakes l k segment .count) (allTakes l k segment .bytes) (omega arith) takes-fit
+
+  pub plain-fits : noneMarked (l .image) ≡ true → length whole-bytes ≤ plainRoom segment
+  plain-fits none = event-size _ (allTakes l k segment .answer) (allTakes l k segment .count) (allTakes l k segment .bytes) (omega arith) (plain-takes none)
 
   -- an out buffer that is long enough has room for it
   pub answer-fits : length segment ≤ longestBody → answerRoom segment ≤ room

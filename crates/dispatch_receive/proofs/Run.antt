@@ -39,7 +39,7 @@ use Rattle.dispatch_receive.specs.Turn.{takenBytes, takesOf, frontOf, an
 use Rattle.dispatch_receive.proofs.Once.{refused-none, done-all}
 use Rattle.dispatch_receive.proofs.Size.{most, most-all}
 use Rattle.gate.specs.Lent.{Loan, sizes, received}
-use Rattle.dispatch_receive.proofs.Room.{none-is, memory-stays, answer-is, bytes-within, bytes-go, bytes-next}
+use Rattle.dispatch_receive.proofs.Room.{any, none-is, memory-stays, answer-is, bytes-within, bytes-go, bytes-next}
 
 -- a take reads no more than there is, and of what is not empty a byte at least
 rest-less : (R : Routes) (c : Cell) (seg : List ℕ) → 0 < length seg → length (takeB R c seg .rest) < length seg
@@ -216,7 +216,7 @@ module _ (l : Loan) (connection : ℕ) (segment : List ℕ) where
                   g .placed,
                   all-placed,
                   length-append (g .bytes) more-bytes,
-                  bytes-go (received l s rx) connection segment at done left,
+                  bytes-go (received l s rx) connection segment at any done left,
                 );
             clear = bytes-next (received l s rx) connection segment at small done;
           }

@@ -1,10 +1,12 @@
 -- HOW MANY BYTES A TAKE'S ANSWER HAS, against the bytes it reads. A take that leaves bytes leaves no header byte and no payload byte held,
 -- so the next one has read a whole header, and its PDU stands in the segment; or it has left a transfer running. A transfer of one byte
--- has the most answer for its bytes: 14 for its start and 18 for its piece, of nine bytes. So all is counted in ninths of a byte.
+-- has the most answer for its bytes: 14 for its start and 18 for its piece, of nine bytes. So all is counted in ninths of a byte. Where
+-- no route is marked there is no start and no piece, and a PDU of eight bytes has the most: 19.
 use Prim.Native.Nat.{ℕ, zero, suc, _+_, _-_, _*_, _/_, _%_, _^_, _≤_, _<_}
 use mathlib.Core.Path.{_≡_, refl, ap, _∙_, subst}
 use mathlib.Core.Bool.{Bool, true, false, cond, false≢true, true≢false}
 use mathlib.Core.List.{List, [], _∷_}
+use native.Mathlib.Nat.{mul-le-mul-left}
 use native.Mathlib.Omega.{arith}
 use lib.Dec.{leb, ltb}
 use lib.ListN.{length, take, drop, length-take, length-drop}
@@ -15,6 +17,7 @@ use Rattle.reading.proofs.Cut.{moves, take-ends, take-less}
 use Rattle.table_layout.specs.Layout.{partOf}
 use Rattle.receive_part.specs.declared.Part.{Part}
 use Rattle.receive_part.specs.declared.Part.the-variants.{Header, Payload, Skip, Transfer}
+use Rattle.receive_part.specs.Part.{transferring}
 use Rattle.receive_stream.specs.declared.Outcome.{Outcome}
 use Rattle.receive_stream.specs.declared.Outcome.the-variants.{More, Pdu, Drop, Start, Piece}
 use Rattle.receive_stream.specs.Stream.{cellOf, partFrom, inSegment, takeOutcome}
@@ -49,6 +52,16 @@ most-least (Header (suc held) value) = omega arith
 most-least (Payload route n held) = omega arith
 most-least (Skip n) = omega arith
 most-least (Transfer route left) = omega arith
+
+-- R19.1: routes of which none is marked
+abbrev pub NoneMarked : Routes → Type 0
+NoneMarked R = (i n r : ℕ) → R i n ≡ Move r → ⊥
+
+-- WHAT A BYTE OF THE SEGMENT PAYS, in ninths, on a connection with these routes and this part: 32; and 27 where no route is marked and no
+-- transfer runs
+pub data Pays (R : Routes) (p : Part) : ℕ → Type 0 where
+  any : Pays R p 32
+  whole : NoneMarked R → transferring p ≡ false → Pays R p 27
 
 -- WHAT A TAKE READS AT LEAST BEFORE IT STOPS: the bytes that a header still wants; behind a skip a whole one
 abbrev wants : Cell → ℕ
@@ -129,6 +142,32 @@ ends-most R c bs t (at-byte _ a b rest f e is q) h =
 ends-most R c bs t (at-seam n r a _ _) h = absurd (omega arith)
 ends-most R c bs t (at-mark n r a rest _ _) h = omega arith
 
+-- where no route is marked there is no start, and so nothing left for a piece
+decided-plain : (d : Decision) (i n : ℕ) → ((r : ℕ) → d ≡ Move r → ⊥) → leaves (decided d i n .out) ≤ 171
+decided-plain (Accept r) i zero u = omega arith
+decided-plain (Accept r) i (suc n) u = omega arith
+decided-plain (Refuse k) i zero u = omega arith
+decided-plain (Refuse k) i (suc n) u = omega arith
+decided-plain (Move r) i n u = absurd (u r refl)
+
+feed-plain : (R : Routes) (c : Cell) (b : ℕ) → NoneMarked R → leaves (feed R c b .out) ≤ 171
+unfolding feed pieceDone
+feed-plain R (cell zero k) b u = omega arith
+feed-plain R (cell (suc zero) (header v)) b u =
+    decided-plain (R ((v * 256 + b) / 2 ^ 32) ((v * 256 + b) % 2 ^ 32)) ((v * 256 + b) / 2 ^ 32) ((v * 256 + b) % 2 ^ 32) (u _ _)
+feed-plain R (cell (suc zero) (payload r h)) b u = omega arith
+feed-plain R (cell (suc zero) skip) b u = omega arith
+feed-plain R (cell (suc (suc n)) k) b u = omega arith
+feed-plain R (transfer zero r) b u = omega arith
+feed-plain R (transfer (suc zero) r) b u = omega arith
+feed-plain R (transfer (suc (suc n)) r) b u = omega arith
+
+ends-plain : (R : Routes) (c : Cell) (bs : List ℕ) (t : Took) → Ends R c bs t → NoneMarked R → leaves (t .out) ≤ 171
+ends-plain R c bs t (at-end _ _ e) u = omega arith
+ends-plain R c bs t (at-byte _ a b rest f e is q) u = subst (λ (g : Fed). leaves (g .out) ≤ 171) is (feed-plain R (after R c a) b u)
+ends-plain R c bs t (at-seam n r a _ _) u = omega arith
+ends-plain R c bs t (at-mark n r a rest _ _) u = omega arith
+
 -- outside a transfer, a take that leaves bytes stopped
 ends-stops : (R : Routes) (c : Cell) (bs : List ℕ) (t : Took) → Ends R c bs t → moves c ≡ false → 0 < length (t .rest) → stops (t .out) ≡ true
 ends-stops R c bs t (at-end _ _ e) o h = absurd (omega arith)
@@ -183,22 +222,37 @@ module _ (from read : ℕ) (seg m : List ℕ) (k : ℕ) where
     spent-at c bs = 9 * length (bytes (takeOutcome ids true read (takeB R c bs .out)))
 
     -- a take that begins with a header or with bytes to skip
-    fresh-goes : (c : Cell) (bs : List ℕ) → moves c ≡ false → wants c ≡ 8 → 0 < length (takeB R c bs .rest)
-        → spent-at c bs + most (partFrom (takeB R c bs .to)) + 32 * length (takeB R c bs .rest) ≤ 171 + 32 * length bs
-    fresh-goes c bs o w h =
+    fresh-goes : {p : Part} {pay : ℕ} (c : Cell) (bs : List ℕ) → Pays R p pay → moves c ≡ false → wants c ≡ 8 → 0 < length (takeB R c bs .rest)
+        → spent-at c bs + most (partFrom (takeB R c bs .to)) + pay * length (takeB R c bs .rest) ≤ 171 + pay * length bs
+    fresh-goes c bs any o w h =
         omega (
           arith,
           here-leaves ids (takeB R c bs .out),
           ends-most R c bs (takeB R c bs) (take-ends R c bs) h,
           take-wants R c bs (ends-stops R c bs (takeB R c bs) (take-ends R c bs) o h),
         )
+    fresh-goes c bs (whole u _) o w h =
+        omega (
+          arith,
+          here-size ids (takeB R c bs .out),
+          ends-plain R c bs (takeB R c bs) (take-ends R c bs) u,
+          ends-most R c bs (takeB R c bs) (take-ends R c bs) h,
+          take-wants R c bs (ends-stops R c bs (takeB R c bs) (take-ends R c bs) o h),
+        )
+
+    -- one that begins in the middle of a header or of a payload
+    held-goes : (pay : ℕ) (s : Bool) (c : Cell) (bs : List ℕ) → 0 < length (takeB R c bs .rest)
+        → 9 * length (bytes (takeOutcome ids s read (takeB R c bs .out))) + most (partFrom (takeB R c bs .to)) + pay * length (takeB R c bs .rest) ≤ 13482 + pay * length bs
+    held-goes pay s c bs h =
+        let few : length (takeB R c bs .rest) ≤ length bs = omega (arith, take-less R c bs) in
+        omega (arith, any-size ids s (takeB R c bs .out), ends-most R c bs (takeB R c bs) (take-ends R c bs) h, mul-le-mul-left pay few)
 
     -- a running transfer's last piece, before which its start has paid
     piece-goes : (n r : ℕ) (bs : List ℕ) → 0 < length (takeB R (transfer n r) bs .rest)
         → spent-at (transfer n r) bs + most (partFrom (takeB R (transfer n r) bs .to)) + 32 * length (takeB R (transfer n r) bs .rest) ≤ 301 + 32 * length bs
     unfolding takeB most
     piece-goes n r [] h = absurd (omega arith)
-    piece-goes zero r (b ∷ bs) h = omega (arith, fresh-goes ready bs refl refl h)
+    piece-goes zero r (b ∷ bs) h = omega (arith, fresh-goes {p = Header 0 0} ready bs any refl refl h)
     piece-goes (suc n) r (b ∷ bs) h = go (ltb (length (b ∷ bs)) (suc n)) h
       where
         t : Bool → Took
@@ -226,14 +280,13 @@ module _ (from read : ℕ) (seg m : List ℕ) (k : ℕ) where
       spent-within (Skip n) = here-size ids (took-of (Skip n) .out)
       spent-within (Transfer route left) = omega (arith, here-size ids (took-of (Transfer route left) .out))
 
-      pub spent-goes : (p : Part) → 0 < length (took-of p .rest) → spent p + most (partFrom (took-of p .to)) + 32 * length (took-of p .rest) ≤ most p + 32 * length seg
+      pub spent-goes : {pay : ℕ} (p : Part) → Pays R p pay → 0 < length (took-of p .rest)
+          → spent p + most (partFrom (took-of p .to)) + pay * length (took-of p .rest) ≤ most p + pay * length seg
       unfolding most
-      spent-goes (Header zero value) h = fresh-goes (cellOf (Header zero value) rx) seg refl refl h
-      spent-goes (Header (suc held) value) h =
-          let c : Cell = cellOf (Header (suc held) value) rx in
-          omega (arith, any-size ids true (takeB R c seg .out), ends-most R c seg (takeB R c seg) (take-ends R c seg) h, take-less R c seg)
-      spent-goes (Payload route n held) h =
-          let c : Cell = cellOf (Payload route n held) rx in
-          omega (arith, any-size ids (inSegment c) (takeB R c seg .out), ends-most R c seg (takeB R c seg) (take-ends R c seg) h, take-less R c seg)
-      spent-goes (Skip n) h = fresh-goes (cellOf (Skip n) rx) seg refl refl h
-      spent-goes (Transfer route left) h = piece-goes left route seg h
+      spent-goes (Header zero value) pays h = fresh-goes (cellOf (Header zero value) rx) seg pays refl refl h
+      spent-goes {pay} (Header (suc held) value) pays h = held-goes pay true (cellOf (Header (suc held) value) rx) seg h
+      spent-goes {pay} (Payload route n held) pays h =
+          held-goes pay (inSegment (cellOf (Payload route n held) rx)) (cellOf (Payload route n held) rx) seg h
+      spent-goes (Skip n) pays h = fresh-goes (cellOf (Skip n) rx) seg pays refl refl h
+      spent-goes (Transfer route left) any h = piece-goes left route seg h
+      spent-goes (Transfer route left) (whole u e) h = absurd (true≢false e)

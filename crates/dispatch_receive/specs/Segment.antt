@@ -1,10 +1,14 @@
 -- A segment event (R5.14), the takes over one segment until all is read, one at least; and its answer as bytes (R16.2; docs/EVENTS.md).
 use Prim.Native.Nat.{ℕ, zero, suc, _+_, _*_, _/_}
-use mathlib.Core.Bool.{Bool, true, false, cond, _&&_}
+use mathlib.Core.Bool.{Bool, true, false, cond, not, _&&_}
 use mathlib.Core.List.{List, [], _++_}
 use lib.Dec.{ltb}
 use lib.ListN.{length, drop}
 use Rattle.wire.specs.Lay.{spell}
+use Rattle.lists.specs.Search.{every}
+use Rattle.table_layout.specs.Layout.{bodyOf}
+use Rattle.table_layout.specs.declared.Kind.the-variants.{Route as Routes}
+use Rattle.table_rows.specs.Rows.{routeIn}
 use Rattle.state.specs.declared.State.{State}
 use Rattle.receive_stream.specs.declared.Outcome.{Outcome}
 use Rattle.receive_stream.specs.declared.Outcome.the-variants.{More, Pdu, Drop, Start, Piece}
@@ -117,6 +121,14 @@ takesEffect r tx out = answers (eventBytes (r .answer) (r .count) (r .bytes)) (r
 -- and what comes with it once, and 32 bytes for every nine of the segment, as a transfer of one byte has them: a start and a piece
 abbrev pub answerRoom : List ℕ → ℕ
 answerRoom segment = 1503 + 32 * length segment / 9
+
+-- R19.1: no route of the image is marked
+unfoldable pub noneMarked : List ℕ → Bool
+noneMarked image = every (λ (i : ℕ). not (routeIn (bodyOf image Routes) i .transfer)) (length (bodyOf image Routes) / 16)
+
+-- .. and then no take is a start or a piece, and the room is less (proofs/Room `plain-fits`): three bytes for each of the segment
+abbrev pub plainRoom : List ℕ → ℕ
+plainRoom segment = 1502 + 3 * length segment
 
 -- WHAT A SEGMENT EVENT LEAVES
 unfoldable pub segmentEffect : Loan → List ℕ → ℕ → List ℕ → Effect

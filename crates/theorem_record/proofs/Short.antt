@@ -1,7 +1,7 @@
 -- CALLS THAT CAN BE RECORDED: whatever is answered, arguments of so many bytes leave room for it in a body of 4,096 bytes.
 use Prim.Native.Nat.{ℕ, _+_, suc, _*_, _/_, _≤_}
 use mathlib.Core.Path.{_≡_, refl, ap}
-use mathlib.Core.Bool.{Bool, true}
+use mathlib.Core.Bool.{Bool, true, false, cond}
 use mathlib.Core.List.{List, [], _∷_}
 use native.Mathlib.Omega.{arith}
 use lib.Dec.{eqb}
@@ -20,7 +20,8 @@ use Rattle.entry_send.specs.Sending.{sendOf, takenWaiting, takenOut}
 use Rattle.event_decode.specs.declared.Call.{Call}
 use Rattle.event_decode.specs.declared.Call.the-variants.{Own, Lost, Segment, Walk, TakeWaiting, Datagram, Accept, Transmit, SwitchAll, ReadCount, ClearCount}
 use Rattle.event_decode.specs.Calls.{remoteIn, callOf, bytesFrom}
-use Rattle.dispatch_receive.proofs.Room.{event-fits}
+use Rattle.dispatch_receive.specs.Segment.{noneMarked}
+use Rattle.dispatch_receive.proofs.Room.{event-fits, plain-fits}
 use Rattle.dispatch_send.specs.Send.{roomOf}
 use Rattle.dispatch.proofs.Sizes.{told-size, loss-size, count-size, arrival-size, transmission-size, walked-size, taking-size, taken-size, buffer-size}
 use Rattle.dispatch_refines.specs.Answer.{answerOf}
@@ -33,7 +34,7 @@ use Rattle.theorem_record.specs.Record.{Notable, AllNotable, Near, Recor
 use Rattle.theorem_record.specs.Again.{Timed, afterTicks, afterNote, answerTo, recorded, recordedFresh, mostArguments, Callable, Followed, AllCallable}
 use Rattle.theorem_record.proofs.Numbers.{by-call, plain-long, told-long}
 
--- ANSWERS: of a segment event at most 1,503 bytes and 32 for every nine of the segment
+-- ANSWERS: of a segment event at most 1,503 bytes and 32 for every nine of the segment; where no route is marked, 1,502 and 3 for each
 module _ (l : Loan) (a : List ℕ) where
   abbrev Below : ℕ → Call → Type 0
   Below k call = length (answerOf l a call) ≤ k
@@ -41,6 +42,10 @@ module _ (l : Loan) (a : List ℕ) where
   segment-below : (c at : ℕ) → Below (1503 + 32 * length (drop at a) / 9) (Segment c at)
   unfolding answerOf
   segment-below c at = omega (arith, event-fits l c (bytesFrom a at), ap length (segment-named l c (bytesFrom a at)))
+
+  plain-below : noneMarked (l .image) ≡ true → (c at : ℕ) → Below (1502 + 3 * length (drop at a)) (Segment c at)
+  unfolding answerOf
+  plain-below none c at = omega (arith, plain-fits l c (bytesFrom a at) none, ap length (segment-named l c (bytesFrom a at)))
 
   waiting-below : (c n : ℕ) → Below 1497 (TakeWaiting c n)
   unfolding answerOf
@@ -91,17 +96,25 @@ module _ (l : Loan) (a : List ℕ) where
   six : (call : Call) → length a ≤ 4076 → Below 6 call → Fills call
   six call h b = omega (arith, h, b)
 
-call-fills : (n : ℕ) → isRecorded n ≡ true → (a : List ℕ) → isSpelt (callOf n a) ≡ true → (l : Loan) → length a ≤ mostArguments n → Fills l a (callOf n a)
+  -- .. of a segment, the bytes of which stand behind the first six
+  segment-fills : (c : ℕ) → 6 ≤ length a → length a ≤ cond (noneMarked (l .image)) 653 574 → Fills (Segment c 6)
+  segment-fills c long h = go (noneMarked (l .image)) refl h
+    where
+      go : (b : Bool) → noneMarked (l .image) ≡ b → length a ≤ cond b 653 574 → Fills (Segment c 6)
+      go true none q = omega (arith, q, long, plain-below none c 6, length-drop 6 a)
+      go false some q = omega (arith, q, long, segment-below c 6, length-drop 6 a)
+
+call-fills : (n : ℕ) → isRecorded n ≡ true → (a : List ℕ) → isSpelt (callOf n a) ≡ true → (l : Loan) → length a ≤ mostArguments (l .image) n → Fills l a (callOf n a)
 unfolding mostArguments
 call-fills =
-    by-call (λ n a call. (l : Loan) → length a ≤ mostArguments n → Fills l a call)
+    by-call (λ n a call. (l : Loan) → length a ≤ mostArguments (l .image) n → Fills l a call)
     (λ a t l h. six l a _ h (own-below l a (be 1 a 1) Open))
     (λ a t l h. six l a _ h (own-below l a (be 1 a 1) Close))
     (λ a t l h. six l a _ h (own-below l a (be 1 a 1) Connected))
     (λ a t l h. six l a _ h (lost-below l a (be 1 a 1)))
     (λ a t l h. six l a _ h (own-below l a (be 1 a 1) (SetRemote (remoteIn (drop 2 a)))))
     (λ a t l h. six l a _ h (own-below l a (be 1 a 1) (Switch (be 1 a 2) (eqb (be 1 a 3) 1))))
-    (λ a t l h. omega (arith, h, told-long a 2 t, segment-below l a (be 1 a 1) 6, length-drop 6 a))
+    (λ a t l h. segment-fills l a (be 1 a 1) (omega (arith, told-long a 2 t)) h)
     (λ a t l h. omega (arith, h, walk-below l a (be 1 a 1) (be 4 a 2) 10))
     (λ a t l h. omega (arith, plain-long a 6 t, waiting-below l a (be 1 a 1) (be 4 a 2)))
     (λ a t l h. six l a _ h (datagram-below l a (be 1 a 1) (remoteIn (drop 2 a))))
@@ -114,7 +127,7 @@ call-fills =
 
 -- SO THE ENTRY OF SUCH A CALL can be recorded, from any machine
 module _ (image : List ℕ) where
-  notable : (before : ℕ) (m : Machine) (c : Timed) → Callable c
+  notable : (before : ℕ) (m : Machine) (c : Timed) → Callable image c
       → Notable (record { stamp = c .stamp; number = c .number; arguments = c .arguments; answer = answerTo image (c .number) (c .arguments) m })
   notable before m c h =
       let answer : List ℕ = answerTo image (c .number) (c .arguments) m in
@@ -132,12 +145,12 @@ module _ (image : List ℕ) where
   abbrev left : ℕ → Machine → Timed → Machine
   left before m c = afterNote image (c .number) (c .arguments) (later before m c)
 
-  each-notable : (before : ℕ) (m : Machine) (cs : List Timed) → Followed before cs → AllNotable (recorded image before m cs)
+  each-notable : (before : ℕ) (m : Machine) (cs : List Timed) → Followed image before cs → AllNotable (recorded image before m cs)
   unfolding recorded
   each-notable before m [] h = tt
   each-notable before m (c ∷ cs) (here, (near, h)) = (notable before (later before m c) c here, each-notable (c .stamp) (left before m c) cs h)
 
-  stays-near : (before : ℕ) (m : Machine) (cs : List Timed) → Followed before cs → Near before (recorded image before m cs)
+  stays-near : (before : ℕ) (m : Machine) (cs : List Timed) → Followed image before cs → Near before (recorded image before m cs)
   unfolding recorded
   stays-near before m [] h = tt
   stays-near before m (c ∷ cs) (here, (near, h)) = (near, stays-near (c .stamp) (left before m c) cs h)
@@ -148,7 +161,7 @@ module _ (image : List ℕ) where
   recorded-long before m (c ∷ cs) = ap suc (recorded-long (c .stamp) (left before m c) cs)
 
 -- CALLS FROM A FRESH STATE, 4,000 at most: their entries can be recorded
-pub calls-recordable : (image rx tx : List ℕ) (cs : List Timed) → length cs ≤ mostEntries → AllCallable cs → Recordable (recordedFresh image rx tx cs)
+pub calls-recordable : (image rx tx : List ℕ) (cs : List Timed) → length cs ≤ mostEntries → AllCallable image cs → Recordable (recordedFresh image rx tx cs)
 unfolding recorded
 calls-recordable image rx tx [] few h = record { entries = few; each = tt; near = tt }
 calls-recordable image rx tx (c ∷ cs) few (here, h) =

@@ -9,6 +9,7 @@ use lib.ListN.{length, replicate}
 use Rattle.reading_lengths.specs.Listed.{Bytes}
 use Rattle.state.specs.Fresh.{freshState}
 use Rattle.event_decode.specs.Calls.{callOf}
+use Rattle.dispatch_receive.specs.Segment.{noneMarked}
 use Rattle.model.specs.Events.{tick, onWhole}
 use Rattle.model_refines.specs.Machine.{Machine, machine, loanTo}
 use Rattle.model_refines.specs.Run.{afterRun}
@@ -66,27 +67,28 @@ module _ (image : List ℕ) where
   abbrev pub recordedFresh : List ℕ → List ℕ → List Timed → List Noted
   recordedFresh rx tx cs = recorded (firstAt cs) (machine (freshState image) rx tx) cs
 
--- A CALL THAT CAN BE RECORDED, whatever its answer is: one with room for it in a body of 4,096 bytes. Arguments have so many bytes: of a
--- segment 574 at most, of any other event 4,076
-unfoldable pub mostArguments : ℕ → ℕ
-mostArguments n = cond (eqb n 7) 574 4076
+-- A CALL THAT CAN BE RECORDED under an image, whatever its answer is: one with room for it in a body of 4,096 bytes. Arguments have so many
+-- bytes: of a segment 574 at most, and 653 where no route of the image is marked; of any other event 4,076
+unfoldable pub mostArguments : List ℕ → ℕ → ℕ
+mostArguments image n = cond (eqb n 7) (cond (noneMarked image) 653 574) 4076
 
-pub record Callable (c : Timed) : Type 0 where
+pub record Callable (image : List ℕ) (c : Timed) : Type 0 where
   pub event : isRecorded (c .number) ≡ true
   pub spells : isSpelt (callOf (c .number) (c .arguments)) ≡ true
   pub bytes : Bytes (c .arguments)
   pub inWidth : c .stamp < stamps
-  pub roomy : length (c .arguments) ≤ mostArguments (c .number)
+  pub roomy : length (c .arguments) ≤ mostArguments image (c .number)
 
--- .. and one after the other, at distances of at most 65,535
-abbrev pub Followed : ℕ → List Timed → Type 0
-Followed before [] = Unit {0}
-Followed before (c ∷ cs) = Callable c × ((distanceIn stamps before (c .stamp) ≤ 65535) × Followed (c .stamp) cs)
+module _ (image : List ℕ) where
+  -- .. and one after the other, at distances of at most 65,535
+  abbrev pub Followed : ℕ → List Timed → Type 0
+  Followed before [] = Unit {0}
+  Followed before (c ∷ cs) = Callable image c × ((distanceIn stamps before (c .stamp) ≤ 65535) × Followed (c .stamp) cs)
 
--- the first at any stamp
-abbrev pub AllCallable : List Timed → Type 0
-AllCallable [] = Unit {0}
-AllCallable (c ∷ cs) = Callable c × Followed (c .stamp) cs
+  -- the first at any stamp
+  abbrev pub AllCallable : List Timed → Type 0
+  AllCallable [] = Unit {0}
+  AllCallable (c ∷ cs) = Callable image c × Followed (c .stamp) cs
 
 -- the call of an entry
 abbrev pub timedOf : Noted → Timed
