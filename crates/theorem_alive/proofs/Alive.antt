@@ -24,15 +24,10 @@ use Rattle.model_runs.specs.Streams.{EventBytes, RunBytes}
 use Rattle.model_refines.specs.Machine.{Machine, lentTo}
 use Rattle.model_refines.specs.Run.{afterEvent, afterRun, Good}
 use Rattle.model_refines.proofs.Good.{event-good}
+use Rattle.theorems.proofs.Runs.{run-good}
 use Rattle.theorem_alive.specs.Alive.{Watched, LetGo, ticksOf, ticksIn, recordOf, Breaks, Silent, LetGoAt}
 use Rattle.theorem_alive.proofs.Record.{tick-watched, tick-ends, met-watched, wild-starts, running-starts}
 use Rattle.theorem_alive.proofs.Events.{met-reason, ticked, given, silent-event}
-
--- runs keep a machine good
-pub run-good : (image : List ℕ) (m : Machine) → Good image m → (es : List Event) → RunBytes es → Good image (afterRun image m es)
-unfolding afterRun
-run-good image m good [] bytes = good
-run-good image m good (e ∷ es) (b, bs) = run-good image (afterEvent image e m) (event-good image m good e b) es bs
 
 -- an event that has a tick is the tick
 is-tick : (e : Event) → (ticksOf e ≡ 0 → ⊥) → e ≡ onWhole tick
@@ -98,7 +93,7 @@ module _ (image : List ℕ) (k : ℕ) (there : k < rowsOf image Connections) (ud
             let l : ticksIn es < n = omega (arith, e) in
             let one : n - ticksIn es ≡ 1 = omega (arith, e) in
             let m′ = afterRun image m es in
-            subst (LetGo g (recordOf image k m′)) (sym (ticked image k m′ (run-good image m good es bytes) there))
+            subst (LetGo g (recordOf image k m′)) (sym (ticked image k m′ (run-good image m es bytes good) there))
             (tick-ends g udp r false (n - ticksIn es) (recordOf image k m′) (silent-run m good r false n w es bytes s (λ _. l)) refl one);
       }
 
@@ -154,5 +149,5 @@ pub heard-twice : (image : List ℕ) (k : ℕ) → k < rowsOf image Connections 
 heard-twice image k there m good group source is wild mark es bytes s few again other is′ fs bytes′ s′ =
     let first = afterEvent image (onWhole (datagram group source)) m in
     let w = let-go-exactly image k there m good group source is wild mark es bytes s .before few in
-    let-go-again image k there (afterRun image first es) (run-good image first (event-good image m good (onWhole (datagram group source)) tt) es bytes) again other is′
+    let-go-again image k there (afterRun image first es) (run-good image first es bytes (event-good image m good (onWhole (datagram group source)) tt)) again other is′
     source (configOf image k .alive - ticksIn es) w (omega (arith, few)) fs bytes′ s′

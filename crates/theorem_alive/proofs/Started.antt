@@ -1,25 +1,30 @@
 -- WHY A TIMER RUNS: a datagram has replaced a wildcard, and the timer has run since (`running-since`); so from a machine where it does not run, as from
 -- a fresh one, a connection is let go by its timer only then (`let-go-only`, `fresh-let-go-only`).
-use Prim.Native.Nat.{ℕ, suc, _<_}
+use Prim.Native.Nat.{ℕ, zero, suc, _<_}
 use mathlib.Core.Path.{_≡_, refl, sym, ap, _∙_, subst}
 use mathlib.Core.Logic.{_⊎_, inl, inr}
 use mathlib.Core.Bool.{Bool, true, false, true≢false}
 use mathlib.Core.List.{List, [], _∷_}
 use native.Mathlib.Omega.{arith}
+use lib.ListN.{length, getD, replicate}
 use native.Mathlib.Decide.{ℕ-discrete}
+use Rattle.lists.specs.Each.{each}
 use Rattle.table_layout.specs.Layout.{rowsOf}
 use Rattle.table_layout.specs.declared.Kind.the-variants.{Connection as Connections}
+use Rattle.table.specs.declared.TableAnswer.the-variants.{Accepted}
+use Rattle.table.specs.Table.{checkTable}
 use Rattle.connection.specs.declared.Connection.{Connection}
 use Rattle.connection.specs.declared.Remote.{Remote}
-use Rattle.connection.specs.Connection.{expires}
-use Rattle.state.specs.Fresh.{configOf}
+use Rattle.connection.specs.Connection.{zeroRecord, expires}
+use Rattle.state.specs.Fresh.{configOf, freshAt, freshState}
 use Rattle.select.specs.declared.Arrival.the-variants.{Met}
 use Rattle.entry_arrivals.specs.Arrivals.{arrivalOf, datagramOf}
 use Rattle.model.specs.Events.{Own, Whole, datagram, accept, tick, transmit, switchAll, readCount, clearCount, Event, on, onWhole}
 use Rattle.model_runs.specs.Streams.{EventBytes, RunBytes}
-use Rattle.model_refines.specs.Machine.{Machine, lentTo}
+use Rattle.model_refines.specs.Machine.{Machine, machine, lentTo}
 use Rattle.model_refines.specs.Run.{afterEvent, afterRun, Good}
 use Rattle.model_refines.proofs.Good.{event-good}
+use Rattle.theorems.proofs.Three.{fresh-good}
 use Rattle.theorem_alive.specs.Alive.{recordOf, aliveOf, Starts, wildcard-replaced, RunsThrough, StartedIn, started-here, started-later}
 use Rattle.theorem_alive.proofs.Record.{ended-by, tick-none, met-none, runs-udp}
 use Rattle.theorem_alive.proofs.Events.{whom, whom-is, whom-met, accept-tcp, sound, ticked, given, not-given, accepted, not-accepted, own-event-none, whole-event-none}
@@ -93,3 +98,19 @@ module _ (image : List ℕ) (k : ℕ) (there : k < rowsOf image Connections) whe
       go : RunsThrough image k m es ⊎ StartedIn image k m es → StartedIn image k m es
       go (inl r) = absurd (omega (arith, z, runs-first m es r))
       go (inr s) = s
+
+-- A FRESH MACHINE has no timer that runs
+fresh-none : (image : List ℕ) (n : ℕ) (cs : List Connection) (k : ℕ) → getD (each (freshAt image) n cs) k zeroRecord .watch .alive ≡ 0
+fresh-none image n [] k = refl
+fresh-none image n (c ∷ cs) zero = refl
+fresh-none image n (c ∷ cs) (suc k) = fresh-none image (suc n) cs k
+
+pub fresh-alive : (image rx tx : List ℕ) (k : ℕ) → aliveOf image k (machine (freshState image) rx tx) ≡ 0
+unfolding freshState
+fresh-alive image rx tx k = fresh-none image 0 (replicate 16 zeroRecord) k
+
+pub fresh-let-go-only : (image : List ℕ) → checkTable image ≡ Accepted → (rx tx : List ℕ) → length rx ≡ 23424 → length tx ≡ 23552
+    → (k : ℕ) → k < rowsOf image Connections → (es : List Event) → RunBytes es
+    → expires (configOf image k) (recordOf image k (afterRun image (machine (freshState image) rx tx) es)) ≡ true → StartedIn image k (machine (freshState image) rx tx) es
+fresh-let-go-only image accepted rx tx a b k there =
+    let-go-only image k there (machine (freshState image) rx tx) (fresh-good image accepted rx tx a b) (fresh-alive image rx tx k)
