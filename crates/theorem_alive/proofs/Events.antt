@@ -126,7 +126,7 @@ module _ (image : List ℕ) (k : ℕ) (m : Machine) (good : Good image m) (there
   abbrev c : Connection
   c = recordAt (m .state) k
 
-  inside : k < length (m .state .connections)
+  pub inside : k < length (m .state .connections)
   inside = omega (arith, there, good .sixteen, rows-in-sixteen (lentTo image m) (passed-gate (lentTo image m) (good .passed)))
 
   pub sound : Sound g c
