@@ -2,23 +2,20 @@
 use Prim.Native.Nat.{ℕ, _<_, _≤_}
 use mathlib.Core.Path.{_≡_, refl, sym, ap, _∙_, subst}
 use mathlib.Core.Logic.{_↔_}
-use mathlib.Core.Bool.{Bool, true, false, not, _&&_, _||_, true≢false, false≢true}
+use mathlib.Core.Bool.{Bool, true, false, not, true≢false, false≢true}
 use mathlib.Core.List.{List}
 use native.Mathlib.Omega.{arith}
 use native.Mathlib.Decide.{ℕ-discrete}
-use lib.Dec.{eqb, ltb}
-use lib.ListN.{length}
 use lib.Seq.{getD-set-same}
-use borrow.Author.Tests.{ne-eqb, lt-ltb, le-ltb, not-true}
+use borrow.Author.Tests.{lt-ltb, not-true}
 use Rattle.lists.proofs.Both.{and-left, and-right, and-both}
 use Rattle.table_layout.specs.Layout.{rowsOf}
 use Rattle.table_layout.specs.declared.Kind.the-variants.{Connection as Connections}
 use Rattle.connection.specs.declared.Config.{Config}
 use Rattle.connection.specs.declared.Connection.{Connection}
 use Rattle.connection.specs.declared.Event.{Event as Change}
-use Rattle.connection.specs.declared.Mode.the-variants.{Reconnect}
-use Rattle.connection.specs.Connection.{isOnline, wildcard, withSend, closedOf, letGoOf, tickOf}
-use Rattle.connection.specs.Event.{empties, recordAfter, allowed, stepOf}
+use Rattle.connection.specs.Connection.{isOnline, wildcard, tickOf}
+use Rattle.connection.specs.Event.{empties, recordAfter, allowed}
 use Rattle.connection.proofs.Leaves.{after-leaves, only-loss}
 use Rattle.connection.proofs.Ticks.{Tick, closes-wanted, lets-go, goes-on, tick-is, tick-closes, tick-lets-go, step-either}
 use Rattle.state.specs.State.{recordAt}
@@ -26,13 +23,11 @@ use Rattle.state.specs.Fresh.{configOf}
 use Rattle.select.specs.declared.Arrival.the-variants.{Met}
 use Rattle.entry_arrivals.specs.Arrivals.{arrivalOf}
 use Rattle.send_waiting.specs.Waiting.{takeOf}
-use Rattle.model.specs.World.{Held, blank, heldAt}
-use Rattle.model.specs.Events.{Own, change, segment, walk, takeWaiting, Whole, datagram, accept, tick, transmit, switchAll, readCount, clearCount, Event, on, onWhole}
+use Rattle.model.specs.World.{Held, blank}
+use Rattle.model.specs.Events.{Own, change, takeWaiting, Whole, datagram, accept, tick, transmit, switchAll, readCount, clearCount, Event, on, onWhole}
 use Rattle.model.specs.Step.{acts, does, step}
 use Rattle.model.proofs.View.{view-record, view-length}
 use Rattle.model_runs.specs.Streams.{EventBytes}
-use Rattle.model_refines.specs.Table.{tableOf}
-use Rattle.model_refines.specs.Whole.{wholeOf}
 use Rattle.model_refines.specs.Machine.{Machine, lentTo, seen}
 use Rattle.model_refines.specs.Run.{afterEvent, Good}
 use Rattle.model_refines.proofs.Becomes.{Acts, acts-idle, acts-fed, acts-changed, acts-took}

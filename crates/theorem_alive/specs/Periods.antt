@@ -4,7 +4,7 @@ use Prim.Native.Nat.{ℕ, _<_, _≤_}
 use mathlib.Core.Path.{_≡_}
 use mathlib.Core.Bool.{true, false}
 use mathlib.Core.List.{List}
-use Rattle.connection.specs.Connection.{isOnline, wildcard, expires}
+use Rattle.connection.specs.Connection.{wildcard, expires}
 use Rattle.state.specs.State.{recordAt}
 use Rattle.state.specs.Fresh.{configOf}
 use Rattle.model.specs.Events.{takeWaiting, tick, Event, on, onWhole}
