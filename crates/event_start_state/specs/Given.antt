@@ -11,6 +11,7 @@ use Rattle.receive_part.specs.declared.Part.{Part}
 use Rattle.receive_part.specs.declared.Part.the-variants.{Header, Payload, Skip, Transfer}
 use Rattle.connection.specs.declared.Mode.{Mode}
 use Rattle.connection.specs.declared.Mode.the-variants.{Offline, Reconnect, Online}
+use Rattle.connection.specs.declared.Watch.{Watch}
 use Rattle.connection.specs.declared.Connection.{Connection}
 use Rattle.state.specs.declared.State.{State}
 use Rattle.state.specs.State.{withRecords}
@@ -56,6 +57,10 @@ unfoldable pub recordFits : List ℕ → Bool
 recordFits s =
     leb (be 1 s 0) 2 && leb (be 1 s 1) 1 && leb (be 1 s 2) 1 && addressFits (drop 3 s) && (leb (be 1 s 42) 1 && leb (be 1 s 45) 1) && partFits s
 
+-- "alive timer in ticks, 0 when stopped", "remote set by the upper layer: 0 or 1"
+abbrev pub watchIn : List ℕ → Watch
+watchIn s = record { alive = be 2 s 43; «remote_set» = eqb (be 1 s 45) 1 }
+
 -- a record of 46 bytes
 unfoldable pub recordIn : List ℕ → Connection
 recordIn s =
@@ -69,7 +74,7 @@ recordIn s =
       used = be 2 s 38;
       timer = be 2 s 40;
       due = eqb (be 1 s 42) 1;
-      watch = record { alive = be 2 s 43; «remote_set» = eqb (be 1 s 45) 1 };
+      watch = watchIn s;
     }
 
 -- "Sixteen records of 46 bytes"

@@ -90,16 +90,22 @@ fn record_fits(s: &[u8]) -> bool
     (be8(s, 0) <= 2) & (be8(s, 1) <= 1) & (be8(s, 2) <= 1) & address & marks & part
 }
 
+fn watch_in(s: &[u8]) -> Watch
+    ensures { λ r. ⌜ r ≡ Is.watchIn (now (s .entry)) ⌝ }
+{
+    Watch {
+        alive: two_bytes(s, 43),
+        remote_set: be8(s, 45) == 1,
+    }
+}
+
 fn record_in(s: &[u8]) -> Connection
     ensures { λ r. ⌜ r ≡ Is.recordIn (now (s .entry)) ⌝ }
 {
     let mode = mode_of(be8(s, 0));
     let remote = remote_in(bytes_from(s, 3));
     let part = part_of(s);
-    let watch = Watch {
-        alive: two_bytes(s, 43),
-        remote_set: be8(s, 45) == 1,
-    };
+    let watch = watch_in(s);
     Connection {
         mode: mode,
         open_wanted: be8(s, 1) == 1,

@@ -132,14 +132,28 @@ fn timer_shape(row: &[u8], place: usize) -> usize {
 // The timer and the due mark.
 fn timed(text: &mut [u8], at: usize, row: &[u8]) -> usize {
     let patterns = b", timer stopped, due %y42/, timer %h40 tick^, due %y42/";
-    lay(text, at, phrase(patterns, timer_shape(row, 40)), 0, row, row)
+    lay(
+        text,
+        at,
+        phrase(patterns, timer_shape(row, 40)),
+        0,
+        row,
+        row,
+    )
 }
 
 // The alive timer and the mark that the upper layer set the remote.
 fn watched(text: &mut [u8], at: usize, row: &[u8]) -> usize {
     let patterns =
         b", alive timer stopped, remote set %y45\n/, alive timer %h43 tick^, remote set %y45\n/";
-    lay(text, at, phrase(patterns, timer_shape(row, 43)), 0, row, row)
+    lay(
+        text,
+        at,
+        phrase(patterns, timer_shape(row, 43)),
+        0,
+        row,
+        row,
+    )
 }
 
 fn line(text: &mut [u8], at: usize, number: u64, row: &[u8], rx: &[u8], tx: &[u8]) -> usize {

@@ -19,8 +19,8 @@ remote-in-requires c κs = search needs
 part-of-requires : tie.Need-part-of-requires
 part-of-requires c κs = search needs
 
-two-bytes-requires : tie.Need-two-bytes-requires
-two-bytes-requires c κs = search needs
+watch-in-requires : tie.Need-watch-in-requires
+watch-in-requires c κs = search needs
 
 be8-requires-2 : tie.Need-be8-requires-2
 be8-requires-2 c κs = search needs
@@ -28,20 +28,17 @@ be8-requires-2 c κs = search needs
 be8-requires-3 : tie.Need-be8-requires-3
 be8-requires-3 c κs = search needs
 
-be8-requires-4 : tie.Need-be8-requires-4
-be8-requires-4 c κs = search needs
-
 four-bytes-requires : tie.Need-four-bytes-requires
 four-bytes-requires c κs = search needs
+
+two-bytes-requires : tie.Need-two-bytes-requires
+two-bytes-requires c κs = search needs
 
 two-bytes-requires-2 : tie.Need-two-bytes-requires-2
 two-bytes-requires-2 c κs = search needs
 
-two-bytes-requires-3 : tie.Need-two-bytes-requires-3
-two-bytes-requires-3 c κs = search needs
-
-be8-requires-5 : tie.Need-be8-requires-5
-be8-requires-5 c κs = search needs
+be8-requires-4 : tie.Need-be8-requires-4
+be8-requires-4 c κs = search needs
 
 returns : tie.Need-returns
 unfolding recordIn
@@ -56,12 +53,11 @@ record-in-spec =
     bytes-from-requires
     remote-in-requires
     part-of-requires
-    two-bytes-requires
+    watch-in-requires
     be8-requires-2
     be8-requires-3
-    be8-requires-4
     four-bytes-requires
+    two-bytes-requires
     two-bytes-requires-2
-    two-bytes-requires-3
-    be8-requires-5
+    be8-requires-4
     returns)
