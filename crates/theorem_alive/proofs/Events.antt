@@ -1,12 +1,11 @@
 -- EVENTS OF THE MACHINE, seen from one connection's record: a tick, an arrival, and every event that leaves the silence.
-use Prim.Native.Nat.{ℕ, suc, _-_, _<_}
+use Prim.Native.Nat.{ℕ, suc, _<_}
 use mathlib.Core.Path.{_≡_, refl, sym, ap, _∙_, subst}
 use mathlib.Core.Bool.{Bool, true, false, cond, false≢true}
 use mathlib.Core.List.{List}
 use native.Mathlib.Nat.{zero-add}
 use native.Mathlib.Omega.{arith}
-use native.Mathlib.Decide.{ℕ-discrete}
-use lib.Dec.{eqb, leb}
+use lib.Dec.{leb}
 use lib.ListN.{length}
 use lib.Seq.{getD-set-same, getD-set-other}
 use borrow.Author.Tests.{eq-eqb}
@@ -19,7 +18,6 @@ use Rattle.connection.specs.declared.Config.{Config}
 use Rattle.connection.specs.declared.Connection.{Connection}
 use Rattle.connection.specs.declared.Remote.{Remote}
 use Rattle.connection.specs.declared.Event.{Event as Change}
-use Rattle.connection.specs.declared.Event.the-variants.{Close}
 use Rattle.connection.specs.declared.Refusal.the-variants.{Missing, Denied}
 use Rattle.connection.specs.Connection.{zeroRecord, withSend, withSwitches, metOf, switchOf, switchedOf, tickOf}
 use Rattle.connection.specs.Sound.{Sound}
@@ -41,7 +39,7 @@ use Rattle.entry_arrivals.specs.Arrivals.{arrivalOf}
 use Rattle.entry_ticks.specs.Tick.{tickAt, tickedTo, tickEvent}
 use Rattle.law_keeps.proofs.Rows.{sound-row-at}
 use Rattle.model.specs.World.{Held, World, blank, heldAt}
-use Rattle.model.specs.Events.{Own, change, segment, walk, takeWaiting, Whole, datagram, accept, tick, transmit, switchAll, readCount, clearCount, Event, on, onWhole}
+use Rattle.model.specs.Events.{Own, change, Whole, datagram, accept, tick, transmit, switchAll, readCount, clearCount, Event, on, onWhole}
 use Rattle.model.specs.Step.{acts, actsAt, step}
 use Rattle.model.proofs.View.{view-record}
 use Rattle.model_runs.specs.Streams.{EventBytes}
@@ -54,7 +52,7 @@ use Rattle.model_refines.proofs.Steps.{event-view}
 use Rattle.theorem_match.specs.Match.{Arrives, shut, no-group, not-welcome, none-matches, meets, Welcome, BestMatch}
 use Rattle.theorem_match.proofs.Match.{arrival-answer}
 use Rattle.theorem_records.proofs.Records.{arrival-leaves}
-use Rattle.theorem_alive.specs.Alive.{Watched, ticksOf, recordOf, Breaks, datagram-given, close-asked, waiting-taken}
+use Rattle.theorem_alive.specs.Alive.{Watched, ticksOf, itsRecord, Breaks, datagram-given, close-asked, waiting-taken}
 use Rattle.theorem_alive.proofs.Record.{step-watched, besides-watched, event-none, take-none}
 
 -- WHO IS ANSWERED: the number of the connection, and 1 more; 0 for nobody
@@ -126,7 +124,7 @@ module _ (image : List ℕ) (k : ℕ) (m : Machine) (good : Good image m) (there
   abbrev c : Connection
   c = recordAt (m .state) k
 
-  inside : k < length (m .state .connections)
+  pub inside : k < length (m .state .connections)
   inside = omega (arith, there, good .sixteen, rows-in-sixteen (lentTo image m) (passed-gate (lentTo image m) (good .passed)))
 
   pub sound : Sound g c
@@ -228,24 +226,24 @@ plain-keeps image k m good there P p sent switched e is =
 
 -- EVERY EVENT THAT LEAVES THE SILENCE and is no tick leaves a watched record watched
 module _ (image : List ℕ) (k : ℕ) (m : Machine) (good : Good image m) (there : k < rowsOf image Connections) (udp : configOf image k .tcp ≡ false)
-    (r : Remote) (b : Bool) (n : ℕ) (w : Watched r b n (recordOf image k m)) where
-  own-watched : (e : Own) → (Breaks image k m (on k e) → ⊥) → (d : Connection) → Acts (configOf image k) (recordOf image k m) e d → Watched r b n d
+    (r : Remote) (b : Bool) (n : ℕ) (w : Watched r b n (itsRecord image k m)) where
+  own-watched : (e : Own) → (Breaks image k m (on k e) → ⊥) → (d : Connection) → Acts (configOf image k) (itsRecord image k m) e d → Watched r b n d
   own-watched _ calm _ (acts-idle e) = w
   own-watched _ calm _ (acts-fed bytes p) = record { online = w .online; stays = w .stays; peer = w .peer; alive = w .alive; marked = w .marked }
   own-watched _ calm _ (acts-changed e) =
-      step-watched (configOf image k) udp r b n (recordOf image k m) (sound image k m good there) w e
+      step-watched (configOf image k) udp r b n (itsRecord image k m) (sound image k m good there) w e
       (λ is. calm (subst (λ (x : Change). Breaks image k m (on k (change x))) (sym is) close-asked))
   own-watched _ calm _ (acts-took room) = absurd (calm (waiting-taken room))
 
-  same-watched : {d : Connection} → d ≡ recordOf image k m → Watched r b n d
+  same-watched : {d : Connection} → d ≡ itsRecord image k m → Watched r b n d
   same-watched e = subst (Watched r b n) (sym e) w
 
-  whole-watched : (e : Whole) → plain e ≡ true → Watched r b n (recordOf image k (afterEvent image (onWhole e) m))
+  whole-watched : (e : Whole) → plain e ≡ true → Watched r b n (itsRecord image k (afterEvent image (onWhole e) m))
   whole-watched =
-      plain-keeps image k m good there (Watched r b n) w (λ d e. besides-watched r b n (recordOf image k m) d e w)
+      plain-keeps image k m good there (Watched r b n) w (λ d e. besides-watched r b n (itsRecord image k m) d e w)
       (λ x. record { online = w .online; stays = w .stays; peer = w .peer; alive = w .alive; marked = w .marked })
 
-  pub silent-event : (e : Event) → EventBytes e → (Breaks image k m e → ⊥) → ticksOf e ≡ 0 → Watched r b n (recordOf image k (afterEvent image e m))
+  pub silent-event : (e : Event) → EventBytes e → (Breaks image k m e → ⊥) → ticksOf e ≡ 0 → Watched r b n (itsRecord image k (afterEvent image e m))
   silent-event (on i e) bytes calm z =
       own-keeps image k m good there (Watched r b n) i e bytes w (λ same. own-watched e (λ x. calm (subst (λ (j : ℕ). Breaks image k m (on j e)) (sym same) x)))
   silent-event (onWhole (datagram group source)) bytes calm z = same-watched (not-given image k m good there group source (λ e. calm (datagram-given group source e)))
@@ -258,16 +256,16 @@ module _ (image : List ℕ) (k : ℕ) (m : Machine) (good : Good image m) (there
   silent-event (onWhole (clearCount p)) bytes calm z = whole-watched (clearCount p) refl
 
 -- A TIMER THAT DOES NOT RUN is started by no event but a datagram
-module _ (image : List ℕ) (k : ℕ) (m : Machine) (good : Good image m) (there : k < rowsOf image Connections) (z : recordOf image k m .watch .alive ≡ 0) where
-  own-none : (e : Own) (d : Connection) → Acts (configOf image k) (recordOf image k m) e d → d .watch .alive ≡ 0
+module _ (image : List ℕ) (k : ℕ) (m : Machine) (good : Good image m) (there : k < rowsOf image Connections) (z : itsRecord image k m .watch .alive ≡ 0) where
+  own-none : (e : Own) (d : Connection) → Acts (configOf image k) (itsRecord image k m) e d → d .watch .alive ≡ 0
   own-none _ _ (acts-idle e) = z
   own-none _ _ (acts-fed bytes p) = z
-  own-none _ _ (acts-changed e) = event-none (configOf image k) (recordOf image k m) z e
-  own-none _ _ (acts-took room) = take-none (configOf image k) room (recordOf image k m) z
+  own-none _ _ (acts-changed e) = event-none (configOf image k) (itsRecord image k m) z e
+  own-none _ _ (acts-took room) = take-none (configOf image k) room (itsRecord image k m) z
 
-  pub own-event-none : (i : ℕ) (e : Own) → EventBytes (on i e) → recordOf image k (afterEvent image (on i e) m) .watch .alive ≡ 0
+  pub own-event-none : (i : ℕ) (e : Own) → EventBytes (on i e) → itsRecord image k (afterEvent image (on i e) m) .watch .alive ≡ 0
   own-event-none i e bytes = own-keeps image k m good there (λ (d : Connection). d .watch .alive ≡ 0) i e bytes z (λ _. own-none e)
 
-  pub whole-event-none : (e : Whole) → plain e ≡ true → recordOf image k (afterEvent image (onWhole e) m) .watch .alive ≡ 0
+  pub whole-event-none : (e : Whole) → plain e ≡ true → itsRecord image k (afterEvent image (onWhole e) m) .watch .alive ≡ 0
   whole-event-none =
       plain-keeps image k m good there (λ (d : Connection). d .watch .alive ≡ 0) z (λ d e. ap (λ (x : Connection). x .watch .alive) e ∙ z) (λ _. z)

@@ -1,13 +1,11 @@
 -- ONE RECORD: what each event leaves of a watched one, and of an alive timer that does not run.
-use Prim.Native.Nat.{ℕ, _-_, _<_, _≤_}
+use Prim.Native.Nat.{ℕ, _-_, _<_}
 use mathlib.Core.Path.{_≡_, refl, sym, ap, _∙_}
 use mathlib.Core.Bool.{Bool, true, false, cond, not, _&&_, _||_, false≢true}
 use native.Mathlib.Omega.{arith}
 use lib.Dec.{eqb, leb, ltb}
 use borrow.Author.Tests.{eqb-true, ne-eqb, lt-ltb, not-true}
 use Rattle.lists.proofs.Both.{and-left, and-right, and3}
-use Rattle.receive_part.specs.declared.Part.{Part}
-use Rattle.receive_part.specs.Part.{transferring}
 use Rattle.connection.specs.declared.Config.{Config}
 use Rattle.connection.specs.declared.Connection.{Connection}
 use Rattle.connection.specs.declared.Remote.{Remote}
