@@ -303,8 +303,14 @@ def damaged_images():
 
 def changed_state(data):
     """A start state with one byte changed where there is something to get wrong."""
-    at = rand.randrange(8, 8 + 16 * 43)
+    at = rand.randrange(8, 8 + 16 * 46)
     return data[:at] + bytes([rand.choice([0, 1, 2, 3, 4, 255])]) + data[at + 1:]
+
+
+def older_state(data):
+    """A start state as it was before alive timers: of each record the first 43 of its 46 bytes."""
+    body = b"".join(data[at:at + 43] for at in range(8, 8 + 16 * 46, 46)) + data[8 + 16 * 46:]
+    return data[:4] + len(body).to_bytes(4, "big") + body
 
 
 def damaged_scripts():
@@ -315,6 +321,8 @@ def damaged_scripts():
     for i in range(150):
         refused += answered("script", changed_state(made.state(rand)[1]), f"start state {i}")
     true(300 < refused < 2000, f"{refused} of 2150 damaged scripts are refused")
+    said = refusal("script", "text", older_state(made.state(rand)[1]))
+    true(said and "records have 43 bytes, as before alive timers" in said, f"an older start state: {said}")
 
 
 # 5. ./soad and the program run
@@ -351,7 +359,7 @@ def same_refusals():
     for i in range(500):
         data = b"".join(made.event(rand, rand.choice(names))[1] for _ in range(2))
         if i % 5 == 0:
-            start = changed_state(made.state(rand)[1])
+            start = (older_state if i % 100 == 0 else changed_state)(made.state(rand)[1])
             data = rand.choice([start + data, start + data, data + start])
         elif i % 5 == 1:
             data = data[:rand.randrange(len(data))]
