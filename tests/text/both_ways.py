@@ -90,13 +90,17 @@ def examples():
     there_and_back("table", "\n", empty, "# nothing\n", "the table without rows")
     other = contents("examples", "debarker-too-long.table")  # refused by the check, and not here
     same(table.to_image(table.to_text(other)), other, "examples/debarker-too-long.table: to text and back")
-    text = contents("examples", "firmware-table.txt")
-    there_and_back("table", bare(text), table.to_image(text.decode()), text.decode(), "examples/firmware-table")
+    for name in ("firmware-table", "service-table"):
+        text = contents("examples", name + ".txt")
+        there_and_back("table", bare(text), table.to_image(text.decode()), text.decode(), f"examples/{name}")
     for name in ("shift", "firmware"):
         text = contents("examples", name + ".txt")
         there_and_back("script", bare(text), script.to_bytes(text.decode()), text.decode(), f"examples/{name}")
     marked = rows.replace("0 UDP", "0 TCP").replace("connection 0 longest 2", "connection 0 tp longest 2", 1)
     there_and_back("table", marked, whole[:36] + b"\2" + whole[37:55] + b"\1" + whole[56:], marked, "the image of R1.12 with a marked route")
+    for limit, words, otherwise in ((1, "alive 1 tick ", "alive 0x1 ticks "), (30, "alive 30 ticks ", "alive 030 tick "), (0, "", "alive 0 ticks ")):
+        limited, loose = (rows.replace("switches", word + "switches") for word in (words, otherwise))
+        there_and_back("table", limited, whole[:48] + limit.to_bytes(2, "big") + whole[50:], loose, f"the image of R1.12 with an alive limit of {limit}")
     lines = "segment 2 000001010000000200b4\ntick 3\n"
     data = bytes.fromhex("0007000000000010" "0002" "0000000a" "000001010000000200b4" "000000000000000400000003")
     there_and_back("script", lines, data, lines, "two lines")
