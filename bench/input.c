@@ -7,7 +7,8 @@
  * a table whose groups are all TCP, with the first, the middle or the last row for its route; none: the same with an id that no row
  * has, and no payload; empty: a take of no bytes there; switch, all, clear, lost, accept, remote, close: events through the dispatcher,
  * which leave the state as they find it (lost and connected; lost and accept; lost, set remote and connected; close, tick, open,
- * tick); idle: none of them; piece: a take of LENGTH bytes inside a transfer; begun: what it does besides the call; replay: the recording of ten events, answers and all (shift.h). With a `+` before it: under a state in which each connection holds bytes to send.
+ * tick); idle: none of them; piece: a take of LENGTH bytes inside a transfer; begun: what it does besides the call; replay: the recording of ten events, answers and all (shift.h).
+ * With a `+` before it: under a state in which each connection holds bytes to send and a timer of each runs, the UDP ones' the alive timer.
  */
 #include "image.h"
 #include "shift.h"
@@ -136,6 +137,8 @@ int main(int count, char **words)
     }
     if (what >= PIECE) /* its route is marked */
         image[36 + 2 * (2 * quarters) + 16 * (4 * quarters) + 16 * route + 1] = 1;
+    for (unsigned i = 0; name != words[1] && i < 4 * quarters; i += 2) /* every other connection is UDP: an alive limit */
+        set(image + 36 + 2 * (2 * quarters) + 16 * i + 10, 65535, 2);
     if (what == TICKS)
         set(bytes, length, given = 4);
     if (what >= SWITCH && what <= IDLE)

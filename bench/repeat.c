@@ -176,8 +176,9 @@ int main(void)
         if (what < 128)
             continue;
         c->used = 10;
-        c->due = i % 2 == 0;
+        c->due = i % 2 == 0; /* and then UDP, with an alive limit */
         c->timer = c->due ? 0 : 65535;
+        c->alive = c->due ? 65535 : 0;
     }
     for (size_t i = 0; i < times; i++) {
         image[place] = (uint8_t)i;
