@@ -11,6 +11,7 @@ use table_layout::row_bytes;
 use table_layout::row_in;
 use table_layout::rows_of;
 use wire::be8;
+use wire::be16;
 use words::lay;
 use words::phrase;
 use words_refusal::refuse;
@@ -34,9 +35,12 @@ fn heading(k: Kind, n: usize) {
     say(phrase(patterns, kind_number(k)), n, b"");
 }
 
-// The pattern of a row: its kind's, and another for a route that is marked for transfers.
+// The pattern of a row: its kind's, and another for a route that is marked for transfers and a connection with an alive limit.
 fn shape_of(k: Kind, row: &[u8]) -> usize {
     let kind = kind_number(k);
+    if (kind == 2) & (be16(row, 10) != 0) {
+        return 6;
+    }
     if (kind == 3) & (be8(row, 1) == 1) {
         return 5;
     }
@@ -50,7 +54,8 @@ fn row_of_kind(image: &[u8], k: Kind, i: usize) {
         \x20 connection @: group %b00, %f01, remote %q02 port %r06, send size %h08 byte^, start switches 0x%i12\n/\
         \x20 receive route @: connection %b00, header id 0x%i04, upper PDU 0x%p08, longest payload %h02 byte^, routing groups 0x%i12\n/\
         \x20 destination @: PDU 0x%p08, connection %b00, header id 0x%i04, longest payload %h02 byte^, trigger %b01, timeout %h10 tick^, routing groups 0x%i12\n/\
-        \x20 receive route @: connection %b00, transfer (TP), header id 0x%i04, upper PDU 0x%p08, longest payload %h02 byte^, routing groups 0x%i12\n/";
+        \x20 receive route @: connection %b00, transfer (TP), header id 0x%i04, upper PDU 0x%p08, longest payload %h02 byte^, routing groups 0x%i12\n/\
+        \x20 connection @: group %b00, %f01, remote %q02 port %r06, send size %h08 byte^, alive limit %h10 tick^, start switches 0x%i12\n/";
     let row = row_in(body_of(image, k), row_bytes(image, k), i);
     say(phrase(patterns, shape_of(k, row)), i, row);
 }

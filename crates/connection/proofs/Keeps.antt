@@ -352,11 +352,17 @@ module _ (g : Config) (c : Connection) (s : Sound g c) where
         watching = sunk-watched (c .watch .alive) (g .alive) (isOnline (c .mode)) (not (g .tcp)) (s .watching);
       }
 
-  -- it is no TCP connection, and so holds no receive part
-  pub let-go-keeps : expires c ≡ true → Sound g (letGoOf g c)
-  let-go-keeps e =
-      let one : c .watch .alive ≡ 1 = eqb-true _ _ (and-left (eqb (c .watch .alive) 1) _ e) in
+  -- an alive timer that ends is on an online connection that is not TCP
+  pub let-go-watched : expires g c ≡ true → (isOnline (c .mode) ≡ true) × (not (g .tcp) ≡ true)
+  let-go-watched e =
+      let one : c .watch .alive ≡ 1 = eqb-true _ _ (and3 (eqb (c .watch .alive) 1) (not (c .watch .«remote_set»)) (not (g .tcp)) e .0) in
       let w = watched-by (eqb (c .watch .alive) 0) (isOnline (c .mode)) (not (g .tcp)) (leb (c .watch .alive) (g .alive)) (rw one) (s .watching) in
+      (w .0, w .1)
+
+  -- it holds no receive part
+  pub let-go-keeps : expires g c ≡ true → Sound g (letGoOf g c)
+  let-go-keeps e =
+      let w = let-go-watched e in
       let off : isOffline (c .mode) ≡ false = online-not-offline (c .mode) (w .0) in
       let udp : g .tcp ≡ false = not-true _ (w .1) in
       record {
@@ -374,9 +380,9 @@ module _ (g : Config) (c : Connection) (s : Sound g c) where
 
 pub tick-keeps : (g : Config) (c : Connection) → Sound g c → Sound g (tickOf g c)
 unfolding tickOf
-tick-keeps g c s = go (c .«close_wanted») (expires c) refl refl
+tick-keeps g c s = go (c .«close_wanted») (expires g c) refl refl
   where
-    go : (b e : Bool) → c .«close_wanted» ≡ b → expires c ≡ e → Sound g (cond b (closedOf g c) (cond e (letGoOf g c) (onward g c)))
+    go : (b e : Bool) → c .«close_wanted» ≡ b → expires g c ≡ e → Sound g (cond b (closedOf g c) (cond e (letGoOf g c) (onward g c)))
     go true e p q = switches-keep g (freshOf g) (fresh-sound g) (c .switches)
     go false true p q = let-go-keeps g c s q
     go false false p q =

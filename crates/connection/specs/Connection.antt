@@ -228,9 +228,9 @@ reachOf g c = cond (isReconnect (c .mode) && not (g .tcp) && not (wildcard (c .r
 unfoldable pub runOf : Connection → Connection
 runOf c = cond (eqb (c .timer) 0) c (withSend (c .used) (c .timer - 1) (eqb (c .timer) 1 || c .due) c)
 
--- R20.4: the alive timer ends with the next tick, and the upper layer has not set the remote
-abbrev pub expires : Connection → Bool
-expires c = eqb (c .watch .alive) 1 && not (c .watch .«remote_set»)
+-- R20.4: the alive timer ends with the next tick, and the upper layer has not set the remote; a TCP connection has no alive timer
+abbrev pub expires : Config → Connection → Bool
+expires g c = eqb (c .watch .alive) 1 && not (c .watch .«remote_set») && not (g .tcp)
 
 -- R20.4, let go: reconnect, the send bytes dropped, the configured remote
 abbrev pub letGoOf : Config → Connection → Connection
@@ -246,7 +246,7 @@ onward g c = runOf (reachOf g (startedOf g (sunkOf c)))
 
 -- R9.1, a tick: with close wanted R9.2 and nothing more; then R20.4, and nothing more where it lets go; otherwise R9.3, R9.4, R9.5
 unfoldable pub tickOf : Config → Connection → Connection
-tickOf g c = cond (c .«close_wanted») (closedOf g c) (cond (expires c) (letGoOf g c) (onward g c))
+tickOf g c = cond (c .«close_wanted») (closedOf g c) (cond (expires g c) (letGoOf g c) (onward g c))
 
 -- R19.7: what a connection had before an event that takes nothing, and has after it: a transfer that ran has failed when none runs now
 abbrev pub failedOf : Connection → Connection → Bool

@@ -286,8 +286,8 @@ impl Connection {
     pub fn let_go(self, config: Config) -> Connection
         ensures { λ r. ⌜ r ≡ Is.letGoOf config self ⌝ }
     {
-        let sent = self.with_send(0, 0, false);
-        let back = sent.reset(config);
+        let dropped = self.with_send(0, 0, false);
+        let back = dropped.reset(config);
         Connection {
             mode: Mode::Reconnect,
             ..back
@@ -401,7 +401,7 @@ impl Connection {
         if self.close_wanted {
             return self.closed(config);
         }
-        if (self.watch.alive == 1) & !self.watch.remote_set {
+        if (self.watch.alive == 1) & !self.watch.remote_set & !config.tcp {
             return self.let_go(config);
         }
         let sunk = self.sink();

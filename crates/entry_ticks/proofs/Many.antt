@@ -32,7 +32,7 @@ module _ (g : Config) (c : Connection) where
   reach-stays p = rw p
 
 -- a tick that does not close, let go, start or reach lets the timers run and does no more
-pub only-runs : (g : Config) (c : Connection) → turnsNext g c ≡ false → expires c ≡ false → tickOf g c ≡ runOf (sunkOf c)
+pub only-runs : (g : Config) (c : Connection) → turnsNext g c ≡ false → expires g c ≡ false → tickOf g c ≡ runOf (sunkOf c)
 only-runs g c p x =
     let t = neither (c .«close_wanted» || (isOffline (c .mode) && (c .«open_wanted» || g .automatic))) _ p in
     let u = neither (c .«close_wanted») _ (t .0) in
@@ -60,11 +60,11 @@ run-ages c h = go (eqb (c .timer) 0) refl h
         ap (λ (b : Bool). withSend (c .used) (c .timer - 1) (b || c .due) (sunkOf c)) n
 
 -- an alive timer that does not end with the next tick lets nobody go
-pub not-yet : (c : Connection) → 1 ≤ beforeEnd (c .watch .alive) → expires c ≡ false
+pub not-yet : (g : Config) (c : Connection) → 1 ≤ beforeEnd (c .watch .alive) → expires g c ≡ false
 unfolding beforeEnd
-not-yet c h = go (eqb (c .watch .alive) 0) refl h
+not-yet g c h = go (eqb (c .watch .alive) 0) refl h
   where
-    go : (b : Bool) → eqb (c .watch .alive) 0 ≡ b → 1 ≤ cond b 4294967295 (c .watch .alive - 1) → expires c ≡ false
+    go : (b : Bool) → eqb (c .watch .alive) 0 ≡ b → 1 ≤ cond b 4294967295 (c .watch .alive - 1) → expires g c ≡ false
     go true e l = let z : c .watch .alive ≡ 0 = eqb-true _ _ e in rw z
     go false e l = rw (ne-eqb (c .watch .alive) 1 (λ (q : c .watch .alive ≡ 1). omega arith))
 
@@ -84,7 +84,7 @@ pub quiet-runs : (g : Config) (n : ℕ) (c : Connection) → turnsNext g c ≡ f
 unfolding manyOf
 quiet-runs g zero c p h a = retimed c (omega arith) (omega arith)
 quiet-runs g (suc n) c p h a =
-    ap (manyOf g n) (only-runs g c p (not-yet c (omega arith)) ∙ run-ages c (omega arith))
+    ap (manyOf g n) (only-runs g c p (not-yet g c (omega arith)) ∙ run-ages c (omega arith))
     ∙ quiet-runs g n (agedBy 1 c) p (nearer n (c .timer) h) (nearer n (c .watch .alive) a)
     ∙ retimed c (omega arith) (omega arith)
 

@@ -39,7 +39,7 @@ module _ (g : Config) (c : Connection) where
       online-quiet (c .mode) refl (and-right (not (c .«close_wanted»)) _ q)
       (not-true (c .«close_wanted») (and-left (not (c .«close_wanted»)) _ q))
 
-  unwatched-stays : c .watch .alive ≡ 0 → expires c ≡ false
+  unwatched-stays : c .watch .alive ≡ 0 → expires g c ≡ false
   unwatched-stays z = rw z
 
   rests-tick : restsOf c ≡ true → tickOf g c ≡ c

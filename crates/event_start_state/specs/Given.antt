@@ -11,6 +11,7 @@ use Rattle.receive_part.specs.declared.Part.{Part}
 use Rattle.receive_part.specs.declared.Part.the-variants.{Header, Payload, Skip, Transfer}
 use Rattle.connection.specs.declared.Mode.{Mode}
 use Rattle.connection.specs.declared.Mode.the-variants.{Offline, Reconnect, Online}
+use Rattle.connection.specs.declared.Watch.{Watch}
 use Rattle.connection.specs.declared.Connection.{Connection}
 use Rattle.state.specs.declared.State.{State}
 use Rattle.state.specs.State.{withRecords}
@@ -51,12 +52,16 @@ partFits s =
     (cond (eqb (be 1 s 26) 1) (payloadFits s)
     (cond (eqb (be 1 s 26) 2) (skipFits s) (eqb (be 1 s 26) 3 && transferFits s)))
 
--- "a mode above 2, a wish or due above 1", an address that does not fit
+-- "a mode above 2, a wish, due or remote set above 1", an address that does not fit
 unfoldable pub recordFits : List ℕ → Bool
 recordFits s =
-    leb (be 1 s 0) 2 && leb (be 1 s 1) 1 && leb (be 1 s 2) 1 && addressFits (drop 3 s) && leb (be 1 s 42) 1 && partFits s
+    leb (be 1 s 0) 2 && leb (be 1 s 1) 1 && leb (be 1 s 2) 1 && addressFits (drop 3 s) && (leb (be 1 s 42) 1 && leb (be 1 s 45) 1) && partFits s
 
--- a record of 43 bytes
+-- "alive timer in ticks, 0 when stopped", "remote set by the upper layer: 0 or 1"
+abbrev pub watchIn : List ℕ → Watch
+watchIn s = record { alive = be 2 s 43; «remote_set» = eqb (be 1 s 45) 1 }
+
+-- a record of 46 bytes
 unfoldable pub recordIn : List ℕ → Connection
 recordIn s =
     record {
@@ -69,22 +74,23 @@ recordIn s =
       used = be 2 s 38;
       timer = be 2 s 40;
       due = eqb (be 1 s 42) 1;
+      watch = watchIn s;
     }
 
--- "Sixteen records of 43 bytes"
+-- "Sixteen records of 46 bytes"
 abbrev pub fitsAt : List ℕ → ℕ → Bool
-fitsAt bytes i = recordFits (drop (i * 43) bytes)
+fitsAt bytes i = recordFits (drop (i * 46) bytes)
 
 abbrev pub givenAt : List ℕ → ℕ → Connection → Connection
-givenAt bytes i c = recordIn (drop (i * 43) bytes)
+givenAt bytes i c = recordIn (drop (i * 46) bytes)
 
 -- the records, counts 0
 abbrev pub recordsIn : List ℕ → State
 recordsIn bytes = withRecords (each (givenAt bytes) 0 (emptyState .connections)) emptyState
 
--- ".. the two drop counts, then both lent memories: 47,672 bytes in all"
+-- ".. the two drop counts, then both lent memories: 47,720 bytes in all"
 abbrev pub stateIn : List ℕ → State
-stateIn bytes = record { connections = recordsIn bytes .connections; «udp_drops» = be 4 bytes 688; «tcp_drops» = be 4 bytes 692 }
+stateIn bytes = record { connections = recordsIn bytes .connections; «udp_drops» = be 4 bytes 736; «tcp_drops» = be 4 bytes 740 }
 
 unfoldable pub givenOf : List ℕ → Given
-givenOf bytes = record { fits = eqb (length bytes) 47672 && every (fitsAt bytes) 16; state = stateIn bytes }
+givenOf bytes = record { fits = eqb (length bytes) 47720 && every (fitsAt bytes) 16; state = stateIn bytes }

@@ -7,6 +7,7 @@ ghost use Rattle.lists.specs.Search.{every};
 ghost use Rattle.event_start_state.specs.Given as Is;
 use connection::Connection;
 use connection::Mode;
+use connection::Watch;
 use event_decode::bytes_from;
 use event_decode::four_bytes;
 use event_decode::is_address;
@@ -85,7 +86,17 @@ fn record_fits(s: &[u8]) -> bool
 {
     let address = is_address(bytes_from(s, 3));
     let part = part_fits(s);
-    (be8(s, 0) <= 2) & (be8(s, 1) <= 1) & (be8(s, 2) <= 1) & address & (be8(s, 42) <= 1) & part
+    let marks = (be8(s, 42) <= 1) & (be8(s, 45) <= 1);
+    (be8(s, 0) <= 2) & (be8(s, 1) <= 1) & (be8(s, 2) <= 1) & address & marks & part
+}
+
+fn watch_in(s: &[u8]) -> Watch
+    ensures { λ r. ⌜ r ≡ Is.watchIn (now (s .entry)) ⌝ }
+{
+    Watch {
+        alive: two_bytes(s, 43),
+        remote_set: be8(s, 45) == 1,
+    }
 }
 
 fn record_in(s: &[u8]) -> Connection
@@ -94,6 +105,7 @@ fn record_in(s: &[u8]) -> Connection
     let mode = mode_of(be8(s, 0));
     let remote = remote_in(bytes_from(s, 3));
     let part = part_of(s);
+    let watch = watch_in(s);
     Connection {
         mode: mode,
         open_wanted: be8(s, 1) == 1,
@@ -104,6 +116,7 @@ fn record_in(s: &[u8]) -> Connection
         used: two_bytes(s, 38),
         timer: two_bytes(s, 40),
         due: be8(s, 42) == 1,
+        watch: watch,
     }
 }
 
@@ -113,7 +126,7 @@ fn all_fit(bytes: &[u8]) -> bool
     let mut fits = true;
     let mut i: usize = 0;
     while i < 16 {
-        let one = record_fits(bytes_from(bytes, i * 43));
+        let one = record_fits(bytes_from(bytes, i * 46));
         fits = fits & one;
         i += 1;
     }
@@ -126,7 +139,7 @@ fn records_in(bytes: &[u8]) -> State
     let mut next = empty_state();
     let mut i: usize = 0;
     while i < 16 {
-        let record = record_in(bytes_from(bytes, i * 43));
+        let record = record_in(bytes_from(bytes, i * 46));
         next.connections[i] = record;
         i += 1;
     }
@@ -137,10 +150,10 @@ pub fn given_state(bytes: &[u8]) -> Given
     ensures { λ r. ⌜ r ≡ Is.givenOf (now (bytes .entry)) ⌝ }
 {
     let mut state = records_in(bytes);
-    state.udp_drops = four_bytes(bytes, 688);
-    state.tcp_drops = four_bytes(bytes, 692);
+    state.udp_drops = four_bytes(bytes, 736);
+    state.tcp_drops = four_bytes(bytes, 740);
     Given {
-        fits: (bytes.len() == 47672) & all_fit(bytes),
+        fits: (bytes.len() == 47720) & all_fit(bytes),
         state: state,
     }
 }

@@ -13,13 +13,13 @@ use Rattle.lists.specs.Fold.{foldFrom}
 use Rattle.lists.proofs.Both.{and-left, and-right}
 use Rattle.table_layout.specs.Layout.{rowsOf, bodyBytes, startOf, endOf, rowAt, partOf, bodyOf, rowIn}
 use Rattle.table_rows.specs.Rows.{groupRow, connectionRow, routeRow, destinationRow}
-use Rattle.table_rows.specs.Rules.{groupGood, connectionGood, routeGood, destinationGood, sizeIn, tcpIn, routesShare, destinationsShare}
+use Rattle.table_rows.specs.Rules.{groupGood, connectionGood, routeGood, destinationGood, sizeIn, groupTcp, tcpIn, routesShare, destinationsShare}
 use Rattle.table_scan.specs.Scan.{share, clearIn, goodIn}
 use Rattle.table.specs.Table.{headGood, entryGood, rule, thenCheck, entriesPlace, headPlace, allRowsPlace, checkTable}
 use Rattle.reading.specs.Feed.{pieceDone, feed, takeB}
 use Rattle.reading_lengths.specs.Head.{headOf}
 use Rattle.reading_walk.specs.Walk.{walkAt}
-use Rattle.connection.specs.Connection.{worth, switchOf, startedOf as startsOf, reachOf, runOf, tickOf}
+use Rattle.connection.specs.Connection.{worth, switchOf, aliveAfter, startedOf as startsOf, reachOf, runOf, tickOf}
 use Rattle.connection.specs.Event.{stepOf}
 use Rattle.connection.specs.Sound.{soundOf, zeroOf}
 use Rattle.state.specs.State.{counted}
@@ -49,7 +49,7 @@ use Rattle.example_edges.specs.Table.{image}
 use Rattle.example_changes.specs.Changes.{Change, changes, idleChange, isWas, isBecomes, changeHolds, EveryChange, Changes}
 
 pub changes-hold : EveryChange changes
-unfolding image be badFrom every foldFrom rowsOf bodyBytes startOf endOf rowAt partOf bodyOf rowIn groupRow connectionRow routeRow destinationRow groupGood connectionGood routeGood destinationGood sizeIn tcpIn routesShare destinationsShare share clearIn goodIn headGood entryGood rule thenCheck entriesPlace headPlace allRowsPlace checkTable pieceDone feed takeB headOf walkAt worth switchOf startsOf reachOf runOf tickOf stepOf soundOf zeroOf counted configOf freshState isOn rowsIn counts rowFor reasonIn reasonOf decisionOf lookupOf tookOf takeFrom walkedOf soundAt recordsSound soundState gateOf gateAt toldOf changeOf eventOf lossOf switchedAll switchAllOf ofProtocol clearPast clearOf tickedTo ticksTo tickEvent ticksEvent better chosenOf rankOf scoreOf scoreAt chosenIn deniedOf arriveOf arrivalOf judgedOf judgedAnswer takeOn segmentOf walkOn walkOf refusalOf lookOf timerOf verdictOf appendOf lookAt checkOf wantedAt storeOf storeAll transmitOf takeOf sendOf takenWaiting
+unfolding image be badFrom every foldFrom rowsOf bodyBytes startOf endOf rowAt partOf bodyOf rowIn groupRow connectionRow routeRow destinationRow groupGood connectionGood routeGood destinationGood sizeIn groupTcp tcpIn routesShare destinationsShare share clearIn goodIn headGood entryGood rule thenCheck entriesPlace headPlace allRowsPlace checkTable pieceDone feed takeB headOf walkAt worth switchOf aliveAfter startsOf reachOf runOf tickOf stepOf soundOf zeroOf counted configOf freshState isOn rowsIn counts rowFor reasonIn reasonOf decisionOf lookupOf tookOf takeFrom walkedOf soundAt recordsSound soundState gateOf gateAt toldOf changeOf eventOf lossOf switchedAll switchAllOf ofProtocol clearPast clearOf tickedTo ticksTo tickEvent ticksEvent better chosenOf rankOf scoreOf scoreAt chosenIn deniedOf arriveOf arrivalOf judgedOf judgedAnswer takeOn segmentOf walkOn walkOf refusalOf lookOf timerOf verdictOf appendOf lookAt checkOf wantedAt storeOf storeAll transmitOf takeOf sendOf takenWaiting
 changes-hold = refl
 
 -- a row that holds: its state is sound, and its event leaves another

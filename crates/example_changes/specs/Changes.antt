@@ -15,7 +15,7 @@ use Rattle.connection.specs.declared.Remote.{Remote}
 use Rattle.connection.specs.declared.Connection.{Connection}
 use Rattle.connection.specs.declared.Event.{Event}
 use Rattle.connection.specs.declared.Event.the-variants.{Open, Close, Connected, SetRemote, Switch, Cancel}
-use Rattle.connection.specs.Connection.{withMode, withPart, withRemote, withSwitches, withSend, become}
+use Rattle.connection.specs.Connection.{withMode, withPart, withRemote, withSwitches, withSend, withWatch, become}
 use Rattle.state.specs.declared.State.{State}
 use Rattle.state.specs.State.{recordAt, withRecord, withCount}
 use Rattle.gate.specs.Sound.{soundState}
@@ -29,7 +29,7 @@ use Rattle.entry_receive.specs.Segment.{segmentOf}
 use Rattle.entry_receive.specs.Walk.{walkOf}
 use Rattle.entry_send.specs.Sending.{sendOf, takenWaiting}
 use Rattle.law_transitions.specs.Table.{modeNumber}
-use Rattle.example_edges.specs.Table.{image, fresh, waitingFor, used, moving, exact, lends, loans}
+use Rattle.example_edges.specs.Table.{image, fresh, waitingFor, used, moving, exact, anybody, watching, lends, loans}
 use Rattle.example_edges.specs.Edges.{framed}
 
 pub record Change : Type 0 where
@@ -67,6 +67,12 @@ timer k s = recordAt s k .timer
 
 abbrev pub due : ℕ → State → ℕ
 due k s = oneOf (recordAt s k .due)
+
+abbrev pub alive : ℕ → State → ℕ
+alive k s = recordAt s k .watch .alive
+
+abbrev pub remoteSet : ℕ → State → ℕ
+remoteSet k s = oneOf (recordAt s k .watch .«remote_set»)
 
 -- the header bytes that a part holds
 abbrev pub headerBytes : Part → ℕ
@@ -178,6 +184,18 @@ changes =
     ∷ changing (running 5) tickLeaves (timer 2) 5 4
     ∷ changing (running 1) tickLeaves (due 2) 0 1
     ∷ changing (running 5) (ticksLeave 5) (due 2) 0 1
+    -- a tick lets a silent peer go, and drops the bytes that wait; one whose remote the upper layer set only stops; many ticks; set remote and
+    -- its mark, which a loss clears
+    ∷ changing (watching 1 false) tickLeaves (mode 0) 2 1
+    ∷ changing (watching 1 false) tickLeaves (usedBytes 0) 10 0
+    ∷ changing (watching 1 false) tickLeaves (port 0) 1000 0
+    ∷ changing (watching 1 true) tickLeaves (alive 0) 1 0
+    ∷ changing (watching 2 false) (ticksLeave 2) (mode 0) 2 1
+    ∷ changing fresh (happens 0 (SetRemote exact)) (remoteSet 0) 0 1
+    ∷ changing (with 2 (λ c. withWatch (record { alive = 0; «remote_set» = true }) (become Online c))) (lossLeaves 2) (remoteSet 2) 1 0
+    -- a datagram that replaces a wildcard starts the alive timer, and starts it again
+    ∷ changing anybody (datagramLeaves 0 exact) (alive 0) 0 2
+    ∷ changing (watching 1 false) (datagramLeaves 0 exact) (alive 0) 1 2
     -- a datagram, an accept
     ∷ changing waitingFor (datagramLeaves 0 exact) (mode 1) 1 2
     ∷ changing (stands 2 Reconnect false false) (acceptLeaves 1 peer) (mode 2) 1 2

@@ -12,7 +12,7 @@ use Rattle.lists.specs.Fold.{foldFrom}
 use Rattle.lists.proofs.Both.{and-left, and-right}
 use Rattle.table_layout.specs.Layout.{rowsOf, bodyBytes, startOf, endOf, rowAt, partOf, bodyOf, rowIn}
 use Rattle.table_rows.specs.Rows.{groupRow, connectionRow, routeRow, destinationRow}
-use Rattle.table_rows.specs.Rules.{groupGood, connectionGood, routeGood, destinationGood, sizeIn, tcpIn, routesShare, destinationsShare}
+use Rattle.table_rows.specs.Rules.{groupGood, connectionGood, routeGood, destinationGood, sizeIn, groupTcp, tcpIn, routesShare, destinationsShare}
 use Rattle.table_scan.specs.Scan.{share, clearIn, goodIn}
 use Rattle.table.specs.Table.{headGood, entryGood, rule, thenCheck, entriesPlace, headPlace, allRowsPlace, checkTable}
 use Rattle.state.specs.Fresh.{configOf, freshState}
@@ -26,16 +26,21 @@ use Rattle.select.specs.Choose.{rankOf, scoreOf, scoreAt, chosenIn, deniedOf, a
 use Rattle.send_destination.specs.Destination.{refusalOf, lookOf, timerOf}
 use Rattle.send.specs.Verdict.{verdictOf}
 use Rattle.send.specs.Send.{lookAt, checkOf}
+use Rattle.connection.specs.Connection.{aliveAfter, startedOf as startsOf, reachOf, runOf, tickOf}
 use Rattle.connection.specs.Event.{stepOf}
 use Rattle.connection.specs.Sound.{soundOf, zeroOf}
 use Rattle.gate.specs.Sound.{soundAt, recordsSound, soundState}
 use Rattle.gate.specs.Gate.{gateOf, gateAt}
 use Rattle.entry_events.specs.Change.{toldOf, changeOf, eventOf, lossOf}
+use Rattle.entry_ticks.specs.Tick.{tickedTo, ticksTo, ticksEvent}
+use Rattle.receive_datagram.specs.Datagram.{walkedOf}
+use Rattle.entry_receive.specs.Answer.{judgedOf, judgedAnswer}
+use Rattle.entry_receive.specs.Walk.{walkOn, walkOf}
 use Rattle.example_edges.specs.Table.{image}
 use Rattle.example_edges.specs.Edges.{Edge, edge, edges, sameNumbers, Hold}
 
 pub edges-hold : Hold edges
-unfolding image be badFrom every foldFrom rowsOf bodyBytes startOf endOf rowAt partOf bodyOf rowIn groupRow connectionRow routeRow destinationRow groupGood connectionGood routeGood destinationGood sizeIn routesShare destinationsShare share clearIn goodIn headGood entryGood rule thenCheck entriesPlace headPlace allRowsPlace checkTable configOf freshState pieceDone feed takeB takes segmentRan segments headOf walkAt isOn rowsIn counts rowFor reasonIn reasonOf decisionOf lookupOf better chosenOf rankOf scoreOf scoreAt chosenIn deniedOf arriveOf refusalOf lookOf timerOf verdictOf lookAt checkOf tcpIn stepOf soundOf zeroOf soundAt recordsSound soundState gateOf gateAt toldOf changeOf eventOf lossOf
+unfolding image be badFrom every foldFrom rowsOf bodyBytes startOf endOf rowAt partOf bodyOf rowIn groupRow connectionRow routeRow destinationRow groupGood connectionGood routeGood destinationGood sizeIn routesShare destinationsShare share clearIn goodIn headGood entryGood rule thenCheck entriesPlace headPlace allRowsPlace checkTable configOf freshState pieceDone feed takeB takes segmentRan segments headOf walkAt isOn rowsIn counts rowFor reasonIn reasonOf decisionOf lookupOf better chosenOf rankOf scoreOf scoreAt chosenIn deniedOf arriveOf refusalOf lookOf timerOf verdictOf lookAt checkOf groupTcp tcpIn stepOf soundOf zeroOf soundAt recordsSound soundState gateOf gateAt toldOf changeOf eventOf lossOf aliveAfter startsOf reachOf runOf tickOf tickedTo ticksTo ticksEvent walkedOf judgedOf judgedAnswer walkOn walkOf
 edges-hold = refl
 
 -- a table that holds: each of its rows does

@@ -11,7 +11,7 @@ use Rattle.lists.specs.Search.{badFrom, every}
 use Rattle.lists.specs.Fold.{foldFrom}
 use Rattle.table_layout.specs.Layout.{rowsOf, bodyBytes, startOf, endOf, rowAt, partOf, bodyOf, rowIn}
 use Rattle.table_rows.specs.Rows.{groupRow, connectionRow, routeRow, destinationRow}
-use Rattle.table_rows.specs.Rules.{groupGood, connectionGood, routeGood, destinationGood, sizeIn, tcpIn, routesShare, destinationsShare}
+use Rattle.table_rows.specs.Rules.{groupGood, connectionGood, routeGood, destinationGood, sizeIn, groupTcp, tcpIn, routesShare, destinationsShare}
 use Rattle.table_scan.specs.Scan.{share, clearIn, goodIn}
 use Rattle.table.specs.Table.{headGood, entryGood, rule, thenCheck, entriesPlace, headPlace, allRowsPlace, checkTable}
 use Rattle.receive_part.specs.Part.{transferring}
@@ -36,7 +36,7 @@ use Rattle.example_edges.specs.Wrong.{Happen, IsHappen, LeavesState, Can
 
 -- an open of a fresh connection sets open wanted
 opens : recordAt (eventOf (lends fresh) 0 Open .state) 0 .«open_wanted» ≡ true
-unfolding image be badFrom every rowsOf bodyBytes startOf endOf rowAt partOf bodyOf rowIn groupRow connectionRow routeRow destinationRow groupGood connectionGood routeGood destinationGood sizeIn tcpIn routesShare destinationsShare share clearIn goodIn headGood entryGood rule thenCheck entriesPlace headPlace allRowsPlace checkTable configOf freshState soundOf zeroOf soundAt recordsSound soundState gateOf gateAt stepOf toldOf changeOf eventOf
+unfolding image be badFrom every rowsOf bodyBytes startOf endOf rowAt partOf bodyOf rowIn groupRow connectionRow routeRow destinationRow groupGood connectionGood routeGood destinationGood sizeIn groupTcp tcpIn routesShare destinationsShare share clearIn goodIn headGood entryGood rule thenCheck entriesPlace headPlace allRowsPlace checkTable configOf freshState soundOf zeroOf soundAt recordsSound soundState gateOf gateAt stepOf toldOf changeOf eventOf
 opens = refl
 
 not-open : recordAt fresh 0 .«open_wanted» ≡ false
@@ -49,7 +49,7 @@ no-still-events f is still =
 
 -- a cancel leaves the transfer to the tick
 still-moves : transferring (recordAt (eventOf (lends (moving 5)) 2 Cancel .state) 2 .part) ≡ true
-unfolding image be badFrom every rowsOf bodyBytes startOf endOf rowAt partOf bodyOf rowIn groupRow connectionRow routeRow destinationRow groupGood connectionGood routeGood destinationGood sizeIn tcpIn routesShare destinationsShare share clearIn goodIn headGood entryGood rule thenCheck entriesPlace headPlace allRowsPlace checkTable configOf freshState soundOf zeroOf soundAt recordsSound soundState gateOf gateAt stepOf toldOf changeOf eventOf
+unfolding image be badFrom every rowsOf bodyBytes startOf endOf rowAt partOf bodyOf rowIn groupRow connectionRow routeRow destinationRow groupGood connectionGood routeGood destinationGood sizeIn groupTcp tcpIn routesShare destinationsShare share clearIn goodIn headGood entryGood rule thenCheck entriesPlace headPlace allRowsPlace checkTable configOf freshState soundOf zeroOf soundAt recordsSound soundState gateOf gateAt stepOf toldOf changeOf eventOf
 still-moves = refl
 
 pub no-ending-cancel : (f : Happen) → IsHappen f → CancelEnds f → ⊥
@@ -58,7 +58,7 @@ no-ending-cancel f is wrong =
 
 -- a transmit to an online destination with room writes the header's id behind the bytes that wait
 stores : getD (sentMemory (loans (used 10)) 9 (1 ∷ 2 ∷ [])) 2956 0 ≡ 2
-unfolding image be spell lay badFrom every foldFrom rowsOf bodyBytes startOf endOf rowAt partOf bodyOf rowIn groupRow connectionRow routeRow destinationRow groupGood connectionGood routeGood destinationGood sizeIn tcpIn routesShare destinationsShare share clearIn goodIn headGood entryGood rule thenCheck entriesPlace headPlace allRowsPlace checkTable configOf freshState soundOf zeroOf soundAt recordsSound soundState gateOf frame isOn refusalOf lookOf timerOf verdictOf appendOf lookAt checkOf wantedAt storeOf storeAll transmitOf sentMemory
+unfolding image be spell lay badFrom every foldFrom rowsOf bodyBytes startOf endOf rowAt partOf bodyOf rowIn groupRow connectionRow routeRow destinationRow groupGood connectionGood routeGood destinationGood sizeIn groupTcp tcpIn routesShare destinationsShare share clearIn goodIn headGood entryGood rule thenCheck entriesPlace headPlace allRowsPlace checkTable configOf freshState soundOf zeroOf soundAt recordsSound soundState gateOf frame isOn refusalOf lookOf timerOf verdictOf appendOf lookAt checkOf wantedAt storeOf storeAll transmitOf sentMemory
 stores = refl
 
 pub no-empty-transmit : (f : Send) → IsSend f → StoresNothing f → ⊥

@@ -1,5 +1,5 @@
--- THE STARRED EDGES (R12.1 to R12.7), and those of transfers (R19.1 to R19.7), as one table: what the definitions give, and what the rules say, both as the rules' numbers. One
--- statement says all of it: `Hold` of the table.
+-- THE STARRED EDGES (R12.1 to R12.7), those of transfers (R19.1 to R19.7) and of silent peers (R20.1 to R20.6), as one table: what the
+-- definitions give, and what the rules say, both as the rules' numbers. One statement says all of it: `Hold` of the table.
 use Prim.Native.Nat.{ℕ}
 use mathlib.Core.Bool.{Bool, true, false, cond, _&&_}
 use mathlib.Core.Path.{_≡_}
@@ -14,17 +14,22 @@ use Rattle.reading.specs.Feed.{Routes, Out, nothing, pdu, dropped, start, piece
 use Rattle.receive_route.specs.Route.{lookupOf}
 use Rattle.reading_walk.specs.Walk.{walkAt, outsTold}
 use Rattle.table.specs.Table.{checkTable, tableNumber, answerPlace}
-use Rattle.connection.specs.declared.Event.the-variants.{Cancel}
+use Rattle.connection.specs.declared.Connection.{Connection}
+use Rattle.connection.specs.declared.Event.the-variants.{SetRemote, Cancel}
+use Rattle.connection.specs.Connection.{isReconnect, isOnline}
 use Rattle.connection.specs.Event.{answerNumber}
 use Rattle.state.specs.declared.State.{State}
 use Rattle.state.specs.State.{recordAt}
+use Rattle.gate.specs.Lent.{lent}
 use Rattle.entry_events.specs.Change.{eventOf, lossOf}
+use Rattle.entry_ticks.specs.Tick.{ticksEvent}
+use Rattle.entry_receive.specs.Walk.{walkOf}
 use Rattle.select.specs.declared.Arrival.{Arrival}
 use Rattle.select.specs.declared.Arrival.the-variants.{Met, Refused, Unmatched}
 use Rattle.select.specs.Choose.{oneOf, arriveOf, arrivalNumber}
 use Rattle.send.specs.Verdict.{transmissionNumber}
 use Rattle.send.specs.Send.{checkOf}
-use Rattle.example_edges.specs.Table.{image, markedUdp, markedTwice, fresh, waitingFor, used, moving, exact, lends}
+use Rattle.example_edges.specs.Table.{image, markedUdp, markedTwice, limitedTcp, limitOne, fresh, waitingFor, used, moving, exact, anybody, watching, closing, lends}
 
 pub record Edge : Type 0 where
   pub is : List ℕ
@@ -60,6 +65,28 @@ cancelNumbers s = answerNumber (eventOf (lends s) 2 Cancel .answer) ∷ oneOf (r
 
 abbrev pub lossNumbers : State → List ℕ
 lossNumbers s = answerNumber (lossOf (lends s) 2 .answer) ∷ oneOf (lossOf (lends s) 2 .failed) ∷ []
+
+-- connection 0: 1 where it is in reconnect, 1 where it is online, its remote's port, its bytes waiting and their timer, its alive timer, and
+-- 1 where the upper layer set its remote
+abbrev pub peerNumbers : Connection → List ℕ
+peerNumbers c =
+    oneOf (isReconnect (c .mode)) ∷ oneOf (isOnline (c .mode)) ∷ c .remote .port ∷ c .used ∷ c .timer ∷ c .watch .alive ∷ oneOf (c .watch .«remote_set») ∷ []
+
+-- after a datagram, after so many ticks over a table, after a step of a walk
+abbrev pub hears : List ℕ → State → State
+hears table s = arriveOf table s false 0 exact .state
+
+abbrev pub passes : List ℕ → ℕ → State → State
+passes table n s = ticksEvent (lent table s 23424 23552) n .state
+
+abbrev pub walks : List ℕ → State → State
+walks datagram s = walkOf (lends s) 0 datagram 0 .state
+
+abbrev pub sets : State → State
+sets s = eventOf (lends s) 0 (SetRemote exact) .state
+
+abbrev pub peerOf : State → List ℕ
+peerOf s = peerNumbers (recordAt s 0)
 
 -- what connection k's routes say, with these switches
 abbrev pub routes : ℕ → ℕ → Routes
@@ -118,6 +145,25 @@ edges =
     -- R19.7: a loss while a transfer runs, and without one
     ∷ edge (lossNumbers (moving 5)) (0 ∷ 1 ∷ [])
     ∷ edge (lossNumbers (used 10)) (0 ∷ 0 ∷ [])
+    -- R20.1: an alive limit on a TCP connection is refused at its row
+    ∷ edge (tableNumbers limitedTcp) (1 ∷ 72 ∷ [])
+    -- R20.3: a datagram that replaces a wildcard starts the alive timer at the limit, 2 or 1; a running one is started again; one that is
+    -- stopped stays so; a step of a walk leaves it
+    ∷ edge (peerOf (hears image anybody)) (0 ∷ 1 ∷ 1000 ∷ 0 ∷ 0 ∷ 2 ∷ 0 ∷ [])
+    ∷ edge (peerOf (hears limitOne anybody)) (0 ∷ 1 ∷ 1000 ∷ 0 ∷ 0 ∷ 1 ∷ 0 ∷ [])
+    ∷ edge (peerOf (hears image (watching 1 false))) (0 ∷ 1 ∷ 1000 ∷ 10 ∷ 5 ∷ 2 ∷ 0 ∷ [])
+    ∷ edge (peerOf (hears image (watching 0 false))) (0 ∷ 1 ∷ 1000 ∷ 10 ∷ 5 ∷ 0 ∷ 0 ∷ [])
+    ∷ edge (peerOf (walks bar (watching 1 false))) (0 ∷ 1 ∷ 1000 ∷ 10 ∷ 5 ∷ 1 ∷ 0 ∷ [])
+    -- R20.4, limit 1: let go at the first tick; limit 2: at the second, and not before
+    ∷ edge (peerOf (passes limitOne 1 (hears limitOne anybody))) (1 ∷ 0 ∷ 0 ∷ 0 ∷ 0 ∷ 0 ∷ 0 ∷ [])
+    ∷ edge (peerOf (passes image 1 (watching 2 false))) (0 ∷ 1 ∷ 1000 ∷ 10 ∷ 4 ∷ 1 ∷ 0 ∷ [])
+    ∷ edge (peerOf (passes image 2 (watching 2 false))) (1 ∷ 0 ∷ 0 ∷ 0 ∷ 0 ∷ 0 ∷ 0 ∷ [])
+    -- R20.4, the mark: at 0 it only stops, and the rest of the tick is done; R20.5: set remote sets it, and a datagram keeps it
+    ∷ edge (peerOf (passes image 1 (watching 1 true))) (0 ∷ 1 ∷ 1000 ∷ 10 ∷ 4 ∷ 0 ∷ 1 ∷ [])
+    ∷ edge (peerOf (sets anybody)) (1 ∷ 0 ∷ 1000 ∷ 0 ∷ 0 ∷ 0 ∷ 1 ∷ [])
+    ∷ edge (peerOf (hears image (watching 1 true))) (0 ∷ 1 ∷ 1000 ∷ 10 ∷ 5 ∷ 2 ∷ 1 ∷ [])
+    -- R20.4: a wanted close comes first
+    ∷ edge (peerOf (passes image 1 (closing 1))) (0 ∷ 0 ∷ 0 ∷ 0 ∷ 0 ∷ 0 ∷ 0 ∷ [])
     ∷ []
 
 -- two lists of numbers are the same; all rows are

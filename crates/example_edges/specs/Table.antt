@@ -1,12 +1,12 @@
 -- The image of the starred edges (R12.1), and states over it.
 use Prim.Native.Nat.{ℕ}
-use mathlib.Core.Bool.{true}
+use mathlib.Core.Bool.{Bool, true, false}
 use mathlib.Core.List.{List, [], _∷_}
 use lib.ListN.{replicate, set}
 use Rattle.receive_part.specs.declared.Part.the-variants.{Transfer}
 use Rattle.connection.specs.declared.Remote.{Remote}
 use Rattle.connection.specs.declared.Mode.the-variants.{Reconnect, Online}
-use Rattle.connection.specs.Connection.{become, withPart, withSend}
+use Rattle.connection.specs.Connection.{become, withMode, withRemote, withPart, withSend, withWatch}
 use Rattle.state.specs.declared.State.{State}
 use Rattle.state.specs.State.{recordAt, withRecord}
 use Rattle.state.specs.Fresh.{freshState}
@@ -19,8 +19,8 @@ image =
     ∷ 0 ∷ 1 ∷ 0 ∷ 2 ∷ 0 ∷ 0 ∷ 0 ∷ 36 ∷ 0 ∷ 2 ∷ 0 ∷ 3 ∷ 0 ∷ 0 ∷ 0 ∷ 40
     ∷ 0 ∷ 3 ∷ 0 ∷ 4 ∷ 0 ∷ 0 ∷ 0 ∷ 88 ∷ 0 ∷ 4 ∷ 0 ∷ 1 ∷ 0 ∷ 0 ∷ 0 ∷ 152
     ∷ 1 ∷ 0 ∷ 2 ∷ 0
-    -- 0: UDP, remote 0:0; 1: UDP, 192.168.0.5 port 1,000; 2: TCP, 192.168.0.7 port 1,000; each with all switches off
-    ∷ 0 ∷ 0 ∷ 0 ∷ 0 ∷ 0 ∷ 0 ∷ 0 ∷ 0 ∷ 5 ∷ 0xC0 ∷ 0 ∷ 0 ∷ 0 ∷ 0 ∷ 0 ∷ 0
+    -- 0: UDP, remote 0:0, alive limit 2 ticks; 1: UDP, 192.168.0.5 port 1,000; 2: TCP, 192.168.0.7 port 1,000; each with all switches off
+    ∷ 0 ∷ 0 ∷ 0 ∷ 0 ∷ 0 ∷ 0 ∷ 0 ∷ 0 ∷ 5 ∷ 0xC0 ∷ 0 ∷ 2 ∷ 0 ∷ 0 ∷ 0 ∷ 0
     ∷ 0 ∷ 0 ∷ 192 ∷ 168 ∷ 0 ∷ 5 ∷ 3 ∷ 0xE8 ∷ 5 ∷ 0xC0 ∷ 0 ∷ 0 ∷ 0 ∷ 0 ∷ 0 ∷ 0
     ∷ 1 ∷ 0 ∷ 192 ∷ 168 ∷ 0 ∷ 7 ∷ 3 ∷ 0xE8 ∷ 5 ∷ 0xC0 ∷ 0 ∷ 0 ∷ 0 ∷ 0 ∷ 0 ∷ 0
     -- connection 2: 0x101 to 2 bytes under switch 0; 0x102 to 2 bytes with groups 0; connection 0: 0x101; connection 2: 0x104, marked, with
@@ -38,6 +38,13 @@ markedUdp = set image 121 1
 
 abbrev pub markedTwice : List ℕ
 markedTwice = set image 89 2
+
+-- R20.1, the alive limit, a row's bytes 10 and 11: 1 on connection 2, which is TCP; and connection 0 with 1 for its 2
+abbrev pub limitedTcp : List ℕ
+limitedTcp = set image 83 1
+
+abbrev pub limitOne : List ℕ
+limitOne = set image 51 1
 
 abbrev pub fresh : State
 fresh = freshState image
@@ -57,6 +64,18 @@ moving n = withRecord 2 (withPart (Transfer 3 n) (become Online (recordAt fresh 
 -- the remote of connection 1
 abbrev pub exact : Remote
 exact = record { address = 3232235525; port = 1000 }
+
+-- connection 0 alone in reconnect: it waits for anybody
+abbrev pub anybody : State
+anybody = withRecord 0 (become Reconnect (recordAt fresh 0)) fresh
+
+-- connection 0 online with a peer, ten bytes waiting and a timer that runs; its alive timer, and whether the upper layer set its remote
+abbrev pub watching : ℕ → Bool → State
+watching a set = withRecord 0 (withWatch (record { alive = a; «remote_set» = set }) (withSend 10 5 false (become Online (withRemote exact (recordAt fresh 0))))) fresh
+
+-- the same with close wanted
+abbrev pub closing : ℕ → State
+closing a = withRecord 0 (withMode Online false true (recordAt (watching a false) 0)) fresh
 
 -- WHAT A CALL OVER THE IMAGE IS LENT: both memories in their lengths, all zero
 abbrev pub receiveMemory : List ℕ

@@ -9,7 +9,7 @@ use Rattle.connection.specs.declared.Mode.the-variants.{Online}
 use Rattle.connection.specs.declared.Remote.{Remote}
 use Rattle.connection.specs.declared.Config.{Config}
 use Rattle.connection.specs.declared.Connection.{Connection}
-use Rattle.connection.specs.Connection.{zeroRecord}
+use Rattle.connection.specs.Connection.{unwatched, zeroRecord}
 use Rattle.table_rows.specs.declared.DestinationRow.{DestinationRow}
 use Rattle.state.specs.declared.State.{State}
 
@@ -39,7 +39,18 @@ remote a p = record { address = a; port = p }
 -- a record of a mode, wishing to close or not, with a remote and so many bytes used
 abbrev pub recordOf : Mode → Bool → Remote → ℕ → Connection
 recordOf m k r used =
-    record { mode = m; «open_wanted» = false; «close_wanted» = k; remote = r; switches = 0; part = readyPart; used = used; timer = 0; due = false }
+    record {
+      mode = m;
+      «open_wanted» = false;
+      «close_wanted» = k;
+      remote = r;
+      switches = 0;
+      part = readyPart;
+      used = used;
+      timer = 0;
+      due = false;
+      watch = unwatched;
+    }
 
 -- online, with so many bytes used
 abbrev pub holding : ℕ → Connection
@@ -55,4 +66,4 @@ valveDestination longest groups = record { connection = 0; trigger = false; long
 
 -- an automatic connection whose configured remote has a wildcard
 abbrev pub service : Bool → Config
-service tcp = record { tcp = tcp; automatic = true; remote = remote 0 0; size = 1472; switches = 0 }
+service tcp = record { tcp = tcp; automatic = true; remote = remote 0 0; size = 1472; alive = 0; switches = 0 }

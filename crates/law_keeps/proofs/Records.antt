@@ -11,7 +11,7 @@ use Rattle.connection.specs.declared.Mode.{Mode}
 use Rattle.connection.specs.declared.Mode.the-variants.{Offline, Reconnect, Online}
 use Rattle.connection.specs.declared.Config.{Config}
 use Rattle.connection.specs.declared.Connection.{Connection}
-use Rattle.connection.specs.Connection.{isOffline, isReconnect, isOnline, withMode, withRemote, withSend, become}
+use Rattle.connection.specs.Connection.{isOffline, isReconnect, isOnline, withMode, withSend, become, resetOf}
 use Rattle.connection.specs.Sound.{Sound}
 use Rattle.connection.proofs.Keeps.{online-not-offline, send-keeps}
 use Rattle.table_rows.specs.declared.DestinationRow.{DestinationRow}
@@ -83,10 +83,11 @@ module _ (g : Config) (c : Connection) (s : Sound g c) (some : eqb (c .used) 0 �
         reached = s .reached;
         opening = rw no-open;
         closing = rw (t, online-not-offline (c .mode) online) (or-true (not (g .automatic)));
+        watching = s .watching;
       }
 
   -- 00582
-  udp-back : g .tcp ≡ false → g .automatic ≡ true → Sound g (become Reconnect (withRemote (g .remote) (withSend 0 0 false c)))
+  udp-back : g .tcp ≡ false → g .automatic ≡ true → Sound g (become Reconnect (resetOf g (withSend 0 0 false c)))
   udp-back t a =
       record {
         fits = leb·zero (g .size);
@@ -98,6 +99,7 @@ module _ (g : Config) (c : Connection) (s : Sound g c) (some : eqb (c .used) 0 �
         reached = refl;
         opening = rw no-open;
         closing = kept (c .«close_wanted») (rw (a, t) at (s .closing));
+        watching = refl;
       }
     where
       empty : (e o : Bool) → (e || (o && false)) ≡ true → (e || (false && g .tcp)) ≡ true

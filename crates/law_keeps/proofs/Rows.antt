@@ -18,7 +18,7 @@ use Rattle.connection.specs.Event.{recordAfter, empties, stepOf}
 use Rattle.connection.specs.Sound.{Sound}
 use Rattle.connection.proofs.Keeps.{bare-sound, step-keeps, switches-keep, tick-keeps}
 use Rattle.connection.proofs.Leaves.{after-leaves}
-use Rattle.connection.proofs.Ticks.{Tick, closes-wanted, goes-on, tick-is, step-either}
+use Rattle.connection.proofs.Ticks.{Tick, closes-wanted, lets-go, goes-on, tick-is, step-either}
 use Rattle.state.specs.declared.State.{State}
 use Rattle.state.specs.State.{recordAt, withRecord}
 use Rattle.state.specs.Fresh.{configOf}
@@ -52,10 +52,11 @@ tick-part g c = go (tickOf g c) (tick-is g c)
   where
     go : (d : Connection) → Tick g c d → Stays (c .part) (d .part)
     go d (closes-wanted e) = empty
-    go d (goes-on _ e t) = stays-same (t .part)
+    go d (lets-go e x) = unchanged
+    go d (goes-on _ e x t) = stays-same (t .part)
 
 zero-sound : (g : Config) → Sound g zeroRecord
-zero-sound g = bare-sound g (record { tcp = false; automatic = false; remote = record { address = 0; port = 0 }; size = 0; switches = 0 })
+zero-sound g = bare-sound g (record { tcp = false; automatic = false; remote = record { address = 0; port = 0 }; size = 0; alive = 0; switches = 0 })
 
 -- the record of a row, in a list of any length
 pub sound-row-at : (image : List ℕ) (cs : List Connection) (n : ℕ) → recordsSound image cs ≡ true → n < rowsOf image Connections → soundAt image n (getD cs n zeroRecord) ≡ true

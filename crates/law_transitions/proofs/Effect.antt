@@ -12,13 +12,13 @@ use Rattle.connection.specs.declared.Refusal.the-variants.{Denied}
 use Rattle.connection.specs.declared.Answer.the-variants.{Done}
 use Rattle.connection.specs.declared.Event.{Event}
 use Rattle.connection.specs.declared.Event.the-variants.{Open, Close, Connected, Lost, SetRemote, Switch, Cancel}
-use Rattle.connection.specs.Connection.{isOffline, isReconnect, isOnline, wildcard, withMode, withSend, become, closedOf, startedOf, reachOf, runOf, tickOf}
+use Rattle.connection.specs.Connection.{isOffline, isReconnect, isOnline, wildcard, withMode, withSend, become, closedOf, startedOf, reachOf, runOf, expires as ends, letGoOf, sunkOf, onward, tickOf}
 use Rattle.connection.specs.Event.{allowed, recordAfter, refusedBy, stepOf}
 use Rattle.connection.specs.Sound.{Sound}
-use Rattle.connection.proofs.Keeps.{moves-online}
+use Rattle.connection.proofs.Keeps.{moves-online, let-go-watched}
 use Rattle.connection.proofs.Ticks.{step-either}
 use Rattle.lists.proofs.Both.{impossible, and-left, and-right, and-both}
-use Rattle.law_transitions.specs.Table.{Place, at, placeOf, Happening, opens, closes, connects, loses, stays, cancels, ticks, happeningOf, modeNumber, table, firstIn, move}
+use Rattle.law_transitions.specs.Table.{Place, at, placeOf, Happening, opens, closes, connects, loses, stays, cancels, ticks, expires, happeningOf, tickHappening, modeNumber, table, firstIn, move}
 
 -- the two steps of a tick that goes on
 abbrev startP : Bool → Place → Place
@@ -36,10 +36,22 @@ effect loses t a w x m o k = cond (t && isOnline m) (at Reconnect o k) (at m o k
 effect stays t a w x m o k = at m o k
 effect cancels t a w x m o k = cond x (at m false true) (at m o k)
 effect ticks t a w x m o k = cond k (at Offline false false) (reachP t w (startP a (at m o k)))
+effect expires t a w x m o k = cond k (at Offline false false) (at Reconnect o k)
 
 -- the rules on wishes, and on where a transfer runs
 ruled : Bool → Bool → Bool → Mode → Bool → Bool → Bool
 ruled t a x m o k = (not o || (not a && isOffline m && not k)) && (not k || not a || (t && not (isOffline m))) && (not x || (isOnline m && t))
+
+-- where an alive timer ends: on an online connection that is not TCP
+ending : Happening → Bool → Mode → Bool
+ending opens t m = true
+ending closes t m = true
+ending connects t m = true
+ending loses t m = true
+ending stays t m = true
+ending cancels t m = true
+ending ticks t m = true
+ending expires t m = isOnline m && not t
 
 same : Place → Place → Bool
 same (at m o k) (at n p q) = eqb (modeNumber m) (modeNumber n) && Bool·beq o p && Bool·beq k q
@@ -52,17 +64,17 @@ modes : (Mode → Bool) → Bool
 modes p = p Offline && p Reconnect && p Online
 
 happenings : (Happening → Bool) → Bool
-happenings p = p opens && p closes && p connects && p loses && p stays && p cancels && p ticks
+happenings p = p opens && p closes && p connects && p loses && p stays && p cancels && p ticks && p expires
 
 agrees : Happening → Bool → Bool → Bool → Bool → Mode → Bool → Bool → Bool
-agrees h t a w x m o k = not (ruled t a x m o k) || same (effect h t a w x m o k) (move h t a w x (at m o k))
+agrees h t a w x m o k = not (ruled t a x m o k) || not (ending h t m) || same (effect h t a w x m o k) (move h t a w x (at m o k))
 
 whole : Bool
 whole = happenings (λ h. bools (λ t. bools (λ a. bools (λ w. bools (λ x. modes (λ m. bools (λ o. bools (λ k. agrees h t a w x m o k))))))))
 
 -- every happening, protocol, mode and wish, by computation
 checked : whole ≡ true
-unfolding move firstIn table whole happenings bools modes agrees ruled same effect
+unfolding move firstIn table whole happenings bools modes agrees ruled ending same effect
 checked = refl
 
 of-bool : (p : Bool → Bool) → bools p ≡ true → (b : Bool) → p b ≡ true
@@ -80,8 +92,11 @@ of-happening : (p : Happening → Bool) → happenings p ≡ true → (h : Happe
 unfolding happenings
 of-happening p e h = go h
   where
+    seven : (p opens && p closes && p connects && p loses && p stays && p cancels && p ticks) ≡ true
+    seven = and-left (p opens && p closes && p connects && p loses && p stays && p cancels && p ticks) (p expires) e
+
     six : (p opens && p closes && p connects && p loses && p stays && p cancels) ≡ true
-    six = and-left (p opens && p closes && p connects && p loses && p stays && p cancels) (p ticks) e
+    six = and-left (p opens && p closes && p connects && p loses && p stays && p cancels) (p ticks) seven
 
     five : (p opens && p closes && p connects && p loses && p stays) ≡ true
     five = and-left (p opens && p closes && p connects && p loses && p stays) (p cancels) six
@@ -102,7 +117,8 @@ of-happening p e h = go h
     go loses = and-right (p opens && p closes && p connects) (p loses) four
     go stays = and-right (p opens && p closes && p connects && p loses) (p stays) five
     go cancels = and-right (p opens && p closes && p connects && p loses && p stays) (p cancels) six
-    go ticks = and-right (p opens && p closes && p connects && p loses && p stays && p cancels) (p ticks) e
+    go ticks = and-right (p opens && p closes && p connects && p loses && p stays && p cancels) (p ticks) seven
+    go expires = and-right (p opens && p closes && p connects && p loses && p stays && p cancels && p ticks) (p expires) e
 
 bool-is : (a b : Bool) → Bool·beq a b ≡ true → a ≡ b
 bool-is true true e = refl
@@ -131,9 +147,9 @@ same-is (at m o k) (at n p q) e =
     rw (a, b, c)
 
 -- of places that meet these rules
-moved : (h : Happening) (t a w x : Bool) (m : Mode) (o k : Bool) → ruled t a x m o k ≡ true → effect h t a w x m o k ≡ move h t a w x (at m o k)
+moved : (h : Happening) (t a w x : Bool) (m : Mode) (o k : Bool) → ruled t a x m o k ≡ true → ending h t m ≡ true → effect h t a w x m o k ≡ move h t a w x (at m o k)
 unfolding whole agrees
-moved h t a w x m o k r =
+moved h t a w x m o k r n =
     let p1 = of-happening (λ h. bools (λ t. bools (λ a. bools (λ w. bools (λ x. modes (λ m. bools (λ o. bools (λ k. agrees h t a w x m o k)))))))) checked h in
     let p2 = of-bool (λ t. bools (λ a. bools (λ w. bools (λ x. modes (λ m. bools (λ o. bools (λ k. agrees h t a w x m o k))))))) p1 t in
     let p3 = of-bool (λ a. bools (λ w. bools (λ x. modes (λ m. bools (λ o. bools (λ k. agrees h t a w x m o k)))))) p2 a in
@@ -142,7 +158,7 @@ moved h t a w x m o k r =
     let p6 = of-mode (λ m. bools (λ o. bools (λ k. agrees h t a w x m o k))) p5 m in
     let p7 = of-bool (λ o. bools (λ k. agrees h t a w x m o k)) p6 o in
     let p8 = of-bool (λ k. agrees h t a w x m o k) p7 k in
-    same-is (effect h t a w x m o k) (move h t a w x (at m o k)) (rw r at p8)
+    same-is (effect h t a w x m o k) (move h t a w x (at m o k)) (rw (r, n) at p8)
 
 -- a transfer runs on an online TCP record alone
 moving-online : (g : Config) (c : Connection) → Sound g c → (not (transferring (c .part)) || (isOnline (c .mode) && g .tcp)) ≡ true
@@ -212,20 +228,46 @@ run-place c = go (eqb (c .timer) 0)
 
 tick-effect : (g : Config) (c : Connection)
     → placeOf (tickOf g c)
-    ≡ effect ticks (g .tcp) (g .automatic) (wildcard (c .remote)) (transferring (c .part)) (c .mode) (c .«open_wanted») (c .«close_wanted»)
+    ≡ effect (tickHappening g c) (g .tcp) (g .automatic) (wildcard (c .remote)) (transferring (c .part)) (c .mode) (c .«open_wanted») (c .«close_wanted»)
 unfolding tickOf effect
-tick-effect g c = go (c .«close_wanted»)
+tick-effect g c = go (c .«close_wanted») (ends g c)
   where
-    on : placeOf (runOf (reachOf g (startedOf g c))) ≡ reachP (g .tcp) (wildcard (c .remote)) (startP (g .automatic) (placeOf c))
+    on : placeOf (onward g c) ≡ reachP (g .tcp) (wildcard (c .remote)) (startP (g .automatic) (placeOf c))
     on =
-        run-place (reachOf g (startedOf g c))
-        ∙ reach-place g (startedOf g c)
-        ∙ ap (λ r. reachP (g .tcp) (wildcard r) (placeOf (startedOf g c))) (start-remote g c)
-        ∙ ap (reachP (g .tcp) (wildcard (c .remote))) (start-place g c)
+        let d = sunkOf c in
+        run-place (reachOf g (startedOf g d))
+        ∙ reach-place g (startedOf g d)
+        ∙ ap (λ r. reachP (g .tcp) (wildcard r) (placeOf (startedOf g d))) (start-remote g d)
+        ∙ ap (reachP (g .tcp) (wildcard (c .remote))) (start-place g d)
 
-    go : (b : Bool) → placeOf (cond b (closedOf g c) (runOf (reachOf g (startedOf g c)))) ≡ cond b (at Offline false false) (reachP (g .tcp) (wildcard (c .remote)) (startP (g .automatic) (placeOf c)))
-    go true = refl
-    go false = on
+    -- whether it closes, and whether the timer ends
+    go : (b n : Bool)
+        → placeOf (cond b (closedOf g c) (cond n (letGoOf g c) (onward g c)))
+        ≡ effect (cond n expires ticks) (g .tcp) (g .automatic) (wildcard (c .remote)) (transferring (c .part)) (c .mode) (c .«open_wanted») b
+    go true true = refl
+    go true false = refl
+    go false true = refl
+    go false false = on
+
+-- an event of the record alone ends no alive timer
+ends-nothing : (e : Event) (t : Bool) (m : Mode) → ending (happeningOf e) t m ≡ true
+unfolding ending
+ends-nothing Open t m = refl
+ends-nothing Close t m = refl
+ends-nothing Connected t m = refl
+ends-nothing Lost t m = refl
+ends-nothing (SetRemote r) t m = refl
+ends-nothing (Switch n on) t m = refl
+ends-nothing Cancel t m = refl
+
+-- an alive timer ends on an online connection that is not TCP
+ends-online : (g : Config) (c : Connection) → Sound g c → ending (tickHappening g c) (g .tcp) (c .mode) ≡ true
+unfolding ending
+ends-online g c s = go (ends g c) refl
+  where
+    go : (b : Bool) → ends g c ≡ b → ending (cond b expires ticks) (g .tcp) (c .mode) ≡ true
+    go false e = refl
+    go true e = let w = let-go-watched g c s e in and-both (w .0) (w .1)
 
 -- THE TABLE IS THE EVENTS' EFFECT
 pub event-moves : (e : Event) (g : Config) (c : Connection) → Sound g c
@@ -233,10 +275,11 @@ pub event-moves : (e : Event) (g : Config) (c : Connection) → Sound g c
 event-moves e g c s =
     step-effect e g c
     ∙ moved (happeningOf e) (g .tcp) (g .automatic) (wildcard (c .remote)) (transferring (c .part)) (c .mode) (c .«open_wanted») (c .«close_wanted»)
-    (rules g c s)
+    (rules g c s) (ends-nothing e (g .tcp) (c .mode))
 
 pub tick-moves : (g : Config) (c : Connection) → Sound g c
-    → placeOf (tickOf g c) ≡ move ticks (g .tcp) (g .automatic) (wildcard (c .remote)) (transferring (c .part)) (placeOf c)
+    → placeOf (tickOf g c) ≡ move (tickHappening g c) (g .tcp) (g .automatic) (wildcard (c .remote)) (transferring (c .part)) (placeOf c)
 tick-moves g c s =
     tick-effect g c
-    ∙ moved ticks (g .tcp) (g .automatic) (wildcard (c .remote)) (transferring (c .part)) (c .mode) (c .«open_wanted») (c .«close_wanted») (rules g c s)
+    ∙ moved (tickHappening g c) (g .tcp) (g .automatic) (wildcard (c .remote)) (transferring (c .part)) (c .mode) (c .«open_wanted») (c .«close_wanted»)
+    (rules g c s) (ends-online g c s)

@@ -127,7 +127,7 @@ module _ (l : Lent) (k : ℕ) where
       (go (leb (rowsOf (l .image) Group) group) (deniedOf (l .image) accept group source) (chosenIn (l .image) s accept group source))
     where
       go : (x y : Bool) (who : Chosen)
-          → PartStays s (cond x (arrivalRefused s Refusals.Missing) (cond y (arrivalRefused s Refusals.Denied) (meet s source who)) .state) k
+          → PartStays s (cond x (arrivalRefused s Refusals.Missing) (cond y (arrivalRefused s Refusals.Denied) (meet (l .image) s source who)) .state) k
       go true y who = refl
       go false true who = refl
       go false false Nobody = refl

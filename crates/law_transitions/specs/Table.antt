@@ -9,8 +9,10 @@ use mathlib.Core.List.{List, [], _∷_}
 use Rattle.connection.specs.declared.Mode.{Mode}
 use Rattle.connection.specs.declared.Mode.the-variants.{Offline, Reconnect, Online}
 use Rattle.connection.specs.declared.Connection.{Connection}
+use Rattle.connection.specs.declared.Config.{Config}
 use Rattle.connection.specs.declared.Event.{Event}
 use Rattle.connection.specs.declared.Event.the-variants.{Open, Close, Connected, Lost, SetRemote, Switch, Cancel}
+use Rattle.connection.specs.Connection.{expires as ends}
 
 -- mode, open wanted, close wanted
 pub data Place : Type 0 where
@@ -28,6 +30,7 @@ pub data Happening : Type 0 where
   stays : Happening
   cancels : Happening
   ticks : Happening
+  expires : Happening
 
 abbrev pub happeningOf : Event → Happening
 happeningOf Open = opens
@@ -37,6 +40,10 @@ happeningOf Lost = loses
 happeningOf (SetRemote r) = stays
 happeningOf (Switch n on) = stays
 happeningOf Cancel = cancels
+
+-- a tick, and one that ends the alive timer of a UDP connection whose remote the upper layer has not set (R20.4)
+abbrev pub tickHappening : Config → Connection → Happening
+tickHappening g c = cond (ends g c) expires ticks
 
 -- what a column asks
 pub data Asks : Type 0 where
@@ -67,6 +74,8 @@ table =
     ∷ row ticks either either either either (only Offline) (is true) (is false) (at Reconnect false false)
     ∷ row ticks either (is true) either either (only Offline) either (is false) (at Reconnect false false)
     ∷ row ticks (is false) either (is false) either (only Reconnect) either (is false) (at Online false false)
+    ∷ row expires either either either either anyMode either (is true) (at Offline false false)
+    ∷ row expires (is false) either either either (only Online) either (is false) (at Reconnect false false)
     ∷ []
 
 abbrev pub happeningNumber : Happening → ℕ
@@ -77,6 +86,7 @@ happeningNumber loses = 4
 happeningNumber stays = 5
 happeningNumber cancels = 6
 happeningNumber ticks = 0
+happeningNumber expires = 7
 
 abbrev pub meets : Asks → Bool → Bool
 meets either b = true

@@ -1,5 +1,5 @@
--- How many bytes wait after an event on a record: a closing tick and a loss leave none, every other one as many as before. (A take: crate
--- waiting, proofs/Taken `take-used`.)
+-- How many bytes wait after an event on a record: a closing tick, one that lets go, and a loss leave none, every other one as many as before.
+-- (A take: crate send_waiting, proofs/Taken `take-used`.)
 use mathlib.Core.Path.{_≡_, refl}
 use mathlib.Core.Bool.{Bool, true, false, cond, _&&_}
 use Rattle.connection.specs.declared.Config.{Config}
@@ -8,16 +8,17 @@ use Rattle.connection.specs.declared.Event.{Event}
 use Rattle.connection.specs.Connection.{tickOf}
 use Rattle.connection.specs.Event.{known, allowed, recordAfter, empties as drops, stepOf}
 use Rattle.connection.proofs.Leaves.{after-leaves}
-use Rattle.connection.proofs.Ticks.{Tick, closes-wanted, goes-on, tick-is, step-either}
-use Rattle.law_waits.specs.Waits.{emptiedBy, Cause, Emptied, isEmptied, emptiedIf, onlyIf}
+use Rattle.connection.proofs.Ticks.{Tick, closes-wanted, lets-go, goes-on, tick-is, step-either}
+use Rattle.law_waits.specs.Waits.{emptiedAtTick, emptiedBy, Cause, Emptied, isEmptied, emptiedIf, onlyIf}
 
--- a tick: a closing one empties
-pub tick-used : (g : Config) (c : Connection) → tickOf g c .used ≡ cond (c .«close_wanted») 0 (c .used)
+-- a tick: one that closes or lets go empties
+pub tick-used : (g : Config) (c : Connection) → tickOf g c .used ≡ cond (isEmptied (emptiedAtTick g c)) 0 (c .used)
 tick-used g c = go (tickOf g c) (tick-is g c)
   where
-    go : (d : Connection) → Tick g c d → d .used ≡ cond (c .«close_wanted») 0 (c .used)
+    go : (d : Connection) → Tick g c d → d .used ≡ cond (isEmptied (emptiedAtTick g c)) 0 (c .used)
     go d (closes-wanted e) = rw e
-    go d (goes-on _ e t) = rw e (t .used)
+    go d (lets-go e x) = rw (e, x)
+    go d (goes-on _ e x t) = rw (e, x) (t .used)
 
 -- a connection event: an allowed loss empties
 pub step-used : (e : Event) (g : Config) (c : Connection) → stepOf e g c .connection .used ≡ cond (emptiedBy e g c) 0 (c .used)

@@ -7,6 +7,7 @@ use lib.ListN.{length}
 use Rattle.connection.specs.declared.Config.{Config}
 use Rattle.connection.specs.declared.Connection.{Connection}
 use Rattle.connection.specs.declared.Event.{Event}
+use Rattle.connection.specs.Connection.{expires}
 use Rattle.connection.specs.Event.{known, allowed, empties as drops}
 use Rattle.frame.specs.Frame.{frame}
 use Rattle.table_rows.specs.Rows.{destinationOf}
@@ -35,11 +36,13 @@ module _ (image : List ℕ) (s : State) (pdu : ℕ) (payload : List ℕ) (k : �
   unfoldable pub addedTo : List ℕ
   addedTo = cond (isStored (checkOf image s pdu (length payload))) (framesFrom (destinations image) 0) []
 
--- WHY the waiting bytes are gone: a non-empty take has given them out; a closing tick has dropped them, or a loss
+-- WHY the waiting bytes are gone: a non-empty take has given them out; a closing tick has dropped them, or a loss, or the tick that lets a
+-- silent peer go
 pub data Cause : Type 0 where
   was-taken : Cause
   was-closed : Cause
   was-lost : Cause
+  was-let-go : Cause
 
 -- whether an event empties them, and why
 pub data Emptied : Type 0 where
@@ -86,6 +89,10 @@ abbrev pub since : List Turn → List ℕ
 since [] = []
 since (adds bytes ∷ ts) = cond (anyEmpties ts) (since ts) (bytes ++ since ts)
 since (empties why ∷ ts) = since ts
+
+-- which ticks empty the waiting bytes, and why: one that closes; R20.4, one that lets go
+abbrev pub emptiedAtTick : Config → Connection → Emptied
+emptiedAtTick g c = cond (c .«close_wanted») (emptied was-closed) (emptiedIf (expires g c) was-let-go)
 
 -- which connection events empty the waiting bytes: a loss that is allowed
 abbrev pub emptiedBy : Event → Config → Connection → Bool

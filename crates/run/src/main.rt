@@ -157,7 +157,7 @@ fn run_script(
 fn run(table: &[u8]) {
     let mut rx = [0u8; 23424];
     let mut tx = [0u8; 23552];
-    let mut room = [0u8; 47672];
+    let mut room = [0u8; 47720];
     let mut text = [0u8; 131072];
     let mut out = [0u8; 16384];
     run_script(table, &mut rx, &mut tx, &mut room, &mut text, &mut out);

@@ -14,7 +14,7 @@ use Rattle.receive_datagram.specs.Datagram.{walkedOf}
 use Rattle.table_layout.specs.declared.Kind.the-variants.{Group, Connection, Route}
 use Rattle.table_layout.specs.Layout.{rowsOf, bodyOf}
 use Rattle.table_layout.proofs.Parts.{body-rows}
-use Rattle.table_rows.specs.Rules.{tcpIn}
+use Rattle.table_rows.specs.Rules.{groupTcp, tcpIn}
 use Rattle.table.specs.declared.TableAnswer.{TableAnswer}
 use Rattle.table.specs.Table.{tcpOf, checkTable}
 use Rattle.table.specs.Accepts.{Accepts}
@@ -61,7 +61,7 @@ checked image connection switches datagram place answer e =
 -- R19.1: by the routes of an accepted image no header is a transfer on a connection that is not TCP, and a walk is on none that is
 pub never-a-transfer : (image : List ℕ) → Accepts image → (connection switches id n route : ℕ) → tcpOf image connection ≡ false
     → lookupOf (bodyOf image Route) connection switches id n ≡ Transfer route → ⊥
-unfolding rowsIn tcpIn
+unfolding rowsIn groupTcp tcpIn
 never-a-transfer image a connection switches id n route udp e =
     let few : length (bodyOf image Route) / 16 ≤ 64 = omega (arith, body-rows image (a .laid) Route, a .most Route) in
     let all : rowsIn (bodyOf image Route) ≡ length (bodyOf image Route) / 16 = rw (le-leb (length (bodyOf image Route) / 16) 64 few) in

@@ -15,11 +15,11 @@ use Rattle.lists.proofs.Both.{impossible, and-both}
 use Rattle.table_layout.specs.Layout.{number, mostRows, entryAt, rowsOf, startOf, endOf, bodyOf, rowOf}
 use Rattle.table_layout.specs.declared.Kind.{Kind}
 use Rattle.table_layout.specs.declared.Kind.the-variants.{Group, Connection, Route, Destination}
-use Rattle.table_rows.specs.Rows.{connectionRow, routeRow, destinationRow}
-use Rattle.table_rows.specs.Rules.{groupGood, connectionGood, routeGood, destinationGood, sizeIn}
+use Rattle.table_rows.specs.Rows.{connectionRow, routeRow, destinationRow, groupOf}
+use Rattle.table_rows.specs.Rules.{groupGood, connectionGood, routeGood, destinationGood, sizeIn, groupTcp}
 use Rattle.table_scan.specs.Scan.{goodIn}
 use Rattle.table_scan.proofs.Rows.{free, groups-free, connections-free}
-use Rattle.table.specs.Table.{headGood, entryGood, tcpOf, rule, rowGood, demand, headPlace, entriesPlace, allRowsPlace, checkTable}
+use Rattle.table.specs.Table.{headGood, entryGood, groupTcpOf, tcpOf, rule, rowGood, demand, headPlace, entriesPlace, allRowsPlace, checkTable}
 use Rattle.table.specs.declared.TableAnswer.the-variants.{Accepted, Refused}
 use Rattle.table.proofs.Answers.{then-first, then-second, demand-held}
 use Rattle.table.proofs.Facts.{accepted-row}
@@ -68,6 +68,7 @@ use Rattle.table_fault.specs.declared.Fault.the-variants.{
   Shared,
   Transfer,
   NotTcp,
+  NotUdp,
 }
 use Rattle.table_fault.specs.declared.Told.{Told}
 use Rattle.table_fault.proofs.Named.{bad-there, spot-back}
@@ -153,11 +154,13 @@ module _ (s : List ℕ) where
   unfolding groupGood groupFault passesTest
   group-tells row = test Protocol (be 1 row 0) 2 _ _ (last Zero (be 1 row 1) 1)
 
-  connection-tells : (groups : ℕ) (row : List ℕ) → Tells (connectionGood groups row) (connectionFault groups row)
-  unfolding connectionGood connectionRow connectionFault passesTest
-  connection-tells groups row =
-      same _ (sized (ltb (be 1 row 0) groups) (leb (be 1 row 1) 1) (leb 8 (be 2 row 8)) (leb (be 2 row 8) 1472) (eqb (be 2 row 10) 0))
-      (test NoGroup (be 1 row 0) groups _ _ (test Automatic (be 1 row 1) 1 _ _ (test SendSize (be 2 row 8) 1472 _ _ (last Zero (be 2 row 10) 10))))
+  connection-tells : (row : List ℕ)
+      → Tells (connectionGood (rowsOf s Group) (groupTcpOf s) row) (connectionFault (rowsOf s Group) (groupOf s (be 1 row 0) .protocol) row)
+  unfolding connectionGood connectionRow groupTcp connectionFault passesTest
+  connection-tells row =
+      let protocol = groupOf s (be 1 row 0) .protocol in
+      same _ (sized (ltb (be 1 row 0) (rowsOf s Group)) (leb (be 1 row 1) 1) (leb 8 (be 2 row 8)) (leb (be 2 row 8) 1472) (eqb (be 2 row 10) 0 || not (eqb protocol 2)))
+      (test NoGroup (be 1 row 0) (rowsOf s Group) _ _ (test Automatic (be 1 row 1) 1 _ _ (test SendSize (be 2 row 8) 1472 _ _ (last NotUdp (be 2 row 10) protocol))))
 
   route-tells : (connections : ℕ) (tcp : ℕ → Bool) (row : List ℕ) (b : Bool) (shared : Told) → Tells b shared
       → Tells (routeGood connections tcp row && b) (routeFault connections (mostMark (tcp (be 1 row 0))) shared row)
@@ -181,7 +184,7 @@ module _ (s : List ℕ) where
   row-tells : (k : Kind) (i : ℕ) → Tells (rowGood s k i) (rowFault s k i)
   unfolding goodIn rule rowFault
   row-tells Group i = same _ (with-true _ _ (free Group 2 (bodyOf s Group) i groups-free)) (group-tells (rowOf s Group i))
-  row-tells Connection i = same _ (with-true _ _ (free Connection 16 (bodyOf s Connection) i connections-free)) (connection-tells (rowsOf s Group) (rowOf s Connection i))
+  row-tells Connection i = same _ (with-true _ _ (free Connection 16 (bodyOf s Connection) i connections-free)) (connection-tells (rowOf s Connection i))
   row-tells Route i = route-tells (rowsOf s Connection) (tcpOf s) (rowOf s Route i) _ _ (shared-tells Route i)
   row-tells Destination i = destination-tells (rowsOf s Connection) (sizeIn 16 (bodyOf s Connection)) (rowOf s Destination i) _ _ (shared-tells Destination i)
 

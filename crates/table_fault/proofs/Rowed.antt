@@ -6,6 +6,8 @@ use Rattle.wire.specs.Be.{be}
 use Rattle.table_layout.specs.Layout.{rowsOf, bodyOf, rowOf}
 use Rattle.table_layout.specs.declared.Kind.{Kind}
 use Rattle.table_layout.specs.declared.Kind.the-variants.{Group, Connection, Route, Destination}
+use Rattle.table_rows.specs.declared.GroupRow.{GroupRow}
+use Rattle.table_rows.specs.Rows.{groupOf}
 use Rattle.table_rows.specs.Rules.{sizeIn}
 use Rattle.table.specs.Table.{tcpOf}
 use Rattle.table_fault.specs.Faults.{groupFault, connectionFault, mostMark, routeFault, destinationFault, sharedFault, rowFault}
@@ -16,9 +18,10 @@ module _ (s : List ℕ) (k : Kind) (i : ℕ) {r : Told} {row : List ℕ} where
   unfolding rowFault
   group-told e p q = q ∙ rw (p, e)
 
-  pub connection-told : {groups : ℕ} → k ≡ Connection → row ≡ rowOf s k i → groups ≡ rowsOf s Group → r ≡ connectionFault groups row → r ≡ rowFault s k i
+  pub connection-told : {groups g protocol : ℕ} {group : GroupRow} → k ≡ Connection → row ≡ rowOf s k i → g ≡ be 1 row 0 → group ≡ groupOf s g
+      → protocol ≡ group .protocol → groups ≡ rowsOf s Group → r ≡ connectionFault groups protocol row → r ≡ rowFault s k i
   unfolding rowFault
-  connection-told e p g q = q ∙ rw (p, e, g)
+  connection-told e p g t v n q = q ∙ rw (v, t, g, p, e, n)
 
   pub route-told : {shared : Told} {connections c most : ℕ} → k ≡ Route → row ≡ rowOf s k i → shared ≡ sharedFault s Route i
       → c ≡ be 1 row 0 → most ≡ mostMark (tcpOf s c) → connections ≡ rowsOf s Connection

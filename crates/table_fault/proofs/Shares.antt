@@ -13,6 +13,7 @@ use Rattle.wire.specs.Be.{be}
 use Rattle.table_layout.specs.Layout.{rowsOf, bodyOf, rowOf}
 use Rattle.table_layout.specs.declared.Kind.{Kind}
 use Rattle.table_layout.specs.declared.Kind.the-variants.{Group, Connection, Route, Destination}
+use Rattle.table_rows.specs.Rows.{groupOf}
 use Rattle.table_rows.specs.Rules.{sizeIn}
 use Rattle.table_scan.specs.Scan.{clearIn}
 use Rattle.table.specs.Table.{tcpOf}
@@ -33,6 +34,7 @@ use Rattle.table_fault.specs.declared.Fault.the-variants.{
   Shared,
   Transfer,
   NotTcp,
+  NotUdp,
 }
 use Rattle.table_fault.specs.declared.Told.{Told}
 
@@ -84,13 +86,13 @@ group-through : (row : List ℕ) → groupFault row .fault ≡ Shared → groupF
 unfolding groupFault passesTest
 group-through row = through Protocol _ _ 1 1 _ _ refl (through Zero _ _ 0 0 _ _ refl (λ e. refl))
 
-connection-through : (groups : ℕ) (row : List ℕ) → connectionFault groups row .fault ≡ Shared → connectionFault groups row ≡ noFault
+connection-through : (groups protocol : ℕ) (row : List ℕ) → connectionFault groups protocol row .fault ≡ Shared → connectionFault groups protocol row ≡ noFault
 unfolding connectionFault passesTest
-connection-through groups row =
+connection-through groups protocol row =
     through NoGroup _ _ 0 1 _ _ refl
     (through Automatic _ _ 0 0 _ _ refl
     (through SendSize _ _ 8 8 _ _ refl
-    (through Zero _ _ 0 0 _ _ refl (λ e. refl))))
+    (through NotUdp _ _ 0 0 _ _ refl (λ e. refl))))
 
 route-through : (connections most : ℕ) (shared : Told) (row : List ℕ) → routeFault connections most shared row .fault ≡ Shared → routeFault connections most shared row ≡ shared
 unfolding routeFault passesTest
@@ -121,7 +123,7 @@ module _ (s : List ℕ) where
   pub told-shares : (k : Kind) (i : ℕ) → rowFault s k i .fault ≡ Shared → SharesWith s k i (rowFault s k i .found)
   unfolding rowFault
   told-shares Group i e = never _ (group-through (rowOf s Group i) e) e
-  told-shares Connection i e = never _ (connection-through (rowsOf s Group) (rowOf s Connection i) e) e
+  told-shares Connection i e = never _ (connection-through (rowsOf s Group) (groupOf s (be 1 (rowOf s Connection i) 0) .protocol) (rowOf s Connection i) e) e
   told-shares Route i e = shared Route i _ (route-through (rowsOf s Connection) (mostMark (tcpOf s (be 1 (rowOf s Route i) 0))) (sharedFault s Route i) (rowOf s Route i) e) e
   told-shares Destination i e =
       shared Destination i _ (destination-through (rowsOf s Connection) (sizeIn 16 (bodyOf s Connection) (be 1 (rowOf s Destination i) 0)) (sharedFault s Destination i) (rowOf s Destination i) e) e

@@ -1,6 +1,6 @@
 -- The first test that fails at a spot, in the order of R1.11; nothing where none does.
 use Prim.Native.Nat.{ℕ, _+_}
-use mathlib.Core.Bool.{Bool, true, false, cond, _&&_}
+use mathlib.Core.Bool.{Bool, true, false, cond, not, _&&_, _||_}
 use mathlib.Core.List.{List}
 use lib.Dec.{leb, ltb, eqb}
 use lib.ListN.{length}
@@ -9,6 +9,7 @@ use Rattle.lists.specs.Search.{firstBad, every}
 use Rattle.table_layout.specs.Layout.{number, mostRows, entryAt, rowBytes, rowsOf, startOf, endOf, bodyOf, rowOf}
 use Rattle.table_layout.specs.declared.Kind.{Kind}
 use Rattle.table_layout.specs.declared.Kind.the-variants.{Group, Connection, Route, Destination}
+use Rattle.table_rows.specs.Rows.{groupOf}
 use Rattle.table_rows.specs.Rules.{sizeIn}
 use Rattle.table_scan.specs.Scan.{share, clearIn}
 use Rattle.table.specs.Table.{tcpOf}
@@ -37,6 +38,7 @@ use Rattle.table_fault.specs.declared.Fault.the-variants.{
   Shared,
   Transfer,
   NotTcp,
+  NotUdp,
 }
 use Rattle.table_fault.specs.declared.Told.{Told}
 use Rattle.table_fault.specs.declared.Reason.{Reason}
@@ -71,6 +73,7 @@ passesTest Room found asked = leb (found + 8) asked
 passesTest Shared found asked = false
 passesTest Transfer found asked = leb found asked
 passesTest NotTcp found asked = leb found asked
+passesTest NotUdp found asked = eqb found 0 || not (eqb asked 2)
 
 -- a fault with its numbers unless they pass its test; else the rest
 unfoldable pub unless : Fault → ℕ → ℕ → Told → Told
@@ -99,12 +102,13 @@ groupFault row =
     unless Protocol (be 1 row 0) 2
     (unless Zero (be 1 row 1) 1 noFault)
 
-unfoldable pub connectionFault : ℕ → List ℕ → Told
-connectionFault groups row =
+-- `protocol` is its group's: R20.1, no alive limit where it is 2 (TCP)
+unfoldable pub connectionFault : ℕ → ℕ → List ℕ → Told
+connectionFault groups protocol row =
     unless NoGroup (be 1 row 0) groups
     (unless Automatic (be 1 row 1) 1
     (unless SendSize (be 2 row 8) 1472
-    (unless Zero (be 2 row 10) 10 noFault)))
+    (unless NotUdp (be 2 row 10) protocol noFault)))
 
 -- R19.1: the highest transfer mark that a route may have, on a connection that is TCP or is not
 abbrev pub mostMark : Bool → ℕ
@@ -136,7 +140,8 @@ sharedFault s k i = cond (every (sharesNothing s k i) i) noFault (faultTold Shar
 
 unfoldable pub rowFault : List ℕ → Kind → ℕ → Told
 rowFault s Group i = groupFault (rowOf s Group i)
-rowFault s Connection i = connectionFault (rowsOf s Group) (rowOf s Connection i)
+rowFault s Connection i =
+    connectionFault (rowsOf s Group) (groupOf s (be 1 (rowOf s Connection i) 0) .protocol) (rowOf s Connection i)
 rowFault s Route i =
     routeFault (rowsOf s Connection) (mostMark (tcpOf s (be 1 (rowOf s Route i) 0)))
     (sharedFault s Route i) (rowOf s Route i)

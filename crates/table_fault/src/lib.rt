@@ -37,6 +37,7 @@ use table_layout::row_bytes;
 use table_layout::row_in;
 use table_layout::rows_of;
 use table_layout::start_of;
+use table_rows::group_row;
 use table_rows::is_tcp;
 use table_rows::size_in;
 use table_scan::rows_share;
@@ -72,10 +73,11 @@ pub enum Fault {
     Shared,
     Transfer,
     NotTcp,
+    NotUdp,
 }
 
-// A fault, the number found, and the number asked (a limit, the value wanted, or the byte's place in its row). Of
-// `Shared` the number found is the earlier row's, and asked is 0; of `Nothing` both are 0.
+// A fault, the number found, and the number asked (a limit, the value wanted, the byte's place in its row, or the
+// protocol of its group). Of `Shared` the number found is the earlier row's, and asked is 0; of `Nothing` both are 0.
 pub struct Told {
     pub fault: Fault,
     pub found: usize,
@@ -187,6 +189,7 @@ fn passes(fault: Fault, found: usize, asked: usize) -> bool
         Fault::Shared => false,
         Fault::Transfer => found <= asked,
         Fault::NotTcp => found <= asked,
+        Fault::NotUdp => (found == 0) | (asked != 2),
     }
 }
 
@@ -235,11 +238,12 @@ fn group_fault(row: &[u8]) -> Told
     ask(Fault::Protocol, be8(row, 0), 2, second)
 }
 
-fn connection_fault(row: &[u8], groups: usize) -> Told
-    ensures { λ r. ⌜ r ≡ connectionFault groups (now (row .entry)) ⌝ }
+// `protocol` is its group's.
+fn connection_fault(row: &[u8], groups: usize, protocol: usize) -> Told
+    ensures { λ r. ⌜ r ≡ connectionFault groups protocol (now (row .entry)) ⌝ }
 {
     let none = told_of(Fault::Nothing, 0, 0);
-    let fourth = ask(Fault::Zero, be16(row, 10), 10, none);
+    let fourth = ask(Fault::NotUdp, be16(row, 10), protocol, none);
     let third = ask(Fault::SendSize, be16(row, 8), 1472, fourth);
     let second = ask(Fault::Automatic, be8(row, 1), 1, third);
     ask(Fault::NoGroup, be8(row, 0), groups, second)
@@ -315,7 +319,10 @@ fn row_fault(image: &[u8], k: Kind, i: usize) -> Told
     let row = row_of(image, k, i);
     match k {
         Kind::Group => group_fault(row),
-        Kind::Connection => connection_fault(row, rows_of(image, Kind::Group)),
+        Kind::Connection => {
+            let group = group_row(image, be8(row, 0));
+            connection_fault(row, rows_of(image, Kind::Group), group.protocol as usize)
+        }
         Kind::Route => {
             let shared = shared_fault(image, Kind::Route, i);
             let most = most_mark(image, be8(row, 0));

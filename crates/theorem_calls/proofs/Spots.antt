@@ -14,9 +14,9 @@ use Rattle.table_layout.specs.Layout.{number, mostRows, entryAt, rowsOf, startO
 use Rattle.table_layout.specs.declared.Kind.{Kind}
 use Rattle.table_layout.specs.declared.Kind.the-variants.{Group, Connection, Route, Destination}
 use Rattle.table_rows.specs.Rows.{groupRow, connectionRow, routeRow, destinationRow, routeOf, destinationOf}
-use Rattle.table_rows.specs.Rules.{groupGood, connectionGood, routeGood, destinationGood, sizeIn, tcpIn, routesShare, destinationsShare}
+use Rattle.table_rows.specs.Rules.{groupGood, connectionGood, routeGood, destinationGood, sizeIn, groupTcp, tcpIn, routesShare, destinationsShare}
 use Rattle.table_scan.specs.Scan.{share, clearIn, goodIn}
-use Rattle.table.specs.Table.{headGood, entryGood, tcpOf, rule, rowGood}
+use Rattle.table.specs.Table.{headGood, entryGood, groupTcpOf, tcpOf, rule, rowGood}
 use Rattle.table_fault.specs.declared.Spot.{Spot}
 use Rattle.table_fault.specs.declared.Spot.the-variants.{Head, Entry, Total, Row}
 use Rattle.table_fault.specs.Good.{goodAt}
@@ -39,6 +39,17 @@ from-either false b e h = impossible h
 to-either : (a b : Bool) → (a ≡ true → b ≡ true) → (not a || b) ≡ true
 to-either true b h = h refl
 to-either false b h = refl
+
+-- and the other way round
+from-or : (a b : Bool) → (a || not b) ≡ true → b ≡ true → a ≡ true
+from-or true b e h = refl
+from-or false true e h = impossible e
+from-or false false e h = impossible h
+
+to-or : (a b : Bool) → (b ≡ true → a ≡ true) → (a || not b) ≡ true
+to-or true b h = refl
+to-or false true h = h refl
+to-or false false h = refl
 
 module _ (s : List ℕ) where
   -- THE HEAD, a contents entry
@@ -91,14 +102,14 @@ module _ (s : List ℕ) where
   words-group i g = test-row Group i (rw (le-leb 1 _ (g .low), le-leb _ 2 (g .high), eq-eqb _ 0 (g .zero))) (λ j h q. impossible q)
 
   connection-words : (i : ℕ) → rowGood s Connection i ≡ true → GoodConnection s i
-  unfolding rule connectionGood connectionRow
+  unfolding rule connectionGood groupTcp connectionRow groupRow
   connection-words i e =
       let row = rowOf s Connection i in
       let a = ltb (be 1 row 0) (rowsOf s Group) in
       let b = leb (be 1 row 1) 1 in
       let c = leb 8 (be 2 row 8) in
       let d = leb (be 2 row 8) 1472 in
-      let z = eqb (be 2 row 10) 0 in
+      let z = eqb (be 2 row 10) 0 || not (groupTcpOf s (be 1 row 0)) in
       let all = row-test Connection i e .0 in
       let f = and4 a b c d (and-left (a && b && c && d) z all) in
       record {
@@ -106,16 +117,19 @@ module _ (s : List ℕ) where
         automatic = leb-true _ _ (f .1);
         low = leb-true _ _ (f .2);
         high = leb-true _ _ (f .3);
-        zeros = eqb-true _ _ (and-right (a && b && c && d) z all);
+        unlimited = λ t. eqb-true _ _ (from-or (eqb (be 2 row 10) 0) (groupTcpOf s (be 1 row 0)) (and-right (a && b && c && d) z all) (eq-eqb _ 2 t));
       }
 
   words-connection : (i : ℕ) → GoodConnection s i → rowGood s Connection i ≡ true
-  unfolding rule connectionGood connectionRow share
+  unfolding rule connectionGood groupTcp connectionRow groupRow share
   words-connection i g =
-      test-row Connection i (rw (lt-ltb _ _ (g .group), le-leb _ 1 (g .automatic), le-leb 8 _ (g .low), le-leb _ 1472 (g .high), eq-eqb _ 0 (g .zeros))) (λ j h q. impossible q)
+      let row = rowOf s Connection i in
+      let z : (eqb (be 2 row 10) 0 || not (groupTcpOf s (be 1 row 0))) ≡ true =
+      to-or (eqb (be 2 row 10) 0) (groupTcpOf s (be 1 row 0)) (λ h. eq-eqb _ 0 (g .unlimited (eqb-true _ 2 h))) in
+      test-row Connection i (rw (lt-ltb _ _ (g .group), le-leb _ 1 (g .automatic), le-leb 8 _ (g .low), le-leb _ 1472 (g .high)) z) (λ j h q. impossible q)
 
   route-words : (i : ℕ) → rowGood s Route i ≡ true → GoodRoute s i
-  unfolding rule routeGood routeRow tcpIn groupRow connectionRow share routesShare
+  unfolding rule routeGood routeRow tcpIn groupTcp groupRow connectionRow share routesShare
   route-words i e =
       let row = rowOf s Route i in
       let t = row-test Route i e in
@@ -135,7 +149,7 @@ module _ (s : List ℕ) where
       }
 
   words-route : (i : ℕ) → GoodRoute s i → rowGood s Route i ≡ true
-  unfolding rule routeGood routeRow tcpIn groupRow connectionRow share routesShare
+  unfolding rule routeGood routeRow tcpIn groupTcp groupRow connectionRow share routesShare
   words-route i g =
       let row = rowOf s Route i in
       let m : (not (eqb (be 1 row 1) 1) || tcpOf s (be 1 row 0)) ≡ true = to-either (eqb (be 1 row 1) 1) (tcpOf s (be 1 row 0)) (λ h. eq-eqb _ 2 (g .marked h)) in

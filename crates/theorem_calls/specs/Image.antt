@@ -53,13 +53,13 @@ module _ (s : List ℕ) where
     pub high : groupOf s i .protocol ≤ 2
     pub zero : be 1 (rowOf s Group i) 1 ≡ 0
 
-  -- R1.5, R1.7: a connection has a group that is there, automatic 0 or 1, send size 8..1,472, and two zero bytes
+  -- R1.5, R1.7, R20.1: a connection has a group that is there, automatic 0 or 1, send size 8..1,472, and an alive limit only where its group is not TCP
   pub record GoodConnection (i : ℕ) : Type 0 where
     pub group : connectionOf s i .group < rowsOf s Group
     pub automatic : be 1 (rowOf s Connection i) 1 ≤ 1
     pub low : 8 ≤ connectionOf s i .size
     pub high : connectionOf s i .size ≤ 1472
-    pub zeros : be 2 (rowOf s Connection i) 10 ≡ 0
+    pub unlimited : groupOf s (connectionOf s i .group) .protocol ≡ 2 → connectionOf s i .alive ≡ 0
 
   -- R1.5, R1.7 to R1.9, R19.1: a route has a connection that is there, transfer mark 0 or 1, and 1 only where its connection is TCP, longest
   -- payload 0..1,464, its zero bytes, and shares connection and id with no earlier one

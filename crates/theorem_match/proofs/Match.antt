@@ -206,19 +206,19 @@ module _ (l : Lent) (accept : Bool) (group : ℕ) (source : Remote) where
       most : rowsOf (l .image) Connections ≤ 16
       most = rows-in-sixteen l g
 
-      chosen : group < rowsOf (l .image) Group → Welcome l accept group source → (x : Chosen) → IsChosen score 16 x → Given (meet (l .state) source x .answer)
+      chosen : group < rowsOf (l .image) Group → Welcome l accept group source → (x : Chosen) → IsChosen score 16 x → Given (meet (l .image) (l .state) source x .answer)
       chosen h w Nobody none = none-matches g h w (none-match (w .address) (w .port) most none)
       chosen h w (At k) b = meets k g h w (best-match (w .address) (w .port) most k b)
 
       welcome : group < rowsOf (l .image) Group → (b : Bool) → deniedOf (l .image) accept group source ≡ b
-          → Given (cond b (arrivalRefused (l .state) Denied) (meet (l .state) source (chosenIn (l .image) (l .state) accept group source)) .answer)
+          → Given (cond b (arrivalRefused (l .state) Denied) (meet (l .image) (l .state) source (chosenIn (l .image) (l .state) accept group source)) .answer)
       welcome h true e = not-welcome g h (λ w. false≢true (sym (welcome-not-denied w) ∙ e))
       welcome h false e =
           chosen h (not-denied-welcome e) (chosenIn (l .image) (l .state) accept group source) (chosen-is-best (l .image) (l .state) accept group source)
 
       there : (b : Bool) → leb (rowsOf (l .image) Group) group ≡ b
           → Given (cond b (arrivalRefused (l .state) Missing)
-          (cond (deniedOf (l .image) accept group source) (arrivalRefused (l .state) Denied) (meet (l .state) source (chosenIn (l .image) (l .state) accept group source))) .answer)
+          (cond (deniedOf (l .image) accept group source) (arrivalRefused (l .state) Denied) (meet (l .image) (l .state) source (chosenIn (l .image) (l .state) accept group source))) .answer)
       there true e = no-group g (leb-true (rowsOf (l .image) Group) group e)
       there false e = welcome (leb-false (rowsOf (l .image) Group) group e) (deniedOf (l .image) accept group source) refl
 
@@ -231,7 +231,7 @@ module _ (l : Lent) (accept : Bool) (group : ℕ) (source : Remote) where
       go (Shut r) e = shut r e
 
   chosen-is : group < rowsOf (l .image) Group → Welcome l accept group source → gateOf l ≡ Pass → (x : Chosen) → IsChosen score 16 x
-      → arrivalOf l accept group source .answer ≡ meet (l .state) source x .answer
+      → arrivalOf l accept group source .answer ≡ meet (l .image) (l .state) source x .answer
   unfolding arrivalOf arriveOf
   chosen-is h w g x b =
       rw (g, lt-leb (rowsOf (l .image) Group) group h, welcome-not-denied w, ← chosen-is-only (l .image) (l .state) accept group source x b)

@@ -29,7 +29,7 @@ fn flag(is: bool) -> u8 {
     if is { 1 } else { 0 }
 }
 
-// ---- the 43 bytes of a record
+// ---- the 46 bytes of a record
 
 fn spell_front(row: &mut [u8], mode: Mode, open: bool, close: bool) {
     put8(row, 0, mode_number(mode));
@@ -84,6 +84,9 @@ fn spell(row: &mut [u8], c: Connection) {
     put16(row, 38, c.used);
     put16(row, 40, c.timer);
     put8(row, 42, flag(c.due));
+    let watch = c.watch;
+    put16(row, 43, watch.alive);
+    put8(row, 45, flag(watch.remote_set));
 }
 
 // ---- its line
@@ -121,14 +124,36 @@ fn received(text: &mut [u8], at: usize, row: &[u8], stretch: &[u8]) -> usize {
     lay(text, at, pattern, 0, row, front(stretch, be16(row, 28)))
 }
 
-fn timer_shape(row: &[u8]) -> usize {
-    if be16(row, 40) == 0 { 0 } else { 1 }
+// The timer at a place of the record: 0 stopped, 1 running.
+fn timer_shape(row: &[u8], place: usize) -> usize {
+    if be16(row, place) == 0 { 0 } else { 1 }
 }
 
 // The timer and the due mark.
 fn timed(text: &mut [u8], at: usize, row: &[u8]) -> usize {
-    let patterns = b", timer stopped, due %y42\n/, timer %h40 tick^, due %y42\n/";
-    lay(text, at, phrase(patterns, timer_shape(row)), 0, row, row)
+    let patterns = b", timer stopped, due %y42/, timer %h40 tick^, due %y42/";
+    lay(
+        text,
+        at,
+        phrase(patterns, timer_shape(row, 40)),
+        0,
+        row,
+        row,
+    )
+}
+
+// The alive timer and the mark that the upper layer set the remote.
+fn watched(text: &mut [u8], at: usize, row: &[u8]) -> usize {
+    let patterns =
+        b", alive timer stopped, remote set %y45\n/, alive timer %h43 tick^, remote set %y45\n/";
+    lay(
+        text,
+        at,
+        phrase(patterns, timer_shape(row, 43)),
+        0,
+        row,
+        row,
+    )
 }
 
 fn line(text: &mut [u8], at: usize, number: u64, row: &[u8], rx: &[u8], tx: &[u8]) -> usize {
@@ -144,12 +169,13 @@ fn line(text: &mut [u8], at: usize, number: u64, row: &[u8], rx: &[u8], tx: &[u8
         row,
         front(tx, be16(row, 38)),
     );
-    timed(text, sent, row)
+    let due = timed(text, sent, row);
+    watched(text, due, row)
 }
 
 // The record number so many, with its stretches of receive and send memory.
 fn record(text: &mut [u8], at: usize, number: u64, c: Connection, rx: &[u8], tx: &[u8]) -> usize {
-    let mut row = [0u8; 43];
+    let mut row = [0u8; 46];
     spell(&mut row, c);
     line(text, at, number, &row, rx, tx)
 }
@@ -187,7 +213,7 @@ fn record_of(
     )
 }
 
-// Sixteen records have some 98,000 characters at most.
+// Sixteen records have some 99,000 characters at most.
 pub fn records(
     text: &mut [u8],
     at: usize,

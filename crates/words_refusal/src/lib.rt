@@ -13,7 +13,7 @@ use words::lay;
 use words::phrase;
 
 // ---- what the patterns speak of: found (4), asked (4), the shape of the spot (1), its kind of rows (1), its row (4), the fault (1),
-// the byte at the place (1), which is a route's connection
+// the byte at the place (1), which is a route's connection and a connection's group
 
 fn low(n: usize) -> u32 {
     (n % 4294967296) as u32
@@ -57,6 +57,7 @@ fn fault_number(fault: Fault) -> u8 {
         Fault::Shared => 17,
         Fault::Transfer => 20,
         Fault::NotTcp => 21,
+        Fault::NotUdp => 22,
     }
 }
 
@@ -100,7 +101,8 @@ fn line(text: &mut [u8], place: usize, row: &[u8], found: usize) -> usize {
         the image has %w00 bytes or more, its contents ask %w04 byte^\n/\
         shares PDU and connection with row %w00\n/\
         transfer mark %w00 is neither 0 nor 1\n/\
-        transfer mark %w00 on connection %b15, which is UDP\n/";
+        transfer mark %w00 on connection %b15, which is UDP\n/\
+        alive limit %w00 tick^ in group %b15, which is TCP\n/";
     let spot = lay(text, 0, phrase(spots, be8(row, 8)), place as u64, row, row);
     lay(
         text,

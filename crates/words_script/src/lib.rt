@@ -65,7 +65,7 @@ fn head_fault(number: u16, zero: usize, long: usize, body: &[u8]) -> usize {
     if zero != 0 {
         return 2;
     }
-    if (long > 47672) | ((long > 4096) & !start) {
+    if (long > 47720) | ((long > 4096) & !start) {
         return 3;
     }
     0
@@ -135,8 +135,8 @@ pub fn start_taken(
     if !fits {
         return refused(text, n, 65535, 3);
     }
-    copy_in(rx, 0, part_of(body, 696, 23424));
-    copy_in(tx, 0, part_of(body, 24120, 23552));
+    copy_in(rx, 0, part_of(body, 744, 23424));
+    copy_in(tx, 0, part_of(body, 24168, 23552));
     let pattern = b"entry @: start state: taken\n";
     told_to(Last::GoesOn, lay(text, 0, pattern, n, body, body))
 }

@@ -25,6 +25,9 @@ be8-requires-3 c κs = search needs
 be8-requires-4 : tie.Need-be8-requires-4
 be8-requires-4 c κs = search needs
 
+be8-requires-5 : tie.Need-be8-requires-5
+be8-requires-5 c κs = search needs
+
 returns : tie.Need-returns
 unfolding recordFits
 returns c = cc
@@ -40,4 +43,5 @@ record-fits-spec =
     be8-requires-2
     be8-requires-3
     be8-requires-4
+    be8-requires-5
     returns)

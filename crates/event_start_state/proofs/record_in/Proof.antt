@@ -19,6 +19,9 @@ remote-in-requires c κs = search needs
 part-of-requires : tie.Need-part-of-requires
 part-of-requires c κs = search needs
 
+watch-in-requires : tie.Need-watch-in-requires
+watch-in-requires c κs = search needs
+
 be8-requires-2 : tie.Need-be8-requires-2
 be8-requires-2 c κs = search needs
 
@@ -50,6 +53,7 @@ record-in-spec =
     bytes-from-requires
     remote-in-requires
     part-of-requires
+    watch-in-requires
     be8-requires-2
     be8-requires-3
     four-bytes-requires

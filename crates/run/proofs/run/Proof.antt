@@ -13,7 +13,7 @@ slice-aggregate-run-script-2 : tie.Need-slice-aggregate-run-script-2
 slice-aggregate-run-script-2 c = sym (length-replicate {A = ℕ} 23552 0)
 
 slice-aggregate-run-script-3 : tie.Need-slice-aggregate-run-script-3
-slice-aggregate-run-script-3 c = sym (length-replicate {A = ℕ} 47672 0)
+slice-aggregate-run-script-3 c = sym (length-replicate {A = ℕ} 47720 0)
 
 slice-aggregate-run-script-4 : tie.Need-slice-aggregate-run-script-4
 slice-aggregate-run-script-4 c = sym (length-replicate {A = ℕ} 131072 0)

@@ -1,5 +1,5 @@
 -- `table_fault::connection_fault` meets its contract, by one law applied at each test.
-use Rattle.table_fault.specs.declared.Fault.the-variants.{NoGroup, Automatic, SendSize, Zero}
+use Rattle.table_fault.specs.declared.Fault.the-variants.{NoGroup, Automatic, SendSize, NotUdp}
 use Rattle.table_fault.proofs.Asks.{next-fault}
 use mathlib.Core.Path.{refl}
 use Rattle.table_fault.specs.Faults.{connectionFault}
@@ -43,7 +43,7 @@ returns c =
     next-fault NoGroup (c .ask4 .ensures) (c .before .be82 .ensures .is) refl
     (next-fault Automatic (a₃ .ask3 .ensures) (a₃ .before .be8 .ensures .is) refl
     (next-fault SendSize (a₂ .ask2 .ensures) (a₂ .before .be162 .ensures .is) refl
-    (next-fault Zero (a₁ .ask .ensures) (a₁ .before .be16 .ensures .is) refl (a₁ .before .before .told-of .ensures))))
+    (next-fault NotUdp (a₁ .ask .ensures) (a₁ .before .be16 .ensures .is) refl (a₁ .before .before .told-of .ensures))))
 
 pub connection-fault-spec : {M : Type 1} → statement M
 connection-fault-spec =

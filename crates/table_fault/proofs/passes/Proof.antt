@@ -67,6 +67,9 @@ enum-told-19 c = search needs
 enum-told-20 : tie.Need-enum-told-20
 enum-told-20 c = search needs
 
+enum-told-21 : tie.Need-enum-told-21
+enum-told-21 c = search needs
+
 returns : tie.Need-returns
 unfolding passesTest
 returns c = rw (c .enum-told .given .1)
@@ -147,6 +150,10 @@ returns-20 : tie.Need-returns-20
 unfolding passesTest
 returns-20 c = rw (c .enum-told20 .given .1)
 
+returns-21 : tie.Need-returns-21
+unfolding passesTest
+returns-21 c = rw (c .enum-told21 .given .1)
+
 pub passes-spec : {M : Type 1} → statement M
 passes-spec =
     tie.close
@@ -172,6 +179,7 @@ passes-spec =
     enum-told-18
     enum-told-19
     enum-told-20
+    enum-told-21
     returns
     returns-2
     returns-3
@@ -191,4 +199,5 @@ passes-spec =
     returns-17
     returns-18
     returns-19
-    returns-20)
+    returns-20
+    returns-21)

@@ -15,7 +15,7 @@ let-go-requires : tie.Need-let-go-requires
 let-go-requires c κs = search needs
 
 returns-2 : tie.Need-returns-2
-returns-2 c = let b = c .before .before .before .before in c .let-go .ensures ∙ tick-lets-go _ _ (b .if1 .left) (c .before .if2 .taken)
+returns-2 c = let b = c .before .before .before .before .before in c .let-go .ensures ∙ tick-lets-go _ _ (b .if1 .left) (c .before .if2 .taken)
 
 sink-requires : tie.Need-sink-requires
 sink-requires c κs = search needs
@@ -33,7 +33,7 @@ returns-3 : tie.Need-returns-3
 returns-3 c =
     let s = c .before .before .before in
     rw (c .run .ensures, c .before .reach .ensures, c .before .before .start .ensures, s .sink .ensures)
-    (tick-goes-on _ _ (s .before .before .before .before .if1 .left) (s .before .if2 .left))
+    (tick-goes-on _ _ (s .before .before .before .before .before .if1 .left) (s .before .if2 .left))
 
 pub tick-spec : {M : Type 1} → statement M
 tick-spec =
