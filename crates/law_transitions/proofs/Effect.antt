@@ -230,7 +230,7 @@ tick-effect : (g : Config) (c : Connection)
     → placeOf (tickOf g c)
     ≡ effect (tickHappening g c) (g .tcp) (g .automatic) (wildcard (c .remote)) (transferring (c .part)) (c .mode) (c .«open_wanted») (c .«close_wanted»)
 unfolding tickOf effect
-tick-effect g c = go (c .«close_wanted») (ends g c)
+tick-effect g c = go (ends g c)
   where
     on : placeOf (onward g c) ≡ reachP (g .tcp) (wildcard (c .remote)) (startP (g .automatic) (placeOf c))
     on =
@@ -240,14 +240,20 @@ tick-effect g c = go (c .«close_wanted») (ends g c)
         ∙ ap (λ r. reachP (g .tcp) (wildcard r) (placeOf (startedOf g d))) (start-remote g d)
         ∙ ap (reachP (g .tcp) (wildcard (c .remote))) (start-place g d)
 
-    -- whether it closes, and whether the timer ends
-    go : (b n : Bool)
-        → placeOf (cond b (closedOf g c) (cond n (letGoOf g c) (onward g c)))
-        ≡ effect (cond n expires ticks) (g .tcp) (g .automatic) (wildcard (c .remote)) (transferring (c .part)) (c .mode) (c .«open_wanted») b
-    go true true = refl
-    go true false = refl
-    go false true = refl
-    go false false = on
+    going : (b : Bool) → placeOf (cond b (closedOf g c) (onward g c)) ≡ cond b (at Offline false false) (reachP (g .tcp) (wildcard (c .remote)) (startP (g .automatic) (placeOf c)))
+    going true = refl
+    going false = on
+
+    ended : (b : Bool) → placeOf (cond b (closedOf g c) (letGoOf g c)) ≡ cond b (at Offline false false) (at Reconnect (c .«open_wanted») (c .«close_wanted»))
+    ended true = refl
+    ended false = refl
+
+    -- whether the timer ends
+    go : (n : Bool)
+        → placeOf (cond (c .«close_wanted») (closedOf g c) (cond n (letGoOf g c) (onward g c)))
+        ≡ effect (cond n expires ticks) (g .tcp) (g .automatic) (wildcard (c .remote)) (transferring (c .part)) (c .mode) (c .«open_wanted») (c .«close_wanted»)
+    go true = ended (c .«close_wanted»)
+    go false = going (c .«close_wanted»)
 
 -- an event of the record alone ends no alive timer
 ends-nothing : (e : Event) (t : Bool) (m : Mode) → ending (happeningOf e) t m ≡ true

@@ -13,6 +13,7 @@ use Rattle.connection.specs.declared.Refusal.the-variants.{Missing, Denied}
 use Rattle.connection.specs.Connection.{zeroRecord, metOf}
 use Rattle.state.specs.declared.State.{State}
 use Rattle.state.specs.State.{recordAt, withRecord}
+use Rattle.state.specs.Fresh.{configOf}
 use Rattle.select.specs.declared.Chosen.{Chosen}
 use Rattle.select.specs.declared.Chosen.the-variants.{Nobody, At}
 use Rattle.select.specs.Choose.{meet, arrivalRefused, deniedOf, chosenIn, arriveOf}
@@ -21,33 +22,37 @@ use Rattle.lists.proofs.Each.{one-at}
 use Rattle.model_refines.proofs.Less.{met-less}
 
 -- the state after it
-pub data Meeting (s : State) (source : Remote) : State → Type 0 where
-  nobody : Meeting s source s
-  meeting-one : (j : ℕ) → Meeting s source (withRecord j (metOf source (recordAt s j)) s)
+pub data Meeting (image : List ℕ) (s : State) (source : Remote) : State → Type 0 where
+  nobody : Meeting image s source s
+  meeting-one : (j : ℕ) → Meeting image s source (withRecord j (metOf (configOf image j) source (recordAt s j)) s)
 
-meets : (s : State) (source : Remote) (c : Chosen) → Meeting s source (meet s source c .state)
-meets s source Nobody = nobody
-meets s source (At j) = meeting-one j
+meets : (image : List ℕ) (s : State) (source : Remote) (c : Chosen) → Meeting image s source (meet image s source c .state)
+meets image s source Nobody = nobody
+meets image s source (At j) = meeting-one j
 
-pub arrive-is : (image : List ℕ) (s : State) (accept : Bool) (group : ℕ) (source : Remote) → Meeting s source (arriveOf image s accept group source .state)
+pub arrive-is : (image : List ℕ) (s : State) (accept : Bool) (group : ℕ) (source : Remote) → Meeting image s source (arriveOf image s accept group source .state)
 unfolding arriveOf
 arrive-is image s accept group source = go (leb (rowsOf image Group) group) (deniedOf image accept group source)
   where
-    go : (m d : Bool) → Meeting s source (cond m (arrivalRefused s Missing) (cond d (arrivalRefused s Denied) (meet s source (chosenIn image s accept group source))) .state)
+    go : (m d : Bool) → Meeting image s source (cond m (arrivalRefused s Missing) (cond d (arrivalRefused s Denied) (meet image s source (chosenIn image s accept group source))) .state)
     go true d = nobody
     go false true = nobody
-    go false false = meets s source (chosenIn image s accept group source)
+    go false false = meets image s source (chosenIn image s accept group source)
 
 -- it holds no more than before
-pub meeting-fewer : (s t : State) (source : Remote) → Meeting s source t → Fewer (t .connections) (s .connections)
-meeting-fewer s t source nobody = fewer-same (s .connections)
-meeting-fewer s t source (meeting-one j) = fewer-set (s .connections) j (metOf source (recordAt s j)) (met-less source (recordAt s j))
+module _ (image : List ℕ) (s : State) (source : Remote) where
+  pub meeting-fewer : (t : State) → Meeting image s source t → Fewer (t .connections) (s .connections)
+  meeting-fewer t nobody = fewer-same (s .connections)
+  meeting-fewer t (meeting-one j) =
+      fewer-set (s .connections) j (metOf (configOf image j) source (recordAt s j)) (met-less (configOf image j) source (recordAt s j))
 
-pub meeting-length : (s t : State) (source : Remote) → Meeting s source t → length (t .connections) ≡ length (s .connections)
-meeting-length s t source nobody = refl
-meeting-length s t source (meeting-one j) = length-set (s .connections) j (metOf source (recordAt s j))
+  pub meeting-length : (t : State) → Meeting image s source t → length (t .connections) ≡ length (s .connections)
+  meeting-length t nobody = refl
+  meeting-length t (meeting-one j) = length-set (s .connections) j (metOf (configOf image j) source (recordAt s j))
 
--- each record is met, or as it was
-pub meeting-at : (s t : State) (source : Remote) (P : Connection → Type 0) (k : ℕ) → Meeting s source t → P (metOf source (recordAt s k)) → P (recordAt s k) → P (recordAt t k)
-meeting-at s t source P k nobody p q = q
-meeting-at s t source P k (meeting-one j) p q = one-at zeroRecord (s .connections) j k (metOf source (recordAt s j)) P (λ e. subst (λ (i : ℕ). P (metOf source (recordAt s i))) (sym e) p) q
+  -- each record is met, or as it was
+  pub meeting-at : (t : State) (P : Connection → Type 0) (k : ℕ) → Meeting image s source t → P (metOf (configOf image k) source (recordAt s k)) → P (recordAt s k) → P (recordAt t k)
+  meeting-at t P k nobody p q = q
+  meeting-at t P k (meeting-one j) p q =
+      one-at zeroRecord (s .connections) j k (metOf (configOf image j) source (recordAt s j)) P
+      (λ e. subst (λ (i : ℕ). P (metOf (configOf image i) source (recordAt s i))) (sym e) p) q

@@ -13,7 +13,7 @@ use Rattle.connection.specs.declared.Connection.{Connection}
 use Rattle.connection.specs.declared.Config.{Config}
 use Rattle.connection.specs.declared.Remote.{Remote}
 use Rattle.connection.specs.declared.Event.{Event as Change}
-use Rattle.connection.specs.Connection.{isOnline, zeroRecord, withPart, metOf, switchedOf, tickOf}
+use Rattle.connection.specs.Connection.{isOnline, zeroRecord, withPart, withSend, metOf, switchedOf, tickOf}
 use Rattle.connection.specs.Event.{receiving, stepOf}
 use Rattle.lists.specs.Each.{eachTo}
 use Rattle.lists.proofs.Each.{each-length, each-at, one-at}
@@ -72,16 +72,17 @@ acts-is T k e h = go (ltb k (T .rows))
     go true = does-is T k e h
     go false = acts-idle e
 
--- a transmit changes nothing of it at all
+-- a transmit changes nothing of it but its send bytes, timer and due mark
 pub record Alike (h h′ : Held) : Type 0 where
   pub cell : cellAt h′ ≡ cellAt h
   pub online : isOnline (h′ .connection .mode) ≡ isOnline (h .connection .mode)
+  pub besides : withSend 0 0 false (h′ .connection) ≡ withSend 0 0 false (h .connection)
 
 alike-append : (d : DestinationRow) (payload : List ℕ) (w : World) (k : ℕ) → Alike (heldAt w k) (heldAt (appendTo d payload w) k)
 alike-append d payload w k =
     one-at blank (w .held) (d .connection) k (withFrame d payload (heldAt w (d .connection))) (Alike (heldAt w k))
-    (λ e. subst (λ (i : ℕ). Alike (heldAt w k) (withFrame d payload (heldAt w i))) (sym e) (record { cell = refl; online = refl }))
-    (record { cell = refl; online = refl })
+    (λ e. subst (λ (i : ℕ). Alike (heldAt w k) (withFrame d payload (heldAt w i))) (sym e) (record { cell = refl; online = refl; besides = refl }))
+    (record { cell = refl; online = refl; besides = refl })
 
 alike-store : (image : List ℕ) (s : State) (pdu : ℕ) (payload : List ℕ) (w v : World) (k i : ℕ) → Alike (heldAt w k) (heldAt v k)
     → Alike (heldAt w k) (heldAt (storeIn image s pdu payload v i) k)
@@ -91,7 +92,7 @@ alike-store image s pdu payload w v k i a = go (wantedAt image s pdu payload i)
     go : (b : Bool) → Alike (heldAt w k) (heldAt (cond b (appendTo (destinationOf image i) payload v) v) k)
     go true =
         let b = alike-append (destinationOf image i) payload v k in
-        record { cell = b .cell ∙ a .cell; online = b .online ∙ a .online }
+        record { cell = b .cell ∙ a .cell; online = b .online ∙ a .online; besides = b .besides ∙ a .besides }
     go false = a
 
 pub alike-transmit : (image : List ℕ) (pdu : ℕ) (payload : List ℕ) (w : World) (k : ℕ) → Alike (heldAt w k) (heldAt (transmitIn image pdu payload w) k)
@@ -99,7 +100,7 @@ unfolding transmitIn
 alike-transmit image pdu payload w k = go (isStored (checkOf image (stateOf w) pdu (length payload)))
   where
     same : Alike (heldAt w k) (heldAt w k)
-    same = record { cell = refl; online = refl }
+    same = record { cell = refl; online = refl; besides = refl }
 
     go : (b : Bool) → Alike (heldAt w k) (heldAt (cond b (foldFrom (storeIn image (stateOf w) pdu payload) (destinations image) 0 w) w) k)
     go true =
@@ -114,12 +115,22 @@ follow-at (c ∷ cs) [] k e = absurd (omega arith)
 follow-at (c ∷ cs) (h ∷ hs) zero e = refl
 follow-at (c ∷ cs) (h ∷ hs) (suc k) e = follow-at cs hs k (omega arith)
 
+-- whether a source arrives
+abbrev pub arrives : Whole → Bool
+arrives (datagram group source) = true
+arrives (accept group source) = true
+arrives tick = false
+arrives (transmit pdu payload) = false
+arrives (switchAll n b) = false
+arrives (readCount p) = false
+arrives (clearCount p) = false
+
 -- AN EVENT OF A WHOLE GROUP OR MODULE: the record is as it was, met, ticked or switched, and of its held bytes those stay that it still
 -- holds; or it is a transmit
 pub data Becomes (image : List ℕ) (k : ℕ) (h : Held) : Whole → Held → Type 0 where
   becomes-itself : (e : Whole) → Becomes image k h e h
   as-it-was : (e : Whole) → Becomes image k h e (follow (h .connection) h)
-  becomes-met : (e : Whole) (source : Remote) → Becomes image k h e (follow (metOf source (h .connection)) h)
+  becomes-met : (e : Whole) (source : Remote) → arrives e ≡ true → Becomes image k h e (follow (metOf (configOf image k) source (h .connection)) h)
   becomes-ticked : Becomes image k h tick (follow (tickOf (configOf image k) (h .connection)) h)
   becomes-switched : (e : Whole) (n : ℕ) (on : Bool) → Becomes image k h e (follow (switchedOf n on (h .connection)) h)
   becomes-sent : (pdu : ℕ) (payload : List ℕ) (h′ : Held) → Alike h h′ → Becomes image k h (transmit pdu payload) h′
@@ -141,11 +152,13 @@ module _ (image : List ℕ) (k : ℕ) (w : World) where
   left : (e : Whole) (s : State) → length (s .connections) ≡ length (stateOf w .connections) → By e (recordAt s k) → Becomes image k h e (heldAt (leaves s w) k)
   left e s l p = subst (Becomes image k h e) (sym (follow-at (s .connections) (w .held) k (l ∙ length-map (w .held) (λ (x : Held). x .connection)))) p
 
-  arrived : (e : Whole) (a : Bool) (group : ℕ) (source : Remote) → Becomes image k h e (heldAt (leaves (arriveOf image (stateOf w) a group source .state) w) k)
-  arrived e a group source =
+  arrived : (e : Whole) → arrives e ≡ true → (a : Bool) (group : ℕ) (source : Remote)
+      → Becomes image k h e (heldAt (leaves (arriveOf image (stateOf w) a group source .state) w) k)
+  arrived e is a group source =
       let m = arrive-is image (stateOf w) a group source in
       let t : State = arriveOf image (stateOf w) a group source .state in
-      left e t (meeting-length (stateOf w) t source m) (meeting-at (stateOf w) t source (By e) k m (by-record e (metOf source) (becomes-met e source)) (by-same e))
+      left e t (meeting-length image (stateOf w) source t m)
+      (meeting-at image (stateOf w) source t (By e) k m (by-record e (metOf (configOf image k) source) (becomes-met e source is)) (by-same e))
 
   each : (e : Whole) (f : ℕ → Connection → Connection) (n : ℕ) → By e (f k (h .connection)) → By e (getD (eachTo f 0 n (stateOf w .connections)) k zeroRecord)
   each e f n p =
@@ -154,8 +167,8 @@ module _ (image : List ℕ) (k : ℕ) (w : World) where
 
   pub becomes : (e : Whole) → Becomes image k h e (heldAt (wholeOf image e w) k)
   unfolding tickedTo switchedAll
-  becomes (datagram group source) = arrived (datagram group source) false group source
-  becomes (accept group source) = arrived (accept group source) true group source
+  becomes (datagram group source) = arrived (datagram group source) refl false group source
+  becomes (accept group source) = arrived (accept group source) refl true group source
   becomes tick =
       left tick (tickedTo image (rowsOf image Connections) (stateOf w)) (each-length (tickAt image) 0 (rowsOf image Connections) (stateOf w .connections))
       (each tick (tickAt image) (rowsOf image Connections) becomes-ticked)

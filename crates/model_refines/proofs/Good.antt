@@ -91,7 +91,7 @@ module _ (image : List ℕ) (m : Machine) (g : Good image m) where
       with-state (arrivalOf (lentTo image m) a group source .state)
       (arrival-passed (lentTo image m) a group source (g .passed))
       (past-or (λ (t : Arrived). Sixteen (t .state)) (gateOf (lentTo image m)) (arrivalRefused s) (arriveOf image s a group source) (λ r. g .sixteen)
-      (λ _. meeting-length s (arriveOf image s a group source .state) source (arrive-is image s a group source) ∙ g .sixteen))
+      (λ _. meeting-length image s source (arriveOf image s a group source .state) (arrive-is image s a group source) ∙ g .sixteen))
 
   tick-good : Good image (machine (tickEvent (lentTo image m) .state) (m .rx) (m .tx))
   unfolding tickEvent tickedTo

@@ -13,7 +13,7 @@ use Rattle.receive_part.specs.Part.{readyPart}
 use Rattle.connection.specs.Connection.{metOf, switchedOf, closedOf, tickOf}
 use Rattle.connection.specs.Event.{recordAfter, empties, stepOf}
 use Rattle.connection.proofs.Leaves.{after-leaves}
-use Rattle.connection.proofs.Ticks.{Tick, closes-wanted, goes-on, tick-is, step-either}
+use Rattle.connection.proofs.Ticks.{Tick, closes-wanted, lets-go, goes-on, tick-is, step-either}
 use Rattle.send_waiting.specs.Waiting.{takeOf}
 use Rattle.send_waiting.proofs.Taken.{take-part, take-used}
 use Rattle.model.specs.World.{heldBy}
@@ -26,7 +26,7 @@ same-less c d p u = record { received = le-of-eq (ap heldBy p); waiting = le-of-
 none-less : (c d : Connection) → heldBy (c .part) ≡ 0 → c .used ≡ 0 → Less c d
 none-less c d p u = record { received = omega arith; waiting = omega arith }
 
--- the six events of the record alone
+-- the seven events of the record alone
 after-less : (e : Change) (g : Config) (c : Connection) → Less (recordAfter e g c) c
 after-less e g c = go (empties e) (after-leaves e g c .part) (after-leaves e g c .used)
   where
@@ -38,8 +38,8 @@ pub step-less : (e : Change) (g : Config) (c : Connection) → Less (stepOf e g 
 step-less e g c = step-either e g c (λ (d : Connection). Less d c) (λ _. less-same c) (λ _. after-less e g c)
 
 -- met by a source, and switched
-pub met-less : (r : Remote) (c : Connection) → Less (metOf r c) c
-met-less r c = same-less (metOf r c) c refl refl
+pub met-less : (g : Config) (r : Remote) (c : Connection) → Less (metOf g r c) c
+met-less g r c = same-less (metOf g r c) c refl refl
 
 pub switch-less : (n : ℕ) (b : Bool) (c : Connection) → Less (switchedOf n b c) c
 switch-less n b c = same-less (switchedOf n b c) c refl refl
@@ -58,4 +58,5 @@ tick-less g c = go (tickOf g c) (tick-is g c)
   where
     go : (d : Connection) → Tick g c d → Less d c
     go d (closes-wanted e) = none-less (closedOf g c) c refl refl
-    go d (goes-on _ e t) = same-less d c (t .part) (t .used)
+    go d (lets-go e x) = record { received = le-of-eq refl; waiting = omega arith }
+    go d (goes-on _ e x t) = same-less d c (t .part) (t .used)

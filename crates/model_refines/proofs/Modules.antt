@@ -60,7 +60,7 @@ module _ (l : Loan) where
   pub arrive-view : (a : Bool) (group : ℕ) (source : Remote) → viewOf (arriveOf image s a group source .state) rx tx ≡ leaves (arriveOf image (stateOf w) a group source .state) w
   arrive-view a group source =
       leaves-view (λ (t : State). arriveOf image t a group source .state) s rx tx
-      (meeting-fewer s (arriveOf image s a group source .state) source (arrive-is image s a group source))
+      (meeting-fewer image s source (arriveOf image s a group source .state) (arrive-is image s a group source))
 
   -- past the gate
   pub past : {A : Type 0} (refused : Refusal → A) (event : A) → Passed (sizes l) → through (gateOf (sizes l)) refused event ≡ event

@@ -255,7 +255,7 @@ module _ (image : List ℕ) (m : Machine) where
     arrival-own = go (leb (rowsOf image Group) group) (deniedOf image a group source) (chosenIn image s a group source) (chosen-is-best image s a group source)
       where
         go : (x y : Bool) (c : Chosen) → IsChosen (scoreAt image s a group source) 16 c
-            → arrivalNumber (cond x (notMet s Missing) (cond y (notMet s Denied) (meet s source c)) .answer) ≡ cond x 2 (cond y 3 (cond (every (λ i. not (match i)) 16) 10 0))
+            → arrivalNumber (cond x (notMet s Missing) (cond y (notMet s Denied) (meet image s source c)) .answer) ≡ cond x 2 (cond y 3 (cond (every (λ i. not (match i)) 16) 10 0))
         go true y c h = refl
         go false true c h = refl
         go false false Nobody h = rw (every-all (λ i. not (match i)) 16 (λ i l. score-none i (h i l)))

@@ -26,7 +26,7 @@ use Rattle.entry_receive.specs.Routes.{routesIn, DecidedIn}
 use Rattle.send.specs.declared.Transmission.{Transmission}
 use Rattle.entry_send.specs.Sending.{sendOf}
 use Rattle.law_waits.specs.Waits.{waits, anyEmpties, since}
-use Rattle.law_transitions.specs.Table.{placeOf, happeningOf, move, ticks}
+use Rattle.law_transitions.specs.Table.{placeOf, happeningOf, tickHappening, move}
 use Rattle.model.specs.Events.{Event}
 use Rattle.model_runs.specs.Streams.{RunBytes}
 use Rattle.model_runs.specs.Trip.{asSegments}
@@ -73,7 +73,7 @@ module _ (image : List ℕ) (m : Machine) where
         → placeOf (stepOf e (demandedRow k) (demandedRecord k) .connection) ≡ move (happeningOf e) (demandedRow k .tcp) (demandedRow k .automatic) (wildcard (demandedRecord k .remote))
         (transferring (demandedRecord k .part)) (placeOf (demandedRecord k))
     pub tick-states : (k : ℕ) → k < rowsOf image Connections
-        → placeOf (tickOf (demandedRow k) (demandedRecord k)) ≡ move ticks (demandedRow k .tcp) (demandedRow k .automatic) (wildcard (demandedRecord k .remote))
+        → placeOf (tickOf (demandedRow k) (demandedRecord k)) ≡ move (tickHappening (demandedRow k) (demandedRecord k)) (demandedRow k .tcp) (demandedRow k .automatic) (wildcard (demandedRecord k .remote))
         (transferring (demandedRecord k .part)) (placeOf (demandedRecord k))
     -- send buffers: a transmit's answer, and what waits after any run
     pub transmits : (pdu : ℕ) (payload : List ℕ) (x : Transmission) → (sendOf (loanTo image m) pdu payload .answer ≡ x) ↔ ExactlyWhen (loanTo image m) pdu payload x

@@ -1,7 +1,6 @@
 -- WHAT EVENTS LEAVE OF THE RECORDS.
 use Prim.Native.Nat.{ℕ, suc, _-_, _<_, _≤_}
 use mathlib.Core.Path.{_≡_, refl, sym, ap, _∙_, subst}
-use mathlib.Core.Logic.{_⊎_, inl, inr}
 use mathlib.Core.Bool.{Bool, true, false, cond, not, _&&_, _||_, false≢true}
 use mathlib.Core.List.{List}
 use native.Mathlib.Omega.{arith}
@@ -16,12 +15,15 @@ use Rattle.connection.specs.declared.Answer.the-variants.{Done}
 use Rattle.connection.specs.declared.Refusal.the-variants.{Missing, Denied}
 use Rattle.connection.specs.declared.Event.{Event as Change}
 use Rattle.connection.specs.declared.Event.the-variants.{Open, Close, Connected, Lost, SetRemote, Switch, Cancel}
-use Rattle.connection.specs.declared.Mode.the-variants.{Reconnect, Online}
-use Rattle.connection.specs.Connection.{wildcard, withMode, withRemote, withSend, become, metOf, tickOf, closedOf, isOffline, isReconnect, startedOf, reachOf, runOf}
+use Rattle.connection.specs.declared.Mode.the-variants.{Reconnect}
+use Rattle.connection.specs.declared.Watch.{Watch}
+use Rattle.connection.specs.Connection.{wildcard, withMode, withSend, become, resetOf, metOf, tickOf}
+use Rattle.connection.proofs.Ticks.{Tick, closes-wanted, lets-go, goes-on, tick-is}
 use Rattle.connection.specs.Event.{known, allowed, lostAllowed, remoteAllowed, recordAfter, refusedBy, stepOf}
 use Rattle.table_layout.specs.Layout.{rowsOf}
 use Rattle.table_layout.specs.declared.Kind.the-variants.{Group}
 use Rattle.state.specs.State.{recordAt, withRecord}
+use Rattle.state.specs.Fresh.{configOf}
 use Rattle.gate.specs.declared.Gate.{Gate}
 use Rattle.gate.specs.declared.Gate.the-variants.{Pass, Refused as Shut}
 use Rattle.gate.specs.Lent.{Lent}
@@ -43,7 +45,7 @@ use Rattle.model_refines.specs.Run.{afterEvent, Good}
 use Rattle.model_refines.specs.Table.{tableOf}
 use Rattle.model_refines.specs.Whole.{wholeOf}
 use Rattle.model_refines.proofs.Steps.{event-view}
-use Rattle.theorem_records.specs.Records.{RemoteAfter, lost-configured, lost-refused, set-given, set-refused, kept-open, kept-close, kept-connected, kept-switch, kept-cancel, Drained, ServesAnyone, TakeLeaves, nothing-taken, back-to-reconnect, to-be-closed, stays-as-it-is}
+use Rattle.theorem_records.specs.Records.{RemoteAfter, lost-configured, lost-refused, set-given, set-refused, kept-open, kept-close, kept-connected, kept-switch, kept-cancel, RemoteAtTick, closed-configured, let-go-configured, kept-ticking, Drained, ServesAnyone, TakeLeaves, nothing-taken, back-to-reconnect, to-be-closed, stays-as-it-is}
 
 -- A CONNECTION EVENT LEAVES EVERY OTHER CONNECTION AS IT WAS: its record, and the bytes that it holds
 others-step : (image : List ℕ) (w : World) (k : ℕ) (e : Own) (i : ℕ) → (i ≡ k → ⊥) → heldAt (step (tableOf image) (wholeOf image) w (on k e)) i ≡ heldAt w i
@@ -57,23 +59,29 @@ others-stay image m good k e bytes i ne = ap (λ (w : World). heldAt w i) (event
 -- THE REMOTE
 module _ (g : Config) (c : Connection) where
   -- done, or refused
-  stepped : (e : Change) (P : Remote → Type 0) → (allowed e g c ≡ true → P (recordAfter e g c .remote)) → (allowed e g c ≡ false → P (c .remote)) → known e ≡ true → P (stepOf e g c .connection .remote)
+  stepped : (e : Change) (P : Remote → Bool → Type 0) → (allowed e g c ≡ true → P (recordAfter e g c .remote) (recordAfter e g c .watch .«remote_set»))
+      → (allowed e g c ≡ false → P (c .remote) (c .watch .«remote_set»)) → known e ≡ true
+      → P (stepOf e g c .connection .remote) (stepOf e g c .connection .watch .«remote_set»)
   unfolding stepOf
   stepped e P done refused is = rw is (go (allowed e g c) refl)
     where
-      go : (b : Bool) → allowed e g c ≡ b → P (cond (not b) (refusedBy Denied c) (record { answer = Done; connection = recordAfter e g c }) .connection .remote)
+      go : (b : Bool) → allowed e g c ≡ b
+          → P (cond (not b) (refusedBy Denied c) (record { answer = Done; connection = recordAfter e g c }) .connection .remote)
+          (cond (not b) (refusedBy Denied c) (record { answer = Done; connection = recordAfter e g c }) .connection .watch .«remote_set»)
       go true q = done q
       go false q = refused q
 
-  switch-remote : (n : ℕ) (position : Bool) → RemoteAfter g c (Switch n position) (stepOf (Switch n position) g c .connection .remote)
+  switch-remote : (n : ℕ) (position : Bool)
+      → RemoteAfter g c (Switch n position) (stepOf (Switch n position) g c .connection .remote) (stepOf (Switch n position) g c .connection .watch .«remote_set»)
   unfolding stepOf
   switch-remote n position = go (known (Switch n position))
     where
       go : (b : Bool) → RemoteAfter g c (Switch n position) (cond (not b) (refusedBy Missing c) (record { answer = Done; connection = recordAfter (Switch n position) g c }) .connection .remote)
+          (cond (not b) (refusedBy Missing c) (record { answer = Done; connection = recordAfter (Switch n position) g c }) .connection .watch .«remote_set»)
       go true = kept-switch n position
       go false = kept-switch n position
 
-  pub step-remote : (e : Change) → RemoteAfter g c e (stepOf e g c .connection .remote)
+  pub step-remote : (e : Change) → RemoteAfter g c e (stepOf e g c .connection .remote) (stepOf e g c .connection .watch .«remote_set»)
   step-remote Open = stepped Open (RemoteAfter g c Open) (λ _. kept-open) (λ _. kept-open) refl
   step-remote Close = stepped Close (RemoteAfter g c Close) (λ _. kept-close) (λ _. kept-close) refl
   step-remote Connected = stepped Connected (RemoteAfter g c Connected) (λ _. kept-connected) (λ _. kept-connected) refl
@@ -82,41 +90,16 @@ module _ (g : Config) (c : Connection) where
   step-remote (Switch n position) = switch-remote n position
   step-remote Cancel = stepped Cancel (RemoteAfter g c Cancel) (λ _. kept-cancel) (λ _. kept-cancel) refl
 
-  -- a tick: the configured one where it closes, else as it was
-  tick-cases : (P : Remote → Type 0) → (c .«close_wanted» ≡ true → P (g .remote)) → (c .«close_wanted» ≡ false → P (c .remote)) → P (tickOf g c .remote)
-  unfolding tickOf startedOf reachOf runOf
-  tick-cases P closed open-still = go (c .«close_wanted») refl
+  -- a tick: the configured one where it closes or lets go, else as it was
+  pub tick-remote : RemoteAtTick g c (tickOf g c .remote) (tickOf g c .watch .«remote_set»)
+  tick-remote = go (tickOf g c) (tick-is g c)
     where
-      run : (x : Connection) → x .remote ≡ c .remote → (b : Bool) (u t : ℕ) (d : Bool) → cond b x (withSend u t d x) .remote ≡ c .remote
-      run x e true u t d = e
-      run x e false u t d = e
-
-      reach : (x : Connection) → x .remote ≡ c .remote → (b : Bool) → cond b (become Online x) x .remote ≡ c .remote
-      reach x e true = e
-      reach x e false = e
-
-      start : (b : Bool) → cond b (withMode Reconnect false (c .«close_wanted») c) c .remote ≡ c .remote
-      start true = refl
-      start false = refl
-
-      started : Connection
-      started = startedOf g c
-
-      reached : Connection
-      reached = reachOf g started
-
-      same : runOf reached .remote ≡ c .remote
-      same =
-          run reached
-          (reach started (start (isOffline (c .mode) && (c .«open_wanted» || g .automatic))) (isReconnect (started .mode) && not (g .tcp) && not (wildcard (started .remote))))
-          (eqb (reached .timer) 0) (reached .used) (reached .timer - 1) (eqb (reached .timer) 1 || reached .due)
-
-      go : (b : Bool) → c .«close_wanted» ≡ b → P (cond b (closedOf g c) (runOf reached) .remote)
-      go true e = closed e
-      go false e = subst P (sym same) (open-still e)
-
-  pub tick-remote : ((c .«close_wanted» ≡ true) × (tickOf g c .remote ≡ g .remote)) ⊎ ((c .«close_wanted» ≡ false) × (tickOf g c .remote ≡ c .remote))
-  tick-remote = tick-cases (λ (r : Remote). ((c .«close_wanted» ≡ true) × (r ≡ g .remote)) ⊎ ((c .«close_wanted» ≡ false) × (r ≡ c .remote))) (λ e. inl (e, refl)) (λ e. inr (e, refl))
+      go : (d : Connection) → Tick g c d → RemoteAtTick g c (d .remote) (d .watch .«remote_set»)
+      go _ (closes-wanted e) = closed-configured e
+      go _ (lets-go e x) = let-go-configured e x
+      go d (goes-on _ e x t) =
+          subst (λ (r : Remote). RemoteAtTick g c r (d .watch .«remote_set»)) (sym (t .remote))
+          (subst (λ (v : Watch). RemoteAtTick g c (c .remote) (v .«remote_set»)) (sym (t .watch)) (kept-ticking e x))
 
 -- A TAKE OF WAITING BYTES
 module _ (g : Config) (room : ℕ) (c : Connection) where
@@ -130,13 +113,13 @@ module _ (g : Config) (room : ℕ) (c : Connection) where
       emptied = withSend 0 0 false c
 
       go : (a : Bool) → g .automatic ≡ a → (w : Bool) → wildcard (g .remote) ≡ w → (t : Bool) → g .tcp ≡ t
-          → TakeLeaves g room c (cond (a && w) (cond t (withMode (emptied .mode) (emptied .«open_wanted») true emptied) (become Reconnect (withRemote (g .remote) emptied))) emptied)
+          → TakeLeaves g room c (cond (a && w) (cond t (withMode (emptied .mode) (emptied .«open_wanted») true emptied) (become Reconnect (resetOf g emptied))) emptied)
       go true a true w true t =
-          to-be-closed some fits (drained (withMode (c .mode) (c .«open_wanted») true emptied) refl refl refl refl refl refl) (a, w) t refl refl refl
+          to-be-closed some fits (drained (withMode (c .mode) (c .«open_wanted») true emptied) refl refl refl refl refl refl) (a, w) t refl refl refl refl
       go true a true w false t =
-          back-to-reconnect some fits (drained (become Reconnect (withRemote (g .remote) emptied)) refl refl refl refl refl refl) (a, w) t refl refl refl
-      go true a false w t _ = stays-as-it-is some fits (drained emptied refl refl refl refl refl refl) (λ s. false≢true (sym w ∙ s .1)) refl refl refl
-      go false a w _ t _ = stays-as-it-is some fits (drained emptied refl refl refl refl refl refl) (λ s. false≢true (sym a ∙ s .0)) refl refl refl
+          back-to-reconnect some fits (drained (become Reconnect (resetOf g emptied)) refl refl refl refl refl refl) (a, w) t refl refl refl refl
+      go true a false w t _ = stays-as-it-is some fits (drained emptied refl refl refl refl refl refl) (λ s. false≢true (sym w ∙ s .1)) refl refl refl refl
+      go false a w _ t _ = stays-as-it-is some fits (drained emptied refl refl refl refl refl refl) (λ s. false≢true (sym a ∙ s .0)) refl refl refl refl
 
   pub take-leaves : TakeLeaves g room c (takeOf g room c)
   unfolding takeOf
@@ -150,7 +133,7 @@ module _ (g : Config) (room : ℕ) (c : Connection) where
 -- A DATAGRAM OR AN ACCEPT that meets connection k leaves it online with the source as remote, and every other record and both counts as they were
 module _ (l : Lent) (accept : Bool) (group : ℕ) (source : Remote) (k : ℕ) where
   abbrev Met-is : Arrived → Type 0
-  Met-is x = x .answer ≡ Met k → x .state ≡ withRecord k (metOf source (recordAt (l .state) k)) (l .state)
+  Met-is x = x .answer ≡ Met k → x .state ≡ withRecord k (metOf (configOf (l .image) k) source (recordAt (l .state) k)) (l .state)
 
   whom : Arrival → ℕ
   whom (Met n) = suc n
@@ -161,21 +144,21 @@ module _ (l : Lent) (accept : Bool) (group : ℕ) (source : Remote) (k : ℕ) wh
   unfolding whom
   not-met x z e = absurd (omega (arith, z, ap whom e))
 
-  met-is : (x : Chosen) → Met-is (meet (l .state) source x)
+  met-is : (x : Chosen) → Met-is (meet (l .image) (l .state) source x)
   unfolding whom
-  met-is Nobody e = not-met (meet (l .state) source Nobody) refl e
-  met-is (At j) e = let q : j ≡ k = omega (arith, ap whom e) in ap (λ (n : ℕ). withRecord n (metOf source (recordAt (l .state) n)) (l .state)) q
+  met-is Nobody e = not-met (meet (l .image) (l .state) source Nobody) refl e
+  met-is (At j) e = let q : j ≡ k = omega (arith, ap whom e) in ap (λ (n : ℕ). withRecord n (metOf (configOf (l .image) n) source (recordAt (l .state) n)) (l .state)) q
 
-  pub arrival-leaves : arrivalOf l accept group source .answer ≡ Met k → arrivalOf l accept group source .state ≡ withRecord k (metOf source (recordAt (l .state) k)) (l .state)
+  pub arrival-leaves : arrivalOf l accept group source .answer ≡ Met k → arrivalOf l accept group source .state ≡ withRecord k (metOf (configOf (l .image) k) source (recordAt (l .state) k)) (l .state)
   unfolding arrivalOf arriveOf whom
   arrival-leaves = gate (gateOf l)
     where
-      asked : (b : Bool) → Met-is (cond b (arrivalRefused (l .state) Denied) (meet (l .state) source (chosenIn (l .image) (l .state) accept group source)))
+      asked : (b : Bool) → Met-is (cond b (arrivalRefused (l .state) Denied) (meet (l .image) (l .state) source (chosenIn (l .image) (l .state) accept group source)))
       asked true = not-met (arrivalRefused (l .state) Denied) refl
       asked false = met-is (chosenIn (l .image) (l .state) accept group source)
 
       there : (b : Bool) → Met-is (cond b (arrivalRefused (l .state) Missing)
-          (cond (deniedOf (l .image) accept group source) (arrivalRefused (l .state) Denied) (meet (l .state) source (chosenIn (l .image) (l .state) accept group source))))
+          (cond (deniedOf (l .image) accept group source) (arrivalRefused (l .state) Denied) (meet (l .image) (l .state) source (chosenIn (l .image) (l .state) accept group source))))
       there true = not-met (arrivalRefused (l .state) Missing) refl
       there false = asked (deniedOf (l .image) accept group source)
 

@@ -1,4 +1,5 @@
--- TIMER AND DUE MARK after any appends and ticks, from a record with no timer and not due.
+-- TIMER AND DUE MARK after any appends and ticks that do not let the peer go, from a record with no timer and not due (`timer-reads`). Where no
+-- alive timer runs, no tick does (`unwatched-keeps`).
 use Prim.Native.Nat.{ℕ, zero, suc, _+_, _-_, _<_, _≤_}
 use mathlib.Core.Path.{_≡_, refl, sym, ap, ap₂, _∙_, subst}
 use mathlib.Core.Bool.{Bool, true, false, cond, not, _&&_, _||_, false≢true}
@@ -11,10 +12,12 @@ use Rattle.lists.proofs.Both.{impossible}
 use Rattle.table_rows.specs.declared.DestinationRow.{DestinationRow}
 use Rattle.connection.specs.declared.Config.{Config}
 use Rattle.connection.specs.declared.Connection.{Connection}
-use Rattle.connection.specs.Connection.{isOffline, isReconnect, wildcard, startedOf, reachOf, runOf, tickOf, withMode, withSend, become}
+use Rattle.connection.specs.Connection.{isOffline, isReconnect, wildcard, startedOf, reachOf, runOf, expires, sunkOf, tickOf, withMode, withSend, become}
 use Rattle.connection.specs.declared.Mode.the-variants.{Reconnect, Online}
+use Rattle.connection.specs.declared.Watch.{Watch}
+use Rattle.connection.proofs.Ticks.{Tick, closes-wanted, lets-go, goes-on, tick-is, tick-goes-on}
 use Rattle.send_destination.specs.Destination.{timerOf, sentOf}
-use Rattle.theorem_timer.specs.Timer.{BufferStep, stores, ticks, bufferAfter, WaitsSince, just-stored, stored-before, one-tick-more, Overdue, by-trigger, by-timeout, OneOverdue, AllowsStill, TimerReads}
+use Rattle.theorem_timer.specs.Timer.{BufferStep, stores, ticks, bufferAfter, KeepsPeer, WaitsSince, just-stored, stored-before, one-tick-more, Overdue, by-trigger, by-timeout, OneOverdue, AllowsStill, TimerReads}
 
 -- AN APPEND, by what the timer becomes
 module _ (steps : List BufferStep) (timer : ℕ) (due : Bool) (h : TimerReads steps timer due) (d : DestinationRow) (used : ℕ) where
@@ -200,11 +203,14 @@ module _ (steps : List BufferStep) where
 -- ON A RECORD without close wanted
 module _ (g : Config) where
   -- what a tick does before it lowers the timer
+  abbrev readied : Connection → Connection
+  readied c = reachOf g (startedOf g c)
+
   abbrev ready : Connection → Connection
-  ready c = reachOf g (startedOf g c)
+  ready c = readied (sunkOf c)
 
   ready-keeps : (P : Connection → Type 0) (c : Connection) → P c → P (withMode Reconnect false (c .«close_wanted») c) → P (become Online c)
-      → P (become Online (withMode Reconnect false (c .«close_wanted») c)) → P (ready c)
+      → P (become Online (withMode Reconnect false (c .«close_wanted») c)) → P (readied c)
   unfolding startedOf reachOf
   ready-keeps P c stays starts reaches both = start (isOffline (c .mode) && (c .«open_wanted» || g .automatic))
     where
@@ -227,7 +233,7 @@ module _ (g : Config) where
 
   ready-same : (c : Connection) → Untimed c (ready c)
   ready-same c =
-      ready-keeps (Untimed c) c (record { timer = refl; due = refl; closing = refl }) (record { timer = refl; due = refl; closing = refl }) (record { timer = refl; due = refl; closing = refl })
+      ready-keeps (Untimed c) (sunkOf c) (record { timer = refl; due = refl; closing = refl }) (record { timer = refl; due = refl; closing = refl }) (record { timer = refl; due = refl; closing = refl })
       (record { timer = refl; due = refl; closing = refl })
 
   -- and then
@@ -243,28 +249,27 @@ module _ (g : Config) where
       go true = (refl, refl, refl)
       go false = (refl, refl, refl)
 
-  tick-runs : (c : Connection) → c .«close_wanted» ≡ false → tickOf g c ≡ runOf (ready c)
-  unfolding tickOf
-  tick-runs c e = rw e
+  tick-runs : (c : Connection) → c .«close_wanted» ≡ false → expires g c ≡ false → tickOf g c ≡ runOf (ready c)
+  tick-runs c e x = sym (tick-goes-on g c e x)
 
   module _ (c : Connection) (idle : c .timer ≡ 0) (rests : c .due ≡ false) (stays : c .«close_wanted» ≡ false) where
     abbrev at : List BufferStep → Connection
     at steps = bufferAfter g c steps
 
-    stays-open : (steps : List BufferStep) → at steps .«close_wanted» ≡ false
-    unfolding bufferAfter
-    stays-open [] = stays
-    stays-open (stores d used ∷ steps) = stays-open steps
-    stays-open (ticks ∷ steps) =
-        ap (λ (x : Connection). x .«close_wanted») (tick-runs (at steps) (stays-open steps))
+    stays-open : (steps : List BufferStep) → KeepsPeer g c steps → at steps .«close_wanted» ≡ false
+    unfolding bufferAfter KeepsPeer
+    stays-open [] k = stays
+    stays-open (stores d used ∷ steps) k = stays-open steps k
+    stays-open (ticks ∷ steps) (x, k) =
+        ap (λ (x : Connection). x .«close_wanted») (tick-runs (at steps) (stays-open steps k) x)
         ∙ run-is (ready (at steps)) .2
         ∙ ready-same (at steps) .closing
-        ∙ stays-open steps
+        ∙ stays-open steps k
 
     -- WHAT TIMER AND DUE MARK SAY, after any appends and ticks
-    pub timer-reads : (steps : List BufferStep) → TimerReads steps (bufferAfter g c steps .timer) (bufferAfter g c steps .due)
-    unfolding bufferAfter
-    timer-reads [] =
+    pub timer-reads : (steps : List BufferStep) → KeepsPeer g c steps → TimerReads steps (bufferAfter g c steps .timer) (bufferAfter g c steps .due)
+    unfolding bufferAfter KeepsPeer
+    timer-reads [] k =
         record {
           due-by = λ e. impossible (sym rests ∙ e);
           over-due = λ trigger timeout age w. absurd (none trigger timeout age w);
@@ -280,14 +285,35 @@ module _ (g : Config) where
             empty _ (just-stored d used steps) e = omega (arith, e)
             empty _ (stored-before d used w) e = omega (arith, e)
             empty _ (one-tick-more w) e = omega (arith, e)
-    timer-reads (stores d used ∷ steps) = stored-reads steps (at steps .timer) (at steps .due) (timer-reads steps) d used
-    timer-reads (ticks ∷ steps) =
+    timer-reads (stores d used ∷ steps) k = stored-reads steps (at steps .timer) (at steps .due) (timer-reads steps k) d used
+    timer-reads (ticks ∷ steps) (e, k) =
         let x = at steps in
         let r = run-is (ready x) in
         let s = ready-same x in
-        let is = tick-runs x (stays-open steps) in
+        let is = tick-runs x (stays-open steps k) e in
         subst (λ (y : Connection). TimerReads (ticks ∷ steps) (y .timer) (y .due)) (sym is)
         (subst (λ (n : ℕ). TimerReads (ticks ∷ steps) n (runOf (ready x) .due)) (sym (r .0 ∙ ap (λ (n : ℕ). cond (eqb n 0) n (n - 1)) (s .timer)))
         (subst (λ (b : Bool). TimerReads (ticks ∷ steps) (cond (eqb (x .timer) 0) (x .timer) (x .timer - 1)) b)
         (sym (r .1 ∙ ap₂ (λ (n : ℕ) (b : Bool). cond (eqb n 0) b (eqb n 1 || b)) (s .timer) (s .due)))
-        (ticked-reads steps (x .timer) (x .due) (timer-reads steps))))
+        (ticked-reads steps (x .timer) (x .due) (timer-reads steps k))))
+
+-- WHERE NO ALIVE TIMER RUNS no tick lets the peer go
+tick-alive : (g : Config) (c : Connection) → c .watch .alive ≡ 0 → tickOf g c .watch .alive ≡ 0
+tick-alive g c z = go (tickOf g c) (tick-is g c)
+  where
+    go : (d : Connection) → Tick g c d → d .watch .alive ≡ 0
+    go _ (closes-wanted e) = refl
+    go _ (lets-go e x) = refl
+    go d (goes-on _ e x t) = ap (λ (v : Watch). v .alive) (t .watch) ∙ omega (arith, z)
+
+buffer-alive : (g : Config) (c : Connection) → c .watch .alive ≡ 0 → (steps : List BufferStep) → bufferAfter g c steps .watch .alive ≡ 0
+unfolding bufferAfter
+buffer-alive g c z [] = z
+buffer-alive g c z (stores d used ∷ steps) = buffer-alive g c z steps
+buffer-alive g c z (ticks ∷ steps) = tick-alive g (bufferAfter g c steps) (buffer-alive g c z steps)
+
+pub unwatched-keeps : (g : Config) (c : Connection) → c .watch .alive ≡ 0 → (steps : List BufferStep) → KeepsPeer g c steps
+unfolding KeepsPeer
+unwatched-keeps g c z [] = tt
+unwatched-keeps g c z (stores d used ∷ steps) = unwatched-keeps g c z steps
+unwatched-keeps g c z (ticks ∷ steps) = (rw (buffer-alive g c z steps), unwatched-keeps g c z steps)

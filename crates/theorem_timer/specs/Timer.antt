@@ -6,7 +6,7 @@ use mathlib.Core.List.{List, [], _∷_}
 use Rattle.table_rows.specs.declared.DestinationRow.{DestinationRow}
 use Rattle.connection.specs.declared.Config.{Config}
 use Rattle.connection.specs.declared.Connection.{Connection}
-use Rattle.connection.specs.Connection.{tickOf}
+use Rattle.connection.specs.Connection.{expires, tickOf}
 use Rattle.send_destination.specs.Destination.{sentOf}
 
 -- what happens to a connection's buffer: a destination appends, with so many bytes used then; or a tick passes
@@ -19,6 +19,12 @@ unfoldable pub bufferAfter : Config → Connection → List BufferStep → Conne
 bufferAfter g c [] = c
 bufferAfter g c (stores d used ∷ steps) = sentOf d used (bufferAfter g c steps)
 bufferAfter g c (ticks ∷ steps) = tickOf g (bufferAfter g c steps)
+
+-- no tick of these lets the peer go (R20.4): that would drop all that waits
+unfoldable pub KeepsPeer : Config → Connection → List BufferStep → Type 0
+KeepsPeer g c [] = Unit
+KeepsPeer g c (stores d used ∷ steps) = KeepsPeer g c steps
+KeepsPeer g c (ticks ∷ steps) = (expires g (bufferAfter g c steps) ≡ false) × KeepsPeer g c steps
 
 -- A PDU THAT WAITS: with this trigger and timeout, stored so many ticks ago
 pub data WaitsSince : List BufferStep → Bool → ℕ → ℕ → Type 0 where

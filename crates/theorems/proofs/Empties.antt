@@ -13,7 +13,7 @@ use Rattle.lists.specs.Each.{eachTo}
 use Rattle.table_layout.specs.Layout.{rowsOf}
 use Rattle.table_layout.specs.declared.Kind.the-variants.{Connection as Connections}
 use Rattle.connection.specs.declared.Connection.{Connection}
-use Rattle.connection.specs.Connection.{zeroRecord}
+use Rattle.connection.specs.Connection.{zeroRecord, tickOf}
 use Rattle.connection.specs.Event.{receiving}
 use Rattle.reading.specs.Feed.{segmentRan as segmentOf, finely}
 use Rattle.state.specs.declared.State.{State}
@@ -31,7 +31,7 @@ use Rattle.model_refines.specs.Whole.{wholeOf}
 use Rattle.model_refines.proofs.Left.{left-nothing}
 use Rattle.model_refines.proofs.Becomes.{Becomes, becomes-itself, as-it-was, becomes-met, becomes-ticked, becomes-switched, becomes-sent, becomes}
 use Rattle.theorems.specs.Waits.{drains, ownEmpties}
-use Rattle.law_waits.specs.Waits.{emptiedBy, was-taken, was-lost, isEmptied, onlyIf}
+use Rattle.law_waits.specs.Waits.{emptiedAtTick, emptiedBy, was-taken, was-lost, isEmptied, onlyIf}
 
 -- a take: one of nothing leaves nothing
 drains-used : (room : ℕ) (c : Connection) → cond (not (ltb room (c .used))) 0 (c .used) ≡ cond (drains room c) 0 (c .used)
@@ -74,11 +74,16 @@ module _ {A : Type 0} (d : A) (f : ℕ → A → A) (P : A → Type 0) where
 
 -- A TICK
 pub ticked-used : (image : List ℕ) (s : State) (j : ℕ) → rowsOf image Connections ≤ length (s .connections)
-    → recordAt (tickedTo image (rowsOf image Connections) s) j .used ≡ cond (ltb j (rowsOf image Connections) && recordAt s j .«close_wanted») 0 (recordAt s j .used)
+    → recordAt (tickedTo image (rowsOf image Connections) s) j .used ≡ cond (ltb j (rowsOf image Connections) && isEmptied (emptiedAtTick (configOf image j) (recordAt s j))) 0 (recordAt s j .used)
 unfolding tickedTo
 ticked-used image s j rows =
-    below-or-past zeroRecord (tickAt image) (λ (c : Connection). c .used ≡ cond (ltb j (rowsOf image Connections) && recordAt s j .«close_wanted») 0 (recordAt s j .used)) 0 (rowsOf image Connections) (s .connections) j rows
-    (λ h. rw (lt-ltb _ _ h) (tick-used (configOf image (0 + j)) (recordAt s j)))
+    below-or-past zeroRecord (tickAt image)
+    (λ (c : Connection). c .used ≡ cond (ltb j (rowsOf image Connections) && isEmptied (emptiedAtTick (configOf image j) (recordAt s j))) 0 (recordAt s j .used))
+    0 (rowsOf image Connections) (s .connections) j rows
+    (λ h.
+    let z : 0 + j ≡ j = omega arith in
+    rw (lt-ltb _ _ h) (subst (λ (i : ℕ). tickOf (configOf image i) (recordAt s j) .used ≡ cond (isEmptied (emptiedAtTick (configOf image j) (recordAt s j))) 0 (recordAt s j .used))
+    (sym z) (tick-used (configOf image j) (recordAt s j))))
     (λ h. rw (le-ltb _ _ h))
 
 -- neither a tick nor a transmit
@@ -122,7 +127,7 @@ module _ (image : List ℕ) (w : World) (j : ℕ) where
   becomes-used : (e : Whole) (h : Held) → Becomes image j (heldAt w j) e h → leavesAll e ≡ true → h .connection .used ≡ c .used
   becomes-used _ _ (becomes-itself e) l = refl
   becomes-used _ _ (as-it-was e) l = refl
-  becomes-used _ _ (becomes-met e source) l = refl
+  becomes-used _ _ (becomes-met e source _) l = refl
   becomes-used _ _ becomes-ticked l = absurd (false≢true l)
   becomes-used _ _ (becomes-switched e n b) l = refl
   becomes-used _ _ (becomes-sent pdu payload h a) l = absurd (false≢true l)

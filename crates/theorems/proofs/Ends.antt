@@ -19,7 +19,7 @@ use Rattle.model_refines.specs.Table.{tableOf}
 use Rattle.model_refines.specs.Whole.{wholeOf}
 use Rattle.lists.proofs.Each.{one-at}
 use Rattle.connection.proofs.Leaves.{after-leaves, only-loss}
-use Rattle.connection.proofs.Ticks.{Tick, closes-wanted, goes-on, tick-is, step-either}
+use Rattle.connection.proofs.Ticks.{Tick, closes-wanted, lets-go, goes-on, tick-is, let-go-udp, step-either}
 use Rattle.send_waiting.proofs.Taken.{take-mode}
 use Rattle.model_refines.proofs.Becomes.{Acts, acts-idle, acts-fed, acts-changed, acts-took, acts-is, Becomes, becomes-itself, as-it-was, becomes-met, becomes-ticked, becomes-switched, becomes-sent, becomes}
 use Rattle.theorems.specs.Ends.{EndsBy, by-loss, by-closing}
@@ -53,7 +53,8 @@ module _ (image : List ℕ) (w : World) (k : ℕ) (tcp : configOf image k .tcp �
     where
       go : (d : Connection) → Tick (configOf image k) c d → Up d c
       go d (closes-wanted e) = absurd (false≢true (sym stays ∙ e))
-      go d (goes-on _ e t) = λ on-line. t .online tcp ∙ on-line
+      go d (lets-go e x) = absurd (false≢true (sym (let-go-udp (configOf image k) c x) ∙ tcp))
+      go d (goes-on _ e x t) = λ on-line. t .online tcp ∙ on-line
 
   own-up : (i : ℕ) (e : Own) → (i ≡ k → losing e ≡ false) → Up (heldAt (step (tableOf image) (wholeOf image) w (on i e)) k .connection) c
   unfolding step
@@ -86,7 +87,7 @@ module _ (image : List ℕ) (w : World) (k : ℕ) (tcp : configOf image k .tcp �
       → EndsBy k c (onWhole e)
   ends-whole _ _ is (becomes-itself e) q = absurd (still e is (λ on-line. on-line) q)
   ends-whole _ _ is (as-it-was e) q = absurd (still e is (λ on-line. on-line) q)
-  ends-whole _ _ is (becomes-met e source) q = absurd (still e is (λ on-line. refl) q)
+  ends-whole _ _ is (becomes-met e source _) q = absurd (still e is (λ on-line. refl) q)
   ends-whole _ _ is becomes-ticked q = go (c .«close_wanted») refl
     where
       go : (b : Bool) → c .«close_wanted» ≡ b → EndsBy k c (onWhole tick)

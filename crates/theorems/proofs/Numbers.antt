@@ -200,7 +200,7 @@ module _ (image : List ℕ) (m : Machine) where
       Met : Arrived → Type 0
       Met t = among (arrivalNumber (t .answer)) (11 ∷ 12 ∷ 2 ∷ 3 ∷ 10 ∷ 0 ∷ []) ≡ true
 
-      past : (x y : Bool) (c : Chosen) → Met (cond x (notMet s Missing) (cond y (notMet s Denied) (meet s source c)))
+      past : (x y : Bool) (c : Chosen) → Met (cond x (notMet s Missing) (cond y (notMet s Denied) (meet image s source c)))
       past true y c = refl
       past false true c = refl
       past false false Nobody = refl

@@ -134,7 +134,7 @@ module _ (image : List ℕ) (m : Machine) where
   unfolding arriveOf
   arrive-stays a group source = go (leb (rowsOf image Group) group) (deniedOf image a group source) (chosenIn image s a group source)
     where
-      go : (x y : Bool) (c : Chosen) → StaysArrived (cond x (notMet s Missing) (cond y (notMet s Denied) (meet s source c)))
+      go : (x y : Bool) (c : Chosen) → StaysArrived (cond x (notMet s Missing) (cond y (notMet s Denied) (meet image s source c)))
       go true y c no-zero = refl
       go false true c no-zero = refl
       go false false Nobody no-zero = refl

@@ -1,5 +1,5 @@
 -- SEND BUFFERS OVER RUNS: what waits on a connection is what waited at the start and the frames stored since, or only the frames stored
--- since the last loss, closing tick or non-empty take. So from nothing waiting it is the frames of the PDUs that were stored, by name.
+-- since the last loss, closing tick, expiry or non-empty take. So from nothing waiting it is the frames of the PDUs that were stored, by name.
 use Prim.Native.Nat.{ℕ, zero, suc, _*_, _≤_}
 use mathlib.Core.Path.{_≡_, refl, sym, ap, ap₂, _∙_, subst}
 use mathlib.Core.Bool.{Bool, true, false, cond, _&&_}
@@ -26,7 +26,7 @@ use Rattle.entry_ticks.specs.declared.Ticked.{Ticked}
 use Rattle.entry_ticks.specs.Tick.{tickedTo, unticked, tickedFrom, tickEvent}
 use Rattle.entry_receive.specs.Answer.{isDone}
 use Rattle.send_waiting.specs.Waiting.{waitingOf}
-use Rattle.law_waits.specs.Waits.{waits, goesTo, framesFrom, addedTo, turned, afterAll, anyEmpties, since, was-closed, Emptied, not-emptied, emptied, isEmptied, onlyIf, turnBy}
+use Rattle.law_waits.specs.Waits.{waits, goesTo, framesFrom, addedTo, turned, afterAll, anyEmpties, since, emptiedAtTick, Emptied, not-emptied, emptied, isEmptied, onlyIf, turnBy}
 use Rattle.law_waits.proofs.Since.{waits-since}
 use Rattle.law_turns.proofs.Entries.{transmit-turn}
 use Rattle.model.specs.World.{World, heldAt}
@@ -43,7 +43,7 @@ use Rattle.model_refines.proofs.Good.{event-good}
 use Rattle.model_refines.proofs.Modules.{past}
 use Rattle.theorems.specs.Waits.{sentFrom, sentTo, ownEmpties, emptiesBy, addsBy, turnOf, turnsOf, sentIn}
 use Rattle.theorems.proofs.Empties.{ticked-used, own-used, leavesAll, whole-used}
-use Rattle.law_waits.proofs.Turns.{if-emptied}
+use Rattle.law_waits.proofs.Turns.{only-emptied}
 
 -- FRAMES: what a transmit adds is the frames of what it sends
 frames-append : (a b : List Sent) → frames (a ++ b) ≡ frames a ++ frames b
@@ -124,7 +124,7 @@ module _ (image : List ℕ) (j : ℕ) (m : Machine) (good : Good image m) where
       ap (λ (t : Ticked). recordAt (t .state) j .used)
       (past (loanTo image m) (unticked (m .state)) (tickedFrom (rowsOf image Connections) (m .state) (tickedTo image (rowsOf image Connections) (m .state))) (good .passed))
       ∙ ticked-used image (m .state) j rows-fit
-      ∙ ap (λ (b : Bool). cond b 0 (c .used)) (sym (if-emptied (ltb j (rowsOf image Connections) && c .«close_wanted») was-closed))
+      ∙ ap (λ (b : Bool). cond b 0 (c .used)) (sym (only-emptied (ltb j (rowsOf image Connections)) (emptiedAtTick (configOf image j) c)))
 
   -- AN EVENT THAT ADDS NOTHING, and the bytes themselves
   kept-waits : (e : Event) → addsBy image j m e ≡ [] → afterEvent image e m .tx ≡ m .tx → recordAt (afterEvent image e m .state) j .used ≡ cond (isEmptied (emptiesBy image j m e)) 0 (c .used)

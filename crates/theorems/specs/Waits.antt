@@ -1,5 +1,5 @@
--- R10.10, WHAT AN EVENT MAKES OF THE BYTES WAITING ON A CONNECTION, by the event: a loss, a closing tick and a non-empty take empty them; a stored
--- transmit adds the frames of its switched-on destinations there; every other event leaves them. And the PDUs whose frames these bytes are.
+-- R10.10, WHAT AN EVENT MAKES OF THE BYTES WAITING ON A CONNECTION, by the event: a loss, a closing tick, a tick that lets a silent peer go and a
+-- non-empty take empty them; a stored transmit adds the frames of its switched-on destinations there; every other event leaves them. And the PDUs whose frames these bytes are.
 use Prim.Native.Nat.{ℕ, zero, suc}
 use mathlib.Core.Bool.{Bool, cond, not, _&&_}
 use mathlib.Core.List.{List, [], _∷_, _++_}
@@ -16,7 +16,7 @@ use Rattle.state.specs.State.{recordAt}
 use Rattle.state.specs.Fresh.{configOf}
 use Rattle.send.specs.Verdict.{isStored}
 use Rattle.send.specs.Send.{destinations, checkOf}
-use Rattle.law_waits.specs.Waits.{goesTo, emptiedBy, was-taken, was-closed, was-lost, Emptied, not-emptied, isEmptied, emptiedIf, onlyIf, Turn, turnBy}
+use Rattle.law_waits.specs.Waits.{goesTo, emptiedAtTick, emptiedBy, was-taken, was-lost, Emptied, not-emptied, isEmptied, emptiedIf, onlyIf, Turn, turnBy}
 use Rattle.model.specs.Events.{Own, change, segment, walk, takeWaiting, datagram, accept, tick, transmit, switchAll, readCount, clearCount, Event, on, onWhole}
 use Rattle.model_refines.specs.Machine.{Machine}
 use Rattle.model_refines.specs.Run.{afterEvent}
@@ -45,12 +45,13 @@ ownEmpties (takeWaiting room) g c = emptiedIf (drains room c) was-taken
 
 -- ANY EVENT, seen from connection j
 module _ (image : List ℕ) (j : ℕ) where
-  -- whether it empties, and why (a number that is not there is refused): its own loss or non-empty take, and a tick with close wanted
+  -- whether it empties, and why (a number that is not there is refused): its own loss or non-empty take, a tick with close wanted, and
+  -- one that lets go
   abbrev pub emptiesBy : Machine → Event → Emptied
   emptiesBy m (on k e) = onlyIf (eqb k j && ltb j (rowsOf image Connections)) (ownEmpties e (configOf image j) (recordAt (m .state) j))
   emptiesBy m (onWhole (datagram group source)) = not-emptied
   emptiesBy m (onWhole (accept group source)) = not-emptied
-  emptiesBy m (onWhole tick) = emptiedIf (ltb j (rowsOf image Connections) && recordAt (m .state) j .«close_wanted») was-closed
+  emptiesBy m (onWhole tick) = onlyIf (ltb j (rowsOf image Connections)) (emptiedAtTick (configOf image j) (recordAt (m .state) j))
   emptiesBy m (onWhole (transmit pdu payload)) = not-emptied
   emptiesBy m (onWhole (switchAll number position)) = not-emptied
   emptiesBy m (onWhole (readCount protocol)) = not-emptied

@@ -1,0 +1,5 @@
+-- The laws of the crate.
+pub mod Record
+pub mod Events
+pub mod Alive
+pub mod Started
