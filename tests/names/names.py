@@ -213,7 +213,7 @@ def service():
     """The laptop that goes away: check lists the limit, and the run serves the next one; its timer stands in the record at the end."""
     status, out, error = soad("check", "examples/service-table.txt")
     same((status, error, out.splitlines()[-1]), (0, "", "OK"), "./soad check of examples/service-table.txt")
-    true('\n  connection 0: group 0, manual, remote any port any, send size 512 bytes, alive limit 30 ticks, start switches 0x00000000, '
+    true('\n  connection 0: group 0, opened on request, remote any port any, send size 512 bytes, alive limit 30 ticks, start switches 0x00000000, '
          'name "service laptop"\n' in out, f"./soad check lists the alive limit: {out}")
     true(", alive limit " not in soad("check", "examples/debarker.txt")[1], "./soad check lists no limit where there is none")
     status, out, error = soad("run", "examples/service-table.txt", "examples/service.txt")
