@@ -35,13 +35,12 @@ count() {
 
 per_call() { echo $((($(count "$work/bench" "$@" 70 </dev/null) - $(count "$work/bench" "$@" 20 </dev/null)) / 50)); }
 
-# repeated PROGRAM WHAT QUARTERS LENGTH: the calls of a short run, 20, and of a long one, 70; 1 and 3 of what is long by itself; of many ticks none and
-# 1, since no timer runs after them; of a replay of 10 entries 1 and 401, which are 4,000 entries more.
+# repeated PROGRAM WHAT QUARTERS LENGTH: the calls of a short run, 20, and of a long one, 70; 1 and 3 of what is long by itself; of a replay of 10
+# entries 1 and 401, which are 4,000 entries more.
 repeated() {
     local short=20 long=70 less more
     case $2 in
-    *segment) short=1 long=3 ;;
-    *ticks) short=0 long=1 ;;
+    *segment | *ticks) short=1 long=3 ;;
     *replay) short=1 long=401 ;;
     esac
     less=$("${start[@]}" "$work/input" "${@:2}" "$short" | count "$1") || return
@@ -57,6 +56,7 @@ per_event() {
     transmit) besides=emptied ;;
     waiting) besides=holding ;;
     piece) besides=begun ;;
+    wound) besides=wind ;;
     switch | all | clear | lost | accept | remote | close) besides=idle ;;
     *) besides=nothing ;;
     esac
