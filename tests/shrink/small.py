@@ -15,7 +15,7 @@ SECOND, RUN = sys.argv[1], sys.argv[2:]
 
 # part of the comparison, seed, cases, who answers, the fault, and what the printed case may have at most
 FAULTS = [
-    ("runs", 1, 40, "run", "DueOneTickEarly", {"entries": 4, "table rows": 3}),
+    ("runs", 3, 40, "run", "DueOneTickEarly", {"entries": 4, "table rows": 3}),
     ("runs", 3, 10, "run", "FewerFieldsWin", {"entries": 3, "table rows": 3}),
     ("runs", 2, 20, "run", "StoredBeforeAllChecked", {"entries": 4, "table rows": 5}),
     ("streams", 2, 10, "run", "SwitchAtTheEnd", {"entries": 4, "table rows": 3}),
