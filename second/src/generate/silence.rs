@@ -107,6 +107,20 @@ impl Runner<'_> {
         Event::SetRemote(number, configured.filter(|_| self.random.one_in(3)).unwrap_or(any))
     }
 
+    /// A TCP connection that waits for its peer gets a remote, and then its peer; one that has its peer loses it.
+    fn peer_of_tcp(&mut self) -> Event {
+        if self.random.one_in(6) {
+            return Event::Lost(self.fitting(|config, record| config.tcp && record.mode == Mode::Online && record.remote_set));
+        }
+        let number = self.fitting(|config, record| config.tcp && record.mode == Mode::Reconnect);
+        let marked = self.world.state.records.get(usize::from(number)).map_or(false, |record| record.remote_set);
+        match self.random.below(2) {
+            _ if !marked => Event::SetRemote(number, exact(self.random)),
+            0 => Event::Connected(number),
+            _ => self.accept_of_silences(),
+        }
+    }
+
     /// One of the events by which peers come, stay and go.
     pub(super) fn event_of_silences(&mut self) -> Event {
         let alive = |record: &Record| record.alive > 0;
@@ -135,7 +149,7 @@ impl Runner<'_> {
 fn all_watched(random: &mut Random, table: &Table) -> World {
     let mut start = sound(random, table);
     for (record, row) in start.state.records.iter_mut().zip(&table.connections).filter(|(_, row)| row.alive > 0) {
-        record.alive = random.between(1, usize::from(row.alive)).min(random.between(1, 4)) as u16;
+        record.alive = row.alive.min(*random.pick(&[1, 2, 3, 4, 4, u16::MAX]));
         (record.mode, record.open_wanted, record.remote_set) = (Mode::Online, false, random.one_in(4));
         record.close_wanted &= random.one_in(2);
         record.remote = exact(random);
@@ -161,5 +175,7 @@ pub fn silence_script(random: &mut Random, events: usize) -> Vec<u8> {
         add_events(&mut input, &mut runner, 1, |_| Event::Ticks(1));
     }
     add_events(&mut input, &mut runner, events, |runner| runner.event_of_silences());
+    let tcp = (0..runner.table.connections.len()).any(|connection| runner.table.protocol(connection) == TCP);
+    add_events(&mut input, &mut runner, if tcp { 4 } else { 0 }, |runner| runner.peer_of_tcp());
     input
 }

@@ -182,7 +182,11 @@ pub fn unsound_alive(random: &mut Random, table: &Table) -> Option<World> {
         let mut state = sound_state(random, table);
         let connection = random.below(table.connections.len());
         let limit = table.connections[connection].alive;
-        state.records[connection].alive = *random.pick(&[1, limit, limit.saturating_add(1), u16::MAX]);
+        let record = &mut state.records[connection];
+        if random.one_in(2) {
+            *record = Record { mode: Mode::Online, remote: exact(random), ..Record::zero() };
+        }
+        record.alive = *random.pick(&[1, limit, limit.saturating_add(1), u16::MAX]);
         if !broken(table, &state).is_empty() {
             return Some(world(random, table, state));
         }
