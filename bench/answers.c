@@ -33,6 +33,8 @@ static struct record read_record(const uint8_t *at)
     c.used = be16(at + 38);
     c.timer = be16(at + 40);
     c.due = at[42];
+    c.alive = be16(at + 43);
+    c.remote_set = at[45];
     return c;
 }
 
@@ -40,17 +42,17 @@ static void print_record(const struct record *c)
 {
     printf("%02x%02x%02x04000000000000000000000000%08x%04x%08x", c->mode, c->open_wanted, c->close_wanted, c->remote.address, c->remote.port, c->switches);
     printf("%02x%02x%04x%016llx", c->part, c->route, c->held, (unsigned long long)(c->part == PAYLOAD_BYTES ? c->length : c->value));
-    printf("%04x%04x%02x\n", c->used, c->timer, c->due);
+    printf("%04x%04x%02x%04x%02x\n", c->used, c->timer, c->due, c->alive, c->remote_set);
 }
 
 static void start_from(const uint8_t *body)
 {
     for (size_t i = 0; i < 16; i++)
-        state.connections[i] = read_record(body + 43 * i);
-    state.drops[0] = be32(body + 688);
-    state.drops[1] = be32(body + 692);
-    memcpy(rx, body + 696, sizeof rx);
-    memcpy(tx, body + 696 + sizeof rx, sizeof tx);
+        state.connections[i] = read_record(body + 46 * i);
+    state.drops[0] = be32(body + 736);
+    state.drops[1] = be32(body + 740);
+    memcpy(rx, body + 744, sizeof rx);
+    memcpy(tx, body + 744 + sizeof rx, sizeof tx);
 }
 
 /* FNV-1a of 32 bits, both memories one after the other. */

@@ -56,6 +56,7 @@ per_event() {
     transmit) besides=emptied ;;
     waiting) besides=holding ;;
     piece) besides=begun ;;
+    wound) besides=wind ;;
     switch | all | clear | lost | accept | remote | close) besides=idle ;;
     *) besides=nothing ;;
     esac

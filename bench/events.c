@@ -17,7 +17,7 @@ static bool is_wild(struct remote remote)
 struct config {
     bool tcp, automatic;
     struct remote remote;
-    uint16_t size;
+    uint16_t size, alive;
     uint32_t switches;
 };
 
@@ -29,6 +29,7 @@ static struct config config_of(const struct layout *table, size_t n)
         .automatic = row[1] == 1,
         .remote = {.address = be32(row + 2), .port = be16(row + 6)},
         .size = be16(row + 8),
+        .alive = be16(row + 10),
         .switches = be32(row + 12),
     };
 }
@@ -71,6 +72,8 @@ static bool is_sound(const struct layout *table, size_t n, const struct record *
         return false;
     if (online && is_wild(c->remote))
         return false;
+    if (c->alive != 0 && (!online || c->alive > config.alive)) /* a TCP connection has no limit */
+        return false;
     if (c->open_wanted && (config.automatic || c->mode != OFFLINE || c->close_wanted))
         return false;
     return !(c->close_wanted && config.automatic && (!config.tcp || c->mode == OFFLINE));
@@ -79,7 +82,7 @@ static bool is_sound(const struct layout *table, size_t n, const struct record *
 static bool is_zero(const struct record *c)
 {
     return c->mode == OFFLINE && !c->open_wanted && !c->close_wanted && !c->due && c->remote.address == 0 && c->remote.port == 0 &&
-           c->switches == 0 && is_empty(c) && c->used == 0 && c->timer == 0;
+           c->switches == 0 && is_empty(c) && c->used == 0 && c->timer == 0 && c->alive == 0 && !c->remote_set;
 }
 
 /* 11, then 12. */
@@ -221,6 +224,7 @@ uint32_t twin_set_remote(const struct lent *lent, uint8_t connection, struct rem
     if (c->mode == ONLINE)
         return 3;
     c->remote = remote;
+    c->remote_set = true;
     return 0;
 }
 
@@ -538,6 +542,14 @@ uint32_t twin_transmit(const struct lent *lent, uint16_t pdu, const uint8_t *pay
     return 0;
 }
 
+/* The configured remote is back, and nobody is watched. */
+static void reset(struct record *c, struct config config)
+{
+    c->remote = config.remote;
+    c->remote_set = false;
+    c->alive = 0;
+}
+
 uint32_t twin_take_waiting(const struct lent *lent, uint8_t connection, uint8_t *out, size_t room, size_t *count,
                            struct remote *remote)
 {
@@ -561,10 +573,19 @@ uint32_t twin_take_waiting(const struct lent *lent, uint8_t connection, uint8_t 
             c->close_wanted = true;
         } else {
             c->mode = RECONNECT;
-            c->remote = config.remote;
+            reset(c, config);
         }
     }
     return 0;
+}
+
+/* A silent peer: reconnect, send bytes dropped, remote as configured. */
+static void let_go(struct record *c, struct config config)
+{
+    c->mode = RECONNECT;
+    c->used = c->timer = 0;
+    c->due = false;
+    reset(c, config);
 }
 
 static void tick_record(struct record *c, struct config config)
@@ -573,6 +594,10 @@ static void tick_record(struct record *c, struct config config)
         uint32_t switches = c->switches;
         *c = fresh(config);
         c->switches = switches;
+        return;
+    }
+    if (c->alive != 0 && --c->alive == 0 && !c->remote_set) {
+        let_go(c, config);
         return;
     }
     if (c->mode == OFFLINE && (c->open_wanted || config.automatic)) {
@@ -606,12 +631,24 @@ uint32_t twin_tick(const struct lent *lent, uint16_t *failed)
     return 0;
 }
 
-/* Two ticks settle a record; after them only its timer moves. */
+/* Two ticks settle a record; after them only its timers move. One that is let go, then or later, waits for no more than the next tick. */
 static void tick_many(struct record *c, struct config config, uint32_t count)
 {
     for (unsigned i = 0; i < 2 && count > 0; i++, count--)
         tick_record(c, config);
-    if (c->timer == 0 || count == 0)
+    if (count == 0)
+        return;
+    if (c->alive != 0 && c->alive <= count && !c->remote_set) {
+        count -= c->alive;
+        let_go(c, config);
+    }
+    if (c->mode != ONLINE) {
+        if (count > 0)
+            tick_record(c, config);
+        return;
+    }
+    c->alive = c->alive <= count ? 0 : (uint16_t)(c->alive - count);
+    if (c->timer == 0)
         return;
     c->due = c->timer <= count;
     c->timer = c->due ? 0 : (uint16_t)(c->timer - count);
@@ -660,8 +697,11 @@ static uint32_t select_member(const struct lent *lent, uint8_t group, struct rem
     }
     if (best == 0)
         return 10;
-    lent->state->connections[*met].mode = ONLINE;
-    lent->state->connections[*met].remote = source;
+    struct record *c = &lent->state->connections[*met];
+    if (c->alive != 0 || is_wild(c->remote)) /* a peer that replaces a wildcard is watched, and every datagram starts its timer again */
+        c->alive = be16(table.body[CONNECTION] + *met * ROW + 10);
+    c->mode = ONLINE;
+    c->remote = source;
     return 0;
 }
 

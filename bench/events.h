@@ -18,6 +18,7 @@ struct remote {
 struct record {
     enum mode mode;
     bool open_wanted, close_wanted, due;
+    bool remote_set; /* the upper layer set the remote */
     struct remote remote;
     uint32_t switches;
     enum part part;
@@ -25,6 +26,7 @@ struct record {
     uint16_t length, held; /* of an unfinished payload; held also counts header bytes */
     uint64_t value;        /* header bytes held, as a number; bytes still to skip; bytes of a transfer to come */
     uint16_t used, timer;
+    uint16_t alive; /* the alive timer, 0 when stopped */
 };
 
 struct state {

@@ -7,7 +7,9 @@
  * a table whose groups are all TCP, with the first, the middle or the last row for its route; none: the same with an id that no row
  * has, and no payload; empty: a take of no bytes there; switch, all, clear, lost, accept, remote, close: events through the dispatcher,
  * which leave the state as they find it (lost and connected; lost and accept; lost, set remote and connected; close, tick, open,
- * tick); idle: none of them; piece: a take of LENGTH bytes inside a transfer; begun: what it does besides the call; replay: the recording of ten events, answers and all (shift.h). With a `+` before it: under a state in which each connection holds bytes to send.
+ * tick); idle: none of them; piece: a take of LENGTH bytes inside a transfer; begun: what it does besides the call; replay: the recording of ten events, answers and all (shift.h);
+ * wound: an event of LENGTH ticks before which every timer is started, under a table with alive limits; wind: what it does besides the call.
+ * With a `+` before it: under a state in which each connection holds bytes to send.
  */
 #include "image.h"
 #include "shift.h"
@@ -19,12 +21,12 @@ extern int strcmp(const char *one, const char *other);
 static const char *const names[] = {"nothing", "gate",    "take",  "cut",     "walk",    "transmit", "waiting", "tick", "datagram",
                                     "segment", "ticks",   "first", "middle",  "last",    "none",     "empty",   "emptied", "holding",
                                     "switch",  "all",     "clear", "lost",    "accept",  "remote",   "close",   "idle",
-                                    "replay",  "piece",   "begun"};
+                                    "replay",  "piece",   "begun", "wound",   "wind"};
 enum {
     NOTHING, GATE, TAKE, CUT, WALK, TRANSMIT, WAITING, TICK, DATAGRAM, SEGMENT, TICKS, FIRST, MIDDLE, LAST, NONE, EMPTY, EMPTIED, HOLDING,
-    SWITCH, ALL, CLEAR, LOST, ACCEPT, REMOTE, CLOSE, IDLE, REPLAY, PIECE, BEGUN, WHATS
+    SWITCH, ALL, CLEAR, LOST, ACCEPT, REMOTE, CLOSE, IDLE, REPLAY, PIECE, BEGUN, WOUND, WIND, WHATS
 };
-static const uint8_t numbers[] = {0, 1, 2, 3, 4, 5, 6, 7, 8, 9, 9, 2, 2, 2, 10, 11, 69, 70, 12, 12, 12, 12, 12, 12, 12, 12, 13, 14, 71};
+static const uint8_t numbers[] = {0, 1, 2, 3, 4, 5, 6, 7, 8, 9, 9, 2, 2, 2, 10, 11, 69, 70, 12, 12, 12, 12, 12, 12, 12, 12, 13, 14, 71, 15, 72};
 enum { EVENT_TICKS = 0, EVENT_SEGMENT = 7, PDU_BYTES = 10, BUSY = 128 };
 
 static uint8_t head[16], bytes[2944];
@@ -49,7 +51,7 @@ static unsigned route_of(unsigned what, unsigned rows)
     case NONE:
         return rows;
     default:
-        return rows - (what == TAKE || what == CUT || what == SEGMENT || what == LOST || what == ACCEPT || what == REMOTE || what >= PIECE ? 1 : 2);
+        return rows - (what == TAKE || what == CUT || what == SEGMENT || what == LOST || what == ACCEPT || what == REMOTE || what == PIECE || what == BEGUN ? 1 : 2);
     }
 }
 
@@ -134,9 +136,11 @@ int main(int count, char **words)
         set(bytes + 1, connection, 1);
         set(bytes + 2, pdus * PDU_BYTES, 4);
     }
-    if (what >= PIECE) /* its route is marked */
+    if (what == PIECE || what == BEGUN) /* its route is marked */
         image[36 + 2 * (2 * quarters) + 16 * (4 * quarters) + 16 * route + 1] = 1;
-    if (what == TICKS)
+    for (unsigned i = 0; what >= WOUND && i < 4 * quarters; i += 2) /* every other connection is UDP: alive limits that end one after the other */
+        set(image + 36 + 2 * (2 * quarters) + 16 * i + 10, 30000 + 1000 * i, 2);
+    if (what == TICKS || what == WOUND)
         set(bytes, length, given = 4);
     if (what >= SWITCH && what <= IDLE)
         given = add_events(what, connection, connection % (2 * quarters));
@@ -144,7 +148,7 @@ int main(int count, char **words)
         given = make_shift(bytes, quarters);
     set(head, numbers[what] + (name != words[1] ? BUSY : 0), 1);
     set(head + 1, connection, 1);
-    set(head + 2, what == SEGMENT ? EVENT_SEGMENT : what == TICKS ? EVENT_TICKS : what >= PIECE ? route : 8 * quarters - 1, 2);
+    set(head + 2, what == SEGMENT ? EVENT_SEGMENT : what == TICKS || what == WOUND ? EVENT_TICKS : what == PIECE || what == BEGUN ? route : 8 * quarters - 1, 2);
     set(head + 4, (uint64_t)atoi(words[4]), 4);
     set(head + 8, 36 + 2 * (2 * quarters) + 16 * (4 * quarters) + 9, 2); /* the first route's upper PDU */
     set(head + 10, length, 2);

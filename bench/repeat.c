@@ -87,6 +87,20 @@ static bool dispatched(size_t event, const uint8_t *body)
     return twin_event(&lent, (unsigned)event, body, out) > 1 && out[0] == 0 && out[1] == 0;
 }
 
+/* Every timer of every connection runs: each is online with ten bytes to send, and its alive timer is at its row's limit. */
+static void wind(void)
+{
+    const uint8_t *row = image + 36 + image[7] * 2;
+    for (size_t i = 0; i < image[15]; i++, row += 16) {
+        struct record *c = &state.connections[i];
+        c->mode = ONLINE;
+        c->used = 10;
+        c->timer = 65535;
+        c->due = c->remote_set = false;
+        c->alive = (uint16_t)(row[10] << 8 | row[11]);
+    }
+}
+
 /* Up to four events, each a number 2, a length 2 and a body. */
 static bool some_events(void)
 {
@@ -131,6 +145,9 @@ static bool once(size_t what, uint8_t connection, uint16_t pdu, uint16_t used)
         return twin_replay(&lent, bytes, length, out);
     case 14:
         return piece(connection, (uint8_t)pdu);
+    case 15:
+        wind();
+        return dispatched(pdu, bytes);
     case 69:
         hold(connection, 0);
         hold(connection + 1u, 0);
@@ -140,6 +157,9 @@ static bool once(size_t what, uint8_t connection, uint16_t pdu, uint16_t used)
         return true;
     case 71:
         transfer(connection, (uint8_t)pdu);
+        return true;
+    case 72:
+        wind();
         return true;
     default:
         return false;

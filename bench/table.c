@@ -18,10 +18,12 @@ static bool good_group(const uint8_t *row)
     return both == 0x0100 || both == 0x0200;
 }
 
-static bool good_connection(const uint8_t *row, size_t groups)
+/* A connection with an alive limit is not TCP. */
+static bool good_connection(const uint8_t *row, const struct layout *table)
 {
     uint16_t send_size = be16(row + 8);
-    return row[0] < groups && row[1] <= 1 && send_size >= 8 && send_size <= 1472 && be16(row + 10) == 0;
+    return row[0] < table->rows[GROUP] && row[1] <= 1 && send_size >= 8 && send_size <= 1472 &&
+           (be16(row + 10) == 0 || table->body[GROUP][row[0] * 2] != 2);
 }
 
 /* Connection, mark and longest payload as one word. A marked row's connection is TCP. */
@@ -77,7 +79,7 @@ static size_t bad_row(const uint8_t *image, const struct layout *table)
         if (!good_group(row))
             return (size_t)(row - image);
     for (size_t i = 0; i < table->rows[CONNECTION]; i++, row += ROW)
-        if (!good_connection(row, table->rows[GROUP]))
+        if (!good_connection(row, table))
             return (size_t)(row - image);
     struct met routes, destinations;
     memset(routes.head, 0, sizeof routes.head);

@@ -211,6 +211,41 @@ class Mark:
         return self.word * value
 
 
+class Ticks:
+    """A number of ticks in two bytes, with its unit."""
+
+    def __init__(self, field):
+        self.field, self.form = field, f"<{field}> ticks"
+
+    def read(self, words):
+        value = words.number(self.field, 65535)
+        got = words.next("ticks")
+        if got not in ("tick", "ticks"):
+            raise words.wrong("ticks", f"`{got}` stands where the word `ticks` belongs")
+        return value.to_bytes(2, "big")
+
+    def show(self, data):
+        value = data.number(self.field, 2, 65535)
+        return f"{value} tick" + "s" * (value != 1)
+
+
+class Maybe:
+    """A field behind its word. Where the word does not stand the field's bytes are 0, and such a field is not shown."""
+
+    def __init__(self, word, width, field):
+        self.word, self.width, self.field, self.form = word, width, field, f"[{word} {field.form}]"
+
+    def read(self, words):
+        if words.words[:1] != [self.word]:
+            return bytes(self.width)
+        words.next(self.word)
+        return self.field.read(words)
+
+    def show(self, data):
+        shown = self.field.show(data)
+        return f"{self.word} {shown}" if any(data.data[data.field:data.at]) else ""
+
+
 class Address:
     """IPv4 address and port, each of which may be `any` (0)."""
 

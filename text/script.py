@@ -2,11 +2,12 @@
 import math
 import struct
 
-from fields import Address, Always, Bytes, Choice, Hex, Number, Word, form, lines, read, show
+from fields import Address, Always, Bytes, Choice, Hex, Maybe, Number, Word, form, lines, read, show
 from notes import NOTHING, size
 
-STATE, STATE_BODY, MOST_BODY = 65535, 47672, 4096
-RECORD, RX, TX = 43, 1464, 1472
+STATE, MOST_BODY = 65535, 4096
+RECORD, OLDER_RECORD, RX, TX = 46, 43, 1464, 1472
+STATE_BODY, OLDER_BODY = (16 * (record + RX + TX) + 8 for record in (RECORD, OLDER_RECORD))
 
 
 def remote(field):
@@ -64,14 +65,15 @@ def wanted(wish):
 # The lines of a state: where their bytes begin in the body, how many one has, how many there are, and its fields.
 RECORDS = [Choice("mode", offline=0, reconnect=1, online=2), *wanted("open"), *wanted("close"), Word("remote"), *remote("remote"),
            Word("switches"), Number("switches", 4, 8), Word("part"), Part(), Word("used"), Number("bytes used", 2),
-           Word("timer"), Number("timer", 2), Word("due"), Choice("due", no=0, yes=1)]
+           Word("timer"), Number("timer", 2), Word("due"), Choice("due", no=0, yes=1),
+           Maybe("alive", 2, Number("alive timer", 2)), Maybe("remote-set", 1, Choice("remote set", no=0, yes=1))]
 LINES = {
     "record": (0, RECORD, 16, RECORDS),
     "drops": (16 * RECORD, 8, 1, [Number("UDP drops", 4), Number("TCP drops", 4)]),
     "rx": (16 * RECORD + 8, RX, 16, None),
     "tx": (16 * RECORD + 8 + 16 * RX, TX, 16, None),
 }
-EMPTY = (bytes([0, 0, 0, 4]) + bytes(39)) * 16 + bytes(8 + 16 * (RX + TX))
+EMPTY = (bytes([0, 0, 0, 4]) + bytes(RECORD - 4)) * 16 + bytes(8 + 16 * (RX + TX))
 
 
 def forms():
@@ -105,7 +107,8 @@ def state(first, rest):
 
 def state_text(data):
     if data.left() != STATE_BODY:
-        raise data.wrong("body", f"has {data.left()} bytes, not {STATE_BODY}")
+        older = f": its records have {OLDER_RECORD} bytes, as before alive timers, and not {RECORD}; its text is still read" * (data.left() == OLDER_BODY)
+        raise data.wrong("body", f"has {data.left()} bytes, not {STATE_BODY}{older}")
     out = ["state"]
     for what, (at, size, count, row) in LINES.items():
         for number in range(count):

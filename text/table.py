@@ -4,7 +4,7 @@ import re
 import struct
 from collections import namedtuple
 
-from fields import Address, Always, Bytes, Choice, Mark, Number, Word, Wrong, form, lines, read, show
+from fields import Address, Always, Bytes, Choice, Mark, Maybe, Number, Ticks, Word, Wrong, form, lines, read, show
 
 
 def zero(width):
@@ -18,7 +18,8 @@ GROUPS = [Word("groups"), Number("groups", 4, 8)]
 ROWS = {
     "group": [Choice("protocol", UDP=1, TCP=2), zero(1)],
     "connection": [Word("group"), Number("group", 1), Choice("automatic or manual", manual=0, automatic=1), Word("remote"), Address("remote"),
-                   Word("send"), Number("send size", 2), Word("bytes"), zero(2), Word("switches"), Number("start switches", 4, 8)],
+                   Word("send"), Number("send size", 2), Word("bytes"), Maybe("alive", 2, Ticks("alive limit")),
+                   Word("switches"), Number("start switches", 4, 8)],
     "route": [*OWNER, Mark("mark", "tp"), *LONGEST, *NAMES, zero(2), *GROUPS],
     "destination": [*OWNER, Choice("trigger or held", held=0, trigger=1), *LONGEST, *NAMES,
                     Word("timeout"), Number("timeout", 2), Word("ticks"), *GROUPS],

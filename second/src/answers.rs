@@ -3,11 +3,10 @@
 use crate::answer::spell;
 use crate::bytes::hex;
 use crate::lines::lines as run_lines;
-use crate::script::{entry_end, image_end, write_start};
+use crate::script::{entry_end, image_end, write_start, RECORD};
 
 /// Bytes of an entry before its body; of a start state's records; of them and the two drop counts.
 const HEAD: usize = 8;
-const RECORD: usize = 43;
 const RECORDS: usize = 16 * RECORD;
 const STATE: usize = RECORDS + 8;
 

@@ -1,4 +1,5 @@
 //! Sections 8 and 9 of the rules: what an event makes of one record, or the number of its refusal; and the tick. R19.6 and R19.7: cancel, failed.
+//! Section 20: what a datagram and a tick make of the alive timer.
 
 use crate::fault::{or, seeded, Fault};
 use crate::state::{Config, Mode, Record};
@@ -30,7 +31,8 @@ pub fn close(config: Config, record: Record) -> Answer {
 pub fn connected(config: Config, record: Record) -> Answer {
     let named = !record.remote.has_wildcard() || seeded(Fault::ConnectedToAnyone);
     let ready = record.mode == Mode::Reconnect && !record.close_wanted && named;
-    allowed(config.tcp && ready, Record { mode: Mode::Online, ..record })
+    let remote_set = record.remote_set && !seeded(Fault::ConnectedClearsMark);
+    allowed(config.tcp && ready, Record { mode: Mode::Online, remote_set, ..record })
 }
 
 /// "Lost: TCP online, else 3; becomes reconnect, held bytes dropped, remote as configured."
@@ -40,7 +42,9 @@ pub fn lost(config: Config, record: Record) -> Answer {
     let used = or(Fault::LostKeepsSend, 0, record.used);
     let remote = or(Fault::LostKeepsRemote, config.row.remote, record.remote);
     let close_wanted = record.close_wanted && !seeded(Fault::LostForgetsClose);
-    allowed(condition, Record { mode: Mode::Reconnect, part, used, remote, close_wanted, timer: 0, due: false, ..record })
+    let remote_set = record.remote_set && seeded(Fault::LostKeepsMark);
+    let back = Record { remote, remote_set, ..record.reset(config.row) };
+    allowed(condition, Record { mode: Mode::Reconnect, part, used, close_wanted, timer: 0, due: false, ..back })
 }
 
 /// "The receiver may cancel, which sets close wanted (00575, 00581); it gets 3 when none runs".
@@ -57,9 +61,22 @@ pub fn failed(before: &Record, after: &Record) -> bool {
     before.part.is_transfer() && !after.part.is_transfer()
 }
 
-/// "Set remote: not online, else 3."
-pub fn set_remote(record: Record, remote: Remote) -> Answer {
-    allowed(record.mode != Mode::Online || seeded(Fault::RemoteWhileOnline), Record { remote, ..record })
+/// "Set remote: not online, else 3." "a mark that the upper layer set the remote".
+pub fn set_remote(config: Config, record: Record, remote: Remote) -> Answer {
+    let configured = remote == config.row.remote && seeded(Fault::ConfiguredIsUnmarked);
+    let remote_set = !configured || record.remote_set;
+    allowed(record.mode != Mode::Online || seeded(Fault::RemoteWhileOnline), Record { remote, remote_set, ..record })
+}
+
+/// "It becomes online with the source as remote." "The timer starts when a datagram replaces a wildcard; while it runs, accepted datagrams
+/// restart it." The mark stays.
+pub fn met(config: Config, record: Record, source: Remote) -> Record {
+    let wild = or(Fault::AliveByAddress, record.remote.has_wildcard(), record.remote.address == 0);
+    let starts = wild || seeded(Fault::AliveByAny) || (record.alive > 0 && !seeded(Fault::AliveOnce));
+    let alive = if starts { config.row.alive } else { record.alive };
+    let clears = or(Fault::AcceptClearsMark, seeded(Fault::DatagramClearsMark) && !config.tcp, config.tcp);
+    let remote = or(Fault::SourceNotTaken, source, record.remote);
+    Record { mode: Mode::Online, remote, alive, remote_set: record.remote_set && !clears, ..record }
 }
 
 /// "Switch one routing group of one connection": "switch n is the bit worth 2 to the n".
@@ -75,11 +92,37 @@ pub fn switch(record: Record, number: u8, on: bool) -> Record {
 /// "Tick, per connection in order. Close wanted: back to the fresh record except switches, and nothing more this tick."
 pub fn tick(config: Config, record: Record) -> Record {
     if !record.close_wanted {
-        return run_timer(go_online(config, go_offline_to_reconnect(config, record)));
+        return run_alive(config, record);
     }
     let switches = or(Fault::CloseResetsSwitches, record.switches, config.row.switches);
-    let closed = Record { switches, ..Record::fresh(config.row) };
+    let remote_set = record.remote_set && seeded(Fault::CloseKeepsMark);
+    let closed = Record { switches, remote_set, ..Record::fresh(config.row) };
     or(Fault::ClosingTickGoesOn, closed.clone(), go_online(config, Record { mode: Mode::Reconnect, ..closed }))
+}
+
+/// "It falls by 1 at each tick, after a wanted close. At 0, unless the upper layer set the remote, the connection goes to reconnect, .. and that
+/// tick does no more for it; else the timer just stops."
+fn run_alive(config: Config, record: Record) -> Record {
+    let alive = record.alive.saturating_sub(1);
+    let ended = record.alive > 0 && alive <= or(Fault::ExpiryTooSoon, 0, 1);
+    let kept = record.remote_set && !seeded(Fault::MarkOverlooked);
+    let record = Record { alive: if ended { 0 } else { alive }, ..record };
+    if ended && !kept {
+        let gone = let_go(config, record);
+        return or(Fault::ExpiryGoesOn, gone.clone(), go_online(config, gone));
+    }
+    if ended && seeded(Fault::StopEndsTick) {
+        return record;
+    }
+    run_timer(go_online(config, go_offline_to_reconnect(config, record)))
+}
+
+/// "the connection goes to reconnect, waiting send bytes are dropped, the remote returns to the configured one".
+fn let_go(config: Config, record: Record) -> Record {
+    let used = or(Fault::ExpiryKeepsSend, 0, record.used);
+    let due = record.due && seeded(Fault::ExpiryKeepsDue);
+    let remote = or(Fault::ExpiryKeepsRemote, config.row.remote, record.remote);
+    Record { remote, ..Record { mode: Mode::Reconnect, used, timer: 0, due, ..record }.reset(config.row) }
 }
 
 /// "offline with open wanted or automatic becomes reconnect, open cleared".
@@ -115,7 +158,7 @@ mod tests {
 
     /// The modes and wishes that ticks lead to.
     fn ticked(tcp: bool, automatic: bool, record: Record) -> Vec<(Mode, bool, bool)> {
-        let row = Connection { group: 0, automatic, remote: EXACT, send_size: 8, switches: 5 };
+        let row = Connection { group: 0, automatic, remote: EXACT, send_size: 8, alive: 0, switches: 5 };
         let config = Config { row: &row, tcp };
         let ticks = std::iter::successors(Some(record), |record| Some(tick(config, record.clone())));
         ticks.skip(1).take(2).map(|record| (record.mode, record.open_wanted, record.close_wanted)).collect()
@@ -136,7 +179,7 @@ mod tests {
     #[test]
     fn a_transfer_is_cancelled_and_fails_at_the_tick() {
         for (automatic, close_wanted) in [(false, false), (false, true), (true, false), (true, true)] {
-            let row = Connection { group: 0, automatic, remote: EXACT, send_size: 8, switches: 5 };
+            let row = Connection { group: 0, automatic, remote: EXACT, send_size: 8, alive: 0, switches: 5 };
             let config = Config { row: &row, tcp: true };
             let ready = Record { mode: Mode::Online, remote: EXACT, close_wanted, ..Record::zero() };
             let running = Record { part: Part::Transfer { route: 0, left: 9 }, ..ready.clone() };
@@ -148,6 +191,55 @@ mod tests {
             assert!(failed(&running, &lost(config, running.clone()).unwrap()));
             assert!(!failed(&ready, &tick(config, ready.clone())));
         }
+    }
+
+    /// A service that anybody may use, with a limit of three ticks, and its record with send bytes once a datagram has come.
+    fn service(remote: Remote) -> (Connection, Record) {
+        let row = Connection { group: 0, automatic: true, remote, send_size: 99, alive: 3, switches: 5 };
+        let reconnect = Record { mode: Mode::Reconnect, ..Record::fresh(&row) };
+        let met = met(Config { row: &row, tcp: false }, reconnect, EXACT);
+        (row, Record { used: 9, timer: 7, ..met })
+    }
+
+    fn ticks(row: &Connection, record: &Record, count: usize) -> Record {
+        (0..count).fold(record.clone(), |record, _| tick(Config { row, tcp: false }, record))
+    }
+
+    #[test]
+    fn a_silent_peer_is_let_go_at_its_third_tick() {
+        let (row, met) = service(Remote { address: 0, port: 1 });
+        assert_eq!((met.mode, met.alive), (Mode::Online, 3));
+        assert_eq!(ticks(&row, &met, 2), Record { alive: 1, timer: 5, ..met.clone() });
+        let gone = Record { mode: Mode::Reconnect, ..Record::fresh(&row) };
+        assert_eq!(ticks(&row, &met, 3), gone);
+        assert_eq!(ticks(&row, &met, 9), gone);
+        let again = super::met(Config { row: &row, tcp: false }, ticks(&row, &met, 2), EXACT);
+        assert_eq!(ticks(&row, &again, 2).mode, Mode::Online);
+        assert_eq!(ticks(&row, &again, 3), gone);
+        let wanted = Record { close_wanted: true, ..ticks(&row, &met, 2) };
+        assert_eq!(ticks(&row, &wanted, 1), Record::fresh(&row));
+    }
+
+    #[test]
+    fn a_remote_that_the_upper_layer_set_is_kept() {
+        let (row, met) = service(Remote::default());
+        let marked = Record { remote_set: true, ..met.clone() };
+        assert_eq!(ticks(&row, &marked, 3), Record { alive: 0, timer: 4, ..marked.clone() });
+        // stopped, it is not started by a datagram that replaces nothing
+        let config = Config { row: &row, tcp: false };
+        assert_eq!(super::met(config, ticks(&row, &marked, 3), EXACT).alive, 0);
+        let set = set_remote(config, Record::fresh(&row), row.remote).unwrap();
+        assert_eq!(set, Record { remote_set: true, ..Record::fresh(&row) });
+        assert_eq!(super::met(config, set, EXACT), Record { remote_set: true, used: 0, timer: 0, ..met });
+    }
+
+    #[test]
+    fn the_tick_that_lets_go_does_no_more() {
+        let (row, met) = service(EXACT);
+        assert_eq!(met.alive, 0);
+        let watched = Record { alive: 1, ..met };
+        assert_eq!(ticks(&row, &watched, 1).mode, Mode::Reconnect);
+        assert_eq!(ticks(&row, &watched, 2).mode, Mode::Online);
     }
 
     #[test]

@@ -74,7 +74,8 @@ pub fn run(world: &mut World, event: &Event) -> Answer {
         }
         Event::Cancel(connection) => of_connection(&table, world, connection, cancel),
         Event::SetRemote(connection, remote) => {
-            of_connection(&table, world, connection, |_, record| set_remote(record, remote))
+            mark_refused(world, connection);
+            of_connection(&table, world, connection, |config, record| set_remote(config, record, remote))
         }
         Event::Switch(connection, number, on) => {
             of_connection(&table, world, connection, |_, record| switch_there(number).map(|()| switch(record, number, on)))
@@ -123,6 +124,13 @@ fn there(table: &Table, connection: u8) -> Result<usize, u8> {
 
 fn switch_there(number: u8) -> Result<(), u8> {
     (number < 32).then_some(()).ok_or(or(Fault::SwitchGetsThree, 2, 3))
+}
+
+/// A fault: the mark is set before it is known whether the remote may be.
+fn mark_refused(world: &mut World, connection: u8) {
+    if let (Some(record), true) = (world.state.records.get_mut(usize::from(connection)), seeded(Fault::RefusedRemoteMarks)) {
+        record.remote_set = true;
+    }
 }
 
 /// "one record replaced per connection event, all others the same".
@@ -177,9 +185,18 @@ fn walk_event(table: &Table, world: &mut World, connection: u8, place: u32, data
     let step = walk(table, connection, record.switches, datagram, place as usize);
     refuse_in_order(step.is_err(), !record.is_open())?;
     let step = step?;
+    restart_at_walk(table, world, connection);
     let dropped = matches!(step.found, Found::Drop { reason, .. } if reason != 23 || !seeded(Fault::CutNotCounted));
     world.state.add_drops(false, usize::from(dropped));
     Ok(step)
+}
+
+/// A fault: a walk counts as a datagram.
+fn restart_at_walk(table: &Table, world: &mut World, connection: usize) {
+    let record = &mut world.state.records[connection];
+    if record.alive > 0 && seeded(Fault::AliveByWalk) {
+        record.alive = table.connections[connection].alive;
+    }
 }
 
 /// 3 before 4.

@@ -88,11 +88,26 @@ fn record_line(world: &World, connection: usize) -> String {
     let send = format!("send {}: {}", count(u64::from(record.used), "byte"), bytes(world.waiting(connection)));
     let timer =
         if record.timer == 0 { "timer stopped".into() } else { format!("timer {}", count(u64::from(record.timer), "tick")) };
+    let alive = if record.alive == 0 {
+        "alive timer stopped".into()
+    } else {
+        format!("alive timer {}", count(u64::from(record.alive), "tick"))
+    };
     let wishes = format!("open wanted {}, close wanted {}", yes(record.open_wanted), yes(record.close_wanted));
     let (to, due) = (remote(record.remote), yes(record.due));
     format!(
-        "connection {}: {}, {}, remote {}, switches 0x{:08x}, receive part {}, {}, {}, due {}",
-        connection, mode, wishes, to, record.switches, part, send, timer, due
+        "connection {}: {}, {}, remote {}, switches 0x{:08x}, receive part {}, {}, {}, due {}, {}, remote set {}",
+        connection,
+        mode,
+        wishes,
+        to,
+        record.switches,
+        part,
+        send,
+        timer,
+        due,
+        alive,
+        yes(record.remote_set)
     )
 }
 

@@ -44,6 +44,9 @@ pub const TRANSFERS_TO_MEET: &[(&str, usize)] = &[
     (": cancel connection ", 20),
 ];
 
+/// What random recordings must meet of silent peers, in the records at the end, and how often.
+pub const SILENCES_TO_MEET: &[(&str, usize)] = &[("an alive timer runs at the end", 1), ("a remote is set at the end", 10)];
+
 /// A line with each number as N.
 fn form(line: &str) -> String {
     let mut form = String::new();
@@ -76,6 +79,11 @@ fn note(met: &mut Met, lines: &[String]) {
                 add("N ticks at once".into());
             }
             before = stamp;
+        } else if line.starts_with("connection ") {
+            let met =
+                [line.contains(", alive timer ") && !line.contains(", alive timer stopped"), line.contains(", remote set yes")];
+            let met = SILENCES_TO_MEET.iter().zip(met).filter(|(_, met)| *met);
+            met.for_each(|((what, _), _)| add(what.to_string()));
         } else if line.starts_with("first difference") {
             add("first difference".into());
         } else if ["refused", "cut", "over"].iter().any(|front| line.starts_with(front)) {

@@ -9,8 +9,8 @@ use crate::shrink::script::Script;
 use crate::shrink::{shrink, Bound};
 use crate::state::Mode;
 use crate::stream::{Outcome, Part};
-use crate::tell;
 use crate::walk::Found;
+use crate::{silences, tell};
 use std::collections::BTreeMap;
 use std::io::Write;
 use std::panic::RefUnwindSafe;
@@ -181,6 +181,7 @@ fn note_selection(met: &mut Met, seen: &Seen) {
 fn note(met: &mut Met, seen: &Seen) {
     note_selection(met, seen);
     note_transfers(met, seen);
+    silences::kinds(seen).into_iter().for_each(|kind| *met.entry(kind.into()).or_insert(0) += 1);
     let (before, after, answer) = (seen.before, &seen.after.state, seen.answer);
     let on = |route: usize| {
         let row = seen.after.table.as_ref().ok().and_then(|table| table.routes.get(route));

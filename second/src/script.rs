@@ -8,7 +8,11 @@ use crate::table::Remote;
 
 pub const START_STATE: u16 = 65_535;
 const MOST_BODY: usize = 4096;
-const START_BODY: usize = 47_672;
+
+/// Bytes of a record in a start state; before there were alive timers; of a whole start state.
+pub const RECORD: usize = 46;
+pub const OLDER_RECORD: usize = 43;
+const START_BODY: usize = RECORDS * RECORD + 8 + RECEIVE + SEND;
 
 /// What an entry asks for.
 #[derive(Clone, Debug)]
@@ -214,6 +218,7 @@ pub fn write_start(world: &World) -> Vec<u8> {
         };
         body = body.number(kind, 1).number(route, 1).number(held, 2).number(number, 8);
         body = body.number(record.used, 2).number(record.timer, 2).number(record.due, 1);
+        body = body.number(record.alive, 2).number(record.remote_set, 1);
     }
     let body = body.number(world.state.udp_drops, 4).number(world.state.tcp_drops, 4);
     entry(START_STATE, 0, &body.bytes(&world.receive).bytes(&world.send).0)
@@ -245,6 +250,8 @@ fn read_record(body: &mut Body) -> Record {
         used: body.number(2) as u16,
         timer: body.number(2) as u16,
         due: body.flag(),
+        alive: body.number(2) as u16,
+        remote_set: body.flag(),
     }
 }
 
@@ -325,6 +332,7 @@ mod tests {
     fn a_start_state_comes_back() {
         let mut world = World::new(&crate::table::whole_image());
         world.state.records[1].part = Part::Transfer { route: 63, left: u32::MAX };
+        (world.state.records[1].alive, world.state.records[2].remote_set) = (0x1234, true);
         let bytes = write_start(&world);
         assert_eq!(bytes.len(), 8 + START_BODY);
         assert!(matches!(read_body(START_STATE, &bytes[8..], true), Ok(Entry::Start(start)) if start.state == world.state));

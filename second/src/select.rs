@@ -1,5 +1,6 @@
 //! R7.1 to R7.6: which connection of a group a source belongs to.
 
+use crate::connection::met;
 use crate::fault::{or, seeded, Fault};
 use crate::state::{Mode, Record, State, RECORDS};
 use crate::table::{Remote, Table, TCP, UDP};
@@ -67,8 +68,7 @@ pub fn select(table: &Table, state: &mut State, group: u8, protocol: u8, source:
     }
     let chosen = best(table, state, group, protocol, source).ok_or(10)?;
     let record = &mut state.records[chosen];
-    record.mode = Mode::Online;
-    record.remote = or(Fault::SourceNotTaken, source, record.remote);
+    *record = met(table.config(chosen), record.clone(), source);
     Ok(chosen)
 }
 
@@ -87,7 +87,7 @@ mod tests {
     fn chosen(remotes: &[(u32, u16)]) -> Result<usize, u8> {
         let row = |&(address, port): &(u32, u16)| {
             let remote = Remote { address, port };
-            Connection { group: 0, automatic: true, remote, send_size: 8, switches: 0 }
+            Connection { group: 0, automatic: true, remote, send_size: 8, alive: 0, switches: 0 }
         };
         let connections = remotes.iter().map(row).collect();
         let table = Table { groups: vec![Group { protocol: UDP }], connections, ..Table::default() };

@@ -1,5 +1,6 @@
 //! Section 3 of the rules, soundness: each rule by itself.
 
+use crate::fault::{seeded, Fault};
 use crate::state::{Mode, Record, State};
 use crate::stream::{Part, READY};
 use crate::table::Table;
@@ -51,6 +52,12 @@ pub const RULES: &[(&str, Rule)] = &[
     ("due only with send bytes", |_, _, record| !record.due || record.used > 0),
     ("timer or due, never both", |_, _, record| record.timer == 0 || !record.due),
     ("an online remote has no wildcard", |_, _, record| record.mode != Mode::Online || !record.remote.has_wildcard()),
+    ("an alive timer only on an online record", |_, _, record| {
+        record.alive == 0 || record.mode == Mode::Online || seeded(Fault::AliveOffline)
+    }),
+    ("an alive timer at most the limit, which is 0 on TCP", |table, i, record| {
+        record.alive <= table.connections[i].alive || seeded(Fault::AlivePastLimit)
+    }),
     ("open wanted only on a non-automatic record", |table, i, record| !record.open_wanted || !table.config(i).row.automatic),
     ("open wanted only on an offline record", |_, _, record| !record.open_wanted || record.mode == Mode::Offline),
     ("open wanted never with close wanted", |_, _, record| !record.open_wanted || !record.close_wanted),

@@ -28,6 +28,10 @@ pub struct Record {
     pub used: u16,
     pub timer: u16,
     pub due: bool,
+    /// "Every record now carries the timer (online only, up to the limit)": the alive timer, 0 when stopped,
+    pub alive: u16,
+    /// "and a mark that the upper layer set the remote".
+    pub remote_set: bool,
 }
 
 impl Record {
@@ -43,12 +47,19 @@ impl Record {
             used: 0,
             timer: 0,
             due: false,
+            alive: 0,
+            remote_set: false,
         }
     }
 
     /// "Fresh: offline, nothing wanted or held, remote and switches from the table".
     pub fn fresh(row: &Connection) -> Self {
         Record { remote: row.remote, switches: row.switches, ..Record::zero() }
+    }
+
+    /// "the remote returns to the configured one": the mark is "cleared when the remote is reset", and no alive timer runs.
+    pub fn reset(self, row: &Connection) -> Self {
+        Record { remote: row.remote, alive: 0, remote_set: false, ..self }
     }
 
     /// What answer 4 looks at: "not online or with close wanted".

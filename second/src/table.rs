@@ -39,6 +39,8 @@ pub struct Connection {
     pub automatic: bool,
     pub remote: Remote,
     pub send_size: u16,
+    /// "The connection row's two zero bytes become a limit in ticks, 0 for none".
+    pub alive: u16,
     pub switches: u32,
 }
 
@@ -92,7 +94,7 @@ impl Table {
         }
         for row in &self.connections {
             image = image.number(row.group, 1).number(row.automatic, 1).number(row.remote.address, 4);
-            image = image.number(row.remote.port, 2).number(row.send_size, 2).number(0u8, 2).number(row.switches, 4);
+            image = image.number(row.remote.port, 2).number(row.send_size, 2).number(row.alive, 2).number(row.switches, 4);
         }
         for row in &self.routes {
             image = image.number(row.connection, 1).number(row.transfer, 1).number(row.longest, 2).number(row.id, 4);
@@ -198,18 +200,28 @@ fn read_group(mut row: Reader) -> Option<Group> {
     (known && row.number(1) == 0).then_some(Group { protocol })
 }
 
-/// "group 1, automatic 1 (0 or 1), IPv4 4, port 2, send size 2 (8..1,472), zero 2, start switches 4".
+/// "group 1, automatic 1 (0 or 1), IPv4 4, port 2, send size 2 (8..1,472), zero 2, start switches 4". "The connection row's two zero bytes
+/// become a limit in ticks, 0 for none and for every TCP connection, else a bad row."
 fn read_connection(mut row: Reader, table: &Table) -> Option<Connection> {
     let (group, automatic) = (row.number(1) as u8, row.number(1));
     let remote = Remote { address: row.number(4) as u32, port: row.number(2) as u16 };
     let send_size = row.number(2) as u16;
-    let zero = row.number(1) == 0 && (row.number(1) == 0 || seeded(Fault::SecondZeroOverlooked));
+    let alive = row.number(2) as u16;
     let switches = row.number(4) as u32;
     let group_there = usize::from(group) < table.groups.len() + usize::from(seeded(Fault::GroupJustPast));
     let least = or(Fault::SendSizeSeven, LEAST_SEND_SIZE, 7);
     let most = or(Fault::SendSizeOneMore, MOST_SEND_SIZE, 1473);
-    let good = group_there && automatic <= or(Fault::AutomaticTwo, 1, 2) && (least..=most).contains(&send_size) && zero;
-    good.then_some(Connection { group, automatic: automatic == 1, remote, send_size, switches })
+    let fits = limit_fits(table, group, alive);
+    let good = group_there && automatic <= or(Fault::AutomaticTwo, 1, 2) && (least..=most).contains(&send_size) && fits;
+    good.then_some(Connection { group, automatic: automatic == 1, remote, send_size, alive, switches })
+}
+
+/// The alive limit of a connection: 0 where its group is TCP.
+fn limit_fits(table: &Table, group: u8, alive: u16) -> bool {
+    let tcp = table.groups.get(usize::from(group)).map_or(false, |group| group.protocol == TCP);
+    let most = or(Fault::LimitOneByte, u16::MAX, 255);
+    let told = or(Fault::LimitAsByte, alive, alive & 0xFF);
+    (told == 0 || !tcp || seeded(Fault::LimitOnTcp)) && alive <= most
 }
 
 /// Adds a receive route, or names the bad row. "No two receive routes share connection and id", "(the later row is the bad one)".
@@ -315,6 +327,19 @@ mod tests {
         assert_eq!(refusal(|image| image[54] = 1), Some(54));
         assert_eq!(refusal(|image| image[71] = 2), Some(70));
         assert_eq!(refusal(|image| (image[37], image[71]) = (1, 2)), Some(36));
+    }
+
+    #[test]
+    fn an_alive_limit_is_0_or_on_a_udp_connection_any_number() {
+        for (protocol, limit, place) in [
+            (UDP, [0, 1], None),
+            (UDP, [255, 255], None),
+            (TCP, [0, 0], None),
+            (TCP, [0, 1], Some(38)),
+            (TCP, [1, 0], Some(38)),
+        ] {
+            assert_eq!(refusal(|image| (image[36], image[48], image[49]) = (protocol, limit[0], limit[1])), place);
+        }
     }
 
     #[test]

@@ -47,9 +47,14 @@ pub fn table(table: &Table) -> Vec<String> {
     let groups = table.groups.iter().map(|row| word(row.protocol == UDP, ["TCP", "UDP"]).to_string());
     let connections = table.connections.iter().map(|row| {
         let (automatic, remote) = (word(row.automatic, ["manual", "automatic"]), address(row.remote));
+        let alive = match row.alive {
+            0 => String::new(),
+            1 => " alive 1 tick".into(),
+            ticks => format!(" alive {} ticks", ticks),
+        };
         format!(
-            "group {} {} remote {} send {} bytes switches 0x{:08x}",
-            row.group, automatic, remote, row.send_size, row.switches
+            "group {} {} remote {} send {} bytes{} switches 0x{:08x}",
+            row.group, automatic, remote, row.send_size, alive, row.switches
         )
     });
     let common = |connection: u8, kept: &str, longest: u16, id: u32, pdu: u16| {
@@ -141,7 +146,9 @@ fn record(record: &Record) -> String {
     let (open, close, due) = (wanted(record.open_wanted), wanted(record.close_wanted), wanted(record.due));
     let (remote, switches) = (address(record.remote), record.switches);
     let front = format!("{} open {} close {} remote {} switches 0x{:08x}", mode, open, close, remote, switches);
-    format!("{} part {} used {} timer {} due {}", front, part, record.used, record.timer, due)
+    let alive = if record.alive > 0 { format!(" alive {}", record.alive) } else { String::new() };
+    let set = word(record.remote_set, ["", " remote-set yes"]);
+    format!("{} part {} used {} timer {} due {}{}{}", front, part, record.used, record.timer, due, alive, set)
 }
 
 #[cfg(test)]
@@ -162,5 +169,10 @@ mod tests {
         (marked[36], marked[55]) = (crate::table::TCP, 1);
         let route = "route 0 connection 0 tp longest 2 bytes id 0x00000101 pdu 0x0007 groups 0x00000001";
         assert_eq!(table(&check(&marked).unwrap())[2], route);
+        for (limit, words) in [(1, "alive 1 tick "), (30, "alive 30 ticks ")] {
+            let mut limited = whole_image();
+            limited[49] = limit;
+            assert_eq!(table(&check(&limited).unwrap())[1], lines[1].replace("switches", &format!("{}switches", words)));
+        }
     }
 }

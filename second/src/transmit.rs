@@ -100,7 +100,11 @@ fn taken(table: &Table, connection: usize, record: Record) -> Record {
     match config.tcp {
         true => Record { close_wanted: !seeded(Fault::No00644), ..record },
         false if seeded(Fault::No00582) => record,
-        false => Record { mode: Mode::Reconnect, remote: configured, ..record },
+        false => {
+            let remote_set = record.remote_set && seeded(Fault::TakeKeepsMark);
+            let alive = or(Fault::TakeKeepsAlive, 0, record.alive);
+            Record { mode: Mode::Reconnect, alive, remote_set, ..record.reset(config.row) }
+        }
     }
 }
 
@@ -112,7 +116,7 @@ mod tests {
     /// Two automatic UDP connections, online, and a PDU with a destination on each: the first with a trigger.
     fn two() -> (Table, World) {
         let remote = Remote { address: 1, port: 1 };
-        let connection = Connection { group: 0, automatic: true, remote, send_size: 20, switches: 0 };
+        let connection = Connection { group: 0, automatic: true, remote, send_size: 20, alive: 0, switches: 0 };
         let destination =
             |connection, trigger| Destination { connection, trigger, longest: 12, id: 7, pdu: 9, timeout: 5, groups: 0 };
         let table = Table {

@@ -49,7 +49,14 @@ impl Vector {
         let remote = Remote { address: 0x0A00_0001, port: 30490 };
         Table {
             groups: vec![Group { protocol: self.protocol }],
-            connections: vec![Connection { group: 0, automatic: true, remote, send_size: MOST_SEND_SIZE, switches: 0 }],
+            connections: vec![Connection {
+                group: 0,
+                automatic: true,
+                remote,
+                send_size: MOST_SEND_SIZE,
+                alive: 0,
+                switches: 0,
+            }],
             routes: ids
                 .into_iter()
                 .map(|id| Route { connection: 0, transfer: false, longest: LONGEST, id, pdu: 0, groups: 0 })

@@ -8,11 +8,13 @@ use crate::generate::image::{changes, image, single_changes};
 use crate::generate::recording::{cuts, limits, recording, transfers};
 use crate::generate::script::{image_script, misfit_script, script, stream_script, transfer_script, unsound_script};
 use crate::generate::selection::selection_script;
+use crate::generate::silence::silence_script;
 use crate::lines::lines;
 use crate::random::Random;
 use crate::shrink::{shrink, Bound};
 use crate::vectors::Vector;
-use crate::{answers, exchange, recordings, replay, runs, sheets, stored, table, takes, tell, vectors as lists, Words, USAGE};
+use crate::{answers, exchange, recordings, replay, runs, sheets, silences, stored};
+use crate::{table, takes, tell, vectors as lists, Words, USAGE};
 use std::io::Read;
 use std::path::Path;
 
@@ -129,7 +131,7 @@ pub fn is_script(part: &str) -> bool {
     SCRIPTS.contains(&part)
 }
 
-const SCRIPTS: &[&str] = &["runs", "streams", "selections", "transfers"];
+const SCRIPTS: &[&str] = &["runs", "streams", "selections", "transfers", "silences"];
 
 /// Scripts of a part: `count` of different lengths, and of runs as many under any image, from a state that does not fit, and from
 /// an unsound one. Timers and wishes show at a script's end alone, so short ones count.
@@ -145,6 +147,9 @@ fn scripts(part: &str, words: &Words) -> Vec<(String, Vec<u8>)> {
             scripts.push((name, stream_script(random, events)));
         } else if part == "transfers" {
             scripts.push((name, transfer_script(random, 200)));
+        } else if part == "silences" {
+            let events = *random.pick(&[2, 6, 15, 40]);
+            scripts.push((name, silence_script(random, events)));
         } else {
             scripts.push((format!("{}-image", name), image_script(random)));
             scripts.push((format!("{}-misfit", name), misfit_script(random)));
@@ -168,10 +173,12 @@ pub fn compare_scripts(part: &str, words: &Words) -> Outcome {
     match part {
         "runs" => {
             often_enough(runs::TO_MEET, 100, times)?;
-            often_enough(runs::ALSO_TO_MEET, 10, times)
+            often_enough(runs::ALSO_TO_MEET, 10, times)?;
+            often_enough(silences::ALSO_TO_MEET, 10, times)
         }
         "selections" => floors(runs::HALVES_TO_MEET, times),
         "transfers" => floors(runs::TRANSFERS_TO_MEET, times),
+        "silences" => floors(silences::TO_MEET, times),
         _ => Ok(()),
     }
 }
@@ -236,7 +243,8 @@ pub fn compare_recordings(words: &Words) -> Outcome {
     let met = compare_replays(&random_recordings(words), words)?;
     let times = |kind: &str| met.get(kind).copied().unwrap_or(0);
     often_enough(recordings::WORDS, 1 + words.count / 100, times)?;
-    floors(recordings::TRANSFERS_TO_MEET, times)
+    floors(recordings::TRANSFERS_TO_MEET, times)?;
+    floors(recordings::SILENCES_TO_MEET, times)
 }
 
 /// The limits from both sides, a small recording cut at every byte, and one of transfers with each of its bytes changed.

@@ -209,6 +209,20 @@ def firmware():
     true('name "firmware, front ring valve"' in soad("check", "examples/firmware-table.txt")[1], "./soad check lists the marked route")
 
 
+def service():
+    """The laptop that goes away: check lists the limit, and the run serves the next one; its timer stands in the record at the end."""
+    status, out, error = soad("check", "examples/service-table.txt")
+    same((status, error, out.splitlines()[-1]), (0, "", "OK"), "./soad check of examples/service-table.txt")
+    true('\n  connection 0: group 0, opened on request, remote any port any, send size 512 bytes, alive limit 30 ticks, start switches 0x00000000, '
+         'name "service laptop"\n' in out, f"./soad check lists the alive limit: {out}")
+    true(", alive limit " not in soad("check", "examples/debarker.txt")[1], "./soad check lists no limit where there is none")
+    status, out, error = soad("run", "examples/service-table.txt", "examples/service.txt")
+    same((status, error, out.splitlines()[-1]), (0, "", "OK"), "the run of examples/service.txt")
+    for line in ('port 40000: 10 no connection matches', 'bar: 4 not online, destination 0 "ring pressure" (connection 0 "service laptop")',
+                 'port 40000: 000001010000000200aa (holds "ring pressure" 170 bar)', "due no, alive timer 25 ticks, remote set no"):
+        true(f"{line}\n" in out, f"the run of examples/service.txt prints `{line}`")
+
+
 def scripts():
     """A value in a script: run and to-bytes take it under a table text with that unit, and no other."""
     with tempfile.TemporaryDirectory() as folder:
@@ -243,6 +257,8 @@ def refusals():
                  'receive route row 1 "ring pressure": shares connection and header id with row 0 (line 15)'),
                 ("route 0 connection 3 longest", "route 0 connection 3 tp longest", 104, 15, 22,
                  'receive route row 0 "ring pressure": transfer mark 1 on connection 3, which is UDP'),
+                ("send 1472 bytes switches 0x00000003     name \"rear", "send 1472 bytes alive 30 ticks switches 0x00000003 name \"rear", 56, 11, 86,
+                 'connection row 1 "rear ring valve": alive limit 30 ticks in group 0, which is TCP'),
                 ("send 64 bytes", "send 7 bytes", 88, 13, 69, 'connection row 3 "scanner": send size 7 is not within 8..1472 bytes'),
                 ("group 1 UDP  ", "\n".join(f"group {i} UDP" for i in range(1, 10)), 4, 14, 1,
                  "contents entry of kind 1, group: 10 rows are more than 8 rows")):
@@ -275,7 +291,7 @@ def pipes():
         same((done.returncode, done.stderr), (2, b"soad: the lines cannot be read or written: No space left on device\n"), "a full disk")
 
 
-for check in (texts, stored_lines, stored_run, values, readme, firmware, scripts, refusals, pipes):
+for check in (texts, stored_lines, stored_run, values, readme, firmware, service, scripts, refusals, pipes):
     try:
         check()
     except Exception:

@@ -15,18 +15,22 @@ SECOND, RUN = sys.argv[1], sys.argv[2:]
 
 # part of the comparison, seed, cases, who answers, the fault, and what the printed case may have at most
 FAULTS = [
-    ("runs", 2, 40, "run", "DueOneTickEarly", {"entries": 4, "table rows": 3}),
+    ("runs", 3, 40, "run", "DueOneTickEarly", {"entries": 4, "table rows": 3}),
     ("runs", 3, 10, "run", "FewerFieldsWin", {"entries": 3, "table rows": 3}),
     ("runs", 2, 20, "run", "StoredBeforeAllChecked", {"entries": 4, "table rows": 5}),
     ("streams", 2, 10, "run", "SwitchAtTheEnd", {"entries": 4, "table rows": 3}),
     ("transfers", 2, 10, "run", "TickTellsNothing", {"entries": 5, "table rows": 3}),
     ("transfers", 2, 10, "run", "MarkEarly", {"entries": 3, "table rows": 3}),
+    ("silences", 2, 60, "run", "AliveByWalk", {"entries": 2, "table rows": 2}),
+    ("silences", 2, 60, "run", "ExpiryKeepsSend", {"entries": 4, "table rows": 3}),
+    ("silences", 2, 60, "run", "DatagramClearsMark", {"entries": 3, "table rows": 2}),
     ("recordings", 2, 100, "replay", "SignedDistance", {"entries": 2, "table rows": 4}),
     ("recordings", 2, 100, "replay", "StartsUnfit", {"entries": 3, "table rows": 3}),
     ("takes", 2, 100, "takes", "SwitchAtTheEnd", {"segments": 2, "bytes": 150}),
     ("takes", 2, 100, "takes", "PieceAsPdu", {"segments": 1, "bytes": 95}),
     ("table", 2, 1000, "driver", "SendSizeSeven", {"bytes": 54}),
     ("table", 2, 1000, "driver", "MarkOnUdp", {"bytes": 70}),
+    ("table", 2, 1000, "driver", "LimitOnTcp", {"bytes": 54}),
     ("walk", 2, 1000, "driver", "CutLast", {"bytes": 90}),
     ("frame", 2, 100, "driver", "RestCleared", {"bytes": 9}),
 ]
@@ -72,7 +76,7 @@ def tried(part, seed, count, answers, fault, most, folder):
     calls, bound, has = sizes(printed)
     wrong += [f"{has[name]} {name}, not {limit} at most" for name, limit in most.items() if has[name] > limit]
     wrong += [f"{calls} calls of {bound}"] * (calls >= bound)
-    replayed = {"streams": "runs", "transfers": "runs"}.get(part, part)
+    replayed = {"streams": "runs", "transfers": "runs", "silences": "runs"}.get(part, part)
     if not second("replay", replayed, folder, "--", *program, "--fault", fault)[0]:
         wrong.append("the fault is not seen on the stored case")
     others = [program] + ([RUN] if answers == "run" and RUN else [])

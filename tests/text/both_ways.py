@@ -90,13 +90,17 @@ def examples():
     there_and_back("table", "\n", empty, "# nothing\n", "the table without rows")
     other = contents("examples", "debarker-too-long.table")  # refused by the check, and not here
     same(table.to_image(table.to_text(other)), other, "examples/debarker-too-long.table: to text and back")
-    text = contents("examples", "firmware-table.txt")
-    there_and_back("table", bare(text), table.to_image(text.decode()), text.decode(), "examples/firmware-table")
+    for name in ("firmware-table", "service-table"):
+        text = contents("examples", name + ".txt")
+        there_and_back("table", bare(text), table.to_image(text.decode()), text.decode(), f"examples/{name}")
     for name in ("shift", "firmware"):
         text = contents("examples", name + ".txt")
         there_and_back("script", bare(text), script.to_bytes(text.decode()), text.decode(), f"examples/{name}")
     marked = rows.replace("0 UDP", "0 TCP").replace("connection 0 longest 2", "connection 0 tp longest 2", 1)
     there_and_back("table", marked, whole[:36] + b"\2" + whole[37:55] + b"\1" + whole[56:], marked, "the image of R1.12 with a marked route")
+    for limit, words, otherwise in ((1, "alive 1 tick ", "alive 0x1 ticks "), (30, "alive 30 ticks ", "alive 030 tick "), (0, "", "alive 0 ticks ")):
+        limited, loose = (rows.replace("switches", word + "switches") for word in (words, otherwise))
+        there_and_back("table", limited, whole[:48] + limit.to_bytes(2, "big") + whole[50:], loose, f"the image of R1.12 with an alive limit of {limit}")
     lines = "segment 2 000001010000000200b4\ntick 3\n"
     data = bytes.fromhex("0007000000000010" "0002" "0000000a" "000001010000000200b4" "000000000000000400000003")
     there_and_back("script", lines, data, lines, "two lines")
@@ -303,8 +307,14 @@ def damaged_images():
 
 def changed_state(data):
     """A start state with one byte changed where there is something to get wrong."""
-    at = rand.randrange(8, 8 + 16 * 43)
+    at = rand.randrange(8, 8 + 16 * 46)
     return data[:at] + bytes([rand.choice([0, 1, 2, 3, 4, 255])]) + data[at + 1:]
+
+
+def older_state(data):
+    """A start state as it was before alive timers: of each record the first 43 of its 46 bytes."""
+    body = b"".join(data[at:at + 43] for at in range(8, 8 + 16 * 46, 46)) + data[8 + 16 * 46:]
+    return data[:4] + len(body).to_bytes(4, "big") + body
 
 
 def damaged_scripts():
@@ -315,6 +325,8 @@ def damaged_scripts():
     for i in range(150):
         refused += answered("script", changed_state(made.state(rand)[1]), f"start state {i}")
     true(300 < refused < 2000, f"{refused} of 2150 damaged scripts are refused")
+    said = refusal("script", "text", older_state(made.state(rand)[1]))
+    true(said and "records have 43 bytes, as before alive timers" in said, f"an older start state: {said}")
 
 
 # 5. ./soad and the program run
@@ -351,7 +363,7 @@ def same_refusals():
     for i in range(500):
         data = b"".join(made.event(rand, rand.choice(names))[1] for _ in range(2))
         if i % 5 == 0:
-            start = changed_state(made.state(rand)[1])
+            start = (older_state if i % 100 == 0 else changed_state)(made.state(rand)[1])
             data = rand.choice([start + data, start + data, data + start])
         elif i % 5 == 1:
             data = data[:rand.randrange(len(data))]

@@ -64,11 +64,14 @@ def address(rand):
 
 # Tables that the rules accept.
 
-def connection_row(rand, group, send):
+def connection_row(rand, group, send, tcp):
     automatic, switches = rand.randrange(2), number(rand, 4)
+    alive = 0 if tcp or rand.random() < 0.5 else number(rand, 2)
     words, data = remote(rand)
-    return (["group", Num(group), ("manual", "automatic")[automatic], "remote", *words, "send", Num(send), "bytes", "switches", Num(switches, 8)],
-            bytes([group, automatic]) + data + struct.pack(">HHI", send, 0, switches))
+    limit = ["alive", Num(alive), "tick" if alive == 1 else "ticks"] if alive else []
+    return (["group", Num(group), ("manual", "automatic")[automatic], "remote", *words, "send", Num(send), "bytes", *limit,
+             "switches", Num(switches, 8)],
+            bytes([group, automatic]) + data + struct.pack(">HHI", send, alive, switches))
 
 
 def route_row(rand, connection, header, tcp):
@@ -102,7 +105,7 @@ def table(rand, counts):
     protocols = [rand.randrange(2) for _ in range(groups)]
     owners = [rand.randrange(groups) for _ in range(connections)]
     bodies = ([([("UDP", "TCP")[p]], bytes([p + 1, 0])) for p in protocols],
-              [connection_row(rand, *row) for row in zip(owners, sends)],
+              [connection_row(rand, *row, protocols[row[0]]) for row in zip(owners, sends)],
               [route_row(rand, *pair, protocols[owners[pair[0]]]) for pair in pairs(rand, routes, connections, 4)],
               [destination_row(rand, *pair, sends[pair[0]]) for pair in pairs(rand, destinations, connections, 2)])
     rows, image, body = [], struct.pack(">HH", 1, 4), b""
@@ -202,12 +205,19 @@ def record(rand):
         return name, b""
     return joined([choice(rand, "offline", "reconnect", "online"), said("open"), choice(rand, "no", "yes"), said("close"), choice(rand, "no", "yes"),
                    said("remote"), address(rand), said("switches"), wide(rand, 4, 8), said("part"), part(rand), said("used"), wide(rand, 2),
-                   said("timer"), wide(rand, 2), said("due"), choice(rand, "no", "yes")])
+                   said("timer"), wide(rand, 2), said("due"), choice(rand, "no", "yes"), left_out("alive", wide(rand, 2)),
+                   left_out("remote-set", choice(rand, "no", "yes"))])
+
+
+def left_out(name, field):
+    """A field behind its name, without words where it is 0."""
+    word, data = field
+    return ([name, word] if any(data) else []), data
 
 
 def state(rand):
     """A start state: its lines as rows of words, and its entry."""
-    empty, rows, body = b"\0\0\0\4" + bytes(39), [["state"]], b""
+    empty, rows, body = b"\0\0\0\4" + bytes(42), [["state"]], b""
     for k in range(16):
         words, data = record(rand) if rand.random() < 0.5 else ([], empty)
         body += data

@@ -141,7 +141,7 @@ pub fn few_routes(protocol: u8) -> Table {
     let remote = Remote { address: 0x0A00_0001, port: 30490 };
     Table {
         groups: vec![Group { protocol }],
-        connections: vec![Connection { group: 0, automatic: true, remote, send_size: MOST_SEND_SIZE, switches: 1 }],
+        connections: vec![Connection { group: 0, automatic: true, remote, send_size: MOST_SEND_SIZE, alive: 0, switches: 1 }],
         routes: four.into_iter().chain(marked).collect(),
         destinations: vec![],
     }

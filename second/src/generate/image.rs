@@ -59,8 +59,6 @@ const WRONG_VALUES: &[(usize, usize, usize, &[usize])] = &[
     (1, 1, 1, &[2, 255]),
     (1, 8, 2, &[0, 7]),
     (1, 8, 2, &[1473, 65_535]),
-    (1, 10, 1, &[1, 128]),
-    (1, 11, 1, &[1, 128]),
     (2, 1, 1, &[2, 128, 255]),
     (2, 2, 2, &[1465, 65_535]),
     (2, 10, 1, &[1, 128]),
@@ -88,6 +86,7 @@ const DAMAGES: &[Damage] = &[
     too_long_for_its_connection,
     |draft, random| mark(draft, random, UDP).map(|_| ()),
     marked_and_too_long,
+    limit_on_tcp,
 ];
 
 /// Breaks one rule: first those of WRONG_VALUES, then those of DAMAGES.
@@ -173,6 +172,15 @@ fn mark(draft: &mut Draft, random: &mut Random, protocol: u8) -> Option<usize> {
 fn marked_and_too_long(draft: &mut Draft, random: &mut Random) -> Option<()> {
     let at = mark(draft, random, TCP)?;
     draft.put(at + 2, 2, *random.pick(&[1465, 65_535]));
+    Some(())
+}
+
+/// An alive limit on a connection whose group is TCP.
+fn limit_on_tcp(draft: &mut Draft, random: &mut Random) -> Option<()> {
+    let at = draft.field(random, 1, 0)?;
+    let group = draft.bodies[0].0 + usize::from(*draft.bytes.get(at)?) * ROW_BYTES[0];
+    draft.put(group, 1, TCP.into());
+    draft.put(at + 10, 2, *random.pick(&[1, 30, 255, 256, 32_768, 65_535]));
     Some(())
 }
 

@@ -7,5 +7,6 @@ pub mod recording;
 pub mod script;
 pub mod selection;
 pub mod sheet;
+pub mod silence;
 pub mod state;
 pub mod table;

@@ -1,7 +1,8 @@
 //! Recordings of random scripts with their answers: whole ones, damaged ones, a small one cut at every byte, and the limits from both sides.
 
 use super::datagram::{few_routes, mixed_frames, MARKED};
-use super::script::{answered, table_for_events, table_of_transfers};
+use super::script::{answered, table_for_events, table_of_transfers, Events};
+use super::silence::table_of_silences;
 use crate::event::{run, Answer, Event};
 use crate::random::Random;
 use crate::recording::{read_body, write, Entry, EDITION, FRONT, MOST_BODY, ROW};
@@ -49,9 +50,13 @@ fn first_stamp(random: &mut Random) -> u32 {
 }
 
 fn whole(random: &mut Random, events: usize) -> Draft {
-    let transfers = random.one_in(2);
-    let table = if transfers { table_of_transfers(random) } else { table_for_events(random) };
-    let events = answered(random, &table, if transfers { events.max(20) } else { events }, transfers);
+    let kind = *random.pick(&[Events::Any, Events::Any, Events::Transfers, Events::Transfers, Events::Silences]);
+    let (table, least) = match kind {
+        Events::Any => (table_for_events(random), 0),
+        Events::Transfers => (table_of_transfers(random), 20),
+        Events::Silences => (table_of_silences(random), 20),
+    };
+    let events = answered(random, &table, events.max(least), kind);
     Draft::of(&table, first_stamp(random), &events)
 }
 
@@ -337,7 +342,7 @@ mod tests {
         let random = &mut Random::new(4);
         for _ in 0..60 {
             let table = table_for_events(random);
-            let mut events = answered(random, &table, 40, false);
+            let mut events = answered(random, &table, 40, Events::Any);
             let which = random.below(events.len());
             if matches!(events[which].0, Event::Ticks(_)) || events[which].1 == Err((9, None)) {
                 continue;

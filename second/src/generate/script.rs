@@ -2,13 +2,13 @@
 
 use super::datagram::{datagram, frames, transfers};
 use super::image::image;
-use super::state::{exact, sound, unsound, unsound_part};
-use super::table::{mark, remote, table_with_few_pdus};
+use super::state::{exact, sound, unsound, unsound_alive, unsound_part};
+use super::table::{limit, mark, remote, table_with_few_pdus};
 use crate::event::{run, Answer, Event};
 use crate::header::is_on;
 use crate::random::Random;
 use crate::recording::{self, MOST_BODY, MOST_DISTANCE};
-use crate::script::{entry, image_end, write, write_start, START_STATE};
+use crate::script::{entry, image_end, write, write_start, OLDER_RECORD, RECORD, START_STATE};
 use crate::state::{Config, Mode, Record, World, RECORDS};
 use crate::stream::{Part, READY};
 use crate::table::{check, Destination, Remote, Table, MOST_SEND_SIZE, TCP};
@@ -35,16 +35,24 @@ pub fn table_for_events(random: &mut Random) -> Table {
 }
 
 /// What the generator of one script knows: the world as the model sees it, and bytes still to be sent on each connection.
-struct Runner<'a> {
-    random: &'a mut Random,
-    table: Table,
-    world: World,
+pub(super) struct Runner<'a> {
+    pub(super) random: &'a mut Random,
+    pub(super) table: Table,
+    pub(super) world: World,
     streams: Vec<Vec<u8>>,
+}
+
+/// Which events a recording is made of.
+#[derive(Clone, Copy, PartialEq, Eq, Debug)]
+pub enum Events {
+    Any,
+    Transfers,
+    Silences,
 }
 
 impl Runner<'_> {
     /// A connection, in some cases one that is not there.
-    fn connection(&mut self) -> u8 {
+    pub(super) fn connection(&mut self) -> u8 {
         match self.random.one_in(40) {
             true => *self.random.pick(&[self.table.connections.len() as u8, 16, 255]),
             false => self.random.below(self.table.connections.len()) as u8,
@@ -52,7 +60,7 @@ impl Runner<'_> {
     }
 
     /// A connection that fits an event, if one is soon found and in most cases; else any.
-    fn fitting(&mut self, fits: impl Fn(Config, &Record) -> bool) -> u8 {
+    pub(super) fn fitting(&mut self, fits: impl Fn(Config, &Record) -> bool) -> u8 {
         for _ in 0..16 {
             let connection = self.random.below(self.table.connections.len());
             if fits(self.table.config(connection), &self.world.state.records[connection]) && !self.random.one_in(10) {
@@ -63,12 +71,12 @@ impl Runner<'_> {
     }
 
     /// An open connection of a protocol.
-    fn line(&mut self, tcp: bool) -> u8 {
+    pub(super) fn line(&mut self, tcp: bool) -> u8 {
         self.fitting(|config, record| config.tcp == tcp && record.is_open())
     }
 
     /// A source: mostly one that a record names, in some cases with a wildcard.
-    fn source(&mut self) -> Remote {
+    pub(super) fn source(&mut self) -> Remote {
         let known = self.world.state.records[self.random.below(self.table.connections.len())].remote;
         match self.random.below(12) {
             0 => remote(self.random),
@@ -79,7 +87,7 @@ impl Runner<'_> {
         }
     }
 
-    fn group(&mut self) -> u8 {
+    pub(super) fn group(&mut self) -> u8 {
         let past = usize::from(self.random.one_in(20));
         self.random.below(self.table.groups.len() + past) as u8
     }
@@ -153,7 +161,7 @@ impl Runner<'_> {
         self.random.bytes(length)
     }
 
-    fn walk(&mut self) -> Event {
+    pub(super) fn walk(&mut self) -> Event {
         let connection = self.line(false);
         let number = usize::from(connection).min(self.table.connections.len() - 1);
         let mut bytes = datagram(self.random, &self.table, number);
@@ -183,7 +191,7 @@ impl Runner<'_> {
         (*tries.iter().find(goes).unwrap_or(&tries[0])).clone()
     }
 
-    fn transmit(&mut self) -> Event {
+    pub(super) fn transmit(&mut self) -> Event {
         if self.table.destinations.is_empty() || self.random.one_in(20) {
             let length = self.random.below(4);
             return Event::Transmit(self.random.word() as u16, self.random.bytes(length));
@@ -202,7 +210,7 @@ impl Runner<'_> {
         Event::Transmit(pdu, self.random.bytes(length))
     }
 
-    fn take_waiting(&mut self) -> Event {
+    pub(super) fn take_waiting(&mut self) -> Event {
         let connection = self.fitting(|_, record| record.used > 0);
         let used = self.world.state.records.get(usize::from(connection)).map_or(0, |record| u32::from(record.used));
         let most = u32::from(MOST_SEND_SIZE);
@@ -275,7 +283,7 @@ impl Runner<'_> {
 }
 
 /// A script in the making: its input so far, and what comes next.
-fn begin<'a>(random: &'a mut Random, table: Table, start: Option<World>) -> (Vec<u8>, Runner<'a>) {
+pub(super) fn begin<'a>(random: &'a mut Random, table: Table, start: Option<World>) -> (Vec<u8>, Runner<'a>) {
     let mut input = table.image();
     input.extend(start.iter().flat_map(write_start));
     let world = start.unwrap_or_else(|| World::new(&table.image()));
@@ -284,7 +292,7 @@ fn begin<'a>(random: &'a mut Random, table: Table, start: Option<World>) -> (Vec
 }
 
 /// Adds events, each drawn in the state that those before it leave.
-fn add_events(input: &mut Vec<u8>, runner: &mut Runner, count: usize, mut next: impl FnMut(&mut Runner) -> Event) {
+pub(super) fn add_events(input: &mut Vec<u8>, runner: &mut Runner, count: usize, mut next: impl FnMut(&mut Runner) -> Event) {
     for _ in 0..count {
         let event = next(runner);
         input.extend(write(&event));
@@ -294,16 +302,19 @@ fn add_events(input: &mut Vec<u8>, runner: &mut Runner, count: usize, mut next: 
 }
 
 /// Events from a table's fresh state, each with its answer, that a recording can hold: no tick before the first, at most 65,535 between two,
-/// no body that is too long. They are events of every kind, or by which transfers come and go.
-pub fn answered(random: &mut Random, table: &Table, count: usize, transfers: bool) -> Vec<(Event, Answer)> {
+/// no body that is too long. They are events of every kind, or by which transfers, or silent peers, come and go.
+pub fn answered(random: &mut Random, table: &Table, count: usize, kind: Events) -> Vec<(Event, Answer)> {
     let (_, mut runner) = begin(random, table.clone(), None);
     let (mut all, mut left) = (Vec::new(), 0);
     while all.len() < count {
         let event = match runner.random.below(200) {
             0 => Event::Ticks(left),
             1..=50 => Event::Ticks(runner.random.between(1, 4) as u32),
-            _ if transfers => runner.event_of_transfers(),
-            _ => runner.event(),
+            _ => match kind {
+                Events::Any => runner.event(),
+                Events::Transfers => runner.event_of_transfers(),
+                Events::Silences => runner.event_of_silences(),
+            },
         };
         left = match event {
             Event::Ticks(ticks) if ticks > left => continue,
@@ -357,6 +368,7 @@ pub fn stream_script(random: &mut Random, events: usize) -> Vec<u8> {
     table.groups.iter_mut().for_each(|group| group.protocol = TCP);
     table.connections.iter_mut().for_each(|row| row.remote = exact(random));
     mark(random, &mut table);
+    limit(random, &mut table);
     let start = all_online(random, &table);
     let (mut input, mut runner) = begin(random, table, Some(start));
     add_events(&mut input, &mut runner, events, |runner| match runner.random.below(40) {
@@ -394,6 +406,7 @@ pub fn table_of_transfers(random: &mut Random) -> Table {
         row.transfer = random.one_in(2);
         row.groups = *random.pick(&[0, 1, 2]);
     }
+    limit(random, &mut table);
     table
 }
 
@@ -410,9 +423,10 @@ pub fn transfer_script(random: &mut Random, events: usize) -> Vec<u8> {
 pub fn unsound_script(random: &mut Random) -> Vec<u8> {
     let (table, world) = loop {
         let table = table_for_events(random);
-        let world = match random.one_in(4) {
-            true => unsound_part(random, &table),
-            false => unsound(random, &table).map(|(world, _)| world),
+        let world = match random.below(6) {
+            0 => unsound_part(random, &table),
+            1 => unsound_alive(random, &table),
+            _ => unsound(random, &table).map(|(world, _)| world),
         };
         if let Some(world) = world {
             break (table, world);
@@ -441,15 +455,27 @@ const MISFITS: &[(usize, &[u8])] = &[
     (26, &[3, 0, 1, 0]),
     (26, &[3, 0, 0, 0, 0, 0, 0, 1, 0, 0, 0, 0]),
     (42, &[2]),
+    (45, &[2]),
 ];
+
+/// A start state as it was before alive timers: of each record the first 43 bytes.
+fn older_start(start: &[u8]) -> Vec<u8> {
+    let (records, rest) = start[8..].split_at(RECORD * RECORDS);
+    let records: Vec<u8> = records.chunks(RECORD).flat_map(|record| &record[..OLDER_RECORD]).copied().collect();
+    entry(START_STATE, 0, &[&records, rest].concat())
+}
 
 /// A script whose start state does not fit.
 pub fn misfit_script(random: &mut Random) -> Vec<u8> {
     let table = table_for_events(random);
     let mut start = write_start(&sound(random, &table));
-    let &(place, bytes) = random.pick(MISFITS);
-    let at = 8 + 43 * random.below(RECORDS) + place;
-    start[at..at + bytes.len()].copy_from_slice(bytes);
+    if random.one_in(8) {
+        start = older_start(&start);
+    } else {
+        let &(place, bytes) = random.pick(MISFITS);
+        let at = 8 + RECORD * random.below(RECORDS) + place;
+        start[at..at + bytes.len()].copy_from_slice(bytes);
+    }
     [table.image(), start, write(&Event::Ticks(1))].concat()
 }
 

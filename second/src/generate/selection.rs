@@ -33,6 +33,7 @@ fn table_of_halves(random: &mut Random) -> Table {
         automatic: true,
         remote,
         send_size: LEAST_SEND_SIZE,
+        alive: 0,
         switches: 0,
     };
     let count = random.between(8, 16);

@@ -70,6 +70,10 @@ fn record(random: &mut Random, table: &Table, connection: usize) -> Record {
             _ => {}
         }
     }
+    if online && random.one_in(2) {
+        record.alive = *random.pick(&[1, 2, row.alive / 2, row.alive.saturating_sub(1), row.alive]).min(&row.alive);
+    }
+    record.remote_set = random.one_in(3);
     record
 }
 
@@ -98,8 +102,9 @@ pub fn sound(random: &mut Random, table: &Table) -> World {
 fn disturb(random: &mut Random, table: &Table, state: &mut State) {
     let connection = random.below(RECORDS);
     let room = table.connections.get(connection).map_or(0, |row| row.send_size);
+    let limit = table.connections.get(connection).map_or(0, |row| row.alive);
     let record = &mut state.records[connection];
-    match random.below(9) {
+    match random.below(11) {
         0 => record.mode = *random.pick(&[Mode::Offline, Mode::Reconnect, Mode::Online]),
         1 => record.open_wanted = !record.open_wanted,
         2 => record.close_wanted = !record.close_wanted,
@@ -108,6 +113,8 @@ fn disturb(random: &mut Random, table: &Table, state: &mut State) {
         5 => record.used = *random.pick(&[0, 1, room, (room + 1).min(MOST_SEND_SIZE), MOST_SEND_SIZE]),
         6 => record.timer = *random.pick(&[0, 1, u16::MAX]),
         7 => record.due = !record.due,
+        8 => record.alive = *random.pick(&[0, 1, limit, limit.saturating_add(1), u16::MAX]),
+        9 => record.remote_set = !record.remote_set,
         _ => record.switches ^= 1,
     }
 }
@@ -162,6 +169,24 @@ pub fn unsound_part(random: &mut Random, table: &Table) -> Option<World> {
             0 => Part::Payload { route, length: 1, held: 0 },
             _ => Part::Transfer { route, left },
         };
+        if !broken(table, &state).is_empty() {
+            return Some(world(random, table, state));
+        }
+    }
+    None
+}
+
+/// A state that is unsound for the alive timer of one record: above the limit, on a connection that is not online, on TCP.
+pub fn unsound_alive(random: &mut Random, table: &Table) -> Option<World> {
+    for _ in 0..100 {
+        let mut state = sound_state(random, table);
+        let connection = random.below(table.connections.len());
+        let limit = table.connections[connection].alive;
+        let record = &mut state.records[connection];
+        if random.one_in(2) {
+            *record = Record { mode: Mode::Online, remote: exact(random), ..Record::zero() };
+        }
+        record.alive = *random.pick(&[1, limit, limit.saturating_add(1), u16::MAX]);
         if !broken(table, &state).is_empty() {
             return Some(world(random, table, state));
         }

@@ -59,7 +59,17 @@ fn table_with(random: &mut Random, counts: [usize; 4], pdus: Keys) -> Table {
     let destinations = destinations.collect();
     let mut table = Table { groups, connections, routes, destinations };
     mark(random, &mut table);
+    limit(random, &mut table);
     table
+}
+
+/// Gives some UDP connections an alive limit, and no others.
+pub fn limit(random: &mut Random, table: &mut Table) {
+    for connection in 0..table.connections.len() {
+        let any = random.edge(0, 65_535) as u16;
+        let udp = table.protocol(connection) != TCP;
+        table.connections[connection].alive = if udp { *random.pick(&[0, 0, 1, 2, 3, 9, any, u16::MAX]) } else { 0 };
+    }
 }
 
 /// Marks some routes of TCP connections, and no others.
@@ -76,6 +86,7 @@ fn connection(random: &mut Random, groups: usize) -> Connection {
         automatic: random.one_in(2),
         remote: remote(random),
         send_size: random.edge(usize::from(LEAST_SEND_SIZE), usize::from(MOST_SEND_SIZE)) as u16,
+        alive: 0,
         switches: switches(random),
     }
 }

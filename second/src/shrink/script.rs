@@ -257,6 +257,8 @@ fn start_numbers(start: &mut Start, each: &mut dyn FnMut(u64) -> u64) {
         field(&mut record.used, each);
         field(&mut record.timer, each);
         flag(&mut record.due, each);
+        field(&mut record.alive, each);
+        flag(&mut record.remote_set, each);
     }
     field(&mut start.state.udp_drops, each);
     field(&mut start.state.tcp_drops, each);
@@ -287,6 +289,7 @@ mod tests {
     use super::*;
     use crate::fault::{self, Fault};
     use crate::generate::script::{image_script, misfit_script, script, stream_script, transfer_script, unsound_script};
+    use crate::generate::silence::silence_script;
     use crate::lines::lines;
     use crate::random::Random;
 
@@ -298,6 +301,7 @@ mod tests {
                 script(random, 40),
                 stream_script(random, 40),
                 transfer_script(random, 40),
+                silence_script(random, 40),
                 image_script(random),
                 misfit_script(random),
                 unsound_script(random),
@@ -319,6 +323,7 @@ mod tests {
         let make = || match part {
             "segment" => stream_script(random, 40),
             "transfers" => transfer_script(random, 40),
+            "silences" => silence_script(random, 40),
             _ => script(random, 40),
         };
         std::iter::repeat_with(make).find(|input| differs(fault, input)).expect("each fault is noticed somewhere")
@@ -326,7 +331,7 @@ mod tests {
 
     #[test]
     fn scripts_become_small() {
-        for (part, step) in [("events", 6), ("segment", 3), ("transfers", 3)] {
+        for (part, step) in [("events", 6), ("segment", 3), ("transfers", 3), ("silences", 4)] {
             for &(fault, _) in fault::of(part).unwrap()[1..].iter().step_by(step) {
                 let bound = Bound { calls: 2000, cases: 1 };
                 let mut ask = |all: &[Script]| all.iter().position(|script| differs(fault, &script.bytes()));
