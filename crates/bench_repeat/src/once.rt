@@ -23,6 +23,7 @@ use send::Transmission;
 use send_waiting::Taking;
 use send_waiting::waiting_of;
 use state::State;
+use up::wound;
 use wire::be8;
 use wire::be16;
 
@@ -319,6 +320,20 @@ fn dispatched(
     }
 }
 
+// An event through the dispatcher, before which every timer is started.
+fn dispatched_wound(
+    image: &[u8],
+    state: State,
+    rx: &mut [u8],
+    tx: &mut [u8],
+    out: &mut [u8],
+    number: u16,
+    body: &[u8],
+) -> Turn {
+    let before = wound(image, state);
+    dispatched(image, before, rx, tx, out, number, body)
+}
+
 // The next event of some, each a number 2, a length 2 and a body, through the dispatcher; where none is left, nothing.
 fn next_event(
     image: &[u8],
@@ -482,6 +497,7 @@ pub fn once(
         12 => some_events(image, state, rx, tx, out, bytes),
         13 => replayed(image, state, rx, tx, out, bytes),
         14 => take_piece(image, state, rx, tx, connection, pdu, bytes),
+        15 => dispatched_wound(image, state, rx, tx, out, pdu, bytes),
         69 => Turn {
             done: true,
             state: emptied(state, connection as usize),
@@ -493,6 +509,10 @@ pub fn once(
         71 => Turn {
             done: true,
             state: transferring(state, connection as usize, pdu),
+        },
+        72 => Turn {
+            done: true,
+            state: wound(image, state),
         },
         _ => Turn {
             done: false,

@@ -1,9 +1,11 @@
 // The state before the first call: each connection opened, a tick, each connected; where it is to be busy, each holds bytes to send.
 use connection::Event;
+use connection::Watch;
 use state::State;
 use state::fresh_state;
 use table_layout::Kind;
 use table_layout::rows_of;
+use table_rows::connection_row;
 
 // An event on each connection.
 fn each(image: &[u8], state: State, rx: &[u8], tx: &[u8], event: Event) -> State {
@@ -47,6 +49,40 @@ fn busy(rows: usize, state: State) -> State {
     let mut i: usize = 0;
     while i < 16 {
         next = busied(next, i, rows);
+        i += 1;
+    }
+    next
+}
+
+// A state in which every timer of connection i, where the table has it, runs: it is online and holds ten bytes to send, and its alive timer
+// is at its row's limit.
+fn wound_one(image: &[u8], state: State, i: usize, rows: usize) -> State {
+    if rows <= i {
+        return state;
+    }
+    if 16 <= i {
+        return state;
+    }
+    let c = state.connections[i];
+    let row = connection_row(image, i);
+    let watch = Watch {
+        alive: row.alive,
+        remote_set: false,
+    };
+    let up = c.connected();
+    let held = up.with_send(10, 65535, false);
+    let mut next = state;
+    next.connections[i] = held.with_watch(watch);
+    next
+}
+
+// Every timer of every connection runs.
+pub fn wound(image: &[u8], state: State) -> State {
+    let rows = rows_of(image, Kind::Connection);
+    let mut next = state;
+    let mut i: usize = 0;
+    while i < 16 {
+        next = wound_one(image, next, i, rows);
         i += 1;
     }
     next

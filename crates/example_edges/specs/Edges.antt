@@ -73,17 +73,17 @@ peerNumbers c =
     oneOf (isReconnect (c .mode)) ∷ oneOf (isOnline (c .mode)) ∷ c .remote .port ∷ c .used ∷ c .timer ∷ c .watch .alive ∷ oneOf (c .watch .«remote_set») ∷ []
 
 -- after a datagram, after so many ticks over a table, after a step of a walk
-abbrev pub hears : List ℕ → State → State
-hears table s = arriveOf table s false 0 exact .state
+abbrev pub afterDatagram : List ℕ → State → State
+afterDatagram table s = arriveOf table s false 0 exact .state
 
-abbrev pub passes : List ℕ → ℕ → State → State
-passes table n s = ticksEvent (lent table s 23424 23552) n .state
+abbrev pub ticksPassed : List ℕ → ℕ → State → State
+ticksPassed table n s = ticksEvent (lent table s 23424 23552) n .state
 
-abbrev pub walks : List ℕ → State → State
-walks datagram s = walkOf (lends s) 0 datagram 0 .state
+abbrev pub afterWalk : List ℕ → State → State
+afterWalk datagram s = walkOf (lends s) 0 datagram 0 .state
 
-abbrev pub sets : State → State
-sets s = eventOf (lends s) 0 (SetRemote exact) .state
+abbrev pub afterSet : State → State
+afterSet s = eventOf (lends s) 0 (SetRemote exact) .state
 
 abbrev pub peerOf : State → List ℕ
 peerOf s = peerNumbers (recordAt s 0)
@@ -149,21 +149,21 @@ edges =
     ∷ edge (tableNumbers limitedTcp) (1 ∷ 72 ∷ [])
     -- R20.3: a datagram that replaces a wildcard starts the alive timer at the limit, 2 or 1; a running one is started again; one that is
     -- stopped stays so; a step of a walk leaves it
-    ∷ edge (peerOf (hears image anybody)) (0 ∷ 1 ∷ 1000 ∷ 0 ∷ 0 ∷ 2 ∷ 0 ∷ [])
-    ∷ edge (peerOf (hears limitOne anybody)) (0 ∷ 1 ∷ 1000 ∷ 0 ∷ 0 ∷ 1 ∷ 0 ∷ [])
-    ∷ edge (peerOf (hears image (watching 1 false))) (0 ∷ 1 ∷ 1000 ∷ 10 ∷ 5 ∷ 2 ∷ 0 ∷ [])
-    ∷ edge (peerOf (hears image (watching 0 false))) (0 ∷ 1 ∷ 1000 ∷ 10 ∷ 5 ∷ 0 ∷ 0 ∷ [])
-    ∷ edge (peerOf (walks bar (watching 1 false))) (0 ∷ 1 ∷ 1000 ∷ 10 ∷ 5 ∷ 1 ∷ 0 ∷ [])
+    ∷ edge (peerOf (afterDatagram image anybody)) (0 ∷ 1 ∷ 1000 ∷ 0 ∷ 0 ∷ 2 ∷ 0 ∷ [])
+    ∷ edge (peerOf (afterDatagram limitOne anybody)) (0 ∷ 1 ∷ 1000 ∷ 0 ∷ 0 ∷ 1 ∷ 0 ∷ [])
+    ∷ edge (peerOf (afterDatagram image (watching 1 false))) (0 ∷ 1 ∷ 1000 ∷ 10 ∷ 5 ∷ 2 ∷ 0 ∷ [])
+    ∷ edge (peerOf (afterDatagram image (watching 0 false))) (0 ∷ 1 ∷ 1000 ∷ 10 ∷ 5 ∷ 0 ∷ 0 ∷ [])
+    ∷ edge (peerOf (afterWalk bar (watching 1 false))) (0 ∷ 1 ∷ 1000 ∷ 10 ∷ 5 ∷ 1 ∷ 0 ∷ [])
     -- R20.4, limit 1: let go at the first tick; limit 2: at the second, and not before
-    ∷ edge (peerOf (passes limitOne 1 (hears limitOne anybody))) (1 ∷ 0 ∷ 0 ∷ 0 ∷ 0 ∷ 0 ∷ 0 ∷ [])
-    ∷ edge (peerOf (passes image 1 (watching 2 false))) (0 ∷ 1 ∷ 1000 ∷ 10 ∷ 4 ∷ 1 ∷ 0 ∷ [])
-    ∷ edge (peerOf (passes image 2 (watching 2 false))) (1 ∷ 0 ∷ 0 ∷ 0 ∷ 0 ∷ 0 ∷ 0 ∷ [])
+    ∷ edge (peerOf (ticksPassed limitOne 1 (afterDatagram limitOne anybody))) (1 ∷ 0 ∷ 0 ∷ 0 ∷ 0 ∷ 0 ∷ 0 ∷ [])
+    ∷ edge (peerOf (ticksPassed image 1 (watching 2 false))) (0 ∷ 1 ∷ 1000 ∷ 10 ∷ 4 ∷ 1 ∷ 0 ∷ [])
+    ∷ edge (peerOf (ticksPassed image 2 (watching 2 false))) (1 ∷ 0 ∷ 0 ∷ 0 ∷ 0 ∷ 0 ∷ 0 ∷ [])
     -- R20.4, the mark: at 0 it only stops, and the rest of the tick is done; R20.5: set remote sets it, and a datagram keeps it
-    ∷ edge (peerOf (passes image 1 (watching 1 true))) (0 ∷ 1 ∷ 1000 ∷ 10 ∷ 4 ∷ 0 ∷ 1 ∷ [])
-    ∷ edge (peerOf (sets anybody)) (1 ∷ 0 ∷ 1000 ∷ 0 ∷ 0 ∷ 0 ∷ 1 ∷ [])
-    ∷ edge (peerOf (hears image (watching 1 true))) (0 ∷ 1 ∷ 1000 ∷ 10 ∷ 5 ∷ 2 ∷ 1 ∷ [])
+    ∷ edge (peerOf (ticksPassed image 1 (watching 1 true))) (0 ∷ 1 ∷ 1000 ∷ 10 ∷ 4 ∷ 0 ∷ 1 ∷ [])
+    ∷ edge (peerOf (afterSet anybody)) (1 ∷ 0 ∷ 1000 ∷ 0 ∷ 0 ∷ 0 ∷ 1 ∷ [])
+    ∷ edge (peerOf (afterDatagram image (watching 1 true))) (0 ∷ 1 ∷ 1000 ∷ 10 ∷ 5 ∷ 2 ∷ 1 ∷ [])
     -- R20.4: a wanted close comes first
-    ∷ edge (peerOf (passes image 1 (closing 1))) (0 ∷ 0 ∷ 0 ∷ 0 ∷ 0 ∷ 0 ∷ 0 ∷ [])
+    ∷ edge (peerOf (ticksPassed image 1 (closing 1))) (0 ∷ 0 ∷ 0 ∷ 0 ∷ 0 ∷ 0 ∷ 0 ∷ [])
     ∷ []
 
 -- two lists of numbers are the same; all rows are

@@ -5,7 +5,7 @@ use mathlib.Core.Bool.{false}
 use mathlib.Core.List.{List, [], _∷_, _++_}
 use lib.ListN.{take, drop}
 use Rattle.connection.specs.declared.Mode.the-variants.{Online}
-use Rattle.connection.specs.Connection.{become, withSwitches, metOf}
+use Rattle.connection.specs.Connection.{become, withRemote, withSwitches}
 use Rattle.state.specs.declared.State.{State}
 use Rattle.state.specs.State.{recordAt, withRecord}
 use Rattle.frame.specs.Frame.{frame}
@@ -25,7 +25,7 @@ abbrev pub tcpUp : ℕ → State
 tcpUp w = withRecord 2 (withSwitches w (become Online (recordAt fresh 2))) fresh
 
 abbrev pub udpUp : State
-udpUp = withRecord 0 (metOf exact (recordAt fresh 0)) fresh
+udpUp = withRecord 0 (become Online (withRemote exact (recordAt fresh 0))) fresh
 
 -- each row is what it says
 abbrev pub AllAsSaid : List Edge → Type 0

@@ -3,3 +3,4 @@ pub mod Record
 pub mod Events
 pub mod Alive
 pub mod Started
+pub mod Periods

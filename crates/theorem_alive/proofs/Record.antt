@@ -1,13 +1,11 @@
 -- ONE RECORD: what each event leaves of a watched one, and of an alive timer that does not run.
-use Prim.Native.Nat.{ℕ, _-_, _<_, _≤_}
+use Prim.Native.Nat.{ℕ, _-_, _<_}
 use mathlib.Core.Path.{_≡_, refl, sym, ap, _∙_}
 use mathlib.Core.Bool.{Bool, true, false, cond, not, _&&_, _||_, false≢true}
 use native.Mathlib.Omega.{arith}
 use lib.Dec.{eqb, leb, ltb}
 use borrow.Author.Tests.{eqb-true, ne-eqb, lt-ltb, not-true}
 use Rattle.lists.proofs.Both.{and-left, and-right, and3}
-use Rattle.receive_part.specs.declared.Part.{Part}
-use Rattle.receive_part.specs.Part.{transferring}
 use Rattle.connection.specs.declared.Config.{Config}
 use Rattle.connection.specs.declared.Connection.{Connection}
 use Rattle.connection.specs.declared.Remote.{Remote}
@@ -53,16 +51,16 @@ met-mark g source c = refl
 module _ (g : Config) (udp : g .tcp ≡ false) (r : Remote) (b : Bool) (n : ℕ) where
   -- an event of its own that is allowed, but a close
   after-watched : (c : Connection) → Sound g c → Watched r b n c → (e : Change) → (e ≡ Close → ⊥) → allowed e g c ≡ true → Watched r b n (recordAfter e g c)
-  after-watched c s w Open no a = record { online = w .online; stays = w .stays; peer = w .peer; alive = w .alive; marked = w .marked }
-  after-watched c s w Close no a = absurd (no refl)
-  after-watched c s w Connected no a = record { online = refl; stays = w .stays; peer = w .peer; alive = w .alive; marked = w .marked }
-  after-watched c s w Lost no a = absurd (false≢true (sym udp ∙ and-left (g .tcp) (isOnline (c .mode)) a))
-  after-watched c s w (SetRemote x) no a = absurd (false≢true (ap not (sym (w .online)) ∙ a))
-  after-watched c s w (Switch i on) no a = record { online = w .online; stays = w .stays; peer = w .peer; alive = w .alive; marked = w .marked }
-  after-watched c s w Cancel no a = absurd (false≢true (sym udp ∙ and-right (isOnline (c .mode)) (g .tcp) (moves-online g c s a)))
+  after-watched c s w Open calm a = record { online = w .online; stays = w .stays; peer = w .peer; alive = w .alive; marked = w .marked }
+  after-watched c s w Close calm a = absurd (calm refl)
+  after-watched c s w Connected calm a = record { online = refl; stays = w .stays; peer = w .peer; alive = w .alive; marked = w .marked }
+  after-watched c s w Lost calm a = absurd (false≢true (sym udp ∙ and-left (g .tcp) (isOnline (c .mode)) a))
+  after-watched c s w (SetRemote x) calm a = absurd (false≢true (ap not (sym (w .online)) ∙ a))
+  after-watched c s w (Switch i on) calm a = record { online = w .online; stays = w .stays; peer = w .peer; alive = w .alive; marked = w .marked }
+  after-watched c s w Cancel calm a = absurd (false≢true (sym udp ∙ and-right (isOnline (c .mode)) (g .tcp) (moves-online g c s a)))
 
   pub step-watched : (c : Connection) → Sound g c → Watched r b n c → (e : Change) → (e ≡ Close → ⊥) → Watched r b n (stepOf e g c .connection)
-  step-watched c s w e no = step-either e g c (Watched r b n) (λ _. w) (after-watched c s w e no)
+  step-watched c s w e calm = step-either e g c (Watched r b n) (λ _. w) (after-watched c s w e calm)
 
   -- a tick that is not its last, or that finds the mark
   pub tick-watched : (c : Connection) → Watched r b n c → (b ≡ false → 1 < n) → Watched r b (n - 1) (tickOf g c)

@@ -12,7 +12,7 @@ use Rattle.connection.specs.Connection.{isOnline, wildcard, unwatched}
 use Rattle.state.specs.State.{recordAt}
 use Rattle.select.specs.declared.Arrival.the-variants.{Met}
 use Rattle.entry_arrivals.specs.Arrivals.{datagramOf}
-use Rattle.model.specs.Events.{Own, change, segment, walk, takeWaiting, Whole, datagram, accept, tick, transmit, switchAll, readCount, clearCount, Event, on, onWhole}
+use Rattle.model.specs.Events.{change, takeWaiting, datagram, accept, tick, transmit, switchAll, readCount, clearCount, Event, on, onWhole}
 use Rattle.model_refines.specs.Machine.{Machine, lentTo}
 use Rattle.model_refines.specs.Run.{afterEvent, afterRun}
 
@@ -52,12 +52,12 @@ ticksIn [] = 0
 ticksIn (e ∷ es) = ticksOf e + ticksIn es
 
 module _ (image : List ℕ) (k : ℕ) where
-  abbrev pub recordOf : Machine → Connection
-  recordOf m = recordAt (m .state) k
+  abbrev pub itsRecord : Machine → Connection
+  itsRecord m = recordAt (m .state) k
 
   -- the alive timer, in ticks
   abbrev pub aliveOf : Machine → ℕ
-  aliveOf m = recordOf m .watch .alive
+  aliveOf m = itsRecord m .watch .alive
 
   -- WHAT BREAKS THE SILENCE: a datagram that connection k is answered with, a close of it, a take of its waiting bytes. All else may happen in
   -- between: events of others, its own walks, opens, switches and set remotes, transmits, datagrams for others, accepts, ticks
@@ -73,12 +73,12 @@ module _ (image : List ℕ) (k : ℕ) where
   -- LET GO AT THE nth TICK of a silent run es from m, and not before: after fewer ticks it is watched with what is left of n, and the tick after
   -- n - 1 of them lets it go
   pub record LetGoAt (g : Config) (r : Remote) (n : ℕ) (m : Machine) (es : List Event) : Type 0 where
-    pub before : ticksIn es < n → Watched r false (n - ticksIn es) (recordOf (afterRun image m es))
-    pub at : suc (ticksIn es) ≡ n → LetGo g (recordOf (afterRun image m es)) (recordOf (afterEvent image (onWhole tick) (afterRun image m es)))
+    pub before : ticksIn es < n → Watched r false (n - ticksIn es) (itsRecord (afterRun image m es))
+    pub at : suc (ticksIn es) ≡ n → LetGo g (itsRecord (afterRun image m es)) (itsRecord (afterEvent image (onWhole tick) (afterRun image m es)))
 
   -- WHAT STARTS A STOPPED TIMER: a datagram that connection k is answered with, whose record's remote had a wildcard
   pub data Starts (m : Machine) : Event → Type 0 where
-    wildcard-replaced : (group : ℕ) (source : Remote) → datagramOf (lentTo image m) group source .answer ≡ Met k → wildcard (recordOf m .remote) ≡ true
+    wildcard-replaced : (group : ℕ) (source : Remote) → datagramOf (lentTo image m) group source .answer ≡ Met k → wildcard (itsRecord m .remote) ≡ true
         → Starts m (onWhole (datagram group source))
 
   -- the timer runs at each place of a run
@@ -87,6 +87,6 @@ module _ (image : List ℕ) (k : ℕ) where
   RunsThrough m (e ∷ es) = (0 < aliveOf m) × RunsThrough (afterEvent image e m) es
 
   -- at some place of a run it was started, and has run since
-  pub data StartedIn (m : Machine) : List Event → Type 0 where
-    started-here : (e : Event) (es : List Event) → Starts m e → RunsThrough (afterEvent image e m) es → StartedIn m (e ∷ es)
-    started-later : (e : Event) (es : List Event) → StartedIn (afterEvent image e m) es → StartedIn m (e ∷ es)
+  pub data StartedIn : Machine → List Event → Type 0 where
+    started-here : (m : Machine) (e : Event) (es : List Event) → Starts m e → RunsThrough (afterEvent image e m) es → StartedIn m (e ∷ es)
+    started-later : (m : Machine) (e : Event) (es : List Event) → StartedIn (afterEvent image e m) es → StartedIn m (e ∷ es)

@@ -2,6 +2,7 @@
 // run` prints"; the patterns are those of crate words). A record is spelt first as a start state spells it. Proved to be safe and to return; the words are tried by stored output.
 use connection::Connection;
 use connection::Mode;
+use connection::Watch;
 use event_decode::bytes_from;
 use pieces::front;
 use receive_part::Part;
@@ -72,21 +73,29 @@ fn spell_part(row: &mut [u8], part: Part) {
     }
 }
 
+fn spell_send(row: &mut [u8], used: u16, timer: u16, due: bool) {
+    put16(row, 38, used);
+    put16(row, 40, timer);
+    put8(row, 42, flag(due));
+}
+
+fn spell_watch(row: &mut [u8], watch: Watch) {
+    put16(row, 43, watch.alive);
+    put8(row, 45, flag(watch.remote_set));
+}
+
 fn spell(row: &mut [u8], c: Connection) {
     let mode = c.mode;
     let remote = c.remote;
     let part = c.part;
+    let watch = c.watch;
     spell_front(row, mode, c.open_wanted, c.close_wanted);
     put32(row, 16, remote.address);
     put16(row, 20, remote.port);
     put32(row, 22, c.switches);
     spell_part(row, part);
-    put16(row, 38, c.used);
-    put16(row, 40, c.timer);
-    put8(row, 42, flag(c.due));
-    let watch = c.watch;
-    put16(row, 43, watch.alive);
-    put8(row, 45, flag(watch.remote_set));
+    spell_send(row, c.used, c.timer, c.due);
+    spell_watch(row, watch);
 }
 
 // ---- its line
