@@ -12,7 +12,7 @@ use Rattle.connection.specs.declared.Remote.{Remote}
 use Rattle.connection.specs.declared.Watch.{Watch}
 use Rattle.connection.specs.declared.Event.{Event as Change}
 use Rattle.connection.specs.declared.Event.the-variants.{Open, Close, Connected, Lost, SetRemote, Switch, Cancel}
-use Rattle.connection.specs.Connection.{isOnline, wildcard, withSend, aliveAfter, metOf, expires, letGoOf, onward, tickOf}
+use Rattle.connection.specs.Connection.{isReconnect, isOnline, wildcard, withSend, aliveAfter, metOf, expires, letGoOf, onward, tickOf}
 use Rattle.connection.specs.Event.{allowed, recordAfter, stepOf}
 use Rattle.connection.specs.Sound.{Sound}
 use Rattle.connection.proofs.Ticks.{Tick, closes-wanted, lets-go, goes-on, tick-is, tick-lets-go, tick-goes-on, step-either}
@@ -88,7 +88,7 @@ module _ (g : Config) (udp : g .tcp ≡ false) (r : Remote) (b : Bool) (n : ℕ)
       go : (d : Connection) → d ≡ letGoOf g c → LetGo g c d
       go d is =
           record {
-            mode = ap (λ (x : Connection). x .mode) is;
+            mode = ap (λ (x : Connection). isReconnect (x .mode)) is;
             remote = ap (λ (x : Connection). x .remote) is;
             used = ap (λ (x : Connection). x .used) is;
             timer = ap (λ (x : Connection). x .timer) is;

@@ -3,12 +3,11 @@ use Prim.Native.Nat.{ℕ, suc, _+_, _-_, _<_}
 use mathlib.Core.Path.{_≡_}
 use mathlib.Core.Bool.{Bool, true, false}
 use mathlib.Core.List.{List, [], _∷_}
-use Rattle.connection.specs.declared.Mode.the-variants.{Reconnect}
 use Rattle.connection.specs.declared.Config.{Config}
 use Rattle.connection.specs.declared.Connection.{Connection}
 use Rattle.connection.specs.declared.Remote.{Remote}
 use Rattle.connection.specs.declared.Event.the-variants.{Close}
-use Rattle.connection.specs.Connection.{isOnline, wildcard, unwatched}
+use Rattle.connection.specs.Connection.{isReconnect, isOnline, wildcard, unwatched}
 use Rattle.state.specs.State.{recordAt}
 use Rattle.select.specs.declared.Arrival.the-variants.{Met}
 use Rattle.entry_arrivals.specs.Arrivals.{datagramOf}
@@ -27,7 +26,7 @@ pub record Watched (r : Remote) (mark : Bool) (n : ℕ) (c : Connection) : Type 
 
 -- LET GO, d of the record c: in reconnect with the configured remote, nothing waits, nobody is watched; switches and wishes as they were
 pub record LetGo (g : Config) (c d : Connection) : Type 0 where
-  pub mode : d .mode ≡ Reconnect
+  pub mode : isReconnect (d .mode) ≡ true
   pub remote : d .remote ≡ g .remote
   pub used : d .used ≡ 0
   pub timer : d .timer ≡ 0
