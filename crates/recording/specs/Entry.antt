@@ -40,8 +40,8 @@ abbrev pub answerIn : ℕ → List ℕ → List ℕ
 answerIn n b = drop (argumentsLong n b) b
 
 -- and where they stand, behind the body's front
-abbrev pub answerAt : ℕ → List ℕ → ℕ
-answerAt n b = fromAt b (argumentsLong n b)
+abbrev pub answerBegins : ℕ → List ℕ → ℕ
+answerBegins n b = fromAt b (argumentsLong n b)
 
 -- arguments that fit spell an event
 unfoldable pub isSpelt : Call → Bool

@@ -140,7 +140,7 @@ pub fn arguments_in(number: u16, body: &[u8]) -> &[u8]
 
 pub fn answer_in(number: u16, body: &[u8]) -> &[u8]
     ensures bytes { λ r. ⌜ now r ≡ Of.answerIn number (now (body .entry)) ⌝ }
-    ensures place { λ r. ⌜ ptr r ≡ behind (ptr (body .entry)) (Of.answerAt number (now (body .entry))) ⌝ }
+    ensures place { λ r. ⌜ ptr r ≡ behind (ptr (body .entry)) (Of.answerBegins number (now (body .entry))) ⌝ }
 {
     bytes_from(body, arguments_long(number, body))
 }
