@@ -6,6 +6,7 @@ use mathlib.Core.List.{List}
 use lib.Dec.{eqb, ltb, leb}
 use lib.ListN.{length, take, drop}
 use Rattle.wire.specs.Be.{be}
+use Rattle.wire.specs.Place.{fromAt}
 use Rattle.event_decode.specs.declared.Call.{Call}
 use Rattle.event_decode.specs.declared.Call.the-variants.{Unknown, Unfit, Ticks, Own, Lost, Segment, Walk, TakeWaiting, Datagram, Accept, Transmit, SwitchAll, ReadCount, ClearCount}
 use Rattle.event_decode.specs.Calls.{callOf}
@@ -37,6 +38,10 @@ argumentsIn n b = take (argumentsLong n b) b
 -- ".. then the answer the truck gave"
 abbrev pub answerIn : ℕ → List ℕ → List ℕ
 answerIn n b = drop (argumentsLong n b) b
+
+-- and where they stand, behind the body's front
+abbrev pub answerBegins : ℕ → List ℕ → ℕ
+answerBegins n b = fromAt b (argumentsLong n b)
 
 -- arguments that fit spell an event
 unfoldable pub isSpelt : Call → Bool

@@ -6,7 +6,7 @@ use mathlib.Core.List.{List}
 use lib.Dec.{eqb, ltb, leb}
 use lib.ListN.{length}
 use Rattle.wire.specs.Be.{be}
-use Rattle.table_layout.specs.Layout.{partOf}
+use Rattle.table_layout.specs.Layout.{partOf, partAt}
 use Rattle.lists.specs.Search.{firstBad}
 use Rattle.recording.specs.declared.Front.{Front}
 use Rattle.recording.specs.declared.Front.the-variants.{Contents, Edition, Many, Long, Sized}
@@ -24,6 +24,10 @@ contentsTo i = 4 + i * 12
 
 abbrev pub entryRow : List ℕ → ℕ → List ℕ
 entryRow r i = partOf r (contentsTo i) 12
+
+-- and where it stands, behind the recording's front
+abbrev pub entryRowAt : List ℕ → ℕ → ℕ
+entryRowAt r i = partAt r (contentsTo i) 12
 
 -- "tick stamp 4, event number 2, zero 2, body length 4"
 abbrev pub stampIn : List ℕ → ℕ

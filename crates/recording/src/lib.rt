@@ -3,7 +3,7 @@
 ghost use denote.Ref.{ptr};
 ghost use mathlib.Core.Path.{_≡_};
 ghost use lib.ListN.{take, drop};
-ghost use Rattle.wire.specs.Place.{behind, fromAt};
+ghost use Rattle.wire.specs.Place.{behind};
 ghost use Rattle.lists.specs.Search.{firstBad};
 ghost use Rattle.recording.specs.Recording as Is;
 ghost use Rattle.recording.specs.Entry as Of;
@@ -39,6 +39,7 @@ pub enum Fault {
 
 pub fn entry_row(recording: &[u8], i: u16) -> &[u8]
     ensures bytes { λ r. ⌜ now r ≡ Is.entryRow (now (recording .entry)) i ⌝ }
+    ensures place { λ r. ⌜ ptr r ≡ behind (ptr (recording .entry)) (Is.entryRowAt (now (recording .entry)) i) ⌝ }
 {
     part_of(recording, 4 + i as usize * 12, 12)
 }
@@ -132,12 +133,14 @@ fn arguments_long(number: u16, body: &[u8]) -> usize
 
 pub fn arguments_in(number: u16, body: &[u8]) -> &[u8]
     ensures bytes { λ r. ⌜ now r ≡ Of.argumentsIn number (now (body .entry)) ⌝ }
+    ensures place { λ r. ⌜ ptr r ≡ ptr (body .entry) ⌝ }
 {
     front(body, arguments_long(number, body))
 }
 
 pub fn answer_in(number: u16, body: &[u8]) -> &[u8]
     ensures bytes { λ r. ⌜ now r ≡ Of.answerIn number (now (body .entry)) ⌝ }
+    ensures place { λ r. ⌜ ptr r ≡ behind (ptr (body .entry)) (Of.answerBegins number (now (body .entry))) ⌝ }
 {
     bytes_from(body, arguments_long(number, body))
 }

@@ -1,7 +1,7 @@
 -- CALLS THAT CAN BE RECORDED: whatever is answered, arguments of so many bytes leave room for it in a body of 4,096 bytes.
 use Prim.Native.Nat.{ℕ, _+_, suc, _*_, _/_, _≤_}
 use mathlib.Core.Path.{_≡_, refl, ap}
-use mathlib.Core.Bool.{Bool, true, false, cond}
+use mathlib.Core.Bool.{Bool, true, false}
 use mathlib.Core.List.{List, [], _∷_}
 use native.Mathlib.Omega.{arith}
 use lib.Dec.{eqb}
@@ -31,7 +31,7 @@ use Rattle.state.specs.Fresh.{freshState}
 use Rattle.recording.specs.Recording.{distanceIn, stamps, mostEntries}
 use Rattle.recording.specs.Entry.{isRecorded, isSpelt}
 use Rattle.theorem_record.specs.Record.{Notable, AllNotable, Near, Recordable}
-use Rattle.theorem_record.specs.Again.{Timed, afterTicks, afterNote, answerTo, recorded, recordedFresh, mostArguments, Callable, Followed, AllCallable}
+use Rattle.theorem_record.specs.Again.{Timed, afterTicks, afterNote, answerTo, recorded, recordedFresh, segmentArguments, mostArguments, Callable, Followed, AllCallable}
 use Rattle.theorem_record.proofs.Numbers.{by-call, plain-long, told-long}
 
 -- ANSWERS: of a segment event at most 1,503 bytes and 32 for every nine of the segment; where no route is marked, 1,502 and 3 for each
@@ -97,10 +97,10 @@ module _ (l : Loan) (a : List ℕ) where
   six call h b = omega (arith, h, b)
 
   -- .. of a segment, the bytes of which stand behind the first six
-  segment-fills : (c : ℕ) → 6 ≤ length a → length a ≤ cond (noneMarked (l .image)) 653 574 → Fills (Segment c 6)
+  segment-fills : (c : ℕ) → 6 ≤ length a → length a ≤ segmentArguments (noneMarked (l .image)) → Fills (Segment c 6)
   segment-fills c long h = go (noneMarked (l .image)) refl h
     where
-      go : (b : Bool) → noneMarked (l .image) ≡ b → length a ≤ cond b 653 574 → Fills (Segment c 6)
+      go : (b : Bool) → noneMarked (l .image) ≡ b → length a ≤ segmentArguments b → Fills (Segment c 6)
       go true none q = omega (arith, q, long, plain-below none c 6, length-drop 6 a)
       go false some q = omega (arith, q, long, segment-below c 6, length-drop 6 a)
 

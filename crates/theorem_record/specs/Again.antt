@@ -2,7 +2,7 @@
 -- finds no difference.
 use Prim.Native.Nat.{ℕ, _≤_, _<_}
 use mathlib.Core.Path.{_≡_}
-use mathlib.Core.Bool.{true, cond}
+use mathlib.Core.Bool.{Bool, true, false, cond}
 use mathlib.Core.List.{List, [], _∷_}
 use lib.Dec.{eqb}
 use lib.ListN.{length, replicate}
@@ -68,9 +68,13 @@ module _ (image : List ℕ) where
   recordedFresh rx tx cs = recorded (firstAt cs) (machine (freshState image) rx tx) cs
 
 -- A CALL THAT CAN BE RECORDED under an image, whatever its answer is: one with room for it in a body of 4,096 bytes. Arguments have so many
--- bytes: of a segment 574 at most, and 653 where no route of the image is marked; of any other event 4,076
+-- bytes: of a segment 653 at most where no route of the image is marked, and else 574; of any other event 4,076
+abbrev pub segmentArguments : Bool → ℕ
+segmentArguments true = 653
+segmentArguments false = 574
+
 unfoldable pub mostArguments : List ℕ → ℕ → ℕ
-mostArguments image n = cond (eqb n 7) (cond (noneMarked image) 653 574) 4076
+mostArguments image n = cond (eqb n 7) (segmentArguments (noneMarked image)) 4076
 
 pub record Callable (image : List ℕ) (c : Timed) : Type 0 where
   pub event : isRecorded (c .number) ≡ true

@@ -1,3 +1,4 @@
 -- The laws of the crate.
 pub mod Records
 pub mod Allowed
+pub mod Untouched

@@ -2,9 +2,9 @@
 use Prim.Native.Nat.{ℕ}
 use mathlib.Core.Path.{_≡_, sym, _∙_}
 use mathlib.Core.List.{List}
-use denote.Ref.{RefT, now}
+use denote.Ref.{RefT}
 use Rattle.wire.specs.Be.{Number}
-use Rattle.theorem_unique.specs.Shapes.{Equation, WithBound, PartShape, SamePart, BytesShape}
+use Rattle.theorem_unique.specs.Shapes.{Equation, WithBound, PartShape, SamePart}
 
 -- an answer, or memory after the call
 pub one-answer : {A : Type 0} (definition : A) (x y : A) → Equation definition x → Equation definition y → x ≡ y
@@ -20,10 +20,6 @@ one-number w s at x y p q = p .is ∙ sym (q .is)
 -- a part: by bytes and place
 pub one-part : (bytes : List ℕ) (place : ℕ × ℕ) (x y : RefT (List ℕ)) → PartShape bytes place x → PartShape bytes place y → SamePart x y
 one-part bytes place x y p q = record { bytes = p .0 ∙ sym (q .0); place = p .1 ∙ sym (q .1) }
-
--- a part of which the bytes alone are said
-pub one-bytes : (bytes : List ℕ) (x y : RefT (List ℕ)) → BytesShape bytes x → BytesShape bytes y → now x ≡ now y
-one-bytes bytes x y p q = p ∙ sym q
 
 -- A WHOLE CALL: an answer and the memory that it leaves
 pub one-call : {A M : Type 0} (definition : A) (left : M) (x y : A) (m n : M) → Equation definition x × Equation left m → Equation definition y × Equation left n → (x ≡ y) × (m ≡ n)

@@ -21,7 +21,3 @@ PartShape bytes place r = (now r ≡ bytes) × (ptr r ≡ place)
 pub record SamePart (x y : RefT (List ℕ)) : Type 0 where
   pub bytes : now x ≡ now y
   pub place : ptr x ≡ ptr y
-
--- the bytes of a part alone
-abbrev pub BytesShape : List ℕ → RefT (List ℕ) → Type 0
-BytesShape bytes r = now r ≡ bytes

@@ -10,7 +10,7 @@ bytes-from-requires : tie.Need-bytes-from-requires
 bytes-from-requires c κs = search needs
 
 returns : tie.Need-returns
-returns c = cc
+returns c = (cc, cc)
 
 pub answer-in-spec : {M : Type 1} → statement M
 answer-in-spec = tie.close (tie.spec arguments-long-requires bytes-from-requires returns)

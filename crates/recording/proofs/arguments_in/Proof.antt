@@ -10,7 +10,7 @@ front-requires : tie.Need-front-requires
 front-requires c κs = search needs
 
 returns : tie.Need-returns
-returns c = cc
+returns c = (cc, cc)
 
 pub arguments-in-spec : {M : Type 1} → statement M
 arguments-in-spec = tie.close (tie.spec arguments-long-requires front-requires returns)

@@ -39,7 +39,7 @@ stamp-in-requires c κs = search needs
 
 loop-holds : tie.Need-loop-holds Inv-loop μ-loop
 loop-holds c =
-    (entry-start _ _ _ _ _ _ _ _ _ (c .before .before .entries-in .ensures) (search needs) refl (c .stamp-in .ensures ∙ ap stampIn (c .before .entry-row .ensures)), (refl, (refl, refl)))
+    (entry-start _ _ _ _ _ _ _ _ _ (c .before .before .entries-in .ensures) (search needs) refl (c .stamp-in .ensures ∙ ap stampIn (c .before .entry-row .ensures .0)), (refl, (refl, refl)))
 
 entry-row-requires-2 : tie.Need-entry-row-requires-2 Inv-loop μ-loop
 entry-row-requires-2 c κs = search needs
@@ -63,10 +63,14 @@ same-length : tie.Need-same-length Inv-loop μ-loop
 same-length c = omega arith
 
 same-length-2 : tie.Need-same-length-2 Inv-loop μ-loop
-same-length-2 c = omega arith
+same-length-2 c =
+    let l = c .before .before .before .before .before .before .before .before .before .before .before .before .before .before .before .before .before in
+    omega (arith, l .loop .inv .1 .1 .0)
 
 same-length-3 : tie.Need-same-length-3 Inv-loop μ-loop
-same-length-3 c = omega arith
+same-length-3 c =
+    let l = c .before .before .before .before .before .before .before .before .before .before .before .before .before .before .before .before .before in
+    omega (arith, l .loop .inv .1 .1 .1)
 
 returns : tie.Need-returns Inv-loop μ-loop
 returns c =
@@ -75,7 +79,7 @@ returns c =
     let e = f .before .before .before in
     let l = e .before .before in
     let p = r .replay-step .ensures in
-    entry-stops _ _ _ _ _ _ _ _ _ (l .loop .inv .0) (e .before .loop-test .taken) _ _ _ _ _ _ (e .entry-row2 .ensures) (f .bytes-from .ensures .0)
+    entry-stops _ _ _ _ _ _ _ _ _ (l .loop .inv .0) (e .before .loop-test .taken) _ _ _ _ _ _ (e .entry-row2 .ensures .0) (f .bytes-from .ensures .0)
     (p .0, (p .1 .0, (p .1 .1 .0, p .1 .1 .1))) _ _ (c .before .before .is-run .ensures) (c .before .if1 .taken) (c .end-at .ensures)
 
 stamp-in-requires-2 : tie.Need-stamp-in-requires-2 Inv-loop μ-loop
@@ -102,7 +106,7 @@ add-at-2 c =
     let l = e .before .before in
     let p = r .replay-step .ensures in
     ⊎-elim (λ x. omega (arith, x)) (λ x. omega (arith, x, l .before .before .before .before .before .before .before .before .before .good))
-    (entry-placed _ _ _ _ _ _ _ _ _ (l .loop .inv .0) (e .before .loop-test .taken) _ _ _ _ _ _ (e .entry-row2 .ensures) (f .bytes-from .ensures .0)
+    (entry-placed _ _ _ _ _ _ _ _ _ (l .loop .inv .0) (e .before .loop-test .taken) _ _ _ _ _ _ (e .entry-row2 .ensures .0) (f .bytes-from .ensures .0)
     (p .0, (p .1 .0, (p .1 .1 .0, p .1 .1 .1))) _ _ (c .before .before .before .before .is-run .ensures) (c .before .before .before .if1 .left) (c .body-long .ensures))
 
 stamp-in-requires-3 : tie.Need-stamp-in-requires-3 Inv-loop μ-loop
@@ -127,7 +131,7 @@ loop-again c =
     let e = f .before .before .before in
     let l = e .before .before in
     let p = r .replay-step .ensures in (
-      entry-on _ _ _ _ _ _ _ _ _ (l .loop .inv .0) (e .before .loop-test .taken) _ _ _ _ _ _ (e .entry-row2 .ensures) (f .bytes-from .ensures .0)
+      entry-on _ _ _ _ _ _ _ _ _ (l .loop .inv .0) (e .before .loop-test .taken) _ _ _ _ _ _ (e .entry-row2 .ensures .0) (f .bytes-from .ensures .0)
           (p .0, (p .1 .0, (p .1 .1 .0, p .1 .1 .1))) _ _ _ _ _ _ _
           (c .before .before .before .before .before .before .before .is-run .ensures) (c .before .before .before .before .before .before .if1 .left) (c .before .before .before .before .before .stamp-in2 .ensures) (c .before .before .before .before .distance .ensures) (omega (arith, c .before .before .before .before .distance .ok)) (c .before .before .before .body-long .ensures)
           (c .before .before .stamp-in3 .ensures) (c .before .is-other .ensures) (c .first-other .ensures),
