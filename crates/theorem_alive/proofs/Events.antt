@@ -1,40 +1,31 @@
 -- EVENTS OF THE MACHINE, seen from one connection's record: a tick, an arrival, and every event that leaves the silence.
 use Prim.Native.Nat.{ℕ, suc, _<_}
 use mathlib.Core.Path.{_≡_, refl, sym, ap, _∙_, subst}
-use mathlib.Core.Bool.{Bool, true, false, cond, false≢true}
+use mathlib.Core.Bool.{Bool, true, false, false≢true}
 use mathlib.Core.List.{List}
 use native.Mathlib.Nat.{zero-add}
 use native.Mathlib.Omega.{arith}
-use lib.Dec.{leb}
 use lib.ListN.{length}
-use lib.Seq.{getD-set-same, getD-set-other}
+use lib.Seq.{getD-set-same}
 use borrow.Author.Tests.{eq-eqb}
 use Rattle.lists.proofs.Each.{one-at}
 use Rattle.law_lists.proofs.Each.{each-own}
 use Rattle.table_layout.specs.Layout.{rowsOf}
-use Rattle.table_layout.specs.declared.Kind.the-variants.{Connection as Connections, Group}
+use Rattle.table_layout.specs.declared.Kind.the-variants.{Connection as Connections}
 use Rattle.table_rows.specs.Rows.{groupOf, connectionOf}
 use Rattle.connection.specs.declared.Config.{Config}
 use Rattle.connection.specs.declared.Connection.{Connection}
 use Rattle.connection.specs.declared.Remote.{Remote}
 use Rattle.connection.specs.declared.Event.{Event as Change}
-use Rattle.connection.specs.declared.Refusal.the-variants.{Missing, Denied}
 use Rattle.connection.specs.Connection.{zeroRecord, withSend, withSwitches, metOf, switchOf, switchedOf, tickOf}
 use Rattle.connection.specs.Sound.{Sound}
 use Rattle.state.specs.State.{recordAt}
 use Rattle.state.specs.Fresh.{configOf}
-use Rattle.gate.specs.declared.Gate.{Gate}
-use Rattle.gate.specs.declared.Gate.the-variants.{Pass, Refused as Shut}
 use Rattle.gate.specs.Lent.{Lent}
-use Rattle.gate.specs.Gate.{gateOf, through}
 use Rattle.gate.proofs.Pass.{passed-gate, rows-in-sixteen}
 use Rattle.gate.proofs.Records.{row-sound}
 use Rattle.select.specs.declared.Arrival.{Arrival}
 use Rattle.select.specs.declared.Arrival.the-variants.{Met, Refused, Unmatched}
-use Rattle.select.specs.declared.Arrived.{Arrived}
-use Rattle.select.specs.declared.Chosen.{Chosen}
-use Rattle.select.specs.declared.Chosen.the-variants.{Nobody, At}
-use Rattle.select.specs.Choose.{chosenIn, meet, arrivalRefused, deniedOf, arriveOf}
 use Rattle.entry_arrivals.specs.Arrivals.{arrivalOf}
 use Rattle.entry_ticks.specs.Tick.{tickAt, tickedTo, tickEvent}
 use Rattle.law_keeps.proofs.Rows.{sound-row-at}
@@ -52,6 +43,7 @@ use Rattle.model_refines.proofs.Steps.{event-view}
 use Rattle.theorem_match.specs.Match.{Arrives, shut, no-group, not-welcome, none-matches, meets, Welcome, BestMatch}
 use Rattle.theorem_match.proofs.Match.{arrival-answer}
 use Rattle.theorem_records.proofs.Records.{arrival-leaves}
+use Rattle.theorem_records.proofs.Untouched.{arrival-others}
 use Rattle.theorem_alive.specs.Alive.{Watched, ticksOf, itsRecord, Breaks, datagram-given, close-asked, waiting-taken}
 use Rattle.theorem_alive.proofs.Record.{step-watched, besides-watched, event-none, take-none}
 
@@ -71,34 +63,8 @@ pub whom-met : (k : ℕ) → whom (Met k) ≡ suc k
 unfolding whom
 whom-met k = refl
 
--- AN ARRIVAL THAT IS NOT ANSWERED WITH CONNECTION k leaves its record
+-- AN ARRIVAL THAT IS ANSWERED WITH CONNECTION k has its reason
 module _ (l : Lent) (a : Bool) (group : ℕ) (source : Remote) (k : ℕ) where
-  abbrev Other : Arrived → Type 0
-  Other x = (x .answer ≡ Met k → ⊥) → recordAt (x .state) k ≡ recordAt (l .state) k
-
-  met-other : (x : Chosen) → Other (meet (l .image) (l .state) source x)
-  met-other Nobody calm = refl
-  met-other (At j) calm = getD-set-other (l .state .connections) j k _ zeroRecord (λ q. calm (ap Met (sym q)))
-
-  pub other-stays : Other (arrivalOf l a group source)
-  unfolding arrivalOf arriveOf
-  other-stays = gate (gateOf l)
-    where
-      asked : (b : Bool) → Other (cond b (arrivalRefused (l .state) Denied) (meet (l .image) (l .state) source (chosenIn (l .image) (l .state) a group source)))
-      asked true = λ calm. refl
-      asked false = met-other (chosenIn (l .image) (l .state) a group source)
-
-      there : (b : Bool) → Other (cond b (arrivalRefused (l .state) Missing)
-          (cond (deniedOf (l .image) a group source) (arrivalRefused (l .state) Denied)
-          (meet (l .image) (l .state) source (chosenIn (l .image) (l .state) a group source))))
-      there true = λ calm. refl
-      there false = asked (deniedOf (l .image) a group source)
-
-      gate : (g : Gate) → Other (through g (arrivalRefused (l .state)) (arriveOf (l .image) (l .state) a group source))
-      gate Pass = there (leb (rowsOf (l .image) Group) group)
-      gate (Shut r) = λ calm. refl
-
-  -- and one that is answered with it has its reason
   reason : (x : Arrival) → Arrives l a group source x → whom x ≡ suc k → Welcome l a group source × BestMatch l a group source k
   unfolding whom
   reason _ (shut r g) e = absurd (omega (arith, e))
@@ -154,7 +120,7 @@ module _ (image : List ℕ) (k : ℕ) (m : Machine) (good : Good image m) (there
   pub not-given : (group : ℕ) (source : Remote) → (arrivalOf (lentTo image m) false group source .answer ≡ Met k → ⊥)
       → recordAt (afterEvent image (onWhole (datagram group source)) m .state) k ≡ c
   unfolding afterEvent afterWhole
-  not-given group source calm = other-stays (lentTo image m) false group source k calm
+  not-given group source calm = arrival-others (lentTo image m) false group source k calm
 
   pub accepted : (group : ℕ) (source : Remote) → arrivalOf (lentTo image m) true group source .answer ≡ Met k
       → recordAt (afterEvent image (onWhole (accept group source)) m .state) k ≡ metOf g source c
@@ -164,7 +130,7 @@ module _ (image : List ℕ) (k : ℕ) (m : Machine) (good : Good image m) (there
   pub not-accepted : (group : ℕ) (source : Remote) → (arrivalOf (lentTo image m) true group source .answer ≡ Met k → ⊥)
       → recordAt (afterEvent image (onWhole (accept group source)) m .state) k ≡ c
   unfolding afterEvent afterWhole
-  not-accepted group source calm = other-stays (lentTo image m) true group source k calm
+  not-accepted group source calm = arrival-others (lentTo image m) true group source k calm
 
   -- EVERY OTHER EVENT, by the world's step
   pub after-record : (e : Event) → EventBytes e

@@ -84,11 +84,11 @@ module _ (l : Lent) (tcp : Bool) (group : ℕ) (source : Remote) (i : ℕ) where
   abbrev Stays : Arrived → Type 0
   Stays x = (x .answer ≡ Met i → ⊥) → recordAt (x .state) i ≡ recordAt (l .state) i
 
-  met-stays : (c : Chosen) → Stays (meet (l .state) source c)
+  met-stays : (c : Chosen) → Stays (meet (l .image) (l .state) source c)
   met-stays Nobody h = refl
   met-stays (At k) h = go (ℕ-discrete k i)
     where
-      go : Dec (k ≡ i) → recordAt (meet (l .state) source (At k) .state) i ≡ recordAt (l .state) i
+      go : Dec (k ≡ i) → recordAt (meet (l .image) (l .state) source (At k) .state) i ≡ recordAt (l .state) i
       go (yes e) = absurd (h (ap Met e))
       go (no ne) = getD-set-other (l .state .connections) k i _ zeroRecord (λ e. ne (sym e))
 
@@ -96,12 +96,12 @@ module _ (l : Lent) (tcp : Bool) (group : ℕ) (source : Remote) (i : ℕ) where
   unfolding arrivalOf arriveOf
   arrival-others = gate (gateOf l)
     where
-      asked : (b : Bool) → Stays (cond b (arrivalRefused (l .state) Denied) (meet (l .state) source (chosenIn (l .image) (l .state) tcp group source)))
+      asked : (b : Bool) → Stays (cond b (arrivalRefused (l .state) Denied) (meet (l .image) (l .state) source (chosenIn (l .image) (l .state) tcp group source)))
       asked true h = refl
       asked false h = met-stays (chosenIn (l .image) (l .state) tcp group source) h
 
       there : (b : Bool) → Stays (cond b (arrivalRefused (l .state) Missing)
-          (cond (deniedOf (l .image) tcp group source) (arrivalRefused (l .state) Denied) (meet (l .state) source (chosenIn (l .image)
+          (cond (deniedOf (l .image) tcp group source) (arrivalRefused (l .state) Denied) (meet (l .image) (l .state) source (chosenIn (l .image)
           (l .state) tcp group source))))
       there true h = refl
       there false h = asked (deniedOf (l .image) tcp group source) h

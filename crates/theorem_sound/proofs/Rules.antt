@@ -132,6 +132,10 @@ module _ (image : List ℕ) (k : ℕ) (rows : length (bodyOf image Routes) / 16 
                 λ m. false≢true (sym (ap (λ (x : Mode). not (isOffline x)) m) ∙ and-right (g .tcp) (not
                     (isOffline (c .mode))) t),
               );
+          watched = λ h. let t = and3 (isOnline (c .mode)) (not (g .tcp)) (leb (c .watch .alive) (g .alive))
+              (or-then (eqb (c .watch .alive) 0) (isOnline (c .mode) && not (g .tcp) && leb (c .watch .alive) (g .alive)) (s .watching)
+              (none (c .watch .alive) h)) in
+              (is-online (c .mode) (t .0), not-true (g .tcp) (t .1), leb-true _ _ (t .2));
         }
       where
         held : (c .part ≡ Header 0 0 → ⊥) → (isOnline (c .mode) && g .tcp) ≡ true
@@ -167,6 +171,9 @@ module _ (image : List ℕ) (k : ℕ) (rows : length (bodyOf image Routes) / 16 
             (c .«close_wanted»)) (not (g .automatic)) e in
             let t = w .closing (not-false (c .«close_wanted») (n .0)) (not-false (g .automatic) (n .1)) in
             and-both (t .0) (not-offline (c .mode) (t .1)));
+        watching = then-or (eqb (c .watch .alive) 0) (isOnline (c .mode) && not (g .tcp) && leb (c .watch .alive) (g .alive)) (λ e. let t = w .watched
+            (some (c .watch .alive) e) in
+            and-both (and-both (ap isOnline (t .0)) (not-true-is (t .1))) (le-leb _ _ (t .2)));
       },
       words-part (c .part) (w .part) .1,
     )
@@ -211,6 +218,7 @@ zero-words image k =
       reached = λ e. impossible (ap isOnline e);
       opening = λ e. absurd (false≢true e);
       closing = λ e a. absurd (false≢true e);
+      watched = λ h. absurd (omega (arith, h));
     }
 
 accepted-is : (a : TableAnswer) → isAccepted a ≡ true → a ≡ Accepted

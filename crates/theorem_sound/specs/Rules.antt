@@ -1,4 +1,4 @@
--- WHEN STATE AND TABLE ARE SOUND (R3.1 to R3.11, R19.8), rule by rule, in the words of the rules.
+-- WHEN STATE AND TABLE ARE SOUND (R3.1 to R3.11, R19.8, R20.2), rule by rule, in the words of the rules.
 use Prim.Native.Nat.{ℕ, _^_, _<_, _≤_}
 use mathlib.Core.Path.{_≡_}
 use mathlib.Core.Bool.{true, false}
@@ -63,6 +63,8 @@ module _ (image : List ℕ) (k : ℕ) where
     pub opening : c .«open_wanted» ≡ true → (configOf image k .automatic ≡ false) × (c .mode ≡ Offline) × (c .«close_wanted» ≡ false)
     -- R3.11: close wanted never on an automatic UDP record, nor on an automatic offline one
     pub closing : c .«close_wanted» ≡ true → configOf image k .automatic ≡ true → (configOf image k .tcp ≡ true) × (c .mode ≡ Offline → ⊥)
+    -- R20.2: the alive timer runs only on an online UDP connection, and is at most the limit
+    pub watched : 0 < c .watch .alive → (c .mode ≡ Online) × (configOf image k .tcp ≡ false) × (c .watch .alive ≤ configOf image k .alive)
 
 -- STATE AND TABLE ARE SOUND (R3.1): the table meets its rules, each row's record meets its own, and records past the row count are all zero
 pub record SoundTogether (image : List ℕ) (s : State) : Type 0 where
