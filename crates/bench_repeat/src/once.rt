@@ -1,4 +1,5 @@
 // One call of an entry point, by what it is (main.rt lists them), with the state as the next call is to find it.
+use crate::up::wound;
 use connection::Answer;
 use connection::Remote;
 use entry_events::CountAnswer;
@@ -23,7 +24,6 @@ use send::Transmission;
 use send_waiting::Taking;
 use send_waiting::waiting_of;
 use state::State;
-use up::wound;
 use wire::be8;
 use wire::be16;
 

@@ -1,3 +1,4 @@
 -- The laws of the crate.
 pub mod Given
 pub mod Entries
+pub mod Silence

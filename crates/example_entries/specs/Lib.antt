@@ -1,2 +1,3 @@
--- The starred edges through the entry points.
+-- The starred edges through the entry points, and a peer that falls silent.
 pub mod Entries
+pub mod Silence

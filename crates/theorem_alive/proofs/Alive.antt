@@ -44,7 +44,8 @@ datagram-udp : (l : Lent) (group : ℕ) (source : Remote) (k : ℕ) → arrivalO
 unfolding configOf
 datagram-udp l group source k e =
     let r = met-reason l false group source k e in
-    let p : groupOf (l .image) (connectionOf (l .image) k .group) .protocol ≡ 1 = ap (λ (i : ℕ). groupOf (l .image) i .protocol) (r .1 .matching .its) ∙ r .0 .protocol in
+    let p : groupOf (l .image) (connectionOf (l .image) k .group) .protocol ≡ 1 =
+    ap (λ (i : ℕ). groupOf (l .image) i .protocol) (r .1 .matching .its) ∙ r .0 .protocol in
     ne-eqb (groupOf (l .image) (connectionOf (l .image) k .group) .protocol) 2 (λ q. omega (arith, p, q))
 
 module _ (image : List ℕ) (k : ℕ) (there : k < rowsOf image Connections) (udp : configOf image k .tcp ≡ false) where
@@ -52,7 +53,8 @@ module _ (image : List ℕ) (k : ℕ) (there : k < rowsOf image Connections) (ud
   g = configOf image k
 
   -- ONE EVENT
-  one-event : (m : Machine) → Good image m → (r : Remote) (b : Bool) (n : ℕ) → Watched r b n (itsRecord image k m) → (e : Event) → EventBytes e → (Breaks image k m e → ⊥)
+  one-event : (m : Machine) → Good image m → (r : Remote) (b : Bool) (n : ℕ) → Watched r b n (itsRecord image k m) → (e : Event) → EventBytes e
+      → (Breaks image k m e → ⊥)
       → (b ≡ false → ticksOf e < n) → Watched r b (n - ticksOf e) (itsRecord image k (afterEvent image e m))
   one-event m good r b n w e bytes calm more = go (ℕ-discrete (ticksOf e) 0)
     where
@@ -69,7 +71,8 @@ module _ (image : List ℕ) (k : ℕ) (there : k < rowsOf image Connections) (ud
           (subst (Watched r b (n - 1)) (sym (ticked image k m good there)) (tick-watched g udp r b n (itsRecord image k m) w last)))
 
   -- A SILENT RUN lowers the timer by its ticks, and no more
-  pub silent-run : (m : Machine) → Good image m → (r : Remote) (b : Bool) (n : ℕ) → Watched r b n (itsRecord image k m) → (es : List Event) → RunBytes es → Silent image k m es
+  pub silent-run : (m : Machine) → Good image m → (r : Remote) (b : Bool) (n : ℕ) → Watched r b n (itsRecord image k m) → (es : List Event) → RunBytes es
+      → Silent image k m es
       → (b ≡ false → ticksIn es < n) → Watched r b (n - ticksIn es) (itsRecord image k (afterRun image m es))
   unfolding afterRun Silent ticksIn
   silent-run m good r b n w [] bytes s more =
@@ -83,7 +86,8 @@ module _ (image : List ℕ) (k : ℕ) (there : k < rowsOf image Connections) (ud
       (silent-run (afterEvent image e m) (event-good image m good e x) r b (n - ticksOf e) (one-event m good r b n w e x calm first) es xs s later)
 
   -- so a watched record without the mark is let go at the nth tick, and not before
-  pub let-go-at : (m : Machine) → Good image m → (r : Remote) (n : ℕ) → Watched r false n (itsRecord image k m) → (es : List Event) → RunBytes es → Silent image k m es
+  pub let-go-at : (m : Machine) → Good image m → (r : Remote) (n : ℕ) → Watched r false n (itsRecord image k m) → (es : List Event) → RunBytes es
+      → Silent image k m es
       → LetGoAt image k g r n m es
   let-go-at m good r n w es bytes s =
       record {
@@ -97,7 +101,8 @@ module _ (image : List ℕ) (k : ℕ) (there : k < rowsOf image Connections) (ud
       }
 
   -- WITH THE MARK it is never let go: it stays online with its peer, and the timer only stops
-  pub marked-never : (m : Machine) → Good image m → (r : Remote) (n : ℕ) → Watched r true n (itsRecord image k m) → (es : List Event) → RunBytes es → Silent image k m es
+  pub marked-never : (m : Machine) → Good image m → (r : Remote) (n : ℕ) → Watched r true n (itsRecord image k m) → (es : List Event) → RunBytes es
+      → Silent image k m es
       → Watched r true (n - ticksIn es) (itsRecord image k (afterRun image m es))
   marked-never m good r n w es bytes s = silent-run m good r true n w es bytes s (λ f. absurd (true≢false f))
 
@@ -113,40 +118,54 @@ module _ (image : List ℕ) (k : ℕ) (there : k < rowsOf image Connections) (m 
   pub its-udp : configOf image k .tcp ≡ false
   its-udp = datagram-udp (lentTo image m) group source k is
 
-  watched-after : (b : Bool) → itsRecord image k m .watch .«remote_set» ≡ b → (wildcard (itsRecord image k m .remote) || ltb 0 (itsRecord image k m .watch .alive)) ≡ true
+  after-good : Good image after
+  after-good = event-good image m good (onWhole (datagram group source)) tt
+
+  watched-after : (b : Bool) → itsRecord image k m .watch .«remote_set» ≡ b
+      → (wildcard (itsRecord image k m .remote) || ltb 0 (itsRecord image k m .watch .alive)) ≡ true
       → Watched source b limit (itsRecord image k after)
   watched-after b mark starts =
       subst (Watched source b limit) (sym (given image k m good there group source is))
       (met-watched (configOf image k) source b (itsRecord image k m) starts (met-reason (lentTo image m) false group source k is .1 .matching .stays) mark)
 
   -- 1. IT REPLACES A WILDCARD: let go at exactly the tick with the limit's number, counted from it, and not before
-  pub let-go-exactly : wildcard (itsRecord image k m .remote) ≡ true → itsRecord image k m .watch .«remote_set» ≡ false → (es : List Event) → RunBytes es → Silent image k after es
+  pub let-go-exactly : wildcard (itsRecord image k m .remote) ≡ true → itsRecord image k m .watch .«remote_set» ≡ false → (es : List Event) → RunBytes es
+      → Silent image k after es
       → LetGoAt image k (configOf image k) source limit after es
   let-go-exactly wild mark es bytes s =
-      let-go-at image k there its-udp after (event-good image m good (onWhole (datagram group source)) tt) source limit (watched-after false mark (wild-starts (itsRecord image k m) wild)) es bytes s
+      let-go-at image k there its-udp after after-good source limit (watched-after false mark (wild-starts (itsRecord image k m) wild)) es bytes s
 
   -- 3. with the mark: never
-  pub let-go-never : wildcard (itsRecord image k m .remote) ≡ true → itsRecord image k m .watch .«remote_set» ≡ true → (es : List Event) → RunBytes es → Silent image k after es
+  pub let-go-never : wildcard (itsRecord image k m .remote) ≡ true → itsRecord image k m .watch .«remote_set» ≡ true → (es : List Event) → RunBytes es
+      → Silent image k after es
       → Watched source true (limit - ticksIn es) (itsRecord image k (afterRun image after es))
   let-go-never wild mark es bytes s =
-      marked-never image k there its-udp after (event-good image m good (onWhole (datagram group source)) tt) source limit (watched-after true mark (wild-starts (itsRecord image k m) wild)) es bytes s
+      marked-never image k there its-udp after after-good source limit (watched-after true mark (wild-starts (itsRecord image k m) wild)) es bytes s
 
   -- 2. IT COMES WHILE THE TIMER RUNS: the limit begins again with it
   pub let-go-again : (r : Remote) (n : ℕ) → Watched r false n (itsRecord image k m) → 0 < n → (es : List Event) → RunBytes es → Silent image k after es
       → LetGoAt image k (configOf image k) source limit after es
   let-go-again r n w l es bytes s =
-      let-go-at image k there its-udp after (event-good image m good (onWhole (datagram group source)) tt) source limit
+      let-go-at image k there its-udp after after-good source limit
       (watched-after false (w .marked) (running-starts (itsRecord image k m) (omega (arith, l, w .alive)))) es bytes s
 
 -- 2, in one run: a datagram starts the timer, silent events es with fewer ticks than the limit follow, then a second datagram, then silent events fs
-pub heard-twice : (image : List ℕ) (k : ℕ) → k < rowsOf image Connections → (m : Machine) → Good image m → (group : ℕ) (source : Remote)
-    → datagramOf (lentTo image m) group source .answer ≡ Met k → wildcard (itsRecord image k m .remote) ≡ true → itsRecord image k m .watch .«remote_set» ≡ false
-    → (es : List Event) → RunBytes es → Silent image k (afterEvent image (onWhole (datagram group source)) m) es → ticksIn es < configOf image k .alive
-    → (again : ℕ) (other : Remote) → datagramOf (lentTo image (afterRun image (afterEvent image (onWhole (datagram group source)) m) es)) again other .answer ≡ Met k
-    → (fs : List Event) → RunBytes fs → Silent image k (afterEvent image (onWhole (datagram again other)) (afterRun image (afterEvent image (onWhole (datagram group source)) m) es)) fs
-    → LetGoAt image k (configOf image k) other (configOf image k .alive) (afterEvent image (onWhole (datagram again other)) (afterRun image (afterEvent image (onWhole (datagram group source)) m) es)) fs
-heard-twice image k there m good group source is wild mark es bytes s few again other is′ fs bytes′ s′ =
-    let first = afterEvent image (onWhole (datagram group source)) m in
-    let w = let-go-exactly image k there m good group source is wild mark es bytes s .before few in
-    let-go-again image k there (afterRun image first es) (run-good image first es bytes (event-good image m good (onWhole (datagram group source)) tt)) again other is′
-    source (configOf image k .alive - ticksIn es) w (omega (arith, few)) fs bytes′ s′
+module _ (image : List ℕ) (k : ℕ) (there : k < rowsOf image Connections) (m : Machine) (good : Good image m) (group : ℕ) (source : Remote)
+    (es : List Event) (again : ℕ) (other : Remote) where
+  abbrev started : Machine
+  started = afterEvent image (onWhole (datagram group source)) m
+
+  abbrev waited : Machine
+  waited = afterRun image started es
+
+  abbrev restarted : Machine
+  restarted = afterEvent image (onWhole (datagram again other)) waited
+
+  pub heard-twice : datagramOf (lentTo image m) group source .answer ≡ Met k → wildcard (itsRecord image k m .remote) ≡ true
+      → itsRecord image k m .watch .«remote_set» ≡ false → RunBytes es → Silent image k started es → ticksIn es < configOf image k .alive
+      → datagramOf (lentTo image waited) again other .answer ≡ Met k → (fs : List Event) → RunBytes fs → Silent image k restarted fs
+      → LetGoAt image k (configOf image k) other (configOf image k .alive) restarted fs
+  heard-twice is wild mark bytes s few is′ fs bytes′ s′ =
+      let w = let-go-exactly image k there m good group source is wild mark es bytes s .before few in
+      let good′ = run-good image started es bytes (event-good image m good (onWhole (datagram group source)) tt) in
+      let-go-again image k there waited good′ again other is′ source (configOf image k .alive - ticksIn es) w (omega (arith, few)) fs bytes′ s′

@@ -89,7 +89,8 @@ module _ (l : Lent) (a : Bool) (group : ℕ) (source : Remote) (k : ℕ) where
       asked false = met-other (chosenIn (l .image) (l .state) a group source)
 
       there : (b : Bool) → Other (cond b (arrivalRefused (l .state) Missing)
-          (cond (deniedOf (l .image) a group source) (arrivalRefused (l .state) Denied) (meet (l .image) (l .state) source (chosenIn (l .image) (l .state) a group source))))
+          (cond (deniedOf (l .image) a group source) (arrivalRefused (l .state) Denied)
+          (meet (l .image) (l .state) source (chosenIn (l .image) (l .state) a group source))))
       there true = λ calm. refl
       there false = asked (deniedOf (l .image) a group source)
 
@@ -135,7 +136,8 @@ module _ (image : List ℕ) (k : ℕ) (m : Machine) (good : Good image m) (there
   unfolding afterEvent afterWhole tickEvent tickedTo
   ticked =
       rw (passed-gate (lentTo image m) (good .passed))
-      (each-own (tickAt image) zeroRecord 0 (rowsOf image Connections) k (m .state .connections) there inside ∙ ap (λ (n : ℕ). tickOf (configOf image n) c) (zero-add k))
+      (each-own (tickAt image) zeroRecord 0 (rowsOf image Connections) k (m .state .connections) there inside
+      ∙ ap (λ (n : ℕ). tickOf (configOf image n) c) (zero-add k))
 
   -- AN ARRIVAL that is answered with it meets it
   pub met : (a : Bool) (group : ℕ) (source : Remote) → arrivalOf (lentTo image m) a group source .answer ≡ Met k
@@ -165,7 +167,8 @@ module _ (image : List ℕ) (k : ℕ) (m : Machine) (good : Good image m) (there
   not-accepted group source calm = other-stays (lentTo image m) true group source k calm
 
   -- EVERY OTHER EVENT, by the world's step
-  pub after-record : (e : Event) → EventBytes e → recordAt (afterEvent image e m .state) k ≡ heldAt (step (tableOf image) (wholeOf image) (seen m) e) k .connection
+  pub after-record : (e : Event) → EventBytes e
+      → recordAt (afterEvent image e m .state) k ≡ heldAt (step (tableOf image) (wholeOf image) (seen m) e) k .connection
   after-record e b =
       sym (view-record (afterEvent image e m .state) (afterEvent image e m .rx) (afterEvent image e m .tx) k)
       ∙ ap (λ (w : World). heldAt w k .connection) (event-view image m good e b)
@@ -183,7 +186,8 @@ module _ (image : List ℕ) (k : ℕ) (m : Machine) (good : Good image m) (there
       (λ same.
       subst (λ (j : ℕ). P (acts (tableOf image) j e (heldAt (seen m) j) .to .connection)) (sym same)
       (q same (acts (tableOf image) k e (heldAt (seen m) k) .to .connection)
-      (subst (λ (x : Connection). Acts g x e (acts (tableOf image) k e (heldAt (seen m) k) .to .connection)) seen-c (acts-is (tableOf image) k e (heldAt (seen m) k)))))
+      (subst (λ (x : Connection). Acts g x e (acts (tableOf image) k e (heldAt (seen m) k) .to .connection)) seen-c
+      (acts-is (tableOf image) k e (heldAt (seen m) k)))))
       (subst P (sym seen-c) p))
 
 -- an event that brings no source, and is no tick
@@ -246,7 +250,8 @@ module _ (image : List ℕ) (k : ℕ) (m : Machine) (good : Good image m) (there
   pub silent-event : (e : Event) → EventBytes e → (Breaks image k m e → ⊥) → ticksOf e ≡ 0 → Watched r b n (itsRecord image k (afterEvent image e m))
   silent-event (on i e) bytes calm z =
       own-keeps image k m good there (Watched r b n) i e bytes w (λ same. own-watched e (λ x. calm (subst (λ (j : ℕ). Breaks image k m (on j e)) (sym same) x)))
-  silent-event (onWhole (datagram group source)) bytes calm z = same-watched (not-given image k m good there group source (λ e. calm (datagram-given group source e)))
+  silent-event (onWhole (datagram group source)) bytes calm z =
+      same-watched (not-given image k m good there group source (λ e. calm (datagram-given group source e)))
   silent-event (onWhole (accept group source)) bytes calm z =
       same-watched (not-accepted image k m good there group source (λ e. false≢true (sym udp ∙ accept-tcp (lentTo image m) group source k e)))
   silent-event (onWhole tick) bytes calm z = absurd (omega (arith, z))

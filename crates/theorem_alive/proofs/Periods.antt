@@ -125,7 +125,8 @@ module _ (image : List ℕ) (k : ℕ) (m : Machine) (good : Good image m) (there
       (getD-set-same (seen m .held) k _ blank (omega (arith, inside image k m good there, view-length (m .rx) (m .tx) 0 (m .state .connections))))
       ∙ rw (lt-ltb k (rowsOf image Connections) there) (ap (takeOf g room) (view-record (m .state) (m .rx) (m .tx) k))
 
-  took-down : (room : ℕ) (d : Connection) → TakeLeaves g room c d → 0 < c .used → c .used ≤ room → g .automatic ≡ true → wildcard (g .remote) ≡ true → isOnline (d .mode) ≡ false
+  took-down : (room : ℕ) (d : Connection) → TakeLeaves g room c d → 0 < c .used → c .used ≤ room → g .automatic ≡ true → wildcard (g .remote) ≡ true
+      → isOnline (d .mode) ≡ false
   took-down room d (nothing-taken n e) some fits a w = absurd (let l = n some in omega (arith, l, fits))
   took-down room d (back-to-reconnect _ _ drained any t mode remote watch wish) some fits a w = ap isOnline mode
   took-down room d (to-be-closed _ _ drained any t mode remote watch wish) some fits a w = absurd (false≢true (sym udp ∙ t))

@@ -34,18 +34,21 @@ module _ (image : List ℕ) (k : ℕ) (there : k < rowsOf image Connections) whe
     still : {e : Event} → aliveOf image k (afterEvent image e m) ≡ 0 → 0 < aliveOf image k (afterEvent image e m) → Starts image k m e
     still none l = absurd (omega (arith, none, l))
 
-    given-starts : (group : ℕ) (source : Remote) → 0 < aliveOf image k (afterEvent image (onWhole (datagram group source)) m) → Starts image k m (onWhole (datagram group source))
+    given-starts : (group : ℕ) (source : Remote) → 0 < aliveOf image k (afterEvent image (onWhole (datagram group source)) m)
+        → Starts image k m (onWhole (datagram group source))
     given-starts group source l = go (ℕ-discrete (whom (datagramOf (lentTo image m) group source .answer)) (suc k))
       where
         go : Dec (whom (datagramOf (lentTo image m) group source .answer) ≡ suc k) → Starts image k m (onWhole (datagram group source))
         go (yes e) =
             let is = whom-is (datagramOf (lentTo image m) group source .answer) k e in
             wildcard-replaced group source is
-            (met-none (configOf image k) source (itsRecord image k m) z (subst (λ (d : Connection). 0 < d .watch .alive) (given image k m good there group source is) l))
+            (met-none (configOf image k) source (itsRecord image k m) z
+            (subst (λ (d : Connection). 0 < d .watch .alive) (given image k m good there group source is) l))
         go (no ne) =
             still (ap (λ (d : Connection). d .watch .alive) (not-given image k m good there group source (λ is. ne (ap whom is ∙ whom-met k))) ∙ z) l
 
-    accept-starts : (group : ℕ) (source : Remote) → 0 < aliveOf image k (afterEvent image (onWhole (accept group source)) m) → Starts image k m (onWhole (accept group source))
+    accept-starts : (group : ℕ) (source : Remote) → 0 < aliveOf image k (afterEvent image (onWhole (accept group source)) m)
+        → Starts image k m (onWhole (accept group source))
     accept-starts group source l = go (ℕ-discrete (whom (arrivalOf (lentTo image m) true group source .answer)) (suc k))
       where
         after : Machine
@@ -110,6 +113,7 @@ fresh-alive image rx tx k = fresh-none image 0 (replicate 16 zeroRecord) k
 
 pub fresh-let-go-only : (image : List ℕ) → checkTable image ≡ Accepted → (rx tx : List ℕ) → length rx ≡ 23424 → length tx ≡ 23552
     → (k : ℕ) → k < rowsOf image Connections → (es : List Event) → RunBytes es
-    → expires (configOf image k) (itsRecord image k (afterRun image (machine (freshState image) rx tx) es)) ≡ true → StartedIn image k (machine (freshState image) rx tx) es
+    → expires (configOf image k) (itsRecord image k (afterRun image (machine (freshState image) rx tx) es)) ≡ true
+    → StartedIn image k (machine (freshState image) rx tx) es
 fresh-let-go-only image accepted rx tx a b k there =
     let-go-only image k there (machine (freshState image) rx tx) (fresh-good image accepted rx tx a b) (fresh-alive image rx tx k)

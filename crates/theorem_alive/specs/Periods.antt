@@ -14,5 +14,6 @@ use Rattle.model_refines.specs.Machine.{Machine}
 pub data UdpEnds (image : List ℕ) (m : Machine) (k : ℕ) : Event → Type 0 where
   by-closing-tick : recordAt (m .state) k .«close_wanted» ≡ true → UdpEnds image m k (onWhole tick)
   by-expiry : recordAt (m .state) k .«close_wanted» ≡ false → expires (configOf image k) (recordAt (m .state) k) ≡ true → UdpEnds image m k (onWhole tick)
-  by-take : (room : ℕ) → 0 < recordAt (m .state) k .used → recordAt (m .state) k .used ≤ room → configOf image k .automatic ≡ true → wildcard (configOf image k .remote) ≡ true
+  by-take : (room : ℕ) → 0 < recordAt (m .state) k .used → recordAt (m .state) k .used ≤ room → configOf image k .automatic ≡ true
+      → wildcard (configOf image k .remote) ≡ true
       → UdpEnds image m k (on k (takeWaiting room))

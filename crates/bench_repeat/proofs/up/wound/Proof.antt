@@ -11,6 +11,9 @@ Inv-loop image rows next₀ i₀ next i = i ≤ 16
 abbrev μ-loop : tie.MeasureT-loop
 μ-loop image rows next₀ i₀ next i = 16 - i
 
+rows-of-requires : tie.Need-rows-of-requires Inv-loop μ-loop
+rows-of-requires c κs = search needs
+
 loop-holds : tie.Need-loop-holds Inv-loop μ-loop
 loop-holds c = omega arith
 
@@ -32,4 +35,4 @@ returns c = search needs
 pub wound-spec : {M : Type 1} → statement M
 wound-spec =
     tie.close
-    (tie.spec Inv-loop μ-loop loop-holds wound-one-requires add-i loop-less loop-again returns)
+    (tie.spec Inv-loop μ-loop rows-of-requires loop-holds wound-one-requires add-i loop-less loop-again returns)
