@@ -13,6 +13,7 @@ from concurrent.futures import ThreadPoolExecutor
 ROOT = os.path.dirname(os.path.dirname(os.path.dirname(os.path.abspath(__file__))))
 TABLE, TEXT, SHIFT = "examples/debarker.table", "examples/debarker.txt", "examples/shift.txt"
 FIRMWARE_TABLE, FIRMWARE = "examples/firmware-table.txt", "examples/firmware.txt"
+SERVICE_TABLE, SERVICE = "examples/service-table.txt", "examples/service.txt"
 LONG, RECORDING, CHANGED = "examples/long-shift.txt", "examples/long-shift.recording", "examples/long-shift-changed.recording"
 passed, failures, lock = 0, [], threading.Lock()
 
@@ -191,6 +192,27 @@ def transfers():
     same((status, told[1:3], told[-1]), (1, ["  recorded: 0 done", "  today: 0 done; a transfer failed"], "DIFFERS"), "a loss that did not tell")
 
 
+def silences():
+    """The recording of a service laptop that goes away: it replays the same, and differs under the table without its alive limit, where nobody is let go.
+    One that was made under that table replays the same there, and the records at the end have their new words."""
+    out, older = os.path.join(FOLDER, "service"), os.path.join(FOLDER, "older")
+    endless = file("endless.txt", contents(SERVICE_TABLE).replace(b" alive 30 ticks", b""))
+    same(soad("record", SERVICE_TABLE, SERVICE, out), (0, b"", ""), f"record {SERVICE}")
+    told = lines("replay", SERVICE_TABLE, out)[1]
+    same((told[0], told[1], told[-1]), ("entries run: 12 of 12", "ticks run: 60 ticks", "SAME"), f"record {SERVICE}, then replay")
+    true(told[2].endswith(", due no, alive timer 30 ticks, remote set no"), f"the record at the end: {told[2]}")
+    status, told = lines("replay", endless, out)
+    same((status, told[0][:26], told[1:3], told[-1]),
+         (1, "first difference: entry 9,", ['  recorded: 4 not online, destination 0 "ring pressure" (connection 0 "service laptop")', "  today: 0 done"], "DIFFERS"),
+         f"the replay of {SERVICE} without a limit: {told[:3]}")
+    same(soad("record", endless, SERVICE, older), (0, b"", ""), f"record {SERVICE} without a limit")
+    told = lines("replay", endless, older)[1]
+    same((told[0], told[-1]), ("entries run: 12 of 12", "SAME"), f"record {SERVICE} without a limit, then replay")
+    true(told[2].endswith(", alive timer stopped, remote set no"), f"the record at the end without a limit: {told[2]}")
+    status, told = lines("replay", SERVICE_TABLE, older)
+    same((status, told[0][:26], told[-1]), (1, "first difference: entry 9,", "DIFFERS"), "a recording of before under a new limit")
+
+
 # 3. Damaged recordings: the line of the replay, and what the text says of it
 
 def damaged():
@@ -321,6 +343,6 @@ def tried(check):
 
 
 with tempfile.TemporaryDirectory() as FOLDER, ThreadPoolExecutor(os.cpu_count()) as pool:
-    list(pool.map(tried, (damaged, tables, arguments, refused_scripts, record_and_replay, transfers, recording_page, readme, same_end, changed)))
+    list(pool.map(tried, (damaged, tables, arguments, refused_scripts, record_and_replay, transfers, silences, recording_page, readme, same_end, changed)))
 print(f"replay: {passed} passed, {len(failures)} failed")
 sys.exit(1 if failures else 0)
