@@ -58,6 +58,8 @@ module _ (image : List ℕ) (m : Machine) (good : Good image m) where
         waiting = λ j es bytes. run-waits image j m es bytes good;
         stream-trip = λ j there nothing es bytes out room image′ b good′ k reader ps routed pieces is bytes′.
             Trip.round-trip image m good j there nothing es bytes out room image′ b good′ k reader routed pieces is bytes′;
+        carried-trip = λ j there nothing es bytes out room image′ b good′ k reader os carried pieces is bytes′.
+            Trip.carried-trip image m good j there nothing es bytes out room image′ b good′ k reader carried pieces is bytes′;
         datagram-trip = λ j there nothing es bytes out room image′ b good′ k walker ps routed steps enough.
             Trip.datagram-trip image m good j there nothing es bytes out room image′ b good′ k walker routed steps enough;
       }

@@ -9,8 +9,8 @@ use Rattle.table_layout.specs.Layout.{rowsOf}
 use Rattle.table_layout.specs.declared.Kind.the-variants.{Connection as Connections}
 use Rattle.switches.specs.Switches.{isOn, Shared}
 use Rattle.reading.specs.declared.Decision.{Decision}
-use Rattle.reading.specs.Feed.{Out, Pdu, asOut}
-use Rattle.reading.specs.Routed.{Routed}
+use Rattle.reading.specs.Feed.{Out, fine, Pdu, asOut}
+use Rattle.reading.specs.Routed.{Routed, Carried}
 use Rattle.receive_part.specs.Part.{transferring}
 use Rattle.connection.specs.declared.Connection.{Connection}
 use Rattle.connection.specs.declared.Config.{Config}
@@ -85,6 +85,12 @@ module _ (image : List ℕ) (m : Machine) where
         → recordAt (afterRun image m es .state) j .used ≤ length out → (image′ : List ℕ) (b : Machine) → Good image′ b → (k : ℕ) → Reader image′ b k → (ps : List Pdu)
         → Routed (routesIn image′ (b .state) k) (sentIn image j m es []) ps → (pieces : List (List ℕ)) → flatten pieces ≡ outgoing image (afterRun image m es) j out → RunBytes (asSegments k pieces)
         → givenIn image′ k b (asSegments k pieces) ≡ map asOut ps
+    -- .. on marked routes, each as one transfer, byte by byte
+    pub carried-trip : (j : ℕ) → j < rowsOf image Connections → demandedRecord j .used ≡ 0 → (es : List Event) → RunBytes es → (out : List ℕ)
+        → recordAt (afterRun image m es .state) j .used ≤ length out → (image′ : List ℕ) (b : Machine) → Good image′ b → (k : ℕ) → Reader image′ b k
+        → (os : List Out) → Carried (routesIn image′ (b .state) k) (sentIn image j m es []) os → (pieces : List (List ℕ))
+        → flatten pieces ≡ outgoing image (afterRun image m es) j out → RunBytes (asSegments k pieces)
+        → fine (givenIn image′ k b (asSegments k pieces)) ≡ fine os
     pub datagram-trip : (j : ℕ) → j < rowsOf image Connections → demandedRecord j .used ≡ 0 → (es : List Event) → RunBytes es → (out : List ℕ)
         → recordAt (afterRun image m es .state) j .used ≤ length out → (image′ : List ℕ) (b : Machine) → Good image′ b → (k : ℕ) → Walker image′ b k → (ps : List Pdu)
         → Routed (routesIn image′ (b .state) k) (sentIn image j m es []) ps → (steps : ℕ) → length (sentIn image j m es []) ≤ steps

@@ -34,9 +34,8 @@ use Rattle.state.specs.State.{recordAt}
 use Rattle.state.specs.Fresh.{configOf}
 use Rattle.gate.specs.Sound.{routed, soundAt, recordsSound, isAccepted, soundState}
 use Rattle.gate.proofs.Records.{row-sound, row-routed, sound-row, past-zero, zero-past, record-at}
-use Rattle.theorem_calls.specs.Image.{MeetsAll}
 use Rattle.theorem_calls.proofs.Image.{table-answer}
-use Rattle.theorem_sound.specs.Rules.{BelongsHere, UnfinishedRule, RunningRule, PartRule, RecordRules, SoundTogether}
+use Rattle.theorem_sound.specs.Rules.{PartRule, RecordRules, SoundTogether}
 
 -- tests and what they say
 or-then : (a b : Bool) → (a || b) ≡ true → a ≡ false → b ≡ true

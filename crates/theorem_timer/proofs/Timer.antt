@@ -90,7 +90,7 @@ module _ (steps : List BufferStep) (timer : ℕ) (due : Bool) (h : TimerReads st
             (some, omega (arith, a .0, a .1, sooner (a .0)))
 
   -- so after any append
-  stored-reads : TimerReads more (timerOf (d .trigger) (d .timeout) timer due) (d .trigger || due)
+  pub stored-reads : TimerReads more (timerOf (d .trigger) (d .timeout) timer due) (d .trigger || due)
   unfolding timerOf
   stored-reads = go (d .trigger) refl due refl
     where
@@ -200,6 +200,22 @@ module _ (steps : List BufferStep) where
       let e : suc (suc n) - 1 ≡ suc n = omega arith in
       rw (ne-eqb (suc (suc n)) 0 (λ q. omega (arith, q)), ne-eqb (suc (suc n)) 1 (λ q. omega (arith, q)), e) (runs-reads n h)
 
+-- WHERE NOTHING WAITS no timer runs, and nothing is due
+none-waits : {trigger : Bool} {timeout age : ℕ} (steps : List BufferStep) → WaitsSince steps trigger timeout age → length steps ≡ 0 → ⊥
+none-waits _ (just-stored d used steps) e = omega (arith, e)
+none-waits _ (stored-before d used w) e = omega (arith, e)
+none-waits _ (one-tick-more w) e = omega (arith, e)
+
+pub empty-reads : (timer : ℕ) (due : Bool) → timer ≡ 0 → due ≡ false → TimerReads [] timer due
+empty-reads timer due idle rests =
+    record {
+      due-by = λ e. impossible (sym rests ∙ e);
+      over-due = λ trigger timeout age w. absurd (none-waits [] w refl);
+      stopped = λ _. idle;
+      each-allows = λ _ trigger timeout age w. absurd (none-waits [] w refl);
+      one-allows = λ l. absurd (omega (arith, l, idle));
+    }
+
 -- ON A RECORD without close wanted
 module _ (g : Config) where
   -- what a tick does before it lowers the timer
@@ -252,6 +268,18 @@ module _ (g : Config) where
   tick-runs : (c : Connection) → c .«close_wanted» ≡ false → expires g c ≡ false → tickOf g c ≡ runOf (ready c)
   tick-runs c e x = sym (tick-goes-on g c e x)
 
+  -- a tick that neither closes nor lets go
+  pub tick-reads : (steps : List BufferStep) (x : Connection) → x .«close_wanted» ≡ false → expires g x ≡ false → TimerReads steps (x .timer) (x .due)
+      → TimerReads (ticks ∷ steps) (tickOf g x .timer) (tickOf g x .due)
+  tick-reads steps x stays keeps h =
+      let r = run-is (ready x) in
+      let s = ready-same x in
+      let is = tick-runs x stays keeps in
+      subst (λ (y : Connection). TimerReads (ticks ∷ steps) (y .timer) (y .due)) (sym is)
+      (subst (λ (n : ℕ). TimerReads (ticks ∷ steps) n (runOf (ready x) .due)) (sym (r .0 ∙ ap (λ (n : ℕ). cond (eqb n 0) n (n - 1)) (s .timer)))
+      (subst (λ (b : Bool). TimerReads (ticks ∷ steps) (cond (eqb (x .timer) 0) (x .timer) (x .timer - 1)) b)
+      (sym (r .1 ∙ ap₂ (λ (n : ℕ) (b : Bool). cond (eqb n 0) b (eqb n 1 || b)) (s .timer) (s .due))) (ticked-reads steps (x .timer) (x .due) h)))
+
   module _ (c : Connection) (idle : c .timer ≡ 0) (rests : c .due ≡ false) (stays : c .«close_wanted» ≡ false) where
     abbrev at : List BufferStep → Connection
     at steps = bufferAfter g c steps
@@ -269,33 +297,9 @@ module _ (g : Config) where
     -- WHAT TIMER AND DUE MARK SAY, after any appends and ticks
     pub timer-reads : (steps : List BufferStep) → KeepsPeer g c steps → TimerReads steps (bufferAfter g c steps .timer) (bufferAfter g c steps .due)
     unfolding bufferAfter KeepsPeer
-    timer-reads [] k =
-        record {
-          due-by = λ e. impossible (sym rests ∙ e);
-          over-due = λ trigger timeout age w. absurd (none trigger timeout age w);
-          stopped = λ _. idle;
-          each-allows = λ _ trigger timeout age w. absurd (none trigger timeout age w);
-          one-allows = λ l. absurd (omega (arith, l, idle));
-        }
-      where
-        none : (trigger : Bool) (timeout age : ℕ) → WaitsSince [] trigger timeout age → ⊥
-        none trigger timeout age w = empty [] w refl
-          where
-            empty : {trigger : Bool} {timeout age : ℕ} (steps : List BufferStep) → WaitsSince steps trigger timeout age → length steps ≡ 0 → ⊥
-            empty _ (just-stored d used steps) e = omega (arith, e)
-            empty _ (stored-before d used w) e = omega (arith, e)
-            empty _ (one-tick-more w) e = omega (arith, e)
+    timer-reads [] k = empty-reads (c .timer) (c .due) idle rests
     timer-reads (stores d used ∷ steps) k = stored-reads steps (at steps .timer) (at steps .due) (timer-reads steps k) d used
-    timer-reads (ticks ∷ steps) (e, k) =
-        let x = at steps in
-        let r = run-is (ready x) in
-        let s = ready-same x in
-        let is = tick-runs x (stays-open steps k) e in
-        subst (λ (y : Connection). TimerReads (ticks ∷ steps) (y .timer) (y .due)) (sym is)
-        (subst (λ (n : ℕ). TimerReads (ticks ∷ steps) n (runOf (ready x) .due)) (sym (r .0 ∙ ap (λ (n : ℕ). cond (eqb n 0) n (n - 1)) (s .timer)))
-        (subst (λ (b : Bool). TimerReads (ticks ∷ steps) (cond (eqb (x .timer) 0) (x .timer) (x .timer - 1)) b)
-        (sym (r .1 ∙ ap₂ (λ (n : ℕ) (b : Bool). cond (eqb n 0) b (eqb n 1 || b)) (s .timer) (s .due)))
-        (ticked-reads steps (x .timer) (x .due) (timer-reads steps k))))
+    timer-reads (ticks ∷ steps) (e, k) = tick-reads steps (at steps) (stays-open steps k) e (timer-reads steps k)
 
 -- WHERE NO ALIVE TIMER RUNS no tick lets the peer go
 tick-alive : (g : Config) (c : Connection) → c .watch .alive ≡ 0 → tickOf g c .watch .alive ≡ 0

@@ -1,0 +1,2 @@
+-- What happens to a send buffer in a run.
+pub mod Buffer
