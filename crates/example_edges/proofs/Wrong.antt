@@ -16,6 +16,7 @@ use Rattle.table_scan.specs.Scan.{share, clearIn, goodIn}
 use Rattle.table.specs.Table.{headGood, entryGood, rule, thenCheck, entriesPlace, headPlace, allRowsPlace, checkTable}
 use Rattle.receive_part.specs.Part.{transferring}
 use Rattle.connection.specs.declared.Event.the-variants.{Open, Cancel}
+use Rattle.connection.specs.Connection.{isOnline, wildcard, aliveAfter, startedOf as startsOf, reachOf, runOf, tickOf}
 use Rattle.connection.specs.Event.{stepOf}
 use Rattle.connection.specs.Sound.{soundOf, zeroOf}
 use Rattle.state.specs.declared.State.{State}
@@ -31,8 +32,23 @@ use Rattle.send_destination.specs.Destination.{refusalOf, lookOf, timerOf}
 use Rattle.send.specs.Verdict.{verdictOf}
 use Rattle.send.specs.Send.{appendOf, lookAt, checkOf, wantedAt, storeOf, storeAll, transmitOf}
 use Rattle.entry_send.specs.Sending.{sentMemory}
-use Rattle.example_edges.specs.Table.{image, fresh, used, moving, sendMemory, lends, loans}
-use Rattle.example_edges.specs.Wrong.{Happen, IsHappen, LeavesState, CancelEnds, Send, IsSend, StoresNothing}
+use Rattle.gate.specs.Lent.{lent}
+use Rattle.reading_lengths.specs.Head.{headOf}
+use Rattle.reading_walk.specs.Walk.{walkAt}
+use Rattle.receive_route.specs.Route.{rowsIn, counts, rowFor, reasonIn, reasonOf, decisionOf, lookupOf}
+use Rattle.receive_datagram.specs.Datagram.{walkedOf}
+use Rattle.select.specs.declared.Arrival.the-variants.{Met}
+use Rattle.select.specs.declared.Arrived.{Arrived}
+use Rattle.select.specs.Best.{better, chosenOf}
+use Rattle.select.specs.Choose.{rankOf, scoreOf, scoreAt, chosenIn, deniedOf, arriveOf}
+use Rattle.entry_ticks.specs.declared.Ticked.{Ticked}
+use Rattle.entry_ticks.specs.Tick.{tickedTo, tickEvent}
+use Rattle.entry_arrivals.specs.Arrivals.{arrivalOf, datagramOf}
+use Rattle.entry_receive.specs.declared.DatagramWalked.{DatagramWalked}
+use Rattle.entry_receive.specs.Answer.{judgedOf, judgedAnswer}
+use Rattle.entry_receive.specs.Walk.{walkOn, walkOf}
+use Rattle.example_edges.specs.Table.{image, limitedExact, fresh, used, moving, exact, watching, lastTick, sendMemory, lends, loans}
+use Rattle.example_edges.specs.Wrong.{Happen, IsHappen, LeavesState, CancelEnds, Send, IsSend, StoresNothing, Ticking, IsTicking, KeepsBytes, StaysUp, Hearing, IsHearing, AnyStarts, ClearsMark, Walking, IsWalking, WalkStarts}
 
 -- an open of a fresh connection sets open wanted
 opens : recordAt (eventOf (lends fresh) 0 Open .state) 0 .«open_wanted» ≡ true
@@ -67,4 +83,61 @@ no-empty-transmit f is nothing-stored =
     sym (nothing-stored (loans (used 10)) 9 (1 ∷ 2 ∷ [])) ∙ is (loans (used 10)) 9 (1 ∷ 2 ∷ []) in
     let byte : getD sendMemory 2956 0 ≡ 2 = ap (λ (l : List ℕ). getD l 2956 0) same ∙ stores in
     let z : _≡_ {A = ℕ} 0 2 = sym (getD-replicate 23552 2956 0 0 (omega arith)) ∙ byte in
+    omega arith
+
+-- what the right ones do: the bytes of a peer that is let go are dropped, and its connection is not online after that tick, whatever its
+-- configured remote
+lets-go : (recordAt (tickEvent (lends (watching 1 false)) .state) 0 .used ≡ 0) × (isOnline (recordAt (tickEvent (lent limitedExact lastTick 23424 23552) .state) 1 .mode) ≡ false)
+unfolding image be badFrom every foldFrom rowsOf bodyBytes startOf endOf rowAt partOf bodyOf rowIn groupRow connectionRow routeRow destinationRow groupGood connectionGood routeGood destinationGood sizeIn groupTcp tcpIn routesShare destinationsShare share clearIn goodIn headGood entryGood rule thenCheck entriesPlace headPlace allRowsPlace checkTable configOf freshState soundOf zeroOf soundAt recordsSound soundState gateOf gateAt aliveAfter startsOf reachOf runOf tickOf tickedTo tickEvent better chosenOf rankOf scoreOf scoreAt chosenIn deniedOf arriveOf arrivalOf headOf walkAt isOn rowsIn counts rowFor reasonIn reasonOf decisionOf lookupOf walkedOf judgedOf judgedAnswer walkOn walkOf
+lets-go = (refl, refl)
+
+-- of the table and the states before
+before-tick : (recordAt (watching 1 false) 0 .«close_wanted» ≡ false) × (recordAt lastTick 1 .«close_wanted» ≡ false) × (wildcard (configOf limitedExact 1 .remote) ≡ false) × (configOf image 0 .alive ≡ 2)
+unfolding image be badFrom every foldFrom rowsOf bodyBytes startOf endOf rowAt partOf bodyOf rowIn groupRow connectionRow routeRow destinationRow groupGood connectionGood routeGood destinationGood sizeIn groupTcp tcpIn routesShare destinationsShare share clearIn goodIn headGood entryGood rule thenCheck entriesPlace headPlace allRowsPlace checkTable configOf freshState soundOf zeroOf soundAt recordsSound soundState gateOf gateAt aliveAfter startsOf reachOf runOf tickOf tickedTo tickEvent better chosenOf rankOf scoreOf scoreAt chosenIn deniedOf arriveOf arrivalOf headOf walkAt isOn rowsIn counts rowFor reasonIn reasonOf decisionOf lookupOf walkedOf judgedOf judgedAnswer walkOn walkOf
+before-tick = (refl, refl, refl, refl)
+
+-- a stopped alive timer stays so at a datagram, and the mark stays; a step of a walk leaves a running one
+hears : (datagramOf (lends (watching 0 true)) 0 exact .answer ≡ Met 0) × (recordAt (datagramOf (lends (watching 0 true)) 0 exact .state) 0 .watch .alive ≡ 0) × (recordAt (datagramOf (lends (watching 0 true)) 0 exact .state) 0 .watch .«remote_set» ≡ true) × (recordAt (walkOf (lends (watching 1 false)) 0 [] 0 .state) 0 .watch .alive ≡ 1)
+unfolding image be badFrom every foldFrom rowsOf bodyBytes startOf endOf rowAt partOf bodyOf rowIn groupRow connectionRow routeRow destinationRow groupGood connectionGood routeGood destinationGood sizeIn groupTcp tcpIn routesShare destinationsShare share clearIn goodIn headGood entryGood rule thenCheck entriesPlace headPlace allRowsPlace checkTable configOf freshState soundOf zeroOf soundAt recordsSound soundState gateOf gateAt aliveAfter startsOf reachOf runOf tickOf tickedTo tickEvent better chosenOf rankOf scoreOf scoreAt chosenIn deniedOf arriveOf arrivalOf headOf walkAt isOn rowsIn counts rowFor reasonIn reasonOf decisionOf lookupOf walkedOf judgedOf judgedAnswer walkOn walkOf
+hears = (refl, refl, refl, refl)
+
+pub no-kept-bytes : (f : Ticking) → IsTicking f → KeepsBytes f → ⊥
+unfolding freshState
+no-kept-bytes f is kept =
+    let l = lends (watching 1 false) in
+    let z : _≡_ {A = ℕ} 0 10 = sym (lets-go .0) ∙ ap (λ (t : Ticked). recordAt (t .state) 0 .used) (sym (is l)) ∙ kept l 0 (before-tick .0) in
+    omega arith
+
+pub no-up-again : (f : Ticking) → IsTicking f → StaysUp f → ⊥
+unfolding freshState
+no-up-again f is up =
+    let l = lent limitedExact lastTick 23424 23552 in
+    true≢false (sym (up l 1 (before-tick .1) (before-tick .2) refl) ∙ ap (λ (t : Ticked). isOnline (recordAt (t .state) 1 .mode)) (is l) ∙ lets-go .1)
+
+module _ (f : Hearing) (is : IsHearing f) where
+  abbrev told : Arrived
+  told = f (lends (watching 0 true)) 0 exact
+
+  right : told ≡ datagramOf (lends (watching 0 true)) 0 exact
+  right = is (lends (watching 0 true)) 0 exact
+
+  its : told .answer ≡ Met 0
+  its = ap (λ (a : Arrived). a .answer) right ∙ hears .0
+
+  pub no-any-start : AnyStarts f → ⊥
+  no-any-start starts =
+      let z : _≡_ {A = ℕ} 0 2 =
+      sym (hears .1) ∙ ap (λ (a : Arrived). recordAt (a .state) 0 .watch .alive) (sym right) ∙ starts (lends (watching 0 true)) 0 exact 0 its ∙ before-tick .3 in
+      omega arith
+
+  pub no-cleared-mark : ClearsMark f → ⊥
+  no-cleared-mark clears =
+      true≢false (sym (hears .2) ∙ ap (λ (a : Arrived). recordAt (a .state) 0 .watch .«remote_set») (sym right) ∙ clears (lends (watching 0 true)) 0 exact 0 its)
+
+pub no-walk-start : (f : Walking) → IsWalking f → WalkStarts f → ⊥
+unfolding freshState
+no-walk-start f is starts =
+    let l = lends (watching 1 false) in
+    let z : _≡_ {A = ℕ} 1 2 =
+    sym (hears .3) ∙ ap (λ (w : DatagramWalked). recordAt (w .state) 0 .watch .alive) (sym (is l 0 [] 0)) ∙ starts l 0 [] 0 (omega arith) ∙ before-tick .3 in
     omega arith

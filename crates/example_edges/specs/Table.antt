@@ -46,6 +46,10 @@ limitedTcp = set image 83 1
 abbrev pub limitOne : List ℕ
 limitOne = set image 51 1
 
+-- and connection 1, whose remote has no wildcard, with 1 for none
+abbrev pub limitedExact : List ℕ
+limitedExact = set image 67 1
+
 abbrev pub fresh : State
 fresh = freshState image
 
@@ -73,7 +77,11 @@ anybody = withRecord 0 (become Reconnect (recordAt fresh 0)) fresh
 abbrev pub watching : ℕ → Bool → State
 watching a set = withRecord 0 (withWatch (record { alive = a; «remote_set» = set }) (withSend 10 5 false (become Online (withRemote exact (recordAt fresh 0))))) fresh
 
--- the same with close wanted
+-- connection 1 online, with one tick left of its alive timer
+abbrev pub lastTick : State
+lastTick = withRecord 1 (withWatch (record { alive = 1; «remote_set» = false }) (become Online (recordAt fresh 1))) fresh
+
+-- connection 0 as in `watching`, with close wanted
 abbrev pub closing : ℕ → State
 closing a = withRecord 0 (withMode Online false true (recordAt (watching a false) 0)) fresh
 
