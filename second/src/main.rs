@@ -17,6 +17,7 @@ mod random;
 mod recording;
 mod recordings;
 mod replay;
+mod report;
 mod runs;
 mod script;
 mod select;
@@ -29,6 +30,7 @@ mod stored;
 mod stream;
 mod table;
 mod takes;
+mod tally;
 mod tell;
 mod text;
 mod transmit;
@@ -95,6 +97,7 @@ fn obey(words: &Words) -> Result<(), String> {
         ["compare", "recording-edges"] => verbs::compare_recording_edges(words),
         ["replay", "recordings", folder] => verbs::replay_recordings(Path::new(folder), words),
         ["faults", "recordings"] => verbs::fault_recordings(words),
+        ["simulate", "tally"] => verbs::simulate(tally::lines),
         ["simulate", "replay"] => verbs::simulate(replay::lines),
         ["compare", "answers"] => verbs::compare_answers(words),
         ["faults", "takes"] => verbs::fault_takes(words),
