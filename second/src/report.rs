@@ -134,14 +134,26 @@ impl Report {
     }
 }
 
-/// What is counted of one recording: its report, and the length of the transfer that each connection is in.
+/// What is counted of one recording: its report, and the length of the transfer that each connection is in. Beside it, what was met.
 #[derive(Default)]
 pub struct Counter {
     pub report: Report,
     started: [u32; RECORDS],
+    pub met: Vec<&'static str>,
 }
 
+/// What a drop is called among what was met.
+const DROPS: [&str; REASONS] = ["drop 20", "drop 21", "drop 22", "drop 23", "drop 24"];
+
 impl Counter {
+    fn pdu(&mut self, route: usize, length: u32, what: &'static str) {
+        self.met.push(what);
+        if length == 0 {
+            self.met.push("PDU of no bytes");
+        }
+        self.report.routes[route].count(length);
+    }
+
     /// "The figures come from the replayed events": the takes of segments, and what walks find.
     pub fn see(&mut self, event: &Event, answer: &Answer, table: &Table) {
         match (event, answer) {
@@ -149,11 +161,11 @@ impl Counter {
                 takes.iter().for_each(|take| self.take(usize::from(*connection), take));
             }
             (Event::Walk(connection, _, _), Ok(Done::Walked(step))) => match step.found {
-                Found::Pdu { route, ref header, .. } => self.report.routes[route].count(header.length),
+                Found::Pdu { route, ref header, .. } => self.pdu(route, header.length, "PDU of a walk"),
                 Found::Drop { reason, .. } => self.drop(usize::from(*connection), reason),
                 Found::End => {}
             },
-            (Event::ReadAndClear(protocol), Ok(_)) if seeded(Fault::DropsFromCounts) => self.clear(*protocol, table),
+            (Event::ReadAndClear(protocol), Ok(_)) => self.clear(*protocol, table),
             _ => {}
         }
     }
@@ -161,18 +173,23 @@ impl Counter {
     /// A transfer counts "once, at its end, with its whole length"; an unfinished one adds nothing.
     fn take(&mut self, connection: usize, take: &Take) {
         match take.outcome {
-            Outcome::Pdu { route, ref header, .. } => self.report.routes[route].count(header.length),
+            Outcome::Pdu { route, ref header, .. } => self.pdu(route, header.length, "PDU of a segment"),
             Outcome::Drop { reason, .. } => self.drop(connection, reason),
             Outcome::Start { route, ref header } => {
                 self.started[connection] = header.length;
+                self.met.push("transfer at its start");
                 let at_once = or(Fault::EmptyTransferForgotten, header.length == 0, false);
                 if or(Fault::TransferAtStart, at_once, true) {
-                    self.report.routes[route].count(header.length);
+                    self.pdu(route, header.length, "transfer of no bytes");
                 }
             }
             Outcome::Piece { route, ref bytes, last: true, .. } if !seeded(Fault::TransferAtStart) => {
                 let length = or(Fault::LastPieceAlone, self.started[connection], bytes.len() as u32);
-                self.report.routes[route].count(length);
+                self.pdu(
+                    route,
+                    length,
+                    if length as usize > bytes.len() { "transfer of several pieces" } else { "transfer of one piece" },
+                );
             }
             Outcome::Piece { route, ref bytes, last: false, .. } if seeded(Fault::UnfinishedAdded) => {
                 self.report.routes[route].bytes += bytes.len() as u64;
@@ -182,16 +199,18 @@ impl Counter {
     }
 
     fn drop(&mut self, connection: usize, reason: u8) {
+        self.met.push(DROPS[usize::from(reason - 20)]);
         if reason != 23 || !seeded(Fault::CutUncounted) {
             self.report.drops[connection][usize::from(reason - 20)] += 1;
         }
     }
 
-    /// A wrong reading: the module's count, which an event may clear.
+    /// The module's count is cleared: "not from the module's stopping counts".
     fn clear(&mut self, protocol: u8, table: &Table) {
         for (connection, drops) in self.report.drops.iter_mut().enumerate().take(table.connections.len()) {
-            if table.protocol(connection) == protocol {
-                *drops = [0; REASONS];
+            if table.protocol(connection) == protocol && *drops != [0; REASONS] {
+                self.met.push("drops whose count is cleared");
+                *drops = or(Fault::DropsFromCounts, *drops, [0; REASONS]);
             }
         }
     }

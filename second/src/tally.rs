@@ -37,8 +37,17 @@ pub fn parts(mut rest: &[u8]) -> Vec<Part<'_>> {
 
 /// What was met in a tally: each recording and each given report.
 pub enum Met<'a> {
-    Recording { told: &'a Told, counted: &'a Report, joined: bool },
-    Given { joined: bool, whole: bool },
+    Recording {
+        told: &'a Told,
+        counted: &'a Counter,
+        joined: bool,
+    },
+    Given {
+        joined: bool,
+        whole: bool,
+    },
+    /// The report of all that was joined.
+    Total(&'a Report),
 }
 
 /// What a tally has come to.
@@ -66,7 +75,7 @@ impl Tally {
             counter.report = Report::default();
         }
         let joined = !told.unread && self.total.add(&counter.report);
-        met(Met::Recording { told: &told, counted: &counter.report, joined });
+        met(Met::Recording { told: &told, counted: &counter, joined });
         let why = match (told.unread, joined) {
             (true, _) => format!(", {}", UNREAD),
             (_, false) => format!(", {}", PASSES),
@@ -105,11 +114,19 @@ impl Tally {
 
 fn route_line(route: usize, of: &OfRoute) -> String {
     let (smallest, largest) = (count(of.smallest.into(), "byte"), count(of.largest.into(), "byte"));
-    format!("route {}: {}, {}, smallest {}, largest {}", route, count(of.pdus, "PDU"), count(of.bytes, "byte"), smallest, largest)
+    format!(
+        "route {}: {}, {}, smallest {}, largest {}",
+        route,
+        count(of.pdus, "PDU"),
+        count(of.bytes, "byte"),
+        smallest,
+        largest
+    )
 }
 
 fn connection_line(connection: usize, drops: &[u64; REASONS]) -> String {
-    let said: Vec<String> = drops.iter().zip(WORDS).map(|(&drops, words)| format!("{} {}", count(drops, "drop"), words)).collect();
+    let said: Vec<String> =
+        drops.iter().zip(WORDS).map(|(&drops, words)| format!("{} {}", count(drops, "drop"), words)).collect();
     format!("connection {}: {}", connection, said.join(", "))
 }
 
@@ -132,6 +149,7 @@ pub fn lines_and(input: &[u8], met: &mut dyn FnMut(Met)) -> Vec<String> {
     lines.push(tally.recordings_line());
     lines.extend((0..table.routes.len()).map(|route| route_line(route, &tally.total.routes[route])));
     lines.extend((0..table.connections.len()).map(|connection| connection_line(connection, &tally.total.drops[connection])));
+    met(Met::Total(&tally.total));
     let refused = tally.left_out > 0;
     lines.push(if or(Fault::LeftOutIsFine, refused, false) { "REFUSED" } else { "OK" }.into());
     lines

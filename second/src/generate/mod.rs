@@ -9,3 +9,4 @@ pub mod selection;
 pub mod sheet;
 pub mod state;
 pub mod table;
+pub mod tally;
