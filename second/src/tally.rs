@@ -1,4 +1,4 @@
-//! What `tally` prints: docs/RECORDING.md, "Many recordings, and given reports", and docs/REPORT.md.
+//! What `tally` prints: docs/RECORDING.md, "Several recordings", and docs/REPORT.md.
 
 use crate::answer::count_words as count;
 use crate::bytes::number;
@@ -186,7 +186,7 @@ mod tests {
     use super::*;
     use crate::bytes::unhex;
 
-    /// The recording of docs/RECORDING.md, the lines of /docs/REPORT.md.
+    /// The recording of docs/RECORDING.md.
     fn page() -> Vec<u8> {
         let text = include_str!("../../docs/RECORDING.md");
         let shown = text.lines().filter_map(|line| line.strip_prefix("    "));

@@ -1,10 +1,11 @@
 //! Inputs of `tally`: random tables with random sets of recordings and given reports, sums near 2 to the 64, parts that are cut; and fixed ones.
 
 use super::image::image;
-use super::recording::{examples, under};
+use super::recording::{examples, limits, under};
 use super::script::{table_for_events, table_of_transfers};
 use crate::random::Random;
 use crate::report::{OfRoute, Report, REASONS, ROUTES};
+use crate::script::image_end;
 use crate::state::RECORDS;
 use crate::table::Table;
 use crate::tally::{lines_and, Met};
@@ -198,9 +199,25 @@ fn edges_of_sums(image: &[u8], recording: &[u8]) -> Vec<Case> {
     all
 }
 
-/// Two recordings and a given report between them, cut at every byte but those inside the report's figures; and the edges of sums.
-pub fn edges() -> Vec<Vec<u8>> {
+/// The limits of recordings, each behind its length, with a small one behind them; and 4,001 entries in an input that ends inside them.
+fn edges_of_recordings() -> Vec<Vec<u8>> {
     let mut all = Vec::new();
+    for input in limits() {
+        let (image, recording) = input.split_at(image_end(&input));
+        let behind = recording_part(&[0, 1, 0, 0, 9]);
+        all.push([image, &recording_part(recording), &behind].concat());
+        if recording.starts_with(&[0, 1, 0x0F, 0xA1]) {
+            let whole = [image, &recording_part(recording)].concat();
+            let ends = [1, 2, 3, 4, 5, 47_999, 48_003, 48_004, 48_005, 48_015, 48_016, 48_017];
+            all.extend(ends.iter().map(|&end| whole[..whole.len().min(image.len() + 4 + end)].to_vec()));
+        }
+    }
+    all
+}
+
+/// Two recordings and a given report between them, cut at every byte but those inside the report's figures; the edges of recordings, and of sums.
+pub fn edges() -> Vec<Vec<u8>> {
+    let mut all = edges_of_recordings();
     for (image, recording) in examples() {
         let mut report = Report::default();
         report.routes[0] = OfRoute { pdus: 3, bytes: 9, smallest: 1, largest: 7 };
