@@ -140,7 +140,8 @@ fn ends_with_its_length(part: &[u8]) -> bool {
     }
 }
 
-/// "Joining the reports of two sets equals the report of both together whenever no joint sum passes 64 bits": for a case of which nothing was left out by a sum.
+/// "Joining the reports of two sets equals the report of both together whenever no joint sum passes 64 bits": for a case of which nothing was left out
+/// by a sum.
 fn grouped(program: &[String], case: &Case, seed: u64) -> Result<Option<Grouped>, String> {
     let want = lines(&case.input());
     let passes = want.iter().any(|line| line.contains("left out: a sum would pass"));

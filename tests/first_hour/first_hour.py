@@ -155,15 +155,16 @@ def statuses():
     long, bad = "examples/debarker-too-long.table", file("bad.txt", b"group 0 udp\n")
     for words, status, last in ((("check", TABLE), 0, "OK"), (("run", TABLE, SHIFT), 0, "OK"), (("check", long), 1, "REFUSED"),
                                 (("run", TABLE, cut), 1, "CUT"), (("run", TABLE, wrong), 1, "REFUSED"), (("run", long, SHIFT), 1, "REFUSED"),
-                                (("report", TABLE, RECORDING), 0, "OK"), (("report", TABLE, RECORDING, wrong), 1, "REFUSED"), (("report", long, RECORDING), 1, "REFUSED"),
+                                (("report", TABLE, RECORDING), 0, "OK"), (("report", TABLE, RECORDING, wrong), 1, "REFUSED"),
+                                (("report", long, RECORDING), 1, "REFUSED"),
                                 (("sheet", TABLE, SHEET), 0, "OK"), (("sheet", TABLE, wrong), 1, "REFUSED"), (("sheet", long, SHEET), 1, "REFUSED"),
                                 ((BENCH[0], long, *BENCH[2:]), 1, "REFUSED")):
         got = soad(*words)
         same((got[0], got[1].split("\n")[-2:]), (status, [last, ""]), f"./soad {words}: status and last line")
     for words, status in ((("table", "to-text", TABLE), 0), (("table", "to-image", bad), 1), (("script", "to-text", cut), 1), (("check", bad), 1)):
         same(soad(*words)[0], status, f"./soad {words}: status")
-    for words in (("check", missing), ("run", missing, SHIFT), ("run", TABLE, missing), ("run", long, missing), ("report", TABLE, missing), ("sheet", TABLE, missing), ("table", "to-text", missing),
-                  ("check", FOLDER)):
+    for words in (("check", missing), ("run", missing, SHIFT), ("run", TABLE, missing), ("run", long, missing), ("report", TABLE, missing),
+                  ("sheet", TABLE, missing), ("table", "to-text", missing), ("check", FOLDER)):
         status, out, error = soad(*words)
         true((status, out) == (2, "") and re.fullmatch("soad: cannot read the file .*\n", error), f"./soad {words}: {status} {error}")
     status, out, error = soad(BENCH[0], missing, *BENCH[2:])

@@ -320,7 +320,8 @@ def arguments():
     for call in ((), ("",), (TABLE,), (TABLE, ""), ("", RECORDING), (TABLE, "--csv"), ("--json", TABLE), (TABLE, RECORDING, "")):
         status, out, error = soad("report", *call)
         true((status, out) == (2, "") and error.startswith("soad: report takes a table and recordings\nusage: ./soad report "), f"./soad report {call}: {error}")
-    for call, why in (((TABLE, RECORDING, "--csv", "--json"), "report takes one of --csv and --json, once"), ((TABLE, RECORDING, "--each"), "report: there is no option --each")):
+    for call, why in (((TABLE, RECORDING, "--csv", "--json"), "report takes one of --csv and --json, once"),
+                      ((TABLE, RECORDING, "--each"), "report: there is no option --each")):
         status, out, error = soad("report", *call)
         true((status, out) == (2, "") and error.startswith(f"soad: {why}\nusage: ./soad report "), f"./soad report {call}: {error}")
     missing = os.path.join(FOLDER, "missing")
