@@ -47,7 +47,8 @@ const USAGE: &str = "second compare PART [--seed N] [--count N] [--store FOLDER]
     random cases: the program answers as this one expects. PART is table, walk or frame (PROGRAM is the C driver), runs,
     streams, selections or transfers (PROGRAM is run), takes (PROGRAM is takes), recordings (PROGRAM is replay), sheets (PROGRAM is shorten), tallies
     (PROGRAM is tally), answers (PROGRAM is the bench's twins by answers.c); or, for a fixed list, changes (of the 86-byte image), cuts (of a
-    datagram), tally-edges (sums from both sides, cut parts) or recording-edges (limits of recordings, a small one cut at every byte, and one of transfers with each byte changed)
+    datagram), tally-edges (sums from both sides, cut parts) or recording-edges (limits of recordings, a small one cut at every byte, and one of
+    transfers with each byte changed)
 second replay PART FOLDER -- PROGRAM ..
     the same for the cases stored in a folder
 second faults PART [--seed N] [--count N] -- PROGRAM ..
