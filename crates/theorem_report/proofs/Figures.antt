@@ -49,12 +49,12 @@ same-figures : {p q b c s t l m : ℕ} → p ≡ q → b ≡ c → s ≡ t → l
 same-figures {p} {q} {b} {c} {s} {t} {l} {m} e f g h =
     ap₂ (λ (x y : ℕ). figures x y s l) e f ∙ ap₂ (λ (x y : ℕ). figures q c x y) g h
 
-figures-comm : (f g : RouteFigures) → addFigures f g ≡ addFigures g f
+pub figures-comm : (f g : RouteFigures) → addFigures f g ≡ addFigures g f
 unfolding addFigures
 figures-comm f g =
     same-figures (omega arith) (omega arith) (smallest-comm (eqb (f .pdus) 0) (eqb (g .pdus) 0) (f .smallest) (g .smallest)) (omega arith)
 
-figures-assoc : (f g h : RouteFigures) → addFigures (addFigures f g) h ≡ addFigures f (addFigures g h)
+pub figures-assoc : (f g h : RouteFigures) → addFigures (addFigures f g) h ≡ addFigures f (addFigures g h)
 unfolding addFigures
 figures-assoc f g h =
     same-figures (omega arith) (omega arith)
@@ -72,26 +72,26 @@ pub figures-none : (f : RouteFigures) → addFigures f noPdus ≡ f
 unfolding addFigures
 figures-none f = same-figures (omega arith) (omega arith) (smallest-none (eqb (f .pdus) 0) (f .smallest)) (omega arith)
 
-fits-figures : (f g : RouteFigures) → f .pdus + g .pdus < 18446744073709551616 → f .bytes + g .bytes < 18446744073709551616 → figuresFit f g ≡ true
+pub fits-figures : (f g : RouteFigures) → f .pdus + g .pdus < 18446744073709551616 → f .bytes + g .bytes < 18446744073709551616 → figuresFit f g ≡ true
 unfolding figuresFit
 fits-figures f g p b = and-both (lt-ltb (f .pdus + g .pdus) 18446744073709551616 p) (lt-ltb (f .bytes + g .bytes) 18446744073709551616 b)
 
-figures-fit-comm : (f g : RouteFigures) → figuresFit f g ≡ figuresFit g f
+pub figures-fit-comm : (f g : RouteFigures) → figuresFit f g ≡ figuresFit g f
 unfolding figuresFit
 figures-fit-comm f g =
     let p : f .pdus + g .pdus ≡ g .pdus + f .pdus = omega arith in
     let b : f .bytes + g .bytes ≡ g .bytes + f .bytes = omega arith in
     ap₂ (λ (x y : ℕ). ltb x 18446744073709551616 && ltb y 18446744073709551616) p b
 
-figures-fit-turn : (f g h : RouteFigures) → figuresFit f g ≡ true → figuresFit (addFigures f g) h ≡ true → figuresFit f (addFigures g h) ≡ true
+pub figures-fit-turn : (f g h : RouteFigures) → figuresFit f g ≡ true → figuresFit (addFigures f g) h ≡ true → figuresFit f (addFigures g h) ≡ true
 unfolding addFigures
 figures-fit-turn f g h first e = let s = figures-small (addFigures f g) h e in fits-figures f (addFigures g h) (omega arith) (omega arith)
 
-figures-fit-less : (f g h : RouteFigures) → figuresFit f (addFigures g h) ≡ true → figuresFit f g ≡ true
+pub figures-fit-less : (f g h : RouteFigures) → figuresFit f (addFigures g h) ≡ true → figuresFit f g ≡ true
 unfolding addFigures
 figures-fit-less f g h e = let s = figures-small f (addFigures g h) e in fits-figures f g (omega arith) (omega arith)
 
-pub figures-sums : Sums RouteFigures
+abbrev pub figures-sums : Sums RouteFigures
 figures-sums =
     record {
       add = addFigures;
@@ -108,11 +108,11 @@ same-drops : {a b c d e p q r s t : ℕ} → a ≡ p → b ≡ q → c ≡ r →
 same-drops {a} {b} {c} {d} {e} {p} {q} {r} {s} {t} h i j k l =
     ap₂ (λ (x y : ℕ). dropsBy x y c d e) h i ∙ ap₂ (λ (x y : ℕ). dropsBy p q x y e) j k ∙ ap (dropsBy p q r s) l
 
-drops-comm : (d e : Drops) → addDrops d e ≡ addDrops e d
+pub drops-comm : (d e : Drops) → addDrops d e ≡ addDrops e d
 unfolding addDrops
 drops-comm d e = same-drops (omega arith) (omega arith) (omega arith) (omega arith) (omega arith)
 
-drops-assoc : (d e f : Drops) → addDrops (addDrops d e) f ≡ addDrops d (addDrops e f)
+pub drops-assoc : (d e f : Drops) → addDrops (addDrops d e) f ≡ addDrops d (addDrops e f)
 unfolding addDrops
 drops-assoc d e f = same-drops (omega arith) (omega arith) (omega arith) (omega arith) (omega arith)
 
@@ -120,7 +120,7 @@ pub drops-none : (d : Drops) → addDrops d noDrops ≡ d
 unfolding addDrops
 drops-none d = same-drops (omega arith) (omega arith) (omega arith) (omega arith) (omega arith)
 
-fits-drops : (d e : Drops) → SmallDrops d e → dropsFit d e ≡ true
+pub fits-drops : (d e : Drops) → SmallDrops d e → dropsFit d e ≡ true
 unfolding dropsFit
 fits-drops d e s =
     and-both
@@ -129,7 +129,7 @@ fits-drops d e s =
     (lt-ltb (d .cut + e .cut) 18446744073709551616 (s .cut)))
     (lt-ltb (d .short + e .short) 18446744073709551616 (s .short))
 
-drops-fit-comm : (d e : Drops) → dropsFit d e ≡ dropsFit e d
+pub drops-fit-comm : (d e : Drops) → dropsFit d e ≡ dropsFit e d
 unfolding dropsFit
 drops-fit-comm d e =
     let a : d .unrouted + e .unrouted ≡ e .unrouted + d .unrouted = omega arith in
@@ -139,19 +139,19 @@ drops-fit-comm d e =
     let h : d .short + e .short ≡ e .short + d .short = omega arith in
     rw (a, b, f, g, h)
 
-drops-fit-turn : (d e f : Drops) → dropsFit d e ≡ true → dropsFit (addDrops d e) f ≡ true → dropsFit d (addDrops e f) ≡ true
+pub drops-fit-turn : (d e f : Drops) → dropsFit d e ≡ true → dropsFit (addDrops d e) f ≡ true → dropsFit d (addDrops e f) ≡ true
 unfolding addDrops
 drops-fit-turn d e f first h =
     let s = drops-small (addDrops d e) f h in
     fits-drops d (addDrops e f) (record { unrouted = omega arith; off = omega arith; long = omega arith; cut = omega arith; short = omega arith })
 
-drops-fit-less : (d e f : Drops) → dropsFit d (addDrops e f) ≡ true → dropsFit d e ≡ true
+pub drops-fit-less : (d e f : Drops) → dropsFit d (addDrops e f) ≡ true → dropsFit d e ≡ true
 unfolding addDrops
 drops-fit-less d e f h =
     let s = drops-small d (addDrops e f) h in
     fits-drops d e (record { unrouted = omega arith; off = omega arith; long = omega arith; cut = omega arith; short = omega arith })
 
-pub drops-sums : Sums Drops
+abbrev pub drops-sums : Sums Drops
 drops-sums =
     record {
       add = addDrops;

@@ -31,14 +31,14 @@ module _ {A : Type 0} (S : Sums A) where
       S .fit-comm y z ∙ S .fit-less z y x (ap (S .fit z) (S .comm y x) ∙ S .fit-comm z (S .add x y) ∙ e)
 
   -- LISTS, side by side
-  pairs-comm : (xs ys : List A) → pairwise (S .add) xs ys ≡ pairwise (S .add) ys xs
+  pub pairs-comm : (xs ys : List A) → pairwise (S .add) xs ys ≡ pairwise (S .add) ys xs
   unfolding pairwise
   pairs-comm [] [] = refl
   pairs-comm [] (y ∷ ys) = refl
   pairs-comm (x ∷ xs) [] = refl
   pairs-comm (x ∷ xs) (y ∷ ys) = ap₂ (λ (z : A) (l : List A). z ∷ l) (S .comm x y) (pairs-comm xs ys)
 
-  pairs-assoc : (xs ys zs : List A)
+  pub pairs-assoc : (xs ys zs : List A)
       → pairwise (S .add) (pairwise (S .add) xs ys) zs ≡ pairwise (S .add) xs (pairwise (S .add) ys zs)
   unfolding pairwise
   pairs-assoc [] ys zs = refl
@@ -46,14 +46,14 @@ module _ {A : Type 0} (S : Sums A) where
   pairs-assoc (x ∷ xs) (y ∷ ys) [] = refl
   pairs-assoc (x ∷ xs) (y ∷ ys) (z ∷ zs) = ap₂ (λ (w : A) (l : List A). w ∷ l) (S .assoc x y z) (pairs-assoc xs ys zs)
 
-  all-comm : (xs ys : List A) → allPairs (S .fit) xs ys ≡ allPairs (S .fit) ys xs
+  pub all-comm : (xs ys : List A) → allPairs (S .fit) xs ys ≡ allPairs (S .fit) ys xs
   unfolding allPairs
   all-comm [] [] = refl
   all-comm [] (y ∷ ys) = refl
   all-comm (x ∷ xs) [] = refl
   all-comm (x ∷ xs) (y ∷ ys) = ap₂ _&&_ (S .fit-comm x y) (all-comm xs ys)
 
-  all-turn : (xs ys zs : List A) → allPairs (S .fit) xs ys ≡ true → allPairs (S .fit) (pairwise (S .add) xs ys) zs ≡ true
+  pub all-turn : (xs ys zs : List A) → allPairs (S .fit) xs ys ≡ true → allPairs (S .fit) (pairwise (S .add) xs ys) zs ≡ true
       → allPairs (S .fit) xs (pairwise (S .add) ys zs) ≡ true
   unfolding allPairs pairwise
   all-turn [] ys zs h e = refl
@@ -63,7 +63,7 @@ module _ {A : Type 0} (S : Sums A) where
       and-both (S .fit-turn x y z (and-left (S .fit x y) _ h) (and-left (S .fit (S .add x y) z) _ e))
       (all-turn xs ys zs (and-right (S .fit x y) _ h) (and-right (S .fit (S .add x y) z) _ e))
 
-  all-less : (xs ys zs : List A) → allPairs (S .fit) xs (pairwise (S .add) ys zs) ≡ true → allPairs (S .fit) xs ys ≡ true
+  pub all-less : (xs ys zs : List A) → allPairs (S .fit) xs (pairwise (S .add) ys zs) ≡ true → allPairs (S .fit) xs ys ≡ true
   unfolding allPairs pairwise
   all-less [] ys zs e = refl
   all-less (x ∷ xs) [] zs e = refl
@@ -71,7 +71,7 @@ module _ {A : Type 0} (S : Sums A) where
   all-less (x ∷ xs) (y ∷ ys) (z ∷ zs) e =
       and-both (S .fit-less x y z (and-left (S .fit x (S .add y z)) _ e)) (all-less xs ys zs (and-right (S .fit x (S .add y z)) _ e))
 
-  pub list-sums : Sums (List A)
+  abbrev pub list-sums : Sums (List A)
   list-sums =
       record {
         add = pairwise (S .add);
