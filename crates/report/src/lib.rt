@@ -166,17 +166,31 @@ impl Drops {
     }
 }
 
-// The report of no run.
-pub fn empty() -> Report
-    ensures { λ r. ⌜ r ≡ Re.emptyReport ⌝ }
+// The figures of no PDU.
+pub fn no_pdus() -> RouteFigures
+    ensures { λ r. ⌜ r ≡ Fi.noPdus ⌝ }
 {
-    let none = RouteFigures {
+    RouteFigures {
         pdus: 0,
         bytes: 0,
         smallest: 0,
         largest: 0,
-    };
-    let nothing = drops_of(0, 0, 0, 0, 0);
+    }
+}
+
+// No drop.
+pub fn no_drops() -> Drops
+    ensures { λ r. ⌜ r ≡ Fi.noDrops ⌝ }
+{
+    drops_of(0, 0, 0, 0, 0)
+}
+
+// The report of no run.
+pub fn empty() -> Report
+    ensures { λ r. ⌜ r ≡ Re.emptyReport ⌝ }
+{
+    let none = no_pdus();
+    let nothing = no_drops();
     let routes = [none; 64];
     let connections = [nothing; 16];
     Report {

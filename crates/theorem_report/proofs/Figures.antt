@@ -208,17 +208,17 @@ unfolding addFigures smallestBy
 bare-sum f g a b =
     record {
       smallest = λ e.
-      let p : f .pdus ≡ 0 = omega arith in
-      let q : g .pdus ≡ 0 = omega arith in
-      let s = a .smallest p in
-      let t = b .smallest q in
-      rw (eq-eqb (f .pdus) 0 p, eq-eqb (g .pdus) 0 q) (omega arith);
+          let p : f .pdus ≡ 0 = omega arith in
+          let q : g .pdus ≡ 0 = omega arith in
+          let s = a .smallest p in
+          let t = b .smallest q in
+          rw (eq-eqb (f .pdus) 0 p, eq-eqb (g .pdus) 0 q) (omega arith);
       largest = λ e.
-      let p : f .pdus ≡ 0 = omega arith in
-      let q : g .pdus ≡ 0 = omega arith in
-      let s = a .largest p in
-      let t = b .largest q in
-      omega arith;
+          let p : f .pdus ≡ 0 = omega arith in
+          let q : g .pdus ≡ 0 = omega arith in
+          let s = a .largest p in
+          let t = b .largest q in
+          omega arith;
     }
 
 -- a PDU of length 0 makes the smallest 0, and counts

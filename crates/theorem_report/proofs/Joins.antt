@@ -112,8 +112,8 @@ join-assoc a b c h k =
     let bc : joinReports b c .report ≡ addReports b c = ap (λ (j : Joined). j .report) (join-made b c g) in (
       join-fits b c ∙ g,
       ap (joinReports a) bc ∙ join-made a (addReports b c) (fit-turn a b c e f)
-      ∙ ap (λ (r : Report). record { fits = true; report = r }) (sym (add-assoc a b c))
-      ∙ sym (ap (λ (r : Report). joinReports r c) ab ∙ join-made (addReports a b) c f),
+          ∙ ap (λ (r : Report). record { fits = true; report = r }) (sym (add-assoc a b c))
+          ∙ sym (ap (λ (r : Report). joinReports r c) ab ∙ join-made (addReports a b) c f),
     )
 
 -- .. from the other side
@@ -127,7 +127,7 @@ join-assoc-back a b c h k =
     let ab : joinReports a b .report ≡ addReports a b = ap (λ (j : Joined). j .report) (join-made a b e) in (
       join-fits a b ∙ e,
       ap (joinReports a) bc ∙ join-made a (addReports b c) f ∙ ap (λ (r : Report). record { fits = true; report = r }) (sym (add-assoc a b c))
-      ∙ sym (ap (λ (r : Report). joinReports r c) ab ∙ join-made (addReports a b) c (fit-back report-sums a b c g f)),
+          ∙ sym (ap (λ (r : Report). joinReports r c) ab ∙ join-made (addReports a b) c (fit-back report-sums a b c g f)),
     )
 
 -- R21.6: the empty report is the neutral element of reports whose numbers have 64 bits, as those of every value have
