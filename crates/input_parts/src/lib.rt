@@ -56,12 +56,19 @@ pub fn contents_named(contents: &[u8], long: usize) -> usize {
     all
 }
 
+// Some of so many bytes that are left, passed over; how many.
+fn some_passed(left: usize) -> usize
+    ensures { λ r. ⌜ r ≤ left ⌝ }
+{
+    let mut buffer = [0u8; 4096];
+    read_within(&mut buffer, 0, 4096, left)
+}
+
 // What is left of a part is passed over.
 pub fn pass_over(left: usize) {
-    let mut buffer = [0u8; 4096];
     let mut rest = left;
     while 0 < rest {
-        let got = read_within(&mut buffer, 0, 4096, rest);
+        let got = some_passed(rest);
         if got == 0 {
             return;
         }
