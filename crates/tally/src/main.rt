@@ -168,14 +168,14 @@ struct Total {
 }
 
 // The total with one run more, and why it was left out where it was (crate words_report).
-struct Added {
+struct Grown {
     report: Report,
     out: usize,
 }
 
-fn added(total: Report, readable: bool, fits: bool, report: Report) -> Added {
+fn added(total: Report, readable: bool, fits: bool, report: Report) -> Grown {
     if !readable {
-        return Added {
+        return Grown {
             report: total,
             out: 1,
         };
@@ -183,12 +183,12 @@ fn added(total: Report, readable: bool, fits: bool, report: Report) -> Added {
     let sums = join(total, report);
     let after = sums.report;
     if !(fits & sums.fits) {
-        return Added {
+        return Grown {
             report: total,
             out: 2,
         };
     }
-    Added {
+    Grown {
         report: after,
         out: 0,
     }
