@@ -162,7 +162,7 @@ def as_csv(figures):
 
 
 def as_json(figures):
-    whole = {"table": figures.table, "result": figures.result, "recordings": figures.totals, "each": figures.recordings, "routes": figures.routes,
+    whole = {"table": figures.table, "result": figures.result, "totals": figures.totals, "recordings": figures.recordings, "routes": figures.routes,
              "connections": figures.connections}
     return json.dumps(whole, indent=2) + "\n"
 

@@ -104,8 +104,8 @@ def columns():
     told = parsed(TABLE, RECORDING)[1]
     rows = dict(re.findall(r"(?m)^\| `(\w+)` \| (.*) \|$", text.split("`--json`\n")[1].split("\n## ")[0]))
     same(list(rows), list(told), "docs/REPORT.md: the names of --json")
-    for name in ("recordings", "each", "routes", "connections"):
-        of = told[name] if name == "recordings" else told[name][0]
+    for name in ("totals", "recordings", "routes", "connections"):
+        of = told[name] if name == "totals" else told[name][0]
         same(re.findall(r"`(\w+)`", rows[name]), list(of), f"docs/REPORT.md: the names of {name}")
 
 
@@ -170,8 +170,8 @@ def by_hand():
     for image, recordings in ((TABLE, [RECORDING]), (TABLE, [RECORDING, CHANGED, cut, early])):
         status, told = parsed(image, *recordings)
         same((status, told["result"], figures(told)), (0, "OK", counted(os.path.join(ROOT, image), *recordings)), f"the figures of {recordings}")
-    same([one["word"] for one in told["each"]], ["SAME", "DIFFERS", "CUT", "DIFFERS"], "the words of the recordings")
-    same([one["entries_run"] for one in told["each"]], [329, 329, 158, 199], "the entries that were run")
+    same([one["word"] for one in told["recordings"]], ["SAME", "DIFFERS", "CUT", "DIFFERS"], "the words of the recordings")
+    same([one["entries_run"] for one in told["recordings"]], [329, 329, 158, 199], "the entries that were run")
     image, *recordings = firmware()
     status, told = parsed(image, *recordings)
     same((status, figures(told)), (0, counted(image, *recordings)), "the figures of transfers")
@@ -202,7 +202,7 @@ def shapes():
     status, told = parsed(*words)
     rows = list(csv.DictReader(io.StringIO("\n".join(lines("--csv", *words)[1]) + "\n")))
     same([row["kind"] for row in rows], ["recording"] * 2 + ["route"] * 5 + ["connection"] * 4 + ["report"], "the rows of --csv")
-    for kind, name in (("recording", "each"), ("route", "routes"), ("connection", "connections")):
+    for kind, name in (("recording", "recordings"), ("route", "routes"), ("connection", "connections")):
         for row, want in zip((row for row in rows if row["kind"] == kind), told[name]):
             want = {**want, "said": "; ".join(line.strip() for line in want["said"])} if "said" in want else want
             want = {"number": str(want[kind]), **{key: str(value) for key, value in want.items() if key != kind or kind == "connection"}}
@@ -293,9 +293,9 @@ def streams():
     long = file("long.recording", contents(RECORDING))
     os.truncate(long, 5 << 30)
     status, told = parsed(TABLE, long, RECORDING)
-    same((status, [one["word"] for one in told["each"]], told["each"][0]["file_bytes"]), (0, ["SAME", "SAME"], 5 << 30), "a file of 5 GB")
+    same((status, [one["word"] for one in told["recordings"]], told["recordings"][0]["file_bytes"]), (0, ["SAME", "SAME"], 5 << 30), "a file of 5 GB")
     status, told = parsed(TABLE, "/dev/zero")
-    same((status, told["each"][0]["said"]), (1, ["refused: edition 0 is not 1"]), "a device that does not end")
+    same((status, told["recordings"][0]["said"]), (1, ["refused: edition 0 is not 1"]), "a device that does not end")
 
 
 def progress():
