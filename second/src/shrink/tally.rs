@@ -134,7 +134,7 @@ mod tests {
             let mut ask = |all: &[Tally]| all.iter().position(|small| differs(fault, &small.bytes()));
             let (least, _) = shrink(Tally::read(&first), bound, &mut ask);
             assert!(
-                differs(fault, &least.bytes()) && least.size().0 <= 3 && least.size().1 <= 8,
+                differs(fault, &least.bytes()) && least.size().0 <= 3 && least.size().1 <= 20,
                 "{:?}: {:?}",
                 fault,
                 least.size()
