@@ -23,13 +23,13 @@ itemsFrom k kept (piece r p true ∷ os) = got r kept ∷ itemsFrom k kept os
 itemsFrom k kept (piece r p false ∷ os) = itemsFrom k kept os
 
 -- the length of the transfer that started last
-unfoldable pub keptFrom : ℕ → List Out → ℕ
-keptFrom kept [] = kept
-keptFrom kept (nothing ∷ os) = keptFrom kept os
-keptFrom kept (pdu r p ∷ os) = keptFrom kept os
-keptFrom kept (dropped j i n ∷ os) = keptFrom kept os
-keptFrom kept (start r i n m ∷ os) = keptFrom n os
-keptFrom kept (piece r p m ∷ os) = keptFrom kept os
+unfoldable pub lengthKept : ℕ → List Out → ℕ
+lengthKept kept [] = kept
+lengthKept kept (nothing ∷ os) = lengthKept kept os
+lengthKept kept (pdu r p ∷ os) = lengthKept kept os
+lengthKept kept (dropped j i n ∷ os) = lengthKept kept os
+lengthKept kept (start r i n m ∷ os) = lengthKept n os
+lengthKept kept (piece r p m ∷ os) = lengthKept kept os
 
 -- the PDUs among what counts, and the drops
 unfoldable pub gotAmong : List Item → List Item
