@@ -1,4 +1,4 @@
--- Two lists side by side, element by element, for any element; where one is longer, its rest stays.
+-- R21.3, R21.4: two lists side by side, element by element, for any element; where one is longer, its rest stays.
 use mathlib.Core.Bool.{Bool, true, _&&_}
 use mathlib.Core.List.{List, [], _∷_}
 

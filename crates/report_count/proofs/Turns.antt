@@ -19,8 +19,8 @@ use Rattle.report.specs.Report.{figuresAt, dropsAt}
 use Rattle.report_count.specs.declared.Adds.{Adds}
 use Rattle.report_count.specs.declared.Counting.{Counting}
 use Rattle.report_count.specs.declared.Run.{Run}
-use Rattle.report_count.specs.Count.{adding, addsNothing, addsDrop, addsPdu, addsStart, addsBy, addsOf, oneCounted, takesCounted}
-use Rattle.report_count.specs.Count.{takesIn, takesAt, connectionIn, countingAt, afterCounting, eventCounted}
+use Rattle.report_count.specs.Count.{adding, addsNothing, addsDrop, addsPdu, addsStart, addsOfKind, addsOf, oneCounted, takesCounted}
+use Rattle.report_count.specs.Count.{takesIn, takesAt, connectionNamed, countingAt, afterCounting, eventCounted}
 
 -- what is added is added to one of the 64 routes
 pdu-small : (route n kept : ℕ) → addsPdu route n kept .route < 64
@@ -48,8 +48,8 @@ pub start-runs : (route n : ℕ) → eqb n 0 ≡ false → addsStart route n ≡
 unfolding addsStart
 start-runs route n e = rw e
 
-pub route-small : (kind which n kept : ℕ) → addsBy kind which n kept .route < 64
-unfolding addsBy
+pub route-small : (kind which n kept : ℕ) → addsOfKind kind which n kept .route < 64
+unfolding addsOfKind
 route-small kind which n kept = one (eqb kind 1)
   where
     four : (b : Bool) → cond b (addsPdu which kept kept) (addsNothing kept) .route < 64
@@ -106,7 +106,7 @@ module _ (k : ℕ) (s : List ℕ) (report : Report) (fits : Bool) (kept left at 
       ap₂ (takesCounted k (left - 1)) places counted ∙ ap (λ (m : ℕ). takesCounted k m (drop at s) here) (sym l) ∙ inv
 
 -- an event of a connection that there is not, and of one that there is
-module _ (number : ℕ) (arguments answer : List ℕ) (r : Run) (k : ℕ) (is : k ≡ connectionIn arguments) where
+module _ (number : ℕ) (arguments answer : List ℕ) (r : Run) (k : ℕ) (is : k ≡ connectionNamed arguments) where
   pub event-past : 16 ≤ k → eventCounted number arguments answer r ≡ r
   unfolding eventCounted
   event-past h = rw (ap (λ (n : ℕ). ltb n 16) (sym is) ∙ le-ltb k 16 h)

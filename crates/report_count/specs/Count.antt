@@ -34,8 +34,8 @@ addsStart route n = cond (eqb n 0) (addsPdu route n n) (addsNothing n)
 
 -- by the take's kind: 1 PDU, 2 drop, 3 start of a transfer, 5 last piece, which counts with the length that was kept; more wanted (0) and a piece (4)
 -- add nothing
-unfoldable pub addsBy : ℕ → ℕ → ℕ → ℕ → Adds
-addsBy kind which n kept =
+unfoldable pub addsOfKind : ℕ → ℕ → ℕ → ℕ → Adds
+addsOfKind kind which n kept =
     cond (eqb kind 1) (addsPdu which n kept)
     (cond (eqb kind 2) (addsDrop which kept)
     (cond (eqb kind 3) (addsStart which n)
@@ -44,7 +44,7 @@ addsBy kind which n kept =
 
 -- "bytes read (4), kind (1), route or reason (1), id (4), length (4)"
 abbrev pub addsOf : List ℕ → ℕ → Adds
-addsOf l kept = addsBy (be 1 l 4) (be 1 l 5) (be 4 l 10) kept
+addsOf l kept = addsOfKind (be 1 l 4) (be 1 l 5) (be 4 l 10) kept
 
 -- one take more on connection k: each sum that fits is made, and whether all did is remembered
 unfoldable pub oneCounted : ℕ → Adds → Counting → Counting
@@ -72,8 +72,8 @@ unfoldable pub takesAt : ℕ → ℕ
 takesAt number = cond (eqb number 7) 4 2
 
 -- the connection that the arguments name: "party, connection (1)"
-abbrev pub connectionIn : List ℕ → ℕ
-connectionIn arguments = be 1 arguments 1
+abbrev pub connectionNamed : List ℕ → ℕ
+connectionNamed arguments = be 1 arguments 1
 
 -- before the first entry
 abbrev pub runBegun : Run
@@ -88,7 +88,7 @@ afterCounting k r c = record { fits = c .fits; report = c .report; lengths = set
 -- ONE EVENT MORE, by its number, its arguments and its answer
 unfoldable pub eventCounted : ℕ → List ℕ → List ℕ → Run → Run
 eventCounted number arguments answer r =
-    cond (ltb (connectionIn arguments) 16)
-    (afterCounting (connectionIn arguments) r
-    (takesCounted (connectionIn arguments) (takesIn number answer) (drop (takesAt number) answer) (countingAt (connectionIn arguments) r)))
+    cond (ltb (connectionNamed arguments) 16)
+    (afterCounting (connectionNamed arguments) r
+    (takesCounted (connectionNamed arguments) (takesIn number answer) (drop (takesAt number) answer) (countingAt (connectionNamed arguments) r)))
     r

@@ -109,7 +109,7 @@ fn adds_start(route: u8, length: u32) -> Adds
 
 // What a take adds, by its kind.
 fn adds_by(kind: u8, which: u8, length: u32, kept: u32) -> Adds
-    ensures { λ r. ⌜ r ≡ Is.addsBy kind which length kept ⌝ }
+    ensures { λ r. ⌜ r ≡ Is.addsOfKind kind which length kept ⌝ }
 {
     match kind {
         1 => adds_pdu(which, length, kept),

@@ -206,26 +206,19 @@ fn write(text: &[u8], end: usize) {
     io::write_all(1, front(text, end));
 }
 
-// One recording more, of which the contents are read.
-fn replayed(
-    table: &[u8],
+// The total with the run of a recording, whose lines are written.
+fn closed_with(
     contents: &[u8],
     long: usize,
+    reach: usize,
+    shown: Front,
     total: Total,
-    rx: &mut [u8],
-    tx: &mut [u8],
-    kept: &mut [u8],
+    tale: Tale,
+    run: Run,
+    kept: &[u8],
     text: &mut [u8],
 ) -> Total {
-    let reach = contents_named(contents, long);
-    let shown = shown_of(contents, reach);
     let n = total.parts;
-    let number = count_of(shown, contents);
-    let left = less(long, contents.len());
-    let going = entries(table, contents, number, left, rx, tx, kept);
-    pass_over(going.left);
-    let tale = going.tale;
-    let run = going.run;
     let report = run.report;
     let before = total.report;
     let next = added(before, is_read(shown), run.fits, report);
@@ -242,6 +235,28 @@ fn replayed(
         ends: ended(ends, word, next.out != 0),
         parts: n,
     }
+}
+
+// One recording more, of which the contents are read.
+fn replayed(
+    table: &[u8],
+    contents: &[u8],
+    long: usize,
+    total: Total,
+    rx: &mut [u8],
+    tx: &mut [u8],
+    kept: &mut [u8],
+    text: &mut [u8],
+) -> Total {
+    let reach = contents_named(contents, long);
+    let shown = shown_of(contents, reach);
+    let number = count_of(shown, contents);
+    let left = less(long, contents.len());
+    let going = entries(table, contents, number, left, rx, tx, kept);
+    pass_over(going.left);
+    let tale = going.tale;
+    let run = going.run;
+    closed_with(contents, long, reach, shown, total, tale, run, kept, text)
 }
 
 // Over memory for all connections, the contents, the first entry that differs, and the lines.
@@ -333,27 +348,35 @@ fn given_report(total: Total) -> Total {
 
 // ---- the figures
 
-fn routes(rows: usize, report: Report) {
+fn show_route(i: usize, figures: RouteFigures) {
     let mut text = [0u8; 256];
+    let end = route_line(&mut text, i as u64, figures);
+    write(&text, end);
+}
+
+fn show_connection(i: usize, drops: Drops) {
+    let mut text = [0u8; 256];
+    let end = drops_line(&mut text, i as u64, drops);
+    write(&text, end);
+}
+
+fn routes(rows: usize, report: Report) {
     let mut i: usize = 0;
     while i < 64 {
         if i < rows {
             let figures = report.routes[i];
-            let end = route_line(&mut text, i as u64, figures);
-            write(&text, end);
+            show_route(i, figures);
         }
         i += 1;
     }
 }
 
 fn connections(rows: usize, report: Report) {
-    let mut text = [0u8; 256];
     let mut i: usize = 0;
     while i < 16 {
         if i < rows {
             let drops = report.connections[i];
-            let end = drops_line(&mut text, i as u64, drops);
-            write(&text, end);
+            show_connection(i, drops);
         }
         i += 1;
     }

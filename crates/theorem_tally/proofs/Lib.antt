@@ -1,0 +1,2 @@
+-- The theorems of the crate.
+pub mod Same
