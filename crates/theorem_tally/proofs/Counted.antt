@@ -185,3 +185,104 @@ module _ (k : ℕ) (c : Counting) (seg : List ℕ) (begins : ℕ) where
   take-told (Found.Start route id n last) payload e = start-told route id n last payload e
   take-told (Found.Piece route id at n true) payload e = (pdu-counts k c route (c .kept) (c .kept), pdu-kept route (c .kept) (c .kept))
   take-told (Found.Piece route id at n false) payload e = (nothing-counts k c (c .kept), refl)
+
+-- THE BYTES OF A TAKE say what it found: kind, route or reason, and length
+which-at : (first kind which id n : ℕ) (r : List ℕ) {l : List ℕ} → l ≡ foundBytes first kind which id n ++ r → which < 256 → be 1 l 5 ≡ which
+which-at first kind which id n r is h =
+    number-at 1 which (spell 4 first ++ spell 1 kind) (spell 4 id ++ spell 4 n ++ r) 5 h (simp (length-append, length-spell)) (is ∙ simp append-assoc)
+
+found-adds : (first kind which id n : ℕ) (r : List ℕ) {l : List ℕ} → l ≡ foundBytes first kind which id n ++ r → kind < 256 → which < 256 → n < 256 ^ 4
+    → (kept : ℕ) → addsOf l kept ≡ addsOfKind kind which n kept
+found-adds first kind which id n r is a b c kept =
+    rw (kind-at first kind which id n r is a, which-at first kind which id n r is b, length-at first kind which id n r is c)
+
+piece-adds : (last : Bool) (route id at n kept : ℕ) → addsOfKind (pieceKind last) route n kept ≡ addsFound (Found.Piece route id at n last) kept
+unfolding addsOfKind
+piece-adds true route id at n kept = refl
+piece-adds false route id at n kept = refl
+
+bytes-add : (begins read : ℕ) (o : Outcome) (payload rest : List ℕ) → TakeFits begins o payload → (kept : ℕ)
+    → addsOf (takeBytes begins read o payload ++ rest) kept ≡ addsFound o kept
+unfolding addsOfKind
+bytes-add begins read Found.More payload rest h kept = found-adds read 0 0 0 0 rest refl (omega arith) (omega arith) (omega arith) kept
+bytes-add begins read (Found.Drop reason id n) payload rest h kept = found-adds read 2 reason id n rest refl (omega arith) (h .0) (h .1 .1) kept
+bytes-add begins read (Found.Start route id n last) payload rest h kept = found-adds read 3 route id n rest refl (omega arith) (h .0 .0) (h .0 .1 .1) kept
+bytes-add begins read (Found.Piece route id at n last) payload rest h kept =
+    let is : pieceSpelt read route id n last begins at ++ rest ≡ foundBytes read (pieceKind last) route id n ++ (spell 4 (begins + at) ++ rest) = simp append-assoc in
+    found-adds read (pieceKind last) route id n (spell 4 (begins + at) ++ rest) is (kind-small last) (h .0) (h .1 .0) kept ∙ piece-adds last route id at n kept
+bytes-add begins read (Found.Pdu route id true at n) payload rest h kept =
+    let is : hereBytes read route id n begins at ++ rest ≡ foundBytes read 1 route id n ++ (spell 1 0 ++ (spell 4 (begins + at) ++ rest)) = simp append-assoc in
+    found-adds read 1 route id n (spell 1 0 ++ (spell 4 (begins + at) ++ rest)) is (omega arith) (h .0) (h .1 .0) kept
+bytes-add begins read (Found.Pdu route id false at n) payload rest h kept =
+    let is : heldBytes read route id n payload ++ rest ≡ foundBytes read 1 route id n ++ (spell 1 1 ++ (payload ++ rest)) = simp append-assoc in
+    found-adds read 1 route id n (spell 1 1 ++ (payload ++ rest)) is (omega arith) (h .0) (h .1 .0) kept
+
+-- LISTS OF ITEMS, one behind the other
+count-append : (r : Report) (xs ys : List Item) → countFrom r (xs ++ ys) ≡ countFrom (countFrom r xs) ys
+unfolding countFrom
+count-append r [] ys = refl
+count-append r (x ∷ xs) ys = count-append (countItem x r) xs ys
+
+pub counts-then : (xs ys : List Item) (c d e : Counting) → Counts xs c d → Counts ys d e → Counts (xs ++ ys) c e
+counts-then xs ys c d e p q =
+    record {
+      before = λ h. p .before (q .before h);
+      sums = λ full h.
+      let s : d .report ≡ countFrom (c .report) xs = p .sums full (q .before h) in
+      let f : FullReport (d .report) = subst FullReport (sym s) (from-full (c .report) xs full) in
+      q .sums f h ∙ ap (λ (r : Report). countFrom r ys) s ∙ sym (count-append (c .report) xs ys);
+    }
+
+pub items-append : (k kept : ℕ) (os ps : List Out) → itemsFrom k kept (os ++ ps) ≡ itemsFrom k kept os ++ itemsFrom k (lengthKept kept os) ps
+unfolding itemsFrom lengthKept
+items-append k kept [] ps = refl
+items-append k kept (nothing ∷ os) ps = items-append k kept os ps
+items-append k kept (pdu r p ∷ os) ps = ap (λ (l : List Item). got r (length p) ∷ l) (items-append k kept os ps)
+items-append k kept (dropped j i n ∷ os) ps = ap (λ (l : List Item). lost k j ∷ l) (items-append k kept os ps)
+items-append k kept (start r i n true ∷ os) ps = ap (λ (l : List Item). got r n ∷ l) (items-append k n os ps)
+items-append k kept (start r i n false ∷ os) ps = items-append k n os ps
+items-append k kept (piece r p true ∷ os) ps = ap (λ (l : List Item). got r kept ∷ l) (items-append k kept os ps)
+items-append k kept (piece r p false ∷ os) ps = items-append k kept os ps
+
+pub kept-append : (kept : ℕ) (os ps : List Out) → lengthKept kept (os ++ ps) ≡ lengthKept (lengthKept kept os) ps
+unfolding lengthKept
+kept-append kept [] ps = refl
+kept-append kept (nothing ∷ os) ps = kept-append kept os ps
+kept-append kept (pdu r p ∷ os) ps = kept-append kept os ps
+kept-append kept (dropped j i n ∷ os) ps = kept-append kept os ps
+kept-append kept (start r i n m ∷ os) ps = kept-append n os ps
+kept-append kept (piece r p m ∷ os) ps = kept-append kept os ps
+
+-- TAKES, one after the other: each fits its bytes, and each PDU is as long as it says
+abbrev pub AllStand : List ℕ → List Take → Type 0
+AllStand seg [] = Unit {0}
+AllStand seg (t ∷ ts) =
+    (TakeFits (t .begins) (t .outcome) (t .payload) × (Exact seg (t .begins) (t .outcome) (t .payload)
+    × (takeNeeds (takeBytes (t .begins) (t .read) (t .outcome) (t .payload) ++ bytesIn ts) ≡ length (takeBytes (t .begins) (t .read) (t .outcome) (t .payload)))))
+    × AllStand seg ts
+
+-- R21.9: the count over the bytes of the takes is the count over what they told
+pub takes-told : (k : ℕ) (seg : List ℕ) (ts : List Take) (c : Counting) → AllStand seg ts
+    → Counts (itemsFrom k (c .kept) (outsIn seg ts)) c (takesCounted k (length ts) (bytesIn ts) c)
+    × (takesCounted k (length ts) (bytesIn ts) c .kept ≡ lengthKept (c .kept) (outsIn seg ts))
+unfolding takesCounted bytesIn outsIn itemsFrom lengthKept countFrom
+takes-told k seg [] c all = (record { before = λ h. h; sums = λ full h. refl }, refl)
+takes-told k seg (t ∷ ts) c ((h, (x, needs)), all) =
+    let o : Outcome = t .outcome in
+    let b : List ℕ = takeBytes (t .begins) (t .read) o (t .payload) in
+    let os : List Out = outIn seg (t .begins) o (t .payload) in
+    let d : Counting = oneCounted k (addsFound o (c .kept)) c in
+    let one = take-told k c seg (t .begins) o (t .payload) x in
+    let is : takesCounted k (length ts) (drop (takeNeeds (b ++ bytesIn ts)) (b ++ bytesIn ts)) (oneCounted k (addsOf (b ++ bytesIn ts) (c .kept)) c)
+    ≡ takesCounted k (length ts) (bytesIn ts) d =
+    ap₂ (λ (l : List ℕ) (a : Adds). takesCounted k (length ts) l (oneCounted k a c))
+    (drop-at b (bytesIn ts) (takeNeeds (b ++ bytesIn ts)) (sym needs)) (bytes-add (t .begins) (t .read) o (t .payload) (bytesIn ts) h (c .kept)) in
+    let later = takes-told k seg ts d all in
+    let kept : d .kept ≡ lengthKept (c .kept) os = one .1 in
+    (
+      subst (λ (e : Counting). Counts (itemsFrom k (c .kept) (os ++ outsIn seg ts)) c e) (sym is)
+      (subst (λ (l : List Item). Counts l c (takesCounted k (length ts) (bytesIn ts) d))
+      (ap (λ (n : ℕ). itemsFrom k (c .kept) os ++ itemsFrom k n (outsIn seg ts)) kept ∙ sym (items-append k (c .kept) os (outsIn seg ts)))
+      (counts-then (itemsFrom k (c .kept) os) (itemsFrom k (d .kept) (outsIn seg ts)) c d (takesCounted k (length ts) (bytesIn ts) d) (one .0) (later .0))),
+      ap (λ (e : Counting). e .kept) is ∙ later .1 ∙ ap (λ (n : ℕ). lengthKept n (outsIn seg ts)) kept ∙ sym (kept-append (c .kept) os (outsIn seg ts)),
+    )
