@@ -216,6 +216,22 @@ faults! {
         OnAndOff: "a bit forced on and later off is kept in both words",
         RefusedToZero: "a refused switch is applied to connection 0",
     }
+    tallies {
+        SmallestFromZero: "the smallest length starts at 0",
+        TransferAtStart: "a transfer counts at its start",
+        DropsFromCounts: "drops are those of the module's counts, which can be cleared",
+        RefusedHalfAdded: "of a run that is refused, what fits is added",
+        SumWraps: "a sum that passes 64 bits starts again at 0",
+        SmallestOfNone: "a join takes the smaller length also where one side has no PDU",
+        LargestOfTheLast: "a join takes the largest length of the later report",
+        EmptyTransferForgotten: "a transfer of length 0 is not counted",
+        LastPieceAlone: "a transfer counts with the length of its last piece",
+        UnfinishedAdded: "the pieces of a transfer add their bytes before it ends",
+        CutUncounted: "drop 23 is not counted",
+        DifferingUncounted: "an entry that differs is not counted",
+        EndedEarlyLeftOut: "of a recording that is refused or cut midway, nothing is counted",
+        LeftOutIsFine: "the last word is OK though something was left out",
+    }
     frame {
         FrameOneMore: "a payload of 1,465 bytes may be framed",
         RoomForPayloadOnly: "an out buffer as long as the payload is long enough",

@@ -17,6 +17,7 @@ mod random;
 mod recording;
 mod recordings;
 mod replay;
+mod report;
 mod runs;
 mod script;
 mod select;
@@ -30,6 +31,8 @@ mod stored;
 mod stream;
 mod table;
 mod takes;
+mod tallies;
+mod tally;
 mod tell;
 mod text;
 mod transmit;
@@ -43,9 +46,10 @@ use std::process::ExitCode;
 
 const USAGE: &str = "second compare PART [--seed N] [--count N] [--store FOLDER] -- PROGRAM ..
     random cases: the program answers as this one expects. PART is table, walk or frame (PROGRAM is the C driver), runs,
-    streams, selections, transfers or silences (PROGRAM is run), takes (PROGRAM is takes), recordings (PROGRAM is replay), sheets (PROGRAM is shorten), answers
-    (PROGRAM is the bench's twins by answers.c); or, for a fixed list, changes (of the 86-byte image), cuts (of a datagram) or
-    recording-edges (limits of recordings, a small one cut at every byte, and one of transfers with each byte changed)
+    streams, selections, transfers or silences (PROGRAM is run), takes (PROGRAM is takes), recordings (PROGRAM is replay), sheets (PROGRAM is shorten),
+    tallies (PROGRAM is tally), answers (PROGRAM is the bench's twins by answers.c); or, for a fixed list, changes (of the 86-byte image), cuts (of a
+    datagram), tally-edges (sums from both sides, cut parts) or recording-edges (limits of recordings, a small one cut at every byte, and one of
+    transfers with each byte changed)
 second replay PART FOLDER -- PROGRAM ..
     the same for the cases stored in a folder
 second faults PART [--seed N] [--count N] -- PROGRAM ..
@@ -59,7 +63,7 @@ second edges
     prints what tests/edges.c is to print
 second files FOLDER OUT
     writes the images stored in a folder as files of bytes, and prints what tests/edges.c is to print of them
-second simulate run|takes|replay|sheets|driver
+second simulate run|takes|replay|tally|sheets|driver
     gives what this program is to give for its input
 With --fault NAME a seeded fault is on in any of these.";
 
@@ -96,6 +100,11 @@ fn obey(words: &Words) -> Result<(), String> {
         ["compare", "recording-edges"] => verbs::compare_recording_edges(words),
         ["replay", "recordings", folder] => verbs::replay_recordings(Path::new(folder), words),
         ["faults", "recordings"] => verbs::fault_recordings(words),
+        ["compare", "tallies"] => tallies::compare(words),
+        ["compare", "tally-edges"] => tallies::compare_edges(words),
+        ["replay", "tallies", folder] => tallies::replay(Path::new(folder), words),
+        ["faults", "tallies"] => tallies::faults(words),
+        ["simulate", "tally"] => verbs::simulate(tally::lines),
         ["simulate", "replay"] => verbs::simulate(replay::lines),
         ["compare", "answers"] => verbs::compare_answers(words),
         ["faults", "takes"] => verbs::fault_takes(words),

@@ -2,7 +2,7 @@
 
 use crate::answer::{self, count_words};
 use crate::bytes::number;
-use crate::event::{run, Event};
+use crate::event::{run, Answer, Event};
 use crate::fault::{or, seeded, Fault};
 use crate::lines::{end_lines, event_words, refused_table};
 use crate::recording::{distance, read_body, row, too_far, Row, EDITION, FRONT, MOST_BODY, MOST_DISTANCE, MOST_ENTRIES, ROW};
@@ -136,16 +136,24 @@ fn judge<'a>(entry: usize, row: Row, before: Option<u32>, rest: &'a [u8], last: 
     }
 }
 
-/// What a replay has come to.
-struct Replay {
+/// An event that was run, what it answers today, and what was recorded.
+pub struct Seen<'a> {
+    pub event: &'a Event,
+    pub today: &'a Answer,
+    pub recorded: &'a [u8],
+}
+
+/// What a replay has come to; `seen` is told of each event.
+struct Replay<'a> {
     world: World,
     lines: Vec<String>,
     difference: Option<Vec<String>>,
     run: usize,
     ticks: u64,
+    seen: &'a mut dyn FnMut(&Seen),
 }
 
-impl Replay {
+impl Replay<'_> {
     fn tick(&mut self, ticks: u32) {
         // what a tick answers is in no recording
         let _ = run(&mut self.world, &Event::Ticks(ticks));
@@ -156,7 +164,9 @@ impl Replay {
     fn step(&mut self, entry: usize, stamp: u32, asked: &Asked) {
         let Asked { ticks, event, recorded } = asked;
         self.tick(*ticks);
-        let today = answer::spell(&run(&mut self.world, event));
+        let answer = run(&mut self.world, event);
+        (self.seen)(&Seen { event, today: &answer, recorded });
+        let today = answer::spell(&answer);
         let (what, now) = (event_words(event), answer::words(event, &today));
         self.lines.push(format!(
             "entry {}, stamp {}, after {}: {}: {}",
@@ -202,6 +212,36 @@ impl Replay {
     }
 }
 
+/// A replay that has ended.
+pub struct Told {
+    /// A line for each entry.
+    pub entries: Vec<String>,
+    /// The lines between those and the records.
+    pub between: Vec<String>,
+    pub world: World,
+    pub word: &'static str,
+    /// One of the tests before anything is run has ended it.
+    pub unread: bool,
+}
+
+/// What a recording comes to in a fresh world; `seen` is told of each event that is run.
+pub fn told(world: World, recording: &[u8], seen: &mut dyn FnMut(&Seen)) -> Told {
+    let mut replay = Replay { world, lines: vec![], difference: None, run: 0, ticks: 0, seen };
+    let (named, unread) = (named(recording), before_all(recording));
+    let none = unread.is_some();
+    let stop = unread.or_else(|| replay.entries(recording, named));
+    let word = match (&replay.difference, &stop) {
+        (Some(_), _) => "DIFFERS",
+        (None, Some(stop)) => stop.word,
+        (None, None) => "SAME",
+    };
+    let mut between: Vec<String> = replay.difference.into_iter().flatten().collect();
+    between.extend(stop.map(|stop| stop.line));
+    between.push(format!("entries run: {} of {}", replay.run, named));
+    between.push(format!("ticks run: {}", count_words(replay.ticks, "tick")));
+    Told { entries: replay.lines, between, world: replay.world, word, unread: none }
+}
+
 /// The lines for an input: an image, then a recording.
 pub fn lines(input: &[u8]) -> Vec<String> {
     let (image, recording) = input.split_at(image_end(input));
@@ -209,20 +249,8 @@ pub fn lines(input: &[u8]) -> Vec<String> {
     if let Err(place) = world.table {
         return refused_table(place);
     }
-    let mut replay = Replay { world, lines: vec![], difference: None, run: 0, ticks: 0 };
-    let named = named(recording);
-    let stop = before_all(recording).or_else(|| replay.entries(recording, named));
-    let word = match (&replay.difference, &stop) {
-        (Some(_), _) => "DIFFERS",
-        (None, Some(stop)) => stop.word,
-        (None, None) => "SAME",
-    };
-    let mut lines = replay.lines;
-    lines.extend(replay.difference.into_iter().flatten());
-    lines.extend(stop.map(|stop| stop.line));
-    lines.push(format!("entries run: {} of {}", replay.run, named));
-    lines.push(format!("ticks run: {}", count_words(replay.ticks, "tick")));
-    lines.extend(end_lines(&replay.world));
-    lines.push(word.into());
+    let told = told(world, recording, &mut |_| ());
+    let mut lines = [told.entries, told.between, end_lines(&told.world)].concat();
+    lines.push(told.word.into());
     lines
 }

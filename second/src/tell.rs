@@ -7,6 +7,7 @@ use crate::script::image_end;
 use crate::shrink::recording::Recording;
 use crate::shrink::request::Request;
 use crate::shrink::script::{Piece, Script};
+use crate::shrink::tally::Tally;
 use crate::shrink::Bound;
 use crate::table::check;
 use crate::takes::Case;
@@ -70,6 +71,16 @@ pub fn recording(name: &str, input: &[u8], want: Vec<String>, got: Vec<String>) 
     let rows: usize = recording.image.counts().iter().sum();
     let size = format!("{}, {}, {} bytes", entries(recording.entries.len()), count(rows, "table row"), input.len());
     let front = vec![format!("# recording in hex, {}, for ./soad replay", count(bytes.len(), "byte")), text::bytes(bytes)];
+    Told { name: name.into(), size, case: [table_lines(image), front].concat(), stored: input.to_vec(), got, want }
+}
+
+/// Parts of a tally and what both programs print.
+pub fn tally(name: &str, tally: &Tally, want: Vec<String>, got: Vec<String>) -> Told {
+    let input = tally.bytes();
+    let (image, bytes) = input.split_at(image_end(&input));
+    let (parts, number) = tally.size();
+    let size = format!("{}, {}, {} bytes", count(parts, "part"), entries(number), input.len());
+    let front = vec![format!("# parts in hex, {}, each behind its length", count(bytes.len(), "byte")), text::bytes(bytes)];
     Told { name: name.into(), size, case: [table_lines(image), front].concat(), stored: input.to_vec(), got, want }
 }
 

@@ -18,9 +18,9 @@ use crate::{table, takes, tell, vectors as lists, Words, USAGE};
 use std::io::Read;
 use std::path::Path;
 
-type Outcome = Result<(), String>;
+pub type Outcome = Result<(), String>;
 
-fn none_different(different: usize) -> Outcome {
+pub fn none_different(different: usize) -> Outcome {
     (different == 0).then_some(()).ok_or_else(|| "the two programs differ".into())
 }
 
@@ -33,7 +33,7 @@ fn often_enough(to_meet: &[&str], least: usize, met: impl Fn(&str) -> usize) -> 
 }
 
 /// Every kind must be met as often as it says.
-fn floors(to_meet: &[(&str, usize)], met: impl Fn(&str) -> usize) -> Outcome {
+pub fn floors(to_meet: &[(&str, usize)], met: impl Fn(&str) -> usize) -> Outcome {
     to_meet.iter().try_for_each(|&(kind, least)| often_enough(&[kind], least, &met))
 }
 
@@ -89,7 +89,7 @@ pub fn fault_requests(part: &str, words: &Words) -> Outcome {
     tell_faults(faults, &noticed, &format!("{} requests", words.count))
 }
 
-fn tell_faults(faults: &[(Fault, &str)], noticed: &[usize], cases: &str) -> Outcome {
+pub fn tell_faults(faults: &[(Fault, &str)], noticed: &[usize], cases: &str) -> Outcome {
     for ((fault, what), times) in faults.iter().zip(noticed) {
         println!("fault {:?} ({}): noticed in {} of {}", fault, what, times, cases);
     }

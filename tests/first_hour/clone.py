@@ -28,5 +28,5 @@ def clone(folder):
     """The sources first: what is built must not be older."""
     path = os.path.join(folder, "a path with spaces", "a clone")
     copy(path, tracked())
-    copy(path, ["target/bin/check_image", "target/bin/run", "target/bin/replay", "target/bin/shorten", "target/staticlib/libsoad.a"])
+    copy(path, ["target/bin/check_image", "target/bin/run", "target/bin/replay", "target/bin/shorten", "target/bin/tally", "target/staticlib/libsoad.a"])
     return path

@@ -49,6 +49,7 @@ def soad(*words, **more):
 
 
 TABLE, SHIFT, SHEET, DATAGRAM = "examples/debarker.table", "examples/shift.txt", "examples/sheet.txt", "examples/scanner.datagram"
+RECORDING = "examples/long-shift.recording"
 BENCH = ("bench-example", TABLE, "3", "0x3", DATAGRAM, "0x101", "180")
 
 
@@ -79,7 +80,7 @@ def readme_commands():
         status, out, error = shell(command)
         same(status, 0, f"README: {command}: {error}")
         true(out, f"README: {command} prints something")
-        if command.startswith(("./soad check", "./soad run", "./soad sheet", "./soad bench-example")):
+        if command.startswith(("./soad check", "./soad run", "./soad report", "./soad sheet", "./soad bench-example")):
             same(out.split("\n")[-2:], ["OK", ""], f"README: the last line of {command}")
         if command.startswith("./soad replay"):
             same(out.split("\n")[-2:], ["SAME", ""], f"README: the last line of {command}")
@@ -136,7 +137,9 @@ def arguments():
     same((help[0], help[2]), (0, ""), "./soad help")
     for words, why in (((), "a verb is missing"), (("",), "a verb is missing"), (("", TABLE), "a verb is missing"), (("toast",), "there is no verb toast")):
         same(soad(*words), (2, "", help[1] + f"soad: {why}\n"), f"./soad {words}")
-    for verb in ("check", "run", "replay", "record", "recording", "sheet", "table", "script", "bench-example", "test"):
+    for words in (("report",), ("report", TABLE), ("report", TABLE, ""), ("report", TABLE, RECORDING, "")):
+        misuse(words, "report takes a table and recordings")
+    for verb in ("check", "run", "replay", "report", "record", "recording", "sheet", "table", "script", "bench-example", "test"):
         status, out, error = soad(verb, "--help")
         true((status, error) == (0, "") and out.startswith(f"./soad {verb}"), f"./soad {verb} --help")
 
@@ -152,14 +155,16 @@ def statuses():
     long, bad = "examples/debarker-too-long.table", file("bad.txt", b"group 0 udp\n")
     for words, status, last in ((("check", TABLE), 0, "OK"), (("run", TABLE, SHIFT), 0, "OK"), (("check", long), 1, "REFUSED"),
                                 (("run", TABLE, cut), 1, "CUT"), (("run", TABLE, wrong), 1, "REFUSED"), (("run", long, SHIFT), 1, "REFUSED"),
+                                (("report", TABLE, RECORDING), 0, "OK"), (("report", TABLE, RECORDING, wrong), 1, "REFUSED"),
+                                (("report", long, RECORDING), 1, "REFUSED"),
                                 (("sheet", TABLE, SHEET), 0, "OK"), (("sheet", TABLE, wrong), 1, "REFUSED"), (("sheet", long, SHEET), 1, "REFUSED"),
                                 ((BENCH[0], long, *BENCH[2:]), 1, "REFUSED")):
         got = soad(*words)
         same((got[0], got[1].split("\n")[-2:]), (status, [last, ""]), f"./soad {words}: status and last line")
     for words, status in ((("table", "to-text", TABLE), 0), (("table", "to-image", bad), 1), (("script", "to-text", cut), 1), (("check", bad), 1)):
         same(soad(*words)[0], status, f"./soad {words}: status")
-    for words in (("check", missing), ("run", missing, SHIFT), ("run", TABLE, missing), ("run", long, missing), ("sheet", TABLE, missing), ("table", "to-text", missing),
-                  ("check", FOLDER)):
+    for words in (("check", missing), ("run", missing, SHIFT), ("run", TABLE, missing), ("run", long, missing), ("report", TABLE, missing),
+                  ("sheet", TABLE, missing), ("table", "to-text", missing), ("check", FOLDER)):
         status, out, error = soad(*words)
         true((status, out) == (2, "") and re.fullmatch("soad: cannot read the file .*\n", error), f"./soad {words}: {status} {error}")
     status, out, error = soad(BENCH[0], missing, *BENCH[2:])
@@ -187,6 +192,7 @@ def plain(got, what, lines=1):
 def outputs():
     """A full disk and a closed output, for everything that ./soad prints."""
     for words in (("check", TABLE), ("check", "examples/debarker-too-long.table"), ("run", TABLE, SHIFT), ("run", "examples/debarker-too-long.table", SHIFT),
+                  ("report", TABLE, RECORDING), ("report", "--json", TABLE, RECORDING), ("report", "--help"),
                   ("sheet", TABLE, SHEET), ("sheet", "--short", TABLE, SHEET), ("sheet", "--help"),
                   ("table", "to-text", TABLE), ("table", "to-image", "examples/debarker.txt"), ("script", "to-bytes", SHIFT), ("help",), ("--version",),
                   ("check", "--help"), ("run", "--help"), ("table", "--help"), ("script", "--help"), ("test", "--help"), ("bench-example", "--help")):
@@ -198,13 +204,13 @@ def outputs():
     same((status, shown), (2, ["bench: the output cannot be written", ""]), "./soad bench-example on a full disk")
     for what in ("table bytes <examples/debarker.txt", "table forms"):
         plain(shell(f"text/convert {what} >/dev/full"), f"text/convert {what} on a full disk")
-    for words in (("check", TABLE), ("run", TABLE, SHIFT), ("sheet", TABLE, SHEET)):
+    for words in (("check", TABLE), ("run", TABLE, SHIFT), ("report", TABLE, RECORDING), ("sheet", TABLE, SHEET)):
         plain(soad(*words, TMPDIR=os.path.join(FOLDER, "missing")), f"./soad {words} without a folder for what is between")
 
 
 def reader_gone():
     """A reader that has seen enough: no line, and no status above 2."""
-    for words in (("check", TABLE), ("run", TABLE, SHIFT), ("sheet", TABLE, SHEET), ("help",), ("table", "to-text", TABLE)):
+    for words in (("check", TABLE), ("run", TABLE, SHIFT), ("report", TABLE, RECORDING), ("sheet", TABLE, SHEET), ("help",), ("table", "to-text", TABLE)):
         got = shell('{ sleep 0.1; ./soad "$@"; echo "status $?" >&2; } | :', *words)
         true(got[2] in ("status 0\n", "status 2\n"), f"./soad {words} to a reader that is gone: {got}")
 
@@ -220,11 +226,11 @@ def read_only():
     """What is built runs; what is not built says so in one line."""
     shell("chmod -R a-w .")
     true(locked("touch here")[0] != 0, "a clone that cannot be written")
-    for words in (("check", TABLE), ("run", TABLE, SHIFT), ("sheet", TABLE, SHEET), ("table", "to-text", TABLE)):
+    for words in (("check", TABLE), ("run", TABLE, SHIFT), ("report", TABLE, RECORDING), ("sheet", TABLE, SHEET), ("table", "to-text", TABLE)):
         got = locked('./soad "$@"', *words)
         same((got[0], got[2]), (0, ""), f"./soad {words} in a checkout that cannot be written")
     shell("chmod -R u+w . && rm -rf target && chmod -R a-w .")
-    for words in (("check", TABLE), ("run", TABLE, SHIFT), ("sheet", TABLE, SHEET), BENCH):
+    for words in (("check", TABLE), ("run", TABLE, SHIFT), ("report", TABLE, RECORDING), ("sheet", TABLE, SHEET), BENCH):
         plain(locked('./soad "$@"', *words), f"./soad {words} where nothing is built and nothing can be written")
     shell("chmod -R u+w .")
 

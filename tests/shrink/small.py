@@ -26,6 +26,8 @@ FAULTS = [
     ("silences", 2, 60, "run", "DatagramClearsMark", {"entries": 3, "table rows": 2}),
     ("recordings", 2, 100, "replay", "SignedDistance", {"entries": 2, "table rows": 4}),
     ("recordings", 2, 100, "replay", "StartsUnfit", {"entries": 3, "table rows": 3}),
+    ("tallies", 2, 40, "tally", "SumWraps", {"parts": 3, "entries": 20}),
+    ("tallies", 2, 40, "tally", "TransferAtStart", {"parts": 1, "entries": 12}),
     ("takes", 2, 100, "takes", "SwitchAtTheEnd", {"segments": 2, "bytes": 150}),
     ("takes", 2, 100, "takes", "PieceAsPdu", {"segments": 1, "bytes": 95}),
     ("table", 2, 1000, "driver", "SendSizeSeven", {"bytes": 54}),
@@ -49,7 +51,7 @@ def sizes(printed):
     """Calls, the most calls there may be, and what the case has, each by its name."""
     found = re.search(r"^  smallest found in (\d+) calls? of the program \(at most (\d+)\): (.*)$", printed, re.M)
     counts = [part.split(" ", 1) for part in found[3].split(", ")]
-    plural = {"entry": "entries", "table row": "table rows", "segment": "segments"}
+    plural = {"entry": "entries", "table row": "table rows", "segment": "segments", "part": "parts"}
     return int(found[1]), int(found[2]), {plural.get(name, name): int(count) for count, name in counts}
 
 

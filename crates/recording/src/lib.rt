@@ -217,7 +217,8 @@ fn other_needs(kind: usize) -> usize
     14
 }
 
-fn take_needs(s: &[u8]) -> usize
+// The bytes that a take has in an answer.
+pub fn take_needs(s: &[u8]) -> usize
     ensures { λ r. ⌜ r ≡ Of.takeNeeds (now (s .entry)) ⌝ }
 {
     let kind = be8(s, 4);

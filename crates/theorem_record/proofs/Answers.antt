@@ -218,7 +218,7 @@ module _ (l : List ℕ) where
   unfolding takeFits takeNeeds pduNeeds
   held-needs n e mark long = (rw (e, mark) refl, rw (e, mark, long) refl)
 
-abbrev TakeStands : List ℕ → List ℕ → Type 0
+abbrev pub TakeStands : List ℕ → List ℕ → Type 0
 TakeStands t rest = (takeFits (t ++ rest) ≡ true) × (takeNeeds (t ++ rest) ≡ length t)
 
 stands-by : (t rest : List ℕ) (n : ℕ) → (takeFits (t ++ rest) ≡ true) × (takeNeeds (t ++ rest) ≡ n) → length t ≡ n → TakeStands t rest
@@ -230,7 +230,7 @@ unfolding otherNeeds
 piece-needs true l e = other-needs l 5 18 e refl refl refl
 piece-needs false l e = other-needs l 4 18 e refl refl refl
 
-take-stands : (begins read : ℕ) (o : Outcome) (payload rest : List ℕ) → TakeFits begins o payload → TakeStands (takeBytes begins read o payload) rest
+pub take-stands : (begins read : ℕ) (o : Outcome) (payload rest : List ℕ) → TakeFits begins o payload → TakeStands (takeBytes begins read o payload) rest
 unfolding otherNeeds
 take-stands begins read Found.More payload rest h =
     stands-by (foundBytes read 0 0 0 0) rest 14 (other-needs _ 0 14 (kind-at read 0 0 0 0 rest refl (omega arith)) refl refl refl) (length-found read 0 0 0 0)

@@ -1,5 +1,6 @@
 // The tale of a replay, entry by entry, and its lines (docs/RECORDING.md, "What a replay prints"; the patterns are those of crate words, over a
 // contents row: stamp 4, event number 2, zero 2, body length 4; or over the whole contents: edition 2, entries 2). Proved to be safe and to return; the words are tried by stored output.
+ghost use Prim.Native.Nat.{_≤_};
 use recording::Fault;
 use recording::Front;
 use recording::answer_in;
@@ -88,19 +89,28 @@ fn entry(text: &mut [u8], n: u64, row: &[u8], ticks: u32, body: &[u8], today: &[
     answered(text, colon, number, today, arguments)
 }
 
-// The next entry was run (4,000 distances do not pass 64 bits).
-pub fn ran(text: &mut [u8], tale: Tale, row: &[u8], body: &[u8], today: &[u8]) -> Tale {
-    let stamp = stamp_in(row);
-    let ticks = distance(stamp_before(tale.run, tale.before, row), stamp);
-    let n = std::num::wrapping_add_u64(tale.run, 1);
-    let end = entry(text, n, row, ticks, body, today);
+// The ticks before the next entry.
+fn ticks_to(tale: Tale, row: &[u8]) -> u32 {
+    distance(stamp_before(tale.run, tale.before, row), stamp_in(row))
+}
+
+// The next entry was run, and its line is not told (4,000 distances do not pass 64 bits).
+pub fn passed(tale: Tale, row: &[u8]) -> Tale {
+    let ticks = ticks_to(tale, row) as u64;
     Tale {
-        before: stamp,
-        run: n,
-        ticks: std::num::wrapping_add_u64(tale.ticks, ticks as u64),
-        end: end,
+        before: stamp_in(row),
+        run: std::num::wrapping_add_u64(tale.run, 1),
+        ticks: std::num::wrapping_add_u64(tale.ticks, ticks),
+        end: 0,
         ..tale
     }
+}
+
+// The next entry was run.
+pub fn ran(text: &mut [u8], tale: Tale, row: &[u8], body: &[u8], today: &[u8]) -> Tale {
+    let next = passed(tale, row);
+    let end = entry(text, next.run, row, ticks_to(tale, row), body, today);
+    Tale { end: end, ..next }
 }
 
 // The next entry differs: where it is the first, it is kept.
@@ -299,7 +309,9 @@ pub fn summary(
     counts(text, last, contents, shown, tale)
 }
 
-fn last_number(last: Last) -> usize {
+fn last_number(last: Last) -> usize
+    ensures { λ r. ⌜ r ≤ 3 ⌝ }
+{
     match last {
         Last::GoesOn => 0,
         Last::Cut(_) => 3,
@@ -307,7 +319,9 @@ fn last_number(last: Last) -> usize {
     }
 }
 
-fn ending_number(shown: Front, last: Last) -> usize {
+fn ending_number(shown: Front, last: Last) -> usize
+    ensures { λ r. ⌜ r ≤ 3 ⌝ }
+{
     match shown {
         Front::Sized => last_number(last),
         Front::Contents => 3,
@@ -317,11 +331,21 @@ fn ending_number(shown: Front, last: Last) -> usize {
     }
 }
 
+// The number of the last word: 0 the same, 1 a difference, 2 a refusal, 3 a cut.
+pub fn word_number(shown: Front, tale: Tale) -> usize
+    ensures { λ r. ⌜ r ≤ 3 ⌝ }
+{
+    let last = tale.last;
+    let ending = ending_number(shown, last);
+    if tale.first == 0 {
+        return ending;
+    }
+    1
+}
+
 // The last word.
 pub fn word(text: &mut [u8], at: usize, shown: Front, tale: Tale) -> usize {
     let words = b"SAME\n/DIFFERS\n/REFUSED\n/CUT\n/";
-    let last = tale.last;
-    let ending = ending_number(shown, last);
-    let number = if tale.first == 0 { ending } else { 1 };
+    let number = word_number(shown, tale);
     lay(text, at, phrase(words, number), 0, b"", b"")
 }

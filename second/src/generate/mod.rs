@@ -10,3 +10,4 @@ pub mod sheet;
 pub mod silence;
 pub mod state;
 pub mod table;
+pub mod tally;

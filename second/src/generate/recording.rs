@@ -149,6 +149,29 @@ pub fn recording(random: &mut Random, events: usize) -> Vec<u8> {
     draft.input()
 }
 
+/// A recording of some events under a table, without the image; whole, or damaged in one way or two. In half of them both counts are cleared at the end.
+pub fn under(random: &mut Random, table: &Table, events: usize, transfers: bool) -> Vec<u8> {
+    let mut events: Vec<Event> = answered(random, table, events, transfers).into_iter().map(|(event, _)| event).collect();
+    if random.one_in(2) {
+        events.extend([Event::ReadAndClear(1), Event::ReadAndClear(2)]);
+    }
+    let mut draft = Draft::of(table, first_stamp(random), &run_all(table, events));
+    let damages = *random.pick(&[0, 0, 0, 1, 1, 2]);
+    (0..damages).for_each(|_| damage(random, &mut draft));
+    // an answer that hands out or drops something
+    let received: Vec<usize> = (0..draft.entries.len()).filter(|&which| matches!(draft.entries[which].number, 7 | 8)).collect();
+    if random.one_in(3) && !received.is_empty() {
+        let which = *random.pick(&received);
+        change_answer(random, &mut draft.entries[which]);
+    }
+    draft.input().split_off(draft.image.len())
+}
+
+/// The small recording and that of transfers, each with its table's image; neither is damaged.
+pub fn examples() -> [(Vec<u8>, Vec<u8>); 2] {
+    [small(), transferred()].map(|draft| (draft.image.clone(), draft.input().split_off(draft.image.len())))
+}
+
 /// Events run one by one under a table, with their answers.
 fn run_all(table: &Table, events: Vec<Event>) -> Vec<(Event, Answer)> {
     let mut world = World::new(&table.image());

@@ -6,6 +6,7 @@ pub mod recording;
 pub mod request;
 pub mod script;
 pub mod takes;
+pub mod tally;
 
 use crate::bytes::{number, spell};
 use crate::header::HEADER;
