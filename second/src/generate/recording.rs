@@ -151,7 +151,8 @@ pub fn recording(random: &mut Random, events: usize) -> Vec<u8> {
 
 /// A recording of some events under a table, without the image; whole, or damaged in one way or two. In half of them both counts are cleared at the end.
 pub fn under(random: &mut Random, table: &Table, events: usize, transfers: bool) -> Vec<u8> {
-    let mut events: Vec<Event> = answered(random, table, events, transfers).into_iter().map(|(event, _)| event).collect();
+    let kind = if transfers { Events::Transfers } else { Events::Any };
+    let mut events: Vec<Event> = answered(random, table, events, kind).into_iter().map(|(event, _)| event).collect();
     if random.one_in(2) {
         events.extend([Event::ReadAndClear(1), Event::ReadAndClear(2)]);
     }
