@@ -29,8 +29,8 @@ use wire::be16;
 
 // Whether the call did what it names, and the state for the next.
 pub struct Turn {
-    pub done: bool,
     pub state: State,
+    pub done: bool,
 }
 
 fn gate_alone(image: &[u8], state: State, rx: &[u8], tx: &[u8]) -> Turn {

@@ -34,12 +34,12 @@ pub struct Connection {
     pub mode: Mode,
     pub open_wanted: bool,
     pub close_wanted: bool,
+    pub due: bool,
     pub remote: Remote,
     pub switches: u32,
     pub part: Part,
     pub used: u16,
     pub timer: u16,
-    pub due: bool,
     pub watch: Watch,
 }
 

@@ -349,10 +349,10 @@ fn take_once(
 
 // Takes until all is read: the answer of the last, how many, the place after their bytes, and the state afterwards. All their bytes fit.
 struct Takes {
+    state: State,
     answer: Answer,
     count: usize,
     place: usize,
-    state: State,
 }
 
 // One gate for all of them: past it, the takes turn over the connection's part and the drop count alone, and the state is put together at

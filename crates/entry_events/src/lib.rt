@@ -20,14 +20,14 @@ use table_layout::rows_of;
 
 // What an event answers, and the state after it.
 pub struct Told {
-    pub answer: Answer,
     pub state: State,
+    pub answer: Answer,
 }
 
 // What a loss answers, the state after it, and whether it ended a transfer.
 pub struct Loss {
-    pub answer: Answer,
     pub state: State,
+    pub answer: Answer,
     pub failed: bool,
 }
 
@@ -39,36 +39,12 @@ pub enum CountAnswer {
 
 // The answer, with the state after it.
 pub struct Counted {
-    pub answer: CountAnswer,
     pub state: State,
+    pub answer: CountAnswer,
 }
 
-// Past the gate: the event's own 2 and 3, or the record replaced.
-fn change(image: &[u8], state: State, n: usize, event: Event) -> Told
-    requires { ⌜ n < 16 ⌝ }
-    ensures { λ r. ⌜ r ≡ changeOf (now (image .entry)) state n event ⌝ }
-{
-    let connection = state.connections[n];
-    let stepped = connection.step(config_of(image, n), event);
-    let answer = stepped.answer;
-    match answer {
-        Answer::Refused(reason) => Told {
-            answer: Answer::Refused(reason),
-            state: state,
-        },
-        Answer::Done => {
-            let next = stepped.connection;
-            let mut after = state;
-            after.connections[n] = next;
-            Told {
-                answer: Answer::Done,
-                state: after,
-            }
-        }
-    }
-}
-
-// Any connection event that concerns the record alone.
+// Any connection event that concerns the record alone: past the gate the event's own 2 and 3, or the record replaced. The state is taken
+// apart once, into the copy that the gate is lent and the record is replaced in.
 pub fn happen(
     image: &[u8],
     state: State,
@@ -80,13 +56,41 @@ pub fn happen(
     ensures { λ r. ⌜ r ≡ eventOf (lentBy (now (image .entry)) state (now (rx .entry)) (now (tx .entry))) connection event ⌝ }
 {
     let n = connection as usize;
-    let asked = gate::ask_at(image, state, rx.len(), tx.len(), n);
+    let records = state.connections;
+    let mut after = State {
+        connections: records,
+        udp_drops: state.udp_drops,
+        tcp_drops: state.tcp_drops,
+    };
+    let asked = gate::ask_at(image, after, rx.len(), tx.len(), n);
     match asked {
-        Gate::Refused(reason) => Told {
-            answer: Answer::Refused(reason),
-            state: state,
-        },
-        Gate::Pass => change(image, state, n, event),
+        Gate::Refused(reason) => {
+            return Told {
+                state: after,
+                answer: Answer::Refused(reason),
+            };
+        }
+        Gate::Pass => {
+            let before = after.connections[n];
+            let stepped = before.step(config_of(image, n), event);
+            let answer = stepped.answer;
+            match answer {
+                Answer::Refused(reason) => {
+                    return Told {
+                        state: after,
+                        answer: Answer::Refused(reason),
+                    };
+                }
+                Answer::Done => {
+                    let next = stepped.connection;
+                    after.connections[n] = next;
+                    return Told {
+                        state: after,
+                        answer: Answer::Done,
+                    };
+                }
+            }
+        }
     }
 }
 
@@ -176,19 +180,18 @@ pub fn switch(
 }
 
 // Past the gate: one switch of every connection that the table has.
-fn switch_rows(rows: usize, state: State, number: u8, on: bool) -> State
+fn switch_rows(rows: usize, mut state: State, number: u8, on: bool) -> State
     requires { ⌜ rows ≤ 16 ⌝ }
     ensures { λ r. ⌜ r ≡ switchedAll rows number on state ⌝ }
 {
-    let mut after = state;
     let mut i: usize = 0;
     while i < rows {
-        let connection = after.connections[i];
+        let connection = state.connections[i];
         let next = connection.switch(number, on);
-        after.connections[i] = next;
+        state.connections[i] = next;
         i += 1;
     }
-    after
+    state
 }
 
 pub fn switch_all(image: &[u8], state: State, rx: &[u8], tx: &[u8], number: u8, on: bool) -> Told

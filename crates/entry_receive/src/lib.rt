@@ -33,18 +33,18 @@ pub enum Answer {
 
 // The answer of a take, the bytes read of the segment, what was found there, and the state afterwards.
 pub struct SegmentTaken {
+    pub state: State,
     pub answer: Answer,
     pub read: usize,
     pub outcome: Outcome,
-    pub state: State,
 }
 
 // The answer of a walk, what stands at the place, the next place, and the state afterwards.
 pub struct DatagramWalked {
+    pub state: State,
     pub answer: Answer,
     pub outcome: receive_datagram::Outcome,
     pub next: usize,
-    pub state: State,
 }
 
 fn is_done(answer: Answer) -> bool
@@ -72,15 +72,21 @@ fn judge(allowed: bool, c: Connection) -> Answer
     Answer::NotReceiving
 }
 
-// The gate (11, 12, 2), then 3, then 4.
+// The gate (11, 12, 2), then 3, then 4. The state is taken apart once, into the copy that the gate is lent and the record is read from.
 fn answer_at(image: &[u8], state: State, rx: usize, tx: usize, n: usize, allowed: bool) -> Answer
     ensures { λ r. ⌜ r ≡ Is.judgedAnswer (lent (now (image .entry)) state rx tx) n allowed ⌝ }
 {
-    let asked = ask_at(image, state, rx, tx, n);
+    let records = state.connections;
+    let given = State {
+        connections: records,
+        udp_drops: state.udp_drops,
+        tcp_drops: state.tcp_drops,
+    };
+    let asked = ask_at(image, given, rx, tx, n);
     match asked {
         Gate::Refused(reason) => Answer::Refused(reason),
         Gate::Pass => {
-            let c = state.connections[n];
+            let c = given.connections[n];
             judge(allowed, c)
         }
     }

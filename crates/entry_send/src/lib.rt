@@ -11,8 +11,8 @@ use state::State;
 
 // What a take is answered, with the state after it.
 pub struct Taken {
-    pub answer: Taking,
     pub state: State,
+    pub answer: Taking,
 }
 
 // A payload for all switched-on destinations of a PDU, or for none.
@@ -37,7 +37,8 @@ pub fn transmit(
     }
 }
 
-// The waiting bytes of a connection to the front of an out buffer.
+// The waiting bytes of a connection to the front of an out buffer. The state is taken apart once, into the copy that the gate is lent and
+// the record is replaced in.
 pub fn take_waiting(
     image: &[u8],
     state: State,
@@ -50,25 +51,32 @@ pub fn take_waiting(
     ensures { λ _. ⌜ now (out .exit) ≡ takenOut (loan (now (image .entry)) state (now (rx .entry)) (now (tx .entry))) connection (now (out .entry)) ⌝ }
 {
     let n = connection as usize;
-    let asked = gate::ask_at(image, state, rx.len(), tx.len(), n);
+    let records = state.connections;
+    let mut after = State {
+        connections: records,
+        udp_drops: state.udp_drops,
+        tcp_drops: state.tcp_drops,
+    };
+    let asked = gate::ask_at(image, after, rx.len(), tx.len(), n);
     match asked {
-        Gate::Refused(reason) => Taken {
-            answer: Taking::Refused(reason),
-            state: state,
-        },
+        Gate::Refused(reason) => {
+            return Taken {
+                state: after,
+                answer: Taking::Refused(reason),
+            };
+        }
         Gate::Pass => {
-            let c = state.connections[n];
+            let c = after.connections[n];
             let config = state::config_of(image, n);
             let waiting = send_waiting::waiting_of(tx, connection, c.used);
             let drained = send_waiting::take(c, config, waiting, out);
             let answer = drained.answer;
             let next = drained.connection;
-            let mut after = state;
             after.connections[n] = next;
-            Taken {
-                answer: answer,
+            return Taken {
                 state: after,
-            }
+                answer: answer,
+            };
         }
     }
 }

@@ -21,8 +21,8 @@ use table_layout::rows_of;
 
 // What a tick answers, the state after it, and whose transfers it ended: bit k, worth 2 to the k, for connection k.
 pub struct Ticked {
-    pub answer: Answer,
     pub state: State,
+    pub answer: Answer,
     pub failed: u16,
 }
 

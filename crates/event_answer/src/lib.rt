@@ -24,8 +24,8 @@ pub enum Verdict {
 
 // The verdict, with the state after it.
 pub struct Dispatched {
-    pub verdict: Verdict,
     pub state: State,
+    pub verdict: Verdict,
 }
 
 // A number in four bytes.

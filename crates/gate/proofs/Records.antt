@@ -13,13 +13,15 @@ use Rattle.connection.specs.Connection.{zeroRecord}
 use Rattle.connection.specs.Sound.{soundOf, zeroOf, Sound}
 use Rattle.connection.proofs.Rules.{sound-from, sound-to, zero-is, zero-zero}
 use Rattle.lists.proofs.Both.{and-left, and-right, and-both, impossible}
-use Rattle.lists.proofs.Each.{all-at, all-set}
+use Rattle.lists.proofs.Each.{all-at, all-set, all-turn, all-all}
 use Rattle.table_rows.specs.Rows.{connectionRow}
 use Rattle.table_rows.specs.Rules.{sizeIn}
+use Rattle.state.specs.declared.State.{State}
 use Rattle.state.specs.Fresh.{configIn, configOf}
-use Rattle.lists.specs.Each.{allFrom}
+use Rattle.lists.specs.Each.{allFrom, allTo}
 use Rattle.gate.specs.Sound.{routed, soundAt, recordsSound}
-use Rattle.gate.specs.Inner.{rulesIn, soundIn}
+use Rattle.gate.specs.Inner.{rulesIn, soundIn, idle, idleSound}
+use Rattle.gate.proofs.Idle.{idle-sound}
 
 module _ (image : List ℕ) (n : ℕ) (c : Connection) where
   -- the record of a row
@@ -76,8 +78,22 @@ pub rules-enough : (connections groups : List ℕ) (n : ℕ) (c : Connection) �
 unfolding soundOf
 rules-enough connections groups n c = refl
 
+-- the size that a row says
+pub size-is : (connections groups : List ℕ) (n : ℕ) → sizeIn 16 connections n ≡ configIn connections groups n .size
+unfolding sizeIn connectionRow
+size-is connections groups n = refl
+
+-- a record past the rows, and that of a row where it is idle
+pub past-in : (rows : ℕ) (connections groups routes : List ℕ) (n : ℕ) (c : Connection) → rows ≤ n → zeroOf c ≡ soundIn rows connections groups routes n c
+past-in rows connections groups routes n c h = rw (le-ltb _ _ h) refl
+
+pub idle-in : (rows : ℕ) (connections groups routes : List ℕ) (n : ℕ) (c : Connection) → n < rows → idle c ≡ true
+    → idleSound (sizeIn 16 connections n) c ≡ soundIn rows connections groups routes n c
+idle-in rows connections groups routes n c h p =
+    rw (lt-ltb _ _ h) (ap (λ (k : ℕ). idleSound k c) (size-is connections groups n) ∙ sym (idle-sound (configIn connections groups n) routes n c p))
+
 -- one element does not meet its test
-pub all-not : {A : Type 0} (f : ℕ → A → Bool) (i : ℕ) (xs : List A) (d : A) → i < length xs → f i (getD xs i d) ≡ false → false ≡ allFrom f 0 xs
+all-not : {A : Type 0} (f : ℕ → A → Bool) (i : ℕ) (xs : List A) (d : A) → i < length xs → f i (getD xs i d) ≡ false → false ≡ allFrom f 0 xs
 all-not f i xs d h p = go (allFrom f 0 xs) refl
   where
     go : (b : Bool) → allFrom f 0 xs ≡ b → false ≡ allFrom f 0 xs
@@ -86,7 +102,25 @@ all-not f i xs d h p = go (allFrom f 0 xs) refl
         let z : 0 + i ≡ i = omega arith in
         impossible (sym p ∙ (rw z at (all-at f 0 i xs d q h)))
 
--- the size that a row says
-pub size-is : (connections groups : List ℕ) (n : ℕ) → sizeIn 16 connections n ≡ configIn connections groups n .size
-unfolding sizeIn connectionRow
-size-is connections groups n = refl
+-- what the loops over the records hold: those below i are sound
+module _ (rows : ℕ) (connections groups routes : List ℕ) (s : State) where
+  abbrev test : ℕ → Connection → Bool
+  test = soundIn rows connections groups routes
+
+  abbrev pub SoundTo : ℕ → Type 0
+  SoundTo i = (i ≤ 16) × (length (s .connections) ≡ 16) × (allTo test 0 i (s .connections) ≡ true)
+
+  pub sound-turn : (i : ℕ) → SoundTo i → i < 16 → true ≡ test i (getD (s .connections) i zeroRecord) → SoundTo (i + 1)
+  sound-turn i p h t =
+      let l : i < length (s .connections) = omega (arith, p .1) in
+      (omega arith, p .1, sym (all-turn test (s .connections) zeroRecord _ true _ _ l (sym (p .2)) t))
+
+  pub sound-not : (i : ℕ) → SoundTo i → i < 16 → test i (getD (s .connections) i zeroRecord) ≡ false → false ≡ allFrom test 0 (s .connections)
+  sound-not i p h t =
+      let l : i < length (s .connections) = omega (arith, p .1) in
+      all-not test i (s .connections) zeroRecord l t
+
+  pub sound-all : (i : ℕ) → SoundTo i → 16 ≤ i → true ≡ allFrom test 0 (s .connections)
+  sound-all i p h =
+      let e : i ≡ length (s .connections) = omega (arith, p .0, p .1) in
+      sym (p .2) ∙ ap (λ (k : ℕ). allTo test 0 k (s .connections)) e ∙ all-all test 0 (s .connections)

@@ -1,7 +1,9 @@
 // What is asked before any event: 11 for lent memory of another length, 12 for a table or state that is not sound, and 2 for
 // a connection that is not there. Every function is total.
 ghost use mathlib.Core.Path.{_≡_};
-ghost use Rattle.lists.specs.Each.{allFrom};
+ghost use mathlib.Core.Bool.{true};
+ghost use Prim.Native.Nat.{_≤_};
+ghost use Rattle.lists.specs.Each.{allFrom, allTo};
 ghost use Rattle.connection.specs.Sound.{onlineRemote};
 ghost use Rattle.gate.specs.Sound.{routed, recordsSound};
 ghost use Rattle.gate.specs.Inner.{rulesFrom, rulesIn, soundIn, idle, idleSound};
@@ -141,14 +143,48 @@ fn is_sound(
     connection.sound(rules) & has_route
 }
 
-// Each record of a state, up to the first that is not sound.
+// From record `from` on each record of a state, up to the first that is not sound; those before it are.
+fn rest_sound(
+    rows: usize,
+    connections: &[u8],
+    groups: &[u8],
+    routes: &[u8],
+    from: usize,
+    state: State,
+) -> bool
+    requires { ⌜ (from ≤ 16) × (allTo (soundIn rows (now connections) (now groups) (now routes)) 0 from (state .connections) ≡ true) ⌝ }
+    ensures { λ r. ⌜ r ≡ allFrom (soundIn rows (now (connections .entry)) (now (groups .entry)) (now (routes .entry))) 0 (state .connections) ⌝ }
+{
+    let mut i: usize = from;
+    while i < 16 {
+        let connection = state.connections[i];
+        if !is_sound(rows, connections, groups, routes, i, connection) {
+            return false;
+        }
+        i += 1;
+    }
+    true
+}
+
+// Each record of a state, up to the first that is not sound. Most are idle, and the loop is theirs; from the first that is not, another goes on.
 fn each_sound(rows: usize, connections: &[u8], groups: &[u8], routes: &[u8], state: State) -> bool
     ensures { λ r. ⌜ r ≡ allFrom (soundIn rows (now (connections .entry)) (now (groups .entry)) (now (routes .entry))) 0 (state .connections) ⌝ }
 {
     let mut i: usize = 0;
     while i < 16 {
+        if rows <= i {
+            let past = state.connections[i];
+            if !past.is_zero() {
+                return false;
+            }
+            i += 1;
+            continue;
+        }
         let connection = state.connections[i];
-        if !is_sound(rows, connections, groups, routes, i, connection) {
+        if !is_idle(connection) {
+            return rest_sound(rows, connections, groups, routes, i, state);
+        }
+        if !is_idle_sound(connections, i, connection) {
             return false;
         }
         i += 1;

@@ -28,8 +28,8 @@ pub enum Played {
 }
 
 pub struct Step {
-    pub played: Played,
     pub state: State,
+    pub played: Played,
 }
 
 pub fn same_bytes(a: &[u8], b: &[u8]) -> bool

@@ -25,8 +25,8 @@ pub enum Arrival {
 
 // The answer, with the state after it.
 pub struct Arrived {
-    pub answer: Arrival,
     pub state: State,
+    pub answer: Arrival,
 }
 
 fn one(b: bool) -> u8

@@ -30,8 +30,8 @@ pub enum Transmission {
 
 // The answer, with the state after it.
 pub struct Transmitted {
-    pub answer: Transmission,
     pub state: State,
+    pub answer: Transmission,
 }
 
 // One row more that does not refuse: 5 so far, then 6, then 0.

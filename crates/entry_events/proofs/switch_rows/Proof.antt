@@ -13,13 +13,13 @@ use Rattle.entry_events.proofs.switch_rows.Statement.{statement}
 use Rattle.entry_events.proofs.switch_rows.Tie as tie
 
 abbrev Inv-loop : tie.InvT-loop
-Inv-loop rows number on after₀ i₀ after i = (i ≤ rows) × (rows ≤ 16) × (length (after₀ .connections) ≡ 16) × Upto (switchAt number on) after₀ after i
+Inv-loop rows number on state₀ i₀ state i = (i ≤ rows) × (rows ≤ 16) × (length (state₀ .connections) ≡ 16) × Upto (switchAt number on) state₀ state i
 
 abbrev μ-loop : tie.MeasureT-loop
-μ-loop rows number on after₀ i₀ after i = rows - i
+μ-loop rows number on state₀ i₀ state i = rows - i
 
 loop-holds : tie.Need-loop-holds Inv-loop μ-loop
-loop-holds c = (search needs, search needs, long _ (c .args .state .connections) (c .good .1 .0 .1 .1 .0 .1 .0 .1), refl)
+loop-holds c = (search needs, search needs, long _ (c .args .t2 .connections) (c .good .1 .0 .1 .1 .0 .1 .0 .1), refl)
 
 mul-connection : tie.Need-mul-connection Inv-loop μ-loop
 mul-connection c = search needs
@@ -46,9 +46,9 @@ loop-again : tie.Need-loop-again Inv-loop μ-loop
 loop-again c =
     let b = c .before .before .before in
     let a = b .before .args in
-    let h : b .loop .i < length (a .state .connections) = omega arith in
-    let d = c .switch .ensures ∙ ap (switchedOf (a .number) (a .on)) (still (switchAt (a .number) (a .on)) (a .state) _ _ (b .loop .inv .3)) in
-    (omega arith, b .loop .inv .1, b .loop .inv .2, turn (switchAt (a .number) (a .on)) (a .state) _ _ _ h (b .loop .inv .3) d)
+    let h : b .loop .i < length (a .t2 .connections) = omega arith in
+    let d = c .switch .ensures ∙ ap (switchedOf (a .number) (a .on)) (still (switchAt (a .number) (a .on)) (a .t2) _ _ (b .loop .inv .3)) in
+    (omega arith, b .loop .inv .1, b .loop .inv .2, turn (switchAt (a .number) (a .on)) (a .t2) _ _ _ h (b .loop .inv .3) d)
 
 returns : tie.Need-returns Inv-loop μ-loop
 unfolding switchedAll

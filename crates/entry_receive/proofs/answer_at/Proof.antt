@@ -21,12 +21,12 @@ enum-told : tie.Need-enum-told
 enum-told c = search needs
 
 -- the number is one of the sixteen
-small : (c : tie.After-enum-told) → c .before .before .before .before .args .n < 16
+small : (c : tie.After-enum-told) → c .before .before .before .before .before .args .n < 16
 small c =
     let g = c .before .before in
-    let a = g .before .before .args in
-    let p : Passed (lent (a .image .now) (a .t2) (a .rx) (a .tx)) × (a .n < rowsOf (a .image .now) Connections) =
-    asked-there (lent (a .image .now) (a .t2) (a .rx) (a .tx)) (a .n) (a .allowed) (g .ask-at .result) (g .ask-at .ensures) (c .enum-told .given .1) in
+    let a = g .before .before .before .args in
+    let p : Passed (lent (a .image .now) (a .state) (a .rx) (a .tx)) × (a .n < rowsOf (a .image .now) Connections) =
+    asked-there (lent (a .image .now) (a .state) (a .rx) (a .tx)) (a .n) (a .allowed) (g .ask-at .result) (g .ask-at .ensures) (c .enum-told .given .1) in
     below-sixteen (a .image .now) (p .0 .table) (a .n) (p .1)
 
 mul-c : tie.Need-mul-c

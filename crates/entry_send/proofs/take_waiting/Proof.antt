@@ -23,7 +23,7 @@ enum-told : tie.Need-enum-told
 enum-told c = search needs
 
 -- the number is one of the sixteen
-small : (c : tie.After-enum-told) → c .before .before .before .before .before .before .before .args .connection < 16
+small : (c : tie.After-enum-told) → c .before .before .before .before .before .before .before .before .args .connection < 16
 small c = in-sixteen _ _ (sym (c .before .before .ask-at .ensures) ∙ c .enum-told .given .1)
 
 mul-c : tie.Need-mul-c
@@ -59,10 +59,10 @@ returns-2 c =
     let t = c .before .before .before in
     let g = t .before .before .before in
     let e = g .before .before in
-    let a = e .before .before .before .before .before .before .before .args in (
-      rw (← e .before .before .ask-at .ensures, e .enum-told .given .1) (taken-is _ (a .t2) _ _ _ _ (g .config-of .ensures) (t .take .ensures .0)),
+    let a = e .before .before .before .before .before .before .before .before .args in (
+      rw (← e .before .before .ask-at .ensures, e .enum-told .given .1) (taken-is _ (a .state) _ _ _ _ (g .config-of .ensures) (t .take .ensures .0)),
       rw (← e .before .before .ask-at .ensures, e .enum-told .given .1)
-          (t .take .ensures .1 ∙ ap (λ (w : List ℕ). outOf (recordAt (a .t2) (a .connection)) w (now (a .out))) (t .before .before .waiting-of .ensures .0)),
+          (t .take .ensures .1 ∙ ap (λ (w : List ℕ). outOf (recordAt (a .state) (a .connection)) w (now (a .out))) (t .before .before .waiting-of .ensures .0)),
     )
 
 pub take-waiting-spec : {M : Type 1} → statement M
@@ -71,6 +71,7 @@ take-waiting-spec =
     (tie.spec
     ask-at-requires
     enum-known-asked
+    returns
     enum-told
     mul-c
     element-copy-out-c
@@ -79,6 +80,5 @@ take-waiting-spec =
     take-requires
     mul-next
     element-set-from-next
-    returns
     same-length
     returns-2)

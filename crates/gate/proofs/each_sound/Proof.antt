@@ -1,44 +1,41 @@
--- `gate::each_sound` meets its contract. The invariant: the records below i meet their tests.
-use Prim.Native.Nat.{ℕ, _<_, _≤_, _-_}
-use mathlib.Core.Path.{_≡_, refl, sym, ap, _∙_}
-use mathlib.Core.Bool.{true}
+-- `gate::each_sound` meets its contract. The invariant: the records below i are sound.
+use Prim.Native.Nat.{_-_}
+use mathlib.Core.Path.{sym, _∙_, refl}
 use borrow.Author.Tests.{not-true, not-false}
-use Rattle.gate.proofs.Records.{all-not}
-use lib.ListN.{length}
 use denote.Ref.{now}
-use native.Mathlib.Omega.{arith}
 use borrow.Author.Needs.{needs}
-use Rattle.connection.specs.Connection.{zeroRecord}
-use Rattle.lists.specs.Each.{allTo}
-use Rattle.lists.proofs.Each.{long, all-turn, all-all}
-use Rattle.gate.specs.Inner.{soundIn}
+use Rattle.lists.proofs.Each.{long}
+use Rattle.gate.proofs.Records.{SoundTo, sound-turn, sound-not, sound-all, past-in, idle-in}
 use Rattle.gate.proofs.each_sound.Statement.{statement}
 use Rattle.gate.proofs.each_sound.Tie as tie
 
 abbrev Inv-loop : tie.InvT-loop
-Inv-loop rows connections groups routes state i₀ i = (i ≤ 16) × (length (state .connections) ≡ 16) × (allTo (soundIn rows connections groups routes) 0 i (state .connections) ≡ true)
+Inv-loop rows connections groups routes state i₀ i = SoundTo rows connections groups routes state i
 
 abbrev μ-loop : tie.MeasureT-loop
 μ-loop rows connections groups routes state i₀ i = 16 - i
 
 loop-holds : tie.Need-loop-holds Inv-loop μ-loop
-loop-holds c = (search needs, long _ (c .before .before .before .args .t5 .connections) (c .before .before .before .good .1 .1 .1 .1 .0 .1 .1 .0 .1 .0 .1), refl)
+loop-holds c =
+    let s = c .before .before .before in
+    (search needs, long _ (s .args .t5 .connections) (s .good .1 .1 .1 .1 .0 .1 .1 .0 .1 .0 .1), refl)
 
-mul-connection : tie.Need-mul-connection Inv-loop μ-loop
-mul-connection c = search needs
+mul-past : tie.Need-mul-past Inv-loop μ-loop
+mul-past c = search needs
 
-element-copy-out-connection : tie.Need-element-copy-out-connection Inv-loop μ-loop
-element-copy-out-connection c = search needs
+element-copy-out-past : tie.Need-element-copy-out-past Inv-loop μ-loop
+element-copy-out-past c = search needs
 
-is-sound-requires : tie.Need-is-sound-requires Inv-loop μ-loop
-is-sound-requires c κs = search needs
+is-zero-requires : tie.Need-is-zero-requires Inv-loop μ-loop
+is-zero-requires c κs = search needs
 
 returns : tie.Need-returns Inv-loop μ-loop
 returns c =
-    let b = c .before .before .before .before in
+    let t = c .before .before .before in
+    let b = t .before .before in
     let a = b .before .before .before .before .args in
-    let h : b .loop .i < length (a .t5 .connections) = omega arith in
-    all-not (soundIn (a .rows) (now (a .connections)) (now (a .groups)) (now (a .routes))) (b .loop .i) (a .t5 .connections) zeroRecord h (sym (c .before .is-sound .ensures) ∙ not-true _ (c .if1 .taken))
+    sound-not (a .rows) (now (a .connections)) (now (a .groups)) (now (a .routes)) (a .t5) (b .loop .i) (b .loop .inv) (t .before .loop-test .taken)
+    (sym (past-in (a .rows) _ _ _ (b .loop .i) _ (t .if1 .taken)) ∙ sym (c .before .is-zero .ensures) ∙ not-true _ (c .if2 .taken))
 
 add-i : tie.Need-add-i Inv-loop μ-loop
 add-i c = search needs
@@ -48,18 +45,61 @@ loop-less c = search needs
 
 loop-again : tie.Need-loop-again Inv-loop μ-loop
 loop-again c =
-    let b = c .before .before .before .before in
+    let t = c .before .before .before in
+    let b = t .before .before in
     let a = b .before .before .before .before .args in
-    let h : b .loop .i < length (a .t5 .connections) = omega arith in
-    let t : true ≡ soundIn (a .rows) (now (a .connections)) (now (a .groups)) (now (a .routes)) (b .loop .i) _ = sym (not-false _ (c .if1 .left)) ∙ c .before .is-sound .ensures in
-    (omega arith, b .loop .inv .1, sym (all-turn (soundIn (a .rows) (now (a .connections)) (now (a .groups)) (now (a .routes))) (a .t5 .connections) zeroRecord _ true _ _ h (sym (b .loop .inv .2)) t))
+    sound-turn (a .rows) (now (a .connections)) (now (a .groups)) (now (a .routes)) (a .t5) (b .loop .i) (b .loop .inv) (t .before .loop-test .taken)
+    (sym (not-false _ (c .if2 .left)) ∙ c .before .is-zero .ensures ∙ past-in (a .rows) _ _ _ (b .loop .i) _ (t .if1 .taken))
+
+mul-connection : tie.Need-mul-connection Inv-loop μ-loop
+mul-connection c = search needs
+
+element-copy-out-connection : tie.Need-element-copy-out-connection Inv-loop μ-loop
+element-copy-out-connection c = search needs
+
+is-idle-requires : tie.Need-is-idle-requires Inv-loop μ-loop
+is-idle-requires c κs = search needs
+
+rest-sound-requires : tie.Need-rest-sound-requires Inv-loop μ-loop
+rest-sound-requires c κs = let b = c .before .before .before .before .before in (b .loop .inv .0, b .loop .inv .2)
 
 returns-2 : tie.Need-returns-2 Inv-loop μ-loop
-returns-2 c =
+returns-2 c = c .rest-sound .ensures
+
+is-idle-sound-requires : tie.Need-is-idle-sound-requires Inv-loop μ-loop
+is-idle-sound-requires c κs = search needs
+
+returns-3 : tie.Need-returns-3 Inv-loop μ-loop
+returns-3 c =
+    let d = c .before .before in
+    let t = d .before .before .before in
+    let b = t .before .before in
+    let a = b .before .before .before .before .args in
+    let idle = sym (d .before .is-idle .ensures) ∙ not-false _ (d .if3 .left) in
+    sound-not (a .rows) (now (a .connections)) (now (a .groups)) (now (a .routes)) (a .t5) (b .loop .i) (b .loop .inv) (t .before .loop-test .taken)
+    (sym (idle-in (a .rows) _ _ _ (b .loop .i) _ (t .if1 .left) idle) ∙ sym (c .before .is-idle-sound .ensures) ∙ not-true _ (c .if4 .taken))
+
+add-i-2 : tie.Need-add-i-2 Inv-loop μ-loop
+add-i-2 c = search needs
+
+loop-less-2 : tie.Need-loop-less-2 Inv-loop μ-loop
+loop-less-2 c = search needs
+
+loop-again-2 : tie.Need-loop-again-2 Inv-loop μ-loop
+loop-again-2 c =
+    let d = c .before .before in
+    let t = d .before .before .before in
+    let b = t .before .before in
+    let a = b .before .before .before .before .args in
+    let idle = sym (d .before .is-idle .ensures) ∙ not-false _ (d .if3 .left) in
+    sound-turn (a .rows) (now (a .connections)) (now (a .groups)) (now (a .routes)) (a .t5) (b .loop .i) (b .loop .inv) (t .before .loop-test .taken)
+    (sym (not-false _ (c .if4 .left)) ∙ c .before .is-idle-sound .ensures ∙ idle-in (a .rows) _ _ _ (b .loop .i) _ (t .if1 .left) idle)
+
+returns-4 : tie.Need-returns-4 Inv-loop μ-loop
+returns-4 c =
     let l = c .before in
     let a = l .before .before .before .before .args in
-    let e : l .loop .i ≡ length (a .t5 .connections) = omega arith in
-    sym (l .loop .inv .2) ∙ ap (λ (k : ℕ). allTo (soundIn (a .rows) (now (a .connections)) (now (a .groups)) (now (a .routes))) 0 k (a .t5 .connections)) e ∙ all-all (soundIn (a .rows) (now (a .connections)) (now (a .groups)) (now (a .routes))) 0 (a .t5 .connections)
+    sound-all (a .rows) (now (a .connections)) (now (a .groups)) (now (a .routes)) (a .t5) (l .loop .i) (l .loop .inv) (c .loop-test .left)
 
 pub each-sound-spec : {M : Type 1} → statement M
 each-sound-spec =
@@ -68,11 +108,21 @@ each-sound-spec =
     Inv-loop
     μ-loop
     loop-holds
-    mul-connection
-    element-copy-out-connection
-    is-sound-requires
+    mul-past
+    element-copy-out-past
+    is-zero-requires
     returns
     add-i
     loop-less
     loop-again
-    returns-2)
+    mul-connection
+    element-copy-out-connection
+    is-idle-requires
+    rest-sound-requires
+    returns-2
+    is-idle-sound-requires
+    returns-3
+    add-i-2
+    loop-less-2
+    loop-again-2
+    returns-4)
