@@ -1,3 +1,4 @@
 -- The theorems of the crate.
 pub mod Same
 pub mod Counted
+pub mod Exact
