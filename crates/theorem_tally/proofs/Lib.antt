@@ -2,3 +2,4 @@
 pub mod Same
 pub mod Counted
 pub mod Exact
+pub mod Segments
