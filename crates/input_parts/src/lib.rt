@@ -43,19 +43,6 @@ pub fn contents_within(contents: &mut [u8], long: usize) -> usize
     4 + read_within(contents, 4, rows as usize * 12, long - 4)
 }
 
-// The bytes that front and contents have, once so many of them are kept: those of more than 4,000 rows are not read.
-pub fn contents_named(contents: &[u8], long: usize) -> usize {
-    let entries = entries_in(contents);
-    let all = 4 + entries as usize * 12;
-    if (contents.len() < 48004) | (entries <= 4000) {
-        return contents.len();
-    }
-    if long < all {
-        return long;
-    }
-    all
-}
-
 // Some of so many bytes that are left, passed over; how many.
 fn some_passed(left: usize) -> usize
     ensures { λ r. ⌜ r ≤ left ⌝ }
@@ -64,14 +51,31 @@ fn some_passed(left: usize) -> usize
     read_within(&mut buffer, 0, 4096, left)
 }
 
-// What is left of a part is passed over.
-pub fn pass_over(left: usize) {
+// What is left of a part is passed over; how many of its bytes are not there.
+pub fn pass_over(left: usize) -> usize
+    ensures { λ r. ⌜ r ≤ left ⌝ }
+{
     let mut rest = left;
     while 0 < rest {
         let got = some_passed(rest);
         if got == 0 {
-            return;
+            return rest;
         }
         rest -= got;
     }
+    rest
+}
+
+// The bytes that front and contents have, once so many of them are kept: those of more than 4,000 rows are passed over.
+pub fn contents_named(contents: &[u8], long: usize) -> usize {
+    let entries = entries_in(contents);
+    let all = 4 + entries as usize * 12;
+    if (contents.len() < 48004) | (entries <= 4000) {
+        return contents.len();
+    }
+    let end = if long < all { long } else { all };
+    if end < 48004 {
+        return contents.len();
+    }
+    end - pass_over(end - 48004)
 }

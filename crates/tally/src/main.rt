@@ -251,7 +251,7 @@ fn replayed(
     let reach = contents_named(contents, long);
     let shown = shown_of(contents, reach);
     let number = count_of(shown, contents);
-    let left = less(long, contents.len());
+    let left = less(long, reach);
     let going = entries(table, contents, number, left, rx, tx, kept);
     pass_over(going.left);
     let tale = going.tale;

@@ -1,3 +1,5 @@
 -- The theorems of the crate.
 pub mod Same
 pub mod Counted
+pub mod Exact
+pub mod Segments

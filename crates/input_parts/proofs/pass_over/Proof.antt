@@ -1,10 +1,11 @@
 -- `input_parts::pass_over` meets its contract: each turn reads a byte at least.
+use Prim.Native.Nat.{_≤_}
 use borrow.Author.Needs.{needs}
 use Rattle.input_parts.proofs.pass_over.Statement.{statement}
 use Rattle.input_parts.proofs.pass_over.Tie as tie
 
 abbrev Inv-loop : tie.InvT-loop
-Inv-loop left rest₀ rest = Unit {0}
+Inv-loop left rest₀ rest = rest ≤ left
 
 abbrev μ-loop : tie.MeasureT-loop
 μ-loop left rest₀ rest = rest
