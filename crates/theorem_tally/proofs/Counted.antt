@@ -60,14 +60,14 @@ pub record Counts (xs : List Item) (c d : Counting) : Type 0 where
   pub sums : FullReport (c .report) → d .fits ≡ true → d .report ≡ countFrom (c .report) xs
 
 module _ (k : ℕ) (c : Counting) where
-  abbrev after : Adds → Counting
+  abbrev pub after : Adds → Counting
   after a = oneCounted k a c
 
   fits-before : (a : Adds) → after a .fits ≡ true → c .fits ≡ true
   unfolding oneCounted
   fits-before a e = and-left (c .fits) _ (and-left (c .fits && figuresFit (figuresAt (c .report) (a .route)) (a .figures)) _ e)
 
-  nothing-counts : (kept : ℕ) → Counts [] c (after (addsNothing kept))
+  pub nothing-counts : (kept : ℕ) → Counts [] c (after (addsNothing kept))
   unfolding oneCounted countFrom
   nothing-counts kept =
       record {
@@ -77,7 +77,7 @@ module _ (k : ℕ) (c : Counting) where
             (ap (set (c .report .connections) k) (no-more (dropsAt (c .report) k)) ∙ set-getD (c .report .connections) k noDrops);
       }
 
-  drop-counts : (reason kept : ℕ) → Counts (lost k reason ∷ []) c (after (addsDrop reason kept))
+  pub drop-counts : (reason kept : ℕ) → Counts (lost k reason ∷ []) c (after (addsDrop reason kept))
   unfolding oneCounted countFrom countItem plusDrops
   drop-counts reason kept =
       record {
@@ -113,7 +113,7 @@ module _ (k : ℕ) (c : Counting) where
             nothing-counts kept .sums full e ∙ sym (ap (λ (rs : List RouteFigures). made rs (c .report .connections)) (set-out (c .report .routes) route _ l));
       }
 
-  pdu-counts : (route n kept : ℕ) → Counts (got route n ∷ []) c (after (addsPdu route n kept))
+  pub pdu-counts : (route n kept : ℕ) → Counts (got route n ∷ []) c (after (addsPdu route n kept))
   unfolding addsPdu
   pdu-counts route n kept = go (ltb route 64) refl
     where
@@ -121,7 +121,7 @@ module _ (k : ℕ) (c : Counting) where
       go true e = there-counts route n kept
       go false e = past-counts route n kept (ltb-false route 64 e)
 
-pdu-kept : (route n kept : ℕ) → addsPdu route n kept .kept ≡ kept
+pub pdu-kept : (route n kept : ℕ) → addsPdu route n kept .kept ≡ kept
 unfolding addsPdu
 pdu-kept route n kept = go (ltb route 64)
   where
@@ -187,7 +187,7 @@ which-at : (first kind which id n : ℕ) (r : List ℕ) {l : List ℕ} → l ≡
 which-at first kind which id n r is h =
     number-at 1 which (spell 4 first ++ spell 1 kind) (spell 4 id ++ spell 4 n ++ r) 5 h (simp (length-append, length-spell)) (is ∙ simp append-assoc)
 
-found-adds : (first kind which id n : ℕ) (r : List ℕ) {l : List ℕ} → l ≡ foundBytes first kind which id n ++ r → kind < 256 → which < 256 → n < 256 ^ 4
+pub found-adds : (first kind which id n : ℕ) (r : List ℕ) {l : List ℕ} → l ≡ foundBytes first kind which id n ++ r → kind < 256 → which < 256 → n < 256 ^ 4
     → (kept : ℕ) → addsOf l kept ≡ addsOfKind kind which n kept
 found-adds first kind which id n r is a b c kept =
     rw (kind-at first kind which id n r is a, which-at first kind which id n r is b, length-at first kind which id n r is c)
