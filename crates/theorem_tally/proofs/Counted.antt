@@ -60,33 +60,33 @@ pub record Counts (xs : List Item) (c d : Counting) : Type 0 where
   pub sums : FullReport (c .report) → d .fits ≡ true → d .report ≡ countFrom (c .report) xs
 
 module _ (k : ℕ) (c : Counting) where
-  abbrev after : Adds → Counting
+  abbrev pub after : Adds → Counting
   after a = oneCounted k a c
 
   fits-before : (a : Adds) → after a .fits ≡ true → c .fits ≡ true
   unfolding oneCounted
   fits-before a e = and-left (c .fits) _ (and-left (c .fits && figuresFit (figuresAt (c .report) (a .route)) (a .figures)) _ e)
 
-  nothing-counts : (kept : ℕ) → Counts [] c (after (addsNothing kept))
+  pub nothing-counts : (kept : ℕ) → Counts [] c (after (addsNothing kept))
   unfolding oneCounted countFrom
   nothing-counts kept =
       record {
         before = fits-before (addsNothing kept);
         sums = λ full e.
-        ap₂ made (ap (set (c .report .routes) 0) (plus-none (figuresAt (c .report) 0)) ∙ set-getD (c .report .routes) 0 noPdus)
-        (ap (set (c .report .connections) k) (no-more (dropsAt (c .report) k)) ∙ set-getD (c .report .connections) k noDrops);
+            ap₂ made (ap (set (c .report .routes) 0) (plus-none (figuresAt (c .report) 0)) ∙ set-getD (c .report .routes) 0 noPdus)
+            (ap (set (c .report .connections) k) (no-more (dropsAt (c .report) k)) ∙ set-getD (c .report .connections) k noDrops);
       }
 
-  drop-counts : (reason kept : ℕ) → Counts (lost k reason ∷ []) c (after (addsDrop reason kept))
+  pub drop-counts : (reason kept : ℕ) → Counts (lost k reason ∷ []) c (after (addsDrop reason kept))
   unfolding oneCounted countFrom countItem plusDrops
   drop-counts reason kept =
       record {
         before = fits-before (addsDrop reason kept);
         sums = λ full e.
-        let f : dropsFit (dropsAt (c .report) k) (oneDrop reason) ≡ true =
-        and-right (c .fits && figuresFit (figuresAt (c .report) 0) noPdus) _ e in
-        ap₂ made (ap (set (c .report .routes) 0) (plus-none (figuresAt (c .report) 0)) ∙ set-getD (c .report .routes) 0 noPdus)
-        (ap (λ (b : Bool). set (c .report .connections) k (cond b (addDrops (dropsAt (c .report) k) (oneDrop reason)) (dropsAt (c .report) k))) f);
+            let f : dropsFit (dropsAt (c .report) k) (oneDrop reason) ≡ true =
+            and-right (c .fits && figuresFit (figuresAt (c .report) 0) noPdus) _ e in
+            ap₂ made (ap (set (c .report .routes) 0) (plus-none (figuresAt (c .report) 0)) ∙ set-getD (c .report .routes) 0 noPdus)
+            (ap (λ (b : Bool). set (c .report .connections) k (cond b (addDrops (dropsAt (c .report) k) (oneDrop reason)) (dropsAt (c .report) k))) f);
       }
 
   there-counts : (route n kept : ℕ) → Counts (got route n ∷ []) c (after (adding route (onePdu n) noDrops kept))
@@ -95,11 +95,11 @@ module _ (k : ℕ) (c : Counting) where
       record {
         before = fits-before (adding route (onePdu n) noDrops kept);
         sums = λ full e.
-        let f : figuresFit (figuresAt (c .report) route) (onePdu n) ≡ true =
-        and-right (c .fits) _ (and-left (c .fits && figuresFit (figuresAt (c .report) route) (onePdu n)) _ e) in
-        ap₂ made
-        (ap (λ (b : Bool). set (c .report .routes) route (cond b (addFigures (figuresAt (c .report) route) (onePdu n)) (figuresAt (c .report) route))) f)
-        (ap (set (c .report .connections) k) (no-more (dropsAt (c .report) k)) ∙ set-getD (c .report .connections) k noDrops);
+            let f : figuresFit (figuresAt (c .report) route) (onePdu n) ≡ true =
+            and-right (c .fits) _ (and-left (c .fits && figuresFit (figuresAt (c .report) route) (onePdu n)) _ e) in
+            ap₂ made
+            (ap (λ (b : Bool). set (c .report .routes) route (cond b (addFigures (figuresAt (c .report) route) (onePdu n)) (figuresAt (c .report) route))) f)
+            (ap (set (c .report .connections) k) (no-more (dropsAt (c .report) k)) ∙ set-getD (c .report .connections) k noDrops);
       }
 
   -- a route that there is not has no figures to add to
@@ -109,11 +109,11 @@ module _ (k : ℕ) (c : Counting) where
       record {
         before = fits-before (addsNothing kept);
         sums = λ full e.
-        let l : length (c .report .routes) ≤ route = omega (arith, full .routes, h) in
-        nothing-counts kept .sums full e ∙ sym (ap (λ (rs : List RouteFigures). made rs (c .report .connections)) (set-out (c .report .routes) route _ l));
+            let l : length (c .report .routes) ≤ route = omega (arith, full .routes, h) in
+            nothing-counts kept .sums full e ∙ sym (ap (λ (rs : List RouteFigures). made rs (c .report .connections)) (set-out (c .report .routes) route _ l));
       }
 
-  pdu-counts : (route n kept : ℕ) → Counts (got route n ∷ []) c (after (addsPdu route n kept))
+  pub pdu-counts : (route n kept : ℕ) → Counts (got route n ∷ []) c (after (addsPdu route n kept))
   unfolding addsPdu
   pdu-counts route n kept = go (ltb route 64) refl
     where
@@ -121,7 +121,7 @@ module _ (k : ℕ) (c : Counting) where
       go true e = there-counts route n kept
       go false e = past-counts route n kept (ltb-false route 64 e)
 
-pdu-kept : (route n kept : ℕ) → addsPdu route n kept .kept ≡ kept
+pub pdu-kept : (route n kept : ℕ) → addsPdu route n kept .kept ≡ kept
 unfolding addsPdu
 pdu-kept route n kept = go (ltb route 64)
   where
@@ -156,14 +156,12 @@ module _ (k : ℕ) (c : Counting) (seg : List ℕ) (begins : ℕ) where
   start-told : (route id n : ℕ) (last : Bool) (payload : List ℕ) → last ≡ eqb n 0 → Told (Found.Start route id n last) payload
   unfolding itemsFrom lengthKept addsStart oneCounted
   start-told route id n true payload e =
-      let z : eqb n 0 ≡ true = sym e in
-      (
+      let z : eqb n 0 ≡ true = sym e in (
         subst (λ (b : Bool). Counts (got route n ∷ []) c (oneCounted k (cond b (addsPdu route n n) (addsNothing n)) c)) e (pdu-counts k c route n n),
         ap (λ (b : Bool). cond b (addsPdu route n n) (addsNothing n) .kept) z ∙ pdu-kept route n n,
       )
   start-told route id n false payload e =
-      let z : eqb n 0 ≡ false = sym e in
-      (
+      let z : eqb n 0 ≡ false = sym e in (
         subst (λ (b : Bool). Counts [] c (oneCounted k (cond b (addsPdu route n n) (addsNothing n)) c)) e (nothing-counts k c n),
         ap (λ (b : Bool). cond b (addsPdu route n n) (addsNothing n) .kept) z,
       )
@@ -171,16 +169,14 @@ module _ (k : ℕ) (c : Counting) (seg : List ℕ) (begins : ℕ) where
   take-told : (o : Outcome) (payload : List ℕ) → Exact seg begins o payload → Told o payload
   unfolding itemsFrom lengthKept oneCounted
   take-told Found.More payload e = (nothing-counts k c (c .kept), refl)
-  take-told (Found.Pdu route id true at n) payload e =
-      (
-        subst (λ (m : ℕ). Counts (got route m ∷ []) c (oneCounted k (addsPdu route n (c .kept)) c)) (sym e) (pdu-counts k c route n (c .kept)),
-        pdu-kept route n (c .kept),
-      )
-  take-told (Found.Pdu route id false at n) payload e =
-      (
-        subst (λ (m : ℕ). Counts (got route m ∷ []) c (oneCounted k (addsPdu route n (c .kept)) c)) (sym e) (pdu-counts k c route n (c .kept)),
-        pdu-kept route n (c .kept),
-      )
+  take-told (Found.Pdu route id true at n) payload e = (
+    subst (λ (m : ℕ). Counts (got route m ∷ []) c (oneCounted k (addsPdu route n (c .kept)) c)) (sym e) (pdu-counts k c route n (c .kept)),
+    pdu-kept route n (c .kept),
+  )
+  take-told (Found.Pdu route id false at n) payload e = (
+    subst (λ (m : ℕ). Counts (got route m ∷ []) c (oneCounted k (addsPdu route n (c .kept)) c)) (sym e) (pdu-counts k c route n (c .kept)),
+    pdu-kept route n (c .kept),
+  )
   take-told (Found.Drop reason id n) payload e = (drop-counts k c reason (c .kept), refl)
   take-told (Found.Start route id n last) payload e = start-told route id n last payload e
   take-told (Found.Piece route id at n true) payload e = (pdu-counts k c route (c .kept) (c .kept), pdu-kept route (c .kept) (c .kept))
@@ -191,7 +187,7 @@ which-at : (first kind which id n : ℕ) (r : List ℕ) {l : List ℕ} → l ≡
 which-at first kind which id n r is h =
     number-at 1 which (spell 4 first ++ spell 1 kind) (spell 4 id ++ spell 4 n ++ r) 5 h (simp (length-append, length-spell)) (is ∙ simp append-assoc)
 
-found-adds : (first kind which id n : ℕ) (r : List ℕ) {l : List ℕ} → l ≡ foundBytes first kind which id n ++ r → kind < 256 → which < 256 → n < 256 ^ 4
+pub found-adds : (first kind which id n : ℕ) (r : List ℕ) {l : List ℕ} → l ≡ foundBytes first kind which id n ++ r → kind < 256 → which < 256 → n < 256 ^ 4
     → (kept : ℕ) → addsOf l kept ≡ addsOfKind kind which n kept
 found-adds first kind which id n r is a b c kept =
     rw (kind-at first kind which id n r is a, which-at first kind which id n r is b, length-at first kind which id n r is c)
@@ -228,9 +224,9 @@ counts-then xs ys c d e p q =
     record {
       before = λ h. p .before (q .before h);
       sums = λ full h.
-      let s : d .report ≡ countFrom (c .report) xs = p .sums full (q .before h) in
-      let f : FullReport (d .report) = subst FullReport (sym s) (from-full (c .report) xs full) in
-      q .sums f h ∙ ap (λ (r : Report). countFrom r ys) s ∙ sym (count-append (c .report) xs ys);
+          let s : d .report ≡ countFrom (c .report) xs = p .sums full (q .before h) in
+          let f : FullReport (d .report) = subst FullReport (sym s) (from-full (c .report) xs full) in
+          q .sums f h ∙ ap (λ (r : Report). countFrom r ys) s ∙ sym (count-append (c .report) xs ys);
     }
 
 pub items-append : (k kept : ℕ) (os ps : List Out) → itemsFrom k kept (os ++ ps) ≡ itemsFrom k kept os ++ itemsFrom k (lengthKept kept os) ps
@@ -278,11 +274,10 @@ takes-told k seg (t ∷ ts) c ((h, (x, needs)), all) =
     ap₂ (λ (l : List ℕ) (a : Adds). takesCounted k (length ts) l (oneCounted k a c))
     (drop-at b (bytesIn ts) (takeNeeds (b ++ bytesIn ts)) (sym needs)) (bytes-add (t .begins) (t .read) o (t .payload) (bytesIn ts) h (c .kept)) in
     let later = takes-told k seg ts d all in
-    let kept : d .kept ≡ lengthKept (c .kept) os = one .1 in
-    (
+    let kept : d .kept ≡ lengthKept (c .kept) os = one .1 in (
       subst (λ (e : Counting). Counts (itemsFrom k (c .kept) (os ++ outsIn seg ts)) c e) (sym is)
-      (subst (λ (l : List Item). Counts l c (takesCounted k (length ts) (bytesIn ts) d))
-      (ap (λ (n : ℕ). itemsFrom k (c .kept) os ++ itemsFrom k n (outsIn seg ts)) kept ∙ sym (items-append k (c .kept) os (outsIn seg ts)))
-      (counts-then (itemsFrom k (c .kept) os) (itemsFrom k (d .kept) (outsIn seg ts)) c d (takesCounted k (length ts) (bytesIn ts) d) (one .0) (later .0))),
+          (subst (λ (l : List Item). Counts l c (takesCounted k (length ts) (bytesIn ts) d))
+          (ap (λ (n : ℕ). itemsFrom k (c .kept) os ++ itemsFrom k n (outsIn seg ts)) kept ∙ sym (items-append k (c .kept) os (outsIn seg ts)))
+          (counts-then (itemsFrom k (c .kept) os) (itemsFrom k (d .kept) (outsIn seg ts)) c d (takesCounted k (length ts) (bytesIn ts) d) (one .0) (later .0))),
       ap (λ (e : Counting). e .kept) is ∙ later .1 ∙ ap (λ (n : ℕ). lengthKept n (outsIn seg ts)) kept ∙ sym (kept-append (c .kept) os (outsIn seg ts)),
     )

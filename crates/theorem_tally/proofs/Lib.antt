@@ -3,3 +3,4 @@ pub mod Same
 pub mod Counted
 pub mod Exact
 pub mod Segments
+pub mod Walks
