@@ -41,7 +41,7 @@ repeated() {
     local short=20 long=70 less more
     case $2 in
     *segment | *ticks) short=1 long=3 ;;
-    *replay) short=1 long=401 ;;
+    *replay | *tally) short=1 long=401 ;;
     esac
     less=$("${start[@]}" "$work/input" "${@:2}" "$short" | count "$1") || return
     more=$("${start[@]}" "$work/input" "${@:2}" "$long" | count "$1") || return

@@ -81,7 +81,19 @@ uint32_t twin_datagram(const struct lent *lent, uint8_t group, struct remote sou
 uint32_t twin_accept(const struct lent *lent, uint8_t group, struct remote source, uint8_t *met);
 /* An event by its number, with a body that fits it (docs/EVENTS.md); its answer and that answer's length, the same way. */
 size_t twin_event(const struct lent *lent, unsigned number, const uint8_t *body, uint8_t *out);
-/* Replays a recording (replay.c); whether every answer is the recorded one. */
-bool twin_replay(const struct lent *lent, const uint8_t *recording, size_t length, uint8_t *out);
+/* The foreman's report of one run: per route PDUs, bytes, smallest and largest length, per connection drops 20 to 24; the length of each running
+ * transfer; whether every sum was made. */
+struct figures {
+    uint64_t pdus, bytes;
+    uint32_t smallest, largest;
+};
+struct report {
+    struct figures routes[64];
+    uint64_t drops[16][5];
+    uint32_t kept[16];
+    bool fits;
+};
+/* Replays a recording (replay.c), and counts it where there is a report; whether every answer is the recorded one. */
+bool twin_replay(const struct lent *lent, const uint8_t *recording, size_t length, uint8_t *out, struct report *report);
 
 #endif

@@ -7,7 +7,8 @@
  * a table whose groups are all TCP, with the first, the middle or the last row for its route; none: the same with an id that no row
  * has, and no payload; empty: a take of no bytes there; switch, all, clear, lost, accept, remote, close: events through the dispatcher,
  * which leave the state as they find it (lost and connected; lost and accept; lost, set remote and connected; close, tick, open,
- * tick); idle: none of them; piece: a take of LENGTH bytes inside a transfer; begun: what it does besides the call; replay: the recording of ten events, answers and all (shift.h);
+ * tick); idle: none of them; piece: a take of LENGTH bytes inside a transfer; begun: what it does besides the call; replay: the recording of ten
+ * events, answers and all (shift.h); tally: the same, counted for the foreman's report;
  * wound: an event of LENGTH ticks before which every timer is started, under a table with alive limits; wind: what it does besides the call.
  * With a `+` before it: under a state in which each connection holds bytes to send.
  */
@@ -21,12 +22,12 @@ extern int strcmp(const char *one, const char *other);
 static const char *const names[] = {"nothing", "gate",    "take",  "cut",     "walk",    "transmit", "waiting", "tick", "datagram",
                                     "segment", "ticks",   "first", "middle",  "last",    "none",     "empty",   "emptied", "holding",
                                     "switch",  "all",     "clear", "lost",    "accept",  "remote",   "close",   "idle",
-                                    "replay",  "piece",   "begun", "wound",   "wind"};
+                                    "replay",  "tally",   "piece", "begun",   "wound",   "wind"};
 enum {
     NOTHING, GATE, TAKE, CUT, WALK, TRANSMIT, WAITING, TICK, DATAGRAM, SEGMENT, TICKS, FIRST, MIDDLE, LAST, NONE, EMPTY, EMPTIED, HOLDING,
-    SWITCH, ALL, CLEAR, LOST, ACCEPT, REMOTE, CLOSE, IDLE, REPLAY, PIECE, BEGUN, WOUND, WIND, WHATS
+    SWITCH, ALL, CLEAR, LOST, ACCEPT, REMOTE, CLOSE, IDLE, REPLAY, TALLY, PIECE, BEGUN, WOUND, WIND, WHATS
 };
-static const uint8_t numbers[] = {0, 1, 2, 3, 4, 5, 6, 7, 8, 9, 9, 2, 2, 2, 10, 11, 69, 70, 12, 12, 12, 12, 12, 12, 12, 12, 13, 14, 71, 15, 72};
+static const uint8_t numbers[] = {0, 1, 2, 3, 4, 5, 6, 7, 8, 9, 9, 2, 2, 2, 10, 11, 69, 70, 12, 12, 12, 12, 12, 12, 12, 12, 13, 16, 14, 71, 15, 72};
 enum { EVENT_TICKS = 0, EVENT_SEGMENT = 7, PDU_BYTES = 10, BUSY = 128 };
 
 static uint8_t head[16], bytes[2944];
@@ -144,7 +145,7 @@ int main(int count, char **words)
         set(bytes, length, given = 4);
     if (what >= SWITCH && what <= IDLE)
         given = add_events(what, connection, connection % (2 * quarters));
-    if (what == REPLAY)
+    if (what == REPLAY || what == TALLY)
         given = make_shift(bytes, quarters);
     set(head, numbers[what] + (name != words[1] ? BUSY : 0), 1);
     set(head + 1, connection, 1);

@@ -48,11 +48,18 @@ static bool arguments_fit(unsigned event, const uint8_t *body, size_t length)
     }
 }
 
+/* How many bytes a take has, by its kind and, of a PDU, where its payload stood. */
+static size_t take_needs(const uint8_t *s, size_t length)
+{
+    unsigned kind = number(s, length, 4, 1), mark = number(s, length, 14, 1);
+    return kind > 3 ? 18 : kind != 1 ? 14 : mark == 0 ? 19 : 15 + (size_t)number(s, length, 10, 4);
+}
+
 static bool takes_fit(const uint8_t *s, size_t length, unsigned count)
 {
     for (; count > 0; count--) {
         unsigned kind = number(s, length, 4, 1), mark = number(s, length, 14, 1);
-        size_t needs = kind > 3 ? 18 : kind != 1 ? 14 : mark == 0 ? 19 : 15 + (size_t)number(s, length, 10, 4);
+        size_t needs = take_needs(s, length);
         if (kind > 5 || (kind == 1 && mark > 1) || needs > length)
             return false;
         s += needs;
@@ -154,9 +161,60 @@ static size_t happen(const struct lent *lent, unsigned event, const uint8_t *bod
     }
 }
 
+/* ---- the foreman's report, out of the answers */
+
+static void add(struct report *report, uint64_t *sum, uint64_t more)
+{
+    if (__builtin_add_overflow(*sum, more, sum))
+        report->fits = false;
+}
+
+static void count_pdu(struct report *report, unsigned route, uint32_t length)
+{
+    if (route >= 64)
+        return;
+    struct figures *figures = &report->routes[route];
+    if (figures->pdus == 0 || length < figures->smallest)
+        figures->smallest = length;
+    if (length > figures->largest)
+        figures->largest = length;
+    add(report, &figures->pdus, 1);
+    add(report, &figures->bytes, length);
+}
+
+/* A take, or the step of a walk, which has the same bytes up to its length. */
+static void count_take(struct report *report, unsigned connection, const uint8_t *take)
+{
+    unsigned kind = take[4], which = take[5];
+    uint32_t length = be32(take + 10);
+    if (kind == 1 || (kind == 3 && length == 0))
+        count_pdu(report, which, length);
+    else if (kind == 2 && which >= 20 && which <= 24)
+        add(report, &report->drops[connection][which - 20], 1);
+    else if (kind == 3)
+        report->kept[connection] = length;
+    else if (kind == 5)
+        count_pdu(report, which, report->kept[connection]);
+}
+
+static void count_answer(struct report *report, unsigned event, unsigned connection, const uint8_t *out, size_t written)
+{
+    if ((event != 7 && event != 8) || connection >= 16 || be16(out) != 0)
+        return;
+    if (event == 8) {
+        count_take(report, connection, out + 2);
+        return;
+    }
+    const uint8_t *take = out + 4;
+    for (unsigned left = be16(out + 2); left > 0; left--) {
+        count_take(report, connection, take);
+        take += take_needs(take, (size_t)(out + written - take));
+    }
+}
+
 /* ---- an entry, and all of them */
 
-static bool step(const struct lent *lent, uint32_t before, const uint8_t *row, const uint8_t *rest, size_t left, uint8_t *out)
+static bool step(const struct lent *lent, uint32_t before, const uint8_t *row, const uint8_t *rest, size_t left, uint8_t *out, struct report *report)
 {
     size_t length = be32(row + 8);
     uint32_t distance = be32(row) - before;
@@ -168,10 +226,12 @@ static bool step(const struct lent *lent, uint32_t before, const uint8_t *row, c
         return false;
     twin_ticks(lent, distance, out);
     size_t written = happen(lent, event, rest, end, out);
+    if (report != 0)
+        count_answer(report, event, rest[1], out, written);
     return written == length - end && memcmp(out, rest + end, written) == 0;
 }
 
-bool twin_replay(const struct lent *lent, const uint8_t *recording, size_t length, uint8_t *out)
+bool twin_replay(const struct lent *lent, const uint8_t *recording, size_t length, uint8_t *out, struct report *report)
 {
     if (length < LEAD || be16(recording) != 1)
         return false;
@@ -184,7 +244,7 @@ bool twin_replay(const struct lent *lent, const uint8_t *recording, size_t lengt
     bool all = true;
     for (size_t i = 0; i < entries; i++) {
         const uint8_t *row = recording + LEAD + i * CONTENTS;
-        all &= step(lent, be32(row) - STEP, row, recording + at, length - at, out);
+        all &= step(lent, be32(row) - STEP, row, recording + at, length - at, out, report);
         at += be32(row + 8);
     }
     return all;

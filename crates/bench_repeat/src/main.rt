@@ -21,6 +21,7 @@
 //   what 14 a take of the bytes inside a transfer of 4,294,967,295 bytes on the connection, on the route that the PDU's number names
 //   what 15 what 9 does, and before each call every connection is online with ten bytes to send, its timer at 65,535 ticks and its alive
 //           timer at its row's limit (the remotes of the table have no wildcard)
+//   what 16 what 13 does, each entry counted for the foreman's report
 //   what 69, 70, 71, 72  what 5, 6, 14 and 15 do besides the call
 // 128 more: under a state in which each connection holds ten bytes to send, half of them due, half with a timer that runs.
 // Last word: OK when every call did what it names, REFUSED when one did not, CUT when the input is not what it says.

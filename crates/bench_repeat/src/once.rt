@@ -12,13 +12,18 @@ use pieces::front;
 use receive_part::Part;
 use receive_stream::Outcome;
 use recording::Front;
+use recording::arguments_in;
 use recording::body_long;
 use recording::entries_in;
 use recording::entry_row;
 use recording::front_of;
+use recording::number_in;
 use recording::stamp_in;
 use replay_step::Played;
 use replay_step::replay_step;
+use report_count::Run;
+use report_count::begin;
+use report_count::count;
 use select::Arrival;
 use send::Transmission;
 use send_waiting::Taking;
@@ -465,6 +470,85 @@ fn replayed(
     }
 }
 
+// A replay that is counted for the foreman's report: the state, the report so far, and whether each answer was the recorded one.
+struct Counted {
+    state: State,
+    run: Run,
+    done: bool,
+}
+
+fn written(played: Played) -> usize {
+    match played {
+        Played::Same(long) => long,
+        Played::Differs(long) => long,
+        Played::Cut => 0,
+        Played::Refused(_) => 0,
+        Played::Small => 0,
+    }
+}
+
+// The report after an entry, out of its arguments, which begin a part of the recording, and today's answer.
+fn run_after(run: Run, row: &[u8], rest: &[u8], played: Played, out: &[u8]) -> Run {
+    let number = number_in(row);
+    count(run, number, arguments_in(number, rest), front(out, written(played)))
+}
+
+// `replayed_entry`, counted.
+fn counted_entry(
+    image: &[u8],
+    state: State,
+    run: Run,
+    rx: &mut [u8],
+    tx: &mut [u8],
+    out: &mut [u8],
+    recording: &[u8],
+    i: u16,
+    at: usize,
+) -> Counted {
+    let row = entry_row(recording, i);
+    let rest = bytes_from(recording, at);
+    let before = std::num::wrapping_sub_u32(stamp_in(row), 3);
+    let step = replay_step(image, state, rx, tx, before, row, rest, out);
+    let played = step.played;
+    let now = step.state;
+    let sums = run_after(run, row, rest, played, out);
+    Counted {
+        state: now,
+        run: sums,
+        done: is_same(played),
+    }
+}
+
+// `replayed`, counted.
+fn counted(
+    image: &[u8],
+    state: State,
+    rx: &mut [u8],
+    tx: &mut [u8],
+    out: &mut [u8],
+    recording: &[u8],
+) -> Turn {
+    let count = entries_in(recording);
+    let mut now = state;
+    let mut run = begin();
+    let mut all = is_sized(recording);
+    let mut at = 4 + count as usize * 12;
+    let mut i: u16 = 0;
+    while i < count {
+        let this = i;
+        i += 1;
+        let turn = counted_entry(image, now, run, rx, tx, out, recording, this, at);
+        now = turn.state;
+        run = turn.run;
+        all = all & turn.done;
+        at = body_after(recording, this, at);
+    }
+    Turn {
+        done: all & run.fits,
+        state: now,
+    }
+}
+
 // The call that a number names; an unknown one does nothing, and says so.
 pub fn once(
     what: u8,
@@ -498,6 +582,7 @@ pub fn once(
         13 => replayed(image, state, rx, tx, out, bytes),
         14 => take_piece(image, state, rx, tx, connection, pdu, bytes),
         15 => dispatched_wound(image, state, rx, tx, out, pdu, bytes),
+        16 => counted(image, state, rx, tx, out, bytes),
         69 => Turn {
             done: true,
             state: emptied(state, connection as usize),
