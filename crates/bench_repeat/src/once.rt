@@ -490,7 +490,12 @@ fn written(played: Played) -> usize {
 // The report after an entry, out of its arguments, which begin a part of the recording, and today's answer.
 fn run_after(run: Run, row: &[u8], rest: &[u8], played: Played, out: &[u8]) -> Run {
     let number = number_in(row);
-    count(run, number, arguments_in(number, rest), front(out, written(played)))
+    count(
+        run,
+        number,
+        arguments_in(number, rest),
+        front(out, written(played)),
+    )
 }
 
 // `replayed_entry`, counted.
