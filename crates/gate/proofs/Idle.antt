@@ -1,27 +1,28 @@
--- Of a record that has received nothing, wants nothing and is not watched, the rules ask little: its send bytes, and an online remote without wildcard.
+-- Of a record that has received nothing and wants nothing the rules ask little: its send bytes, an online remote without wildcard, and the alive timer.
 use Prim.Native.Nat.{ℕ, _<_}
 use mathlib.Core.Path.{_≡_, refl, ap, _∙_}
 use mathlib.Core.Bool.{Bool, true, false, not, _&&_, _||_}
 use mathlib.Core.List.{List}
 use lib.Dec.{eqb, leb, ltb}
 use native.Mathlib.Omega.{arith}
-use borrow.Author.Tests.{not-true, eqb-true, le-leb, ne-eqb, lt-ltb}
+use borrow.Author.Tests.{not-true, le-leb, ne-eqb, lt-ltb}
 use Rattle.receive_part.specs.declared.Part.{Part}
 use Rattle.receive_part.specs.Part.{emptyPart, readyPart}
 use Rattle.connection.specs.declared.Config.{Config}
 use Rattle.connection.specs.declared.Connection.{Connection}
 use Rattle.connection.specs.declared.Mode.{Mode}
 use Rattle.connection.specs.declared.Remote.{Remote}
+use Rattle.connection.specs.declared.Watch.{Watch}
 use Rattle.connection.specs.Connection.{isOnline}
-use Rattle.connection.specs.Sound.{sends, timed, neverBoth, onlineRemote, soundOf}
+use Rattle.connection.specs.Sound.{sends, timed, neverBoth, onlineRemote, watched, soundOf}
 use Rattle.connection.proofs.Rules.{empty-is}
 use Rattle.lists.proofs.Both.{and-left, and-right}
 use Rattle.gate.specs.Sound.{routed}
-use Rattle.gate.specs.Inner.{idle, idleSound}
+use Rattle.gate.specs.Inner.{idle, idleSound, quietSound}
 
-module _ (g : Config) (routes : List ℕ) (n : ℕ) (mode : Mode) (remote : Remote) (switches : ℕ) (set : Bool) where
-  abbrev holding : Part → ℕ → ℕ → Bool → Bool → Bool → ℕ → Connection
-  holding part used timer due open-wanted close-wanted alive =
+module _ (g : Config) (routes : List ℕ) (n : ℕ) (mode : Mode) (remote : Remote) (switches : ℕ) (watch : Watch) where
+  abbrev holding : Part → ℕ → ℕ → Bool → Bool → Bool → Connection
+  holding part used timer due open-wanted close-wanted =
       record {
         mode = mode;
         «open_wanted» = open-wanted;
@@ -32,41 +33,38 @@ module _ (g : Config) (routes : List ℕ) (n : ℕ) (mode : Mode) (remote : Remo
         used = used;
         timer = timer;
         due = due;
-        watch = record { alive = alive; «remote_set» = set };
+        watch = watch;
       }
 
-  last : (b : Bool) → (b && true && true && true && true) ≡ b
-  last true = refl
-  last false = refl
+  last : (b w : Bool) → (b && true && true && w && true) ≡ (b && w)
+  last true true = refl
+  last true false = refl
+  last false w = refl
 
-  fewer : (u s t b o : Bool) → (u && true && true && s && t && b && o && true && true && true && true) ≡ (u && s && t && b && o)
-  fewer true s t b o = last (s && t && b && o)
-  fewer false s t b o = refl
+  fewer : (u s t b o w : Bool) → (u && true && true && s && t && b && o && true && true && w && true) ≡ (u && s && t && b && o && w)
+  fewer true s t b o w = last (s && t && b && o) w
+  fewer false s t b o w = refl
 
   nothing-received : (used timer : ℕ) (due : Bool)
-      → (soundOf g (holding readyPart used timer due false false 0) && routed routes n readyPart) ≡ idleSound (g .size) (holding readyPart used timer due false false 0)
+      → (soundOf g (holding readyPart used timer due false false) && routed routes n readyPart) ≡ quietSound g (holding readyPart used timer due false false)
   unfolding soundOf
   nothing-received used timer due =
-      let c = holding readyPart used timer due false false 0 in
-      fewer (leb used (g .size)) (sends c) (timed c) (neverBoth c) (onlineRemote c)
+      let c = holding readyPart used timer due false false in
+      fewer (leb used (g .size)) (sends c) (timed c) (neverBoth c) (onlineRemote c) (watched g c)
 
-  idle-plain : (part : Part) (used timer : ℕ) (due o c : Bool) (alive : ℕ) → part ≡ readyPart → o ≡ false → c ≡ false → alive ≡ 0
-      → (soundOf g (holding part used timer due o c alive) && routed routes n part) ≡ idleSound (g .size) (holding part used timer due o c alive)
-  idle-plain part used timer due o c alive p a b z = rw (p, a, b, z) (nothing-received used timer due)
+  idle-plain : (part : Part) (used timer : ℕ) (due o c : Bool) → part ≡ readyPart → o ≡ false → c ≡ false
+      → (soundOf g (holding part used timer due o c) && routed routes n part) ≡ quietSound g (holding part used timer due o c)
+  idle-plain part used timer due o c p a b = rw (p, a, b) (nothing-received used timer due)
 
-pub idle-sound : (g : Config) (routes : List ℕ) (n : ℕ) (c : Connection) → idle c ≡ true → (soundOf g c && routed routes n (c .part)) ≡ idleSound (g .size) c
+pub idle-sound : (g : Config) (routes : List ℕ) (n : ℕ) (c : Connection) → idle c ≡ true → (soundOf g c && routed routes n (c .part)) ≡ quietSound g c
 idle-sound g routes n c p =
     let a = emptyPart (c .part) in
     let b = a && not (c .«open_wanted») in
-    let d = b && not (c .«close_wanted») in
-    let pd : d ≡ true = and-left d _ p in
-    let pb : b ≡ true = and-left b _ pd in
-    idle-plain g routes n (c .mode) (c .remote) (c .switches) (c .watch .«remote_set») (c .part) (c .used) (c .timer) (c .due) (c .«open_wanted») (c .«close_wanted»)
-    (c .watch .alive)
+    let pb : b ≡ true = and-left b _ p in
+    idle-plain g routes n (c .mode) (c .remote) (c .switches) (c .watch) (c .part) (c .used) (c .timer) (c .due) (c .«open_wanted») (c .«close_wanted»)
     (empty-is (c .part) (and-left a _ pb))
     (not-true _ (and-right a _ pb))
-    (not-true _ (and-right b _ pd))
-    (eqb-true _ _ (and-right d _ p))
+    (not-true _ (and-right b _ p))
 
 -- without send bytes, and with some
 module _ (size used timer : ℕ) (due online reached : Bool) where

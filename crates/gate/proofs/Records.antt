@@ -20,7 +20,7 @@ use Rattle.state.specs.declared.State.{State}
 use Rattle.state.specs.Fresh.{configIn, configOf}
 use Rattle.lists.specs.Each.{allFrom, allTo}
 use Rattle.gate.specs.Sound.{routed, soundAt, recordsSound}
-use Rattle.gate.specs.Inner.{rulesIn, soundIn, idle, idleSound}
+use Rattle.gate.specs.Inner.{rulesIn, soundIn, idle, quietSound}
 use Rattle.gate.proofs.Idle.{idle-sound}
 
 module _ (image : List ℕ) (n : ℕ) (c : Connection) where
@@ -88,9 +88,8 @@ pub past-in : (rows : ℕ) (connections groups routes : List ℕ) (n : ℕ) (c :
 past-in rows connections groups routes n c h = rw (le-ltb _ _ h) refl
 
 pub idle-in : (rows : ℕ) (connections groups routes : List ℕ) (n : ℕ) (c : Connection) → n < rows → idle c ≡ true
-    → idleSound (sizeIn 16 connections n) c ≡ soundIn rows connections groups routes n c
-idle-in rows connections groups routes n c h p =
-    rw (lt-ltb _ _ h) (ap (λ (k : ℕ). idleSound k c) (size-is connections groups n) ∙ sym (idle-sound (configIn connections groups n) routes n c p))
+    → quietSound (configIn connections groups n) c ≡ soundIn rows connections groups routes n c
+idle-in rows connections groups routes n c h p = rw (lt-ltb _ _ h) (sym (idle-sound (configIn connections groups n) routes n c p))
 
 -- one element does not meet its test
 all-not : {A : Type 0} (f : ℕ → A → Bool) (i : ℕ) (xs : List A) (d : A) → i < length xs → f i (getD xs i d) ≡ false → false ≡ allFrom f 0 xs

@@ -10,7 +10,7 @@ use Rattle.table_rows.specs.Rows.{groupIn, briefIn}
 use Rattle.receive_part.specs.Part.{emptyPart}
 use Rattle.connection.specs.declared.Config.{Config}
 use Rattle.connection.specs.declared.Connection.{Connection}
-use Rattle.connection.specs.Sound.{soundOf, zeroOf, sends, timed, neverBoth, onlineRemote}
+use Rattle.connection.specs.Sound.{soundOf, zeroOf, sends, timed, neverBoth, onlineRemote, watched}
 use Rattle.state.specs.Fresh.{configIn}
 use Rattle.gate.specs.Sound.{routed}
 
@@ -35,10 +35,13 @@ abbrev pub soundIn : ℕ → List ℕ → List ℕ → List ℕ → ℕ → Conn
 soundIn rows connections groups routes n c =
     cond (ltb n rows) (soundOf (configIn connections groups n) c && routed routes n (c .part)) (zeroOf c)
 
--- a record that has received nothing, wants nothing and is not watched: of the rules those on its send bytes are left, and "an online
--- remote has no wildcard"
+-- a record that has received nothing and wants nothing: of the rules those on its send bytes are left, "an online remote has no wildcard",
+-- and the alive timer's
 abbrev pub idle : Connection → Bool
-idle c = emptyPart (c .part) && not (c .«open_wanted») && not (c .«close_wanted») && eqb (c .watch .alive) 0
+idle c = emptyPart (c .part) && not (c .«open_wanted») && not (c .«close_wanted»)
 
 abbrev pub idleSound : ℕ → Connection → Bool
 idleSound size c = leb (c .used) size && sends c && timed c && neverBoth c && onlineRemote c
+
+abbrev pub quietSound : Config → Connection → Bool
+quietSound g c = idleSound (g .size) c && watched g c

@@ -4,9 +4,10 @@ ghost use mathlib.Core.Path.{_≡_};
 ghost use mathlib.Core.Bool.{true};
 ghost use Prim.Native.Nat.{_≤_};
 ghost use Rattle.lists.specs.Each.{allFrom, allTo};
-ghost use Rattle.connection.specs.Sound.{onlineRemote};
+ghost use Rattle.connection.specs.Sound.{onlineRemote, watched};
+ghost use Rattle.state.specs.Fresh.{configIn};
 ghost use Rattle.gate.specs.Sound.{routed, recordsSound};
-ghost use Rattle.gate.specs.Inner.{rulesFrom, rulesIn, soundIn, idle, idleSound};
+ghost use Rattle.gate.specs.Inner.{rulesFrom, rulesIn, soundIn, idle, idleSound, quietSound};
 ghost use Rattle.gate.specs.Lent.{lent};
 ghost use Rattle.table_rows.specs.Rules.{sizeIn};
 ghost use Rattle.gate.specs.Gate.{gateOf, gateAt};
@@ -98,12 +99,25 @@ fn is_reached(c: Connection) -> bool
     !is_online(mode) | !has_wildcard(remote)
 }
 
-// Whether a record has received nothing, wants nothing and is not watched: then the rules ask of its row the send size alone.
+// Whether a record has received nothing and wants nothing: then the rules ask of its row the send size alone, and where it is watched the
+// alive limit.
 fn is_idle(c: Connection) -> bool
     ensures { λ r. ⌜ r ≡ idle c ⌝ }
 {
     let part = c.part;
-    receive_part::is_empty(part) & !c.open_wanted & !c.close_wanted & (c.watch.alive == 0)
+    receive_part::is_empty(part) & !c.open_wanted & !c.close_wanted
+}
+
+// The alive timer runs only on an online UDP connection, and is at most the limit; where it is stopped, no row is asked.
+fn is_watched(connections: &[u8], groups: &[u8], n: usize, c: Connection) -> bool
+    ensures { λ r. ⌜ r ≡ watched (configIn (now (connections .entry)) (now (groups .entry)) n) c ⌝ }
+{
+    if c.watch.alive == 0 {
+        return true;
+    }
+    let mode = c.mode;
+    let rules = rules_in(connections, groups, n);
+    is_online(mode) & !rules.tcp & (c.watch.alive <= rules.alive)
 }
 
 // The rules that are left of such a record: without send bytes no timer and no due mark; with them online, not both, and within the size.
@@ -118,6 +132,14 @@ fn is_idle_sound(connections: &[u8], n: usize, c: Connection) -> bool
     let online = is_online(mode);
     let size = size_in(connections, n);
     (c.used as usize <= size) & online & ((c.timer == 0) | !c.due) & reached
+}
+
+// All rules that are left of such a record.
+fn is_quiet(connections: &[u8], groups: &[u8], n: usize, c: Connection) -> bool
+    ensures { λ r. ⌜ r ≡ quietSound (configIn (now (connections .entry)) (now (groups .entry)) n) c ⌝ }
+{
+    let kept = is_idle_sound(connections, n, c);
+    kept & is_watched(connections, groups, n, c)
 }
 
 // One record against its row, by the number of rows and the bodies; past the rows, against zero.
@@ -135,7 +157,7 @@ fn is_sound(
         return connection.is_zero();
     }
     if is_idle(connection) {
-        return is_idle_sound(connections, n, connection);
+        return is_quiet(connections, groups, n, connection);
     }
     let part = connection.part;
     let rules = rules_in(connections, groups, n);
@@ -184,7 +206,7 @@ fn each_sound(rows: usize, connections: &[u8], groups: &[u8], routes: &[u8], sta
         if !is_idle(connection) {
             return rest_sound(rows, connections, groups, routes, i, state);
         }
-        if !is_idle_sound(connections, i, connection) {
+        if !is_quiet(connections, groups, i, connection) {
             return false;
         }
         i += 1;

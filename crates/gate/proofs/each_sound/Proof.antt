@@ -66,8 +66,8 @@ rest-sound-requires c κs = let b = c .before .before .before .before .before in
 returns-2 : tie.Need-returns-2 Inv-loop μ-loop
 returns-2 c = c .rest-sound .ensures
 
-is-idle-sound-requires : tie.Need-is-idle-sound-requires Inv-loop μ-loop
-is-idle-sound-requires c κs = search needs
+is-quiet-requires : tie.Need-is-quiet-requires Inv-loop μ-loop
+is-quiet-requires c κs = search needs
 
 returns-3 : tie.Need-returns-3 Inv-loop μ-loop
 returns-3 c =
@@ -77,7 +77,7 @@ returns-3 c =
     let a = b .before .before .before .before .args in
     let idle = sym (d .before .is-idle .ensures) ∙ not-false _ (d .if3 .left) in
     sound-not (a .rows) (now (a .connections)) (now (a .groups)) (now (a .routes)) (a .t5) (b .loop .i) (b .loop .inv) (t .before .loop-test .taken)
-    (sym (idle-in (a .rows) _ _ _ (b .loop .i) _ (t .if1 .left) idle) ∙ sym (c .before .is-idle-sound .ensures) ∙ not-true _ (c .if4 .taken))
+    (sym (idle-in (a .rows) _ _ _ (b .loop .i) _ (t .if1 .left) idle) ∙ sym (c .before .is-quiet .ensures) ∙ not-true _ (c .if4 .taken))
 
 add-i-2 : tie.Need-add-i-2 Inv-loop μ-loop
 add-i-2 c = search needs
@@ -93,7 +93,7 @@ loop-again-2 c =
     let a = b .before .before .before .before .args in
     let idle = sym (d .before .is-idle .ensures) ∙ not-false _ (d .if3 .left) in
     sound-turn (a .rows) (now (a .connections)) (now (a .groups)) (now (a .routes)) (a .t5) (b .loop .i) (b .loop .inv) (t .before .loop-test .taken)
-    (sym (not-false _ (c .if4 .left)) ∙ c .before .is-idle-sound .ensures ∙ idle-in (a .rows) _ _ _ (b .loop .i) _ (t .if1 .left) idle)
+    (sym (not-false _ (c .if4 .left)) ∙ c .before .is-quiet .ensures ∙ idle-in (a .rows) _ _ _ (b .loop .i) _ (t .if1 .left) idle)
 
 returns-4 : tie.Need-returns-4 Inv-loop μ-loop
 returns-4 c =
@@ -120,7 +120,7 @@ each-sound-spec =
     is-idle-requires
     rest-sound-requires
     returns-2
-    is-idle-sound-requires
+    is-quiet-requires
     returns-3
     add-i-2
     loop-less-2

@@ -1,12 +1,9 @@
 -- `gate::is_sound` meets its contract.
-use Prim.Native.Nat.{ℕ}
-use mathlib.Core.Path.{sym, ap, _∙_}
+use mathlib.Core.Path.{sym, _∙_}
 use denote.Ref.{now}
 use borrow.Author.Tests.{lt-ltb, le-ltb}
 use borrow.Author.Needs.{needs}
-use Rattle.gate.specs.Inner.{idleSound}
-use Rattle.gate.proofs.Records.{rules-enough, size-is}
-use Rattle.gate.proofs.Idle.{idle-sound}
+use Rattle.gate.proofs.Records.{rules-enough, idle-in}
 use Rattle.gate.proofs.is_sound.Statement.{statement}
 use Rattle.gate.proofs.is_sound.Tie as tie
 
@@ -19,16 +16,13 @@ returns c = rw (le-ltb _ _ (c .before .if1 .taken)) (c .is-zero .ensures)
 is-idle-requires : tie.Need-is-idle-requires
 is-idle-requires c κs = search needs
 
-is-idle-sound-requires : tie.Need-is-idle-sound-requires
-is-idle-sound-requires c κs = search needs
+is-quiet-requires : tie.Need-is-quiet-requires
+is-quiet-requires c κs = search needs
 
 returns-2 : tie.Need-returns-2
 returns-2 c =
     let i = c .before .before in
-    let a = i .before .before .before .before .before .args in
-    rw (lt-ltb _ _ (i .before .if1 .left))
-    (c .is-idle-sound .ensures ∙ ap (λ (k : ℕ). idleSound k (a .connection)) (size-is (now (a .connections)) (now (a .groups)) (a .n))
-    ∙ sym (idle-sound _ _ _ _ (sym (i .is-idle .ensures) ∙ c .before .if2 .taken)))
+    c .is-quiet .ensures ∙ idle-in _ _ _ _ _ _ (i .before .if1 .left) (sym (i .is-idle .ensures) ∙ c .before .if2 .taken)
 
 rules-in-requires : tie.Need-rules-in-requires
 rules-in-requires c κs = search needs
@@ -58,7 +52,7 @@ is-sound-spec =
     is-zero-requires
     returns
     is-idle-requires
-    is-idle-sound-requires
+    is-quiet-requires
     returns-2
     rules-in-requires
     is-routed-requires
