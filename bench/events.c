@@ -58,8 +58,20 @@ static bool is_shaped(const struct layout *table, size_t n, const struct record 
     return c->held < c->length && row[1] == 0 && c->length <= be16(row + 2);
 }
 
+/* Of a record that has received nothing, wants nothing and is not watched the rules ask the send size alone of its row. */
+static bool is_idle_sound(const struct layout *table, size_t n, const struct record *c)
+{
+    if (c->mode == ONLINE && is_wild(c->remote))
+        return false;
+    if (c->used == 0)
+        return c->timer == 0 && !c->due;
+    return c->mode == ONLINE && c->used <= be16(table->body[CONNECTION] + n * ROW + 8) && !(c->timer != 0 && c->due);
+}
+
 static bool is_sound(const struct layout *table, size_t n, const struct record *c)
 {
+    if (is_empty(c) && !c->open_wanted && !c->close_wanted && c->alive == 0)
+        return is_idle_sound(table, n, c);
     struct config config = config_of(table, n);
     bool online = c->mode == ONLINE;
     if (c->used > config.size || !is_shaped(table, n, c))
