@@ -8,7 +8,7 @@ use native.Mathlib.Nat.{min-eq-left, min-eq-right}
 use native.Mathlib.Decide.{decLe}
 use lib.Dec.{eqb, ltb}
 use lib.ListN.{length, set, drop, drop-of-length-le}
-use lib.Seq.{drop-drop, drop-length}
+use lib.Seq.{drop-drop, drop-length, set-getD}
 use borrow.Author.Tests.{ltb-true, lt-ltb, le-ltb}
 use Rattle.recording.specs.Entry.{takeNeeds}
 use Rattle.report.specs.declared.RouteFigures.{RouteFigures}
@@ -104,6 +104,23 @@ module _ (k : ℕ) (s : List ℕ) (report : Report) (fits : Bool) (kept left at 
       } ≡ oneCounted k (addsOf (drop at s) kept) here =
       rw (f-is, g-is, n-is, l-is) (ap (λ (x : Adds). oneCounted k x here) adds) in
       ap₂ (takesCounted k (left - 1)) places counted ∙ ap (λ (m : ℕ). takesCounted k m (drop at s) here) (sym l) ∙ inv
+
+-- an event without takes
+pub event-none : (number : ℕ) (arguments answer : List ℕ) (r : Run) (n : ℕ) → n ≡ takesIn number answer → n ≡ 0 → eventCounted number arguments answer r ≡ r
+unfolding eventCounted takesCounted
+event-none number arguments answer r n is z = go (ltb k 16)
+  where
+    k : ℕ
+    k = connectionNamed arguments
+
+    same : afterCounting k r (takesCounted k (takesIn number answer) (drop (takesAt number) answer) (countingAt k r)) ≡ r
+    same =
+        ap (λ (m : ℕ). afterCounting k r (takesCounted k m (drop (takesAt number) answer) (countingAt k r))) (sym is ∙ z)
+        ∙ ap (λ (l : List ℕ). record { fits = r .fits; report = r .report; lengths = l }) (set-getD (r .lengths) k 0)
+
+    go : (b : Bool) → cond b (afterCounting k r (takesCounted k (takesIn number answer) (drop (takesAt number) answer) (countingAt k r))) r ≡ r
+    go true = same
+    go false = refl
 
 -- an event of a connection that there is not, and of one that there is
 module _ (number : ℕ) (arguments answer : List ℕ) (r : Run) (k : ℕ) (is : k ≡ connectionNamed arguments) where

@@ -201,10 +201,14 @@ fn takes_at(number: u16) -> usize
     2
 }
 
-// An event of a run more: its number, its arguments and its answer.
+// An event of a run more: its number, its arguments and its answer. One without takes adds nothing, and its report is handed back as it is.
 pub fn count(run: Run, number: u16, arguments: &[u8], answer: &[u8]) -> Run
     ensures { λ r. ⌜ r ≡ Is.eventCounted number (now (arguments .entry)) (now (answer .entry)) run ⌝ }
 {
+    let n = takes_in(number, answer);
+    if n == 0 {
+        return run;
+    }
     let connection = be8(arguments, 1);
     if 16 <= connection {
         return run;
@@ -216,7 +220,7 @@ pub fn count(run: Run, number: u16, arguments: &[u8], answer: &[u8]) -> Run
         kept: run.lengths[connection],
     };
     let takes = bytes_from(answer, takes_at(number));
-    let counted = takes_counted(before, connection, takes_in(number, answer), takes);
+    let counted = takes_counted(before, connection, n, takes);
     let mut lengths = run.lengths;
     lengths[connection] = counted.kept;
     let after = counted.report;
