@@ -4,3 +4,5 @@ pub mod Counted
 pub mod Exact
 pub mod Segments
 pub mod Walks
+pub mod Sums
+pub mod Tallied
