@@ -6,3 +6,5 @@ pub mod Segments
 pub mod Walks
 pub mod Sums
 pub mod Tallied
+pub mod Calls
+pub mod Tally
