@@ -1,40 +1,15 @@
--- WHAT COUNTS OF TWO LISTS OF OUTCOMES, one behind the other; and the reports of sixteen connections, added up.
+-- THE REPORTS OF THE CONNECTIONS BELOW n, ADDED UP (R21.11): full, by what stands below, of none, of sums, and of one alone.
 use Prim.Native.Nat.{ℕ, zero, suc, _<_}
-use mathlib.Core.Path.{_≡_, refl, sym, ap, ap₂, subst, _∙_}
+use mathlib.Core.Path.{_≡_, refl, sym, ap, ap₂, _∙_}
 use mathlib.Core.Bool.{Bool, true, false}
-use mathlib.Core.List.{List, [], _∷_, _++_}
 use native.Mathlib.Omega.{arith}
 use lib.Dec.{eqb}
-use lib.ListN.{length}
 use borrow.Author.Tests.{eqb-true, eqb-false}
-use Rattle.reading.specs.Feed.{Out, nothing, pdu, dropped, start, piece}
 use Rattle.report.specs.declared.Report.{Report}
-use Rattle.report.specs.Report.{emptyReport, FullReport, Item, got, lost, addReports}
+use Rattle.report.specs.Report.{emptyReport, FullReport, addReports}
 use Rattle.theorem_report.proofs.Joins.{add-comm, add-assoc, add-empty, empty-add, add-full, empty-full}
-use Rattle.theorem_tally.specs.Items.{itemsFrom, lengthKept, sumTo}
+use Rattle.theorem_tally.specs.Items.{sumTo}
 
--- TWO LISTS, one behind the other: the second is counted with the length that the first leaves
-pub items-append : (k kept : ℕ) (xs ys : List Out) → itemsFrom k kept (xs ++ ys) ≡ itemsFrom k kept xs ++ itemsFrom k (lengthKept kept xs) ys
-unfolding itemsFrom lengthKept
-items-append k kept [] ys = refl
-items-append k kept (nothing ∷ xs) ys = items-append k kept xs ys
-items-append k kept (pdu r p ∷ xs) ys = ap (λ (l : List Item). got r (length p) ∷ l) (items-append k kept xs ys)
-items-append k kept (dropped j i n ∷ xs) ys = ap (λ (l : List Item). lost k j ∷ l) (items-append k kept xs ys)
-items-append k kept (start r i n true ∷ xs) ys = ap (λ (l : List Item). got r n ∷ l) (items-append k n xs ys)
-items-append k kept (start r i n false ∷ xs) ys = items-append k n xs ys
-items-append k kept (piece r p true ∷ xs) ys = ap (λ (l : List Item). got r kept ∷ l) (items-append k kept xs ys)
-items-append k kept (piece r p false ∷ xs) ys = items-append k kept xs ys
-
-pub kept-append : (kept : ℕ) (xs ys : List Out) → lengthKept kept (xs ++ ys) ≡ lengthKept (lengthKept kept xs) ys
-unfolding lengthKept
-kept-append kept [] ys = refl
-kept-append kept (nothing ∷ xs) ys = kept-append kept xs ys
-kept-append kept (pdu r p ∷ xs) ys = kept-append kept xs ys
-kept-append kept (dropped j i n ∷ xs) ys = kept-append kept xs ys
-kept-append kept (start r i n m ∷ xs) ys = kept-append n xs ys
-kept-append kept (piece r p m ∷ xs) ys = kept-append kept xs ys
-
--- SUMS: full, by what stands below, of none, of sums, and of one alone
 pub sum-full : (f : ℕ → Report) (n : ℕ) → ((k : ℕ) → FullReport (f k)) → FullReport (sumTo f n)
 unfolding sumTo
 sum-full f zero h = empty-full

@@ -1,8 +1,8 @@
 -- WHAT IS COUNTED OF A STRETCH OF A RUN (R21.9, R21.11): of each connection what it told there, with the length of the transfer that started last.
-use Prim.Native.Nat.{ℕ, zero, suc, _≤_, _<_}
+use Prim.Native.Nat.{ℕ, _≤_, _<_}
 use mathlib.Core.Path.{_≡_, refl, sym, ap, ap₂, subst, _∙_}
 use mathlib.Core.Bool.{Bool, true, false, cond}
-use mathlib.Core.List.{List, [], _∷_, _++_}
+use mathlib.Core.List.{List, [], _++_}
 use native.Mathlib.Omega.{arith}
 use lib.Dec.{eqb}
 use lib.ListN.{length, getD, set, length-set}
@@ -17,8 +17,8 @@ use Rattle.report_count.specs.Count.{countingAt, afterCounting}
 use Rattle.theorem_report.proofs.Counts.{from-added, report-full, report-append}
 use Rattle.theorem_report.proofs.Joins.{add-assoc, add-empty, add-full}
 use Rattle.theorem_tally.specs.Items.{itemsFrom, lengthKept, sumTo}
-use Rattle.theorem_tally.proofs.Counted.{Counts}
-use Rattle.theorem_tally.proofs.Sums.{items-append, kept-append, sum-full, sum-below, sum-none, sum-adds, sum-one}
+use Rattle.theorem_tally.proofs.Counted.{Counts, items-append, kept-append}
+use Rattle.theorem_tally.proofs.Sums.{sum-full, sum-below, sum-none, sum-adds, sum-one}
 
 -- the length that is kept for connection k
 abbrev pub keptAt : Run → ℕ → ℕ
