@@ -1,12 +1,12 @@
 -- ANY CALL, COUNTED FROM ITS NUMBER, ITS ARGUMENTS AND ITS ANSWER, counts what the machine gives at the events that it spells (R21.9, R21.10): a segment or a
 -- walk its takes, any other call nothing.
 use Prim.Native.Nat.{ℕ, zero, suc, _+_, _≤_}
-use mathlib.Core.Path.{_≡_, refl, sym, ap, ap₂, subst, _∙_}
+use mathlib.Core.Path.{_≡_, refl, sym, ap, subst, _∙_}
 use mathlib.Core.Bool.{Bool, true, false, cond, _&&_}
-use mathlib.Core.List.{List, [], _∷_, _++_, append-nil}
+use mathlib.Core.List.{List, [], append-nil}
 use native.Mathlib.Omega.{arith}
 use lib.Dec.{eqb, ltb, leb}
-use lib.ListN.{length, getD, set, drop, replicate, length-drop}
+use lib.ListN.{length, drop, replicate, length-drop}
 use lib.Seq.{set-getD}
 use borrow.Author.Tests.{ltb-true, ltb-false, leb-true, eqb-true}
 use Rattle.wire.specs.Be.{be}
@@ -23,7 +23,7 @@ use Rattle.event_decode.specs.Calls.{fitted, plain, lengthFits, addressed, remo
 use Rattle.dispatch_receive.specs.Long.{longestBody}
 use Rattle.entry_receive.specs.Walk.{walkOf}
 use Rattle.dispatch_receive.specs.Walk.{walkedBytes}
-use Rattle.model.specs.Events.{Event, tick, onWhole}
+use Rattle.model.specs.Events.{tick, onWhole}
 use Rattle.model_refines.specs.Machine.{Machine, loanTo, lentTo, toldSegment}
 use Rattle.model_refines.specs.Run.{afterEvent, given, givenIn, toldWalk}
 use Rattle.dispatch_refines.specs.Spelt.{eventsOf}
@@ -31,7 +31,6 @@ use Rattle.dispatch_refines.specs.Answer.{takesAnswer, answerOf}
 use Rattle.report_count.specs.declared.Counting.{Counting}
 use Rattle.report_count.specs.declared.Run.{Run}
 use Rattle.report_count.specs.Count.{addsNothing, addsOfKind, oneCounted, takesCounted, takesIn, takesAt, connectionNamed, countingAt, afterCounting, eventCounted}
-use Rattle.theorem_record.specs.Again.{answerTo}
 use Rattle.theorem_tally.specs.Items.{itemsFrom, lengthKept}
 use Rattle.theorem_tally.proofs.Counted.{Counts, nothing-counts}
 use Rattle.theorem_tally.proofs.Segments.{segment-given}
@@ -226,7 +225,8 @@ module _ (image : List ℕ) (m : Machine) (body : List ℕ) (bytes : Bytes body)
       (countingAt (be 1 body 1) r)))
 
   -- a body that does not fit has no answer: of a segment no take, of a walk one that says nothing
-  silent-tallied : (number : ℕ) (call : Call) → ((k : ℕ) → Silent image k body call) → takesIn number (answerOf (loanTo image m) body call) ≡ 0 → Counted number call
+  silent-tallied : (number : ℕ) (call : Call) → ((k : ℕ) → Silent image k body call) → takesIn number (answerOf (loanTo image m) body call) ≡ 0
+      → Counted number call
   silent-tallied number call silent none =
       subst (λ (d : Run). Tallied r (λ k. givenIn image k m (eventsOf body call)) d) (sym (none-counted number body (answerOf (loanTo image m) body call) r none))
       (tallied-same r r (λ k. []) (λ k. givenIn image k m (eventsOf body call)) (λ k l. sym (silent k m)) (none-tallied r))

@@ -8,3 +8,4 @@ pub mod Sums
 pub mod Tallied
 pub mod Calls
 pub mod Tally
+pub mod Small

@@ -1,6 +1,6 @@
 -- WHAT IS COUNTED OF A STRETCH OF A RUN (R21.9, R21.11): of each connection what it told there, with the length of the transfer that started last.
 use Prim.Native.Nat.{ℕ, _≤_, _<_}
-use mathlib.Core.Path.{_≡_, refl, sym, ap, ap₂, subst, _∙_}
+use mathlib.Core.Path.{_≡_, refl, sym, ap, subst, _∙_}
 use mathlib.Core.Bool.{Bool, true, false, cond}
 use mathlib.Core.List.{List, [], _++_}
 use native.Mathlib.Omega.{arith}
@@ -48,7 +48,8 @@ tallied-same r d f g h t =
       before = t .before;
       sums = λ full long e.
           t .sums full long e
-          ∙ ap (addReports (r .report)) (sum-below (toldReport r f) (toldReport r g) 16 (λ k l. ap (λ (os : List Out). reportOf (itemsFrom k (keptAt r k) os)) (h k l)));
+          ∙ ap (addReports (r .report))
+          (sum-below (toldReport r f) (toldReport r g) 16 (λ k l. ap (λ (os : List Out). reportOf (itemsFrom k (keptAt r k) os)) (h k l)));
       sixteen = t .sixteen;
       kept = λ long k l. t .kept long k l ∙ ap (lengthKept (keptAt r k)) (h k l);
     }
@@ -116,7 +117,8 @@ module _ (r : Run) (c : ℕ) (os : List Out) where
   pub past-tallied : 16 ≤ c → Tallied r alone r
   past-tallied h = tallied-same r r (λ k. []) alone (λ k l. sym (there k (λ e. omega (arith, h, l, e)))) (none-tallied r)
 
-  module _ (low : c < 16) (d : Counting) (counts : Counts (itemsFrom c (keptAt r c) os) (countingAt c r) d) (keeps : d .kept ≡ lengthKept (keptAt r c) os) where
+  module _ (low : c < 16) (d : Counting) (counts : Counts (itemsFrom c (keptAt r c) os) (countingAt c r) d)
+      (keeps : d .kept ≡ lengthKept (keptAt r c) os) where
     sum-here : toldSum r alone ≡ reportOf (itemsFrom c (keptAt r c) os)
     sum-here =
         sum-one (toldReport r alone) c 16 low (report-full (itemsFrom c (keptAt r c) (alone c))) empty-there

@@ -1,14 +1,12 @@
 -- THE REPORT THAT IS COUNTED OF A RUN OF CALLS (R21.10, R21.11), entry by entry from number, arguments and the answer that the core gives, is the report of the
 -- run of events that these calls spell: a function of the list that demand 3 speaks of, and of the drops.
-use Prim.Native.Nat.{ℕ, _<_}
-use mathlib.Core.Path.{_≡_, refl, sym, ap, ap₂, _∙_}
+use Prim.Native.Nat.{ℕ}
+use mathlib.Core.Path.{_≡_, refl, sym, ap, _∙_}
 use mathlib.Core.Bool.{true}
 use mathlib.Core.List.{List, [], _∷_, _++_, append-assoc}
-use lib.ListN.{length, replicate, getD-replicate}
+use lib.ListN.{replicate, getD-replicate}
 use Rattle.reading.specs.Feed.{Out}
-use Rattle.reading_lengths.specs.Listed.{Bytes}
 use Rattle.event_decode.specs.Calls.{callOf}
-use Rattle.report.specs.declared.Report.{Report}
 use Rattle.report.specs.Report.{emptyReport, addReports, reportOf}
 use Rattle.report_count.specs.declared.Run.{Run}
 use Rattle.report_count.specs.Count.{runBegun, eventCounted}
@@ -27,7 +25,7 @@ use Rattle.theorem_tally.specs.Items.{itemsFrom, sumTo, connectionReport
 use Rattle.theorem_tally.specs.Tally.{entriesCounted, eventsTimed, TimedBytes}
 use Rattle.theorem_tally.proofs.Sums.{sum-full, sum-below}
 use Rattle.theorem_tally.proofs.Same.{same-report}
-use Rattle.theorem_tally.proofs.Tallied.{keptAt, toldReport, toldSum, Tallied, tallied-same, none-tallied, both-tallied}
+use Rattle.theorem_tally.proofs.Tallied.{toldReport, toldSum, Tallied, tallied-same, none-tallied, both-tallied}
 use Rattle.theorem_tally.proofs.Calls.{ticks-silent, call-counted}
 
 module _ (image : List ℕ) where
@@ -44,7 +42,8 @@ module _ (image : List ℕ) where
   behind-ticks : (k n : ℕ) (m : Machine) (es : List Event)
       → givenIn image k (afterTicks image n m) es ≡ givenIn image k m (replicate n (onWhole tick) ++ es)
   behind-ticks k n m es =
-      sym (given-append k m (replicate n (onWhole tick)) es ∙ ap (λ (l : List Out). l ++ givenIn image k (afterTicks image n m) es) (ticks-silent image k [] n m))
+      sym (given-append k m (replicate n (onWhole tick)) es
+      ∙ ap (λ (l : List Out). l ++ givenIn image k (afterTicks image n m) es) (ticks-silent image k [] n m))
 
   call-behind : (k n : ℕ) (m : Machine) (es fs : List Event)
       → givenIn image k (afterTicks image n m) es ++ givenIn image k (afterRun image (afterTicks image n m) es) fs
