@@ -173,7 +173,9 @@ event-tallied number arguments answer r os told = go (ltb (connectionNamed argum
   where
     go : (b : Bool) → ltb (connectionNamed arguments) 16 ≡ b
         → Tallied r (alone r (connectionNamed arguments) os)
-        (cond b (afterCounting (connectionNamed arguments) r (countedAt (connectionNamed arguments) number answer (countingAt (connectionNamed arguments) r))) r)
+        (cond b
+        (afterCounting (connectionNamed arguments) r (countedAt (connectionNamed arguments) number answer (countingAt (connectionNamed arguments) r)))
+        r)
     go true e =
         alone-tallied r (connectionNamed arguments) os (ltb-true (connectionNamed arguments) 16 e)
         (countedAt (connectionNamed arguments) number answer (countingAt (connectionNamed arguments) r)) (told .0) (told .1)
@@ -228,7 +230,8 @@ module _ (image : List ℕ) (m : Machine) (body : List ℕ) (bytes : Bytes body)
   silent-tallied : (number : ℕ) (call : Call) → ((k : ℕ) → Silent image k body call) → takesIn number (answerOf (loanTo image m) body call) ≡ 0
       → Counted number call
   silent-tallied number call silent none =
-      subst (λ (d : Run). Tallied r (λ k. givenIn image k m (eventsOf body call)) d) (sym (none-counted number body (answerOf (loanTo image m) body call) r none))
+      subst (λ (d : Run). Tallied r (λ k. givenIn image k m (eventsOf body call)) d)
+      (sym (none-counted number body (answerOf (loanTo image m) body call) r none))
       (tallied-same r r (λ k. []) (λ k. givenIn image k m (eventsOf body call)) (λ k l. sym (silent k m)) (none-tallied r))
 
   unfit-segment : Counted 7 Unfit
