@@ -471,7 +471,7 @@ fn replayed(
 }
 
 // A replay that is counted for the foreman's report: the state, the report so far, and whether each answer was the recorded one.
-struct Counted {
+struct Tallied {
     state: State,
     run: Run,
     done: bool,
@@ -509,7 +509,7 @@ fn counted_entry(
     recording: &[u8],
     i: u16,
     at: usize,
-) -> Counted {
+) -> Tallied {
     let row = entry_row(recording, i);
     let rest = bytes_from(recording, at);
     let before = std::num::wrapping_sub_u32(stamp_in(row), 3);
@@ -517,7 +517,7 @@ fn counted_entry(
     let played = step.played;
     let now = step.state;
     let sums = run_after(run, row, rest, played, out);
-    Counted {
+    Tallied {
         state: now,
         run: sums,
         done: is_same(played),

@@ -1,2 +1,3 @@
 -- What the theorems speak of.
 pub mod Items
+pub mod Tally
