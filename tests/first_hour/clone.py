@@ -24,9 +24,15 @@ def copy(path, names):
         shutil.copy(os.path.join(ROOT, name), os.path.join(path, name))
 
 
+def bare(folder, name):
+    """A clone in which nothing is built."""
+    path = os.path.join(folder, "a path with spaces", name)
+    copy(path, tracked())
+    return path
+
+
 def clone(folder):
     """The sources first: what is built must not be older."""
-    path = os.path.join(folder, "a path with spaces", "a clone")
-    copy(path, tracked())
+    path = bare(folder, "a clone")
     copy(path, ["target/bin/check_image", "target/bin/run", "target/bin/replay", "target/bin/shorten", "target/bin/tally", "target/staticlib/libsoad.a"])
     return path

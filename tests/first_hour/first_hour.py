@@ -2,12 +2,13 @@
 compares counts as passed or failed."""
 import os
 import re
+import struct
 import subprocess
 import sys
 import tempfile
 import traceback
 
-from clone import ROOT, clone
+from clone import ROOT, bare, clone
 
 passed, failures = 0, []
 
@@ -129,8 +130,9 @@ def arguments():
         for words in ((verb,), (verb, ""), (verb, "to-text"), (verb, "to-text", ""), (verb, "", TABLE), (verb, "to-text", TABLE, TABLE)):
             misuse(words, f"{verb} takes a direction and a file")
         misuse((verb, "sideways", TABLE), f"{verb}: there is no direction sideways")
-    for words in (("test", ""), ("test", "all")):
-        misuse(words, "test takes no argument but --help")
+    for verb in ("test", "prove"):
+        for words in ((verb, ""), (verb, "all")):
+            misuse(words, f"{verb} takes no argument but --help")
     for words in (BENCH[:1], BENCH[:6], (*BENCH, "1"), (*BENCH[:6], ""), (BENCH[0], "", *BENCH[2:])):
         misuse(words, "bench-example takes two files and four numbers")
     help = soad("help")
@@ -139,7 +141,7 @@ def arguments():
         same(soad(*words), (2, "", help[1] + f"soad: {why}\n"), f"./soad {words}")
     for words in (("report",), ("report", TABLE), ("report", TABLE, ""), ("report", TABLE, RECORDING, "")):
         misuse(words, "report takes a table and recordings")
-    for verb in ("check", "run", "replay", "report", "record", "recording", "sheet", "table", "script", "bench-example", "test"):
+    for verb in ("check", "run", "replay", "report", "record", "recording", "sheet", "table", "script", "bench-example", "prove", "test"):
         status, out, error = soad(verb, "--help")
         true((status, error) == (0, "") and out.startswith(f"./soad {verb}"), f"./soad {verb} --help")
 
@@ -176,7 +178,9 @@ def version():
     number = contents("VERSION").decode()
     true(re.fullmatch(r"\d+\.\d+\.\d+\n", number), "VERSION is three numbers")
     kit = shell("rt version")[1]
-    same(soad("--version"), (0, f"Crumhornray: version {number}Rattle kit: {kit}", ""), "./soad --version")
+    status, out, error = soad("--version")
+    true(re.fullmatch(f"Crumhornray: version {re.escape(number)}Rattle kit: {re.escape(kit)}sources: .+\n", out), f"./soad --version: {out}")
+    same((status, error), (0, ""), "./soad --version: status and standard error")
     same(re.findall("^## ([^ ,:\n]*)", contents("CHANGELOG.md").decode(), re.M)[:1], [number.strip()], "the newest entry of CHANGELOG.md")
 
 
@@ -235,7 +239,68 @@ def read_only():
     shell("chmod -R u+w .")
 
 
-# 4. The table in its own file
+# 4. The first command: from sources that the gate has proved, and from others
+
+def until(line, *words, where):
+    """Starts ./soad and ends it as soon as standard error has a line that begins so, or when it ends; what it said there."""
+    with subprocess.Popen(["./soad", *words], cwd=where, stdin=subprocess.DEVNULL, stdout=subprocess.DEVNULL, stderr=subprocess.PIPE, text=True) as run:
+        said = []
+        for told in run.stderr:
+            said.append(told)
+            if told.startswith(line):
+                break
+        run.terminate()
+    return said
+
+
+def loaded(program):
+    """The sections of an ELF program that are loaded when it runs: its code and data, by name. The linker's number of the build (over notes that say
+    who compiled it, too) is left out."""
+    start, = struct.unpack_from("<Q", program, 40)
+    size, count, names = struct.unpack_from("<HHH", program, 58)
+    heads = [struct.unpack_from("<IIQQQQ", program, start + i * size) for i in range(count)]
+    text = heads[names][4]
+    sections = {program[text + name:program.index(b"\0", text + name)].decode(): (kind, at, length) for name, kind, flags, _, at, length in heads if flags & 2}
+    return {name: length if kind == 8 else program[at:at + length] for name, (kind, at, length) in sections.items() if name != ".note.gnu.build-id"}
+
+
+def sources():
+    """Where nothing is built: a tree of the sum in crates.sum is compiled, to the very program that the proof builds, and says so; a tree or a kit of
+    another sum is proved. The sum is written here for the kit of this machine."""
+    new = bare(FOLDER, "a new clone")
+    true(shell(".ci/sum --write && .ci/sum --check", where=new)[0] == 0, ".ci/sum of a clone")
+    sums = dict(line.split(" ", 1) for line in open(os.path.join(new, "crates.sum"), encoding="ascii").read().splitlines())
+    same(contents("crates.sum").decode().split("\n")[0], f"sources {sums['sources']}", "crates.sum is the sum of this tree")
+    status, out, error = shell('./soad "$@"', "check", TABLE, where=new)
+    same((status, out), soad("check", TABLE)[:2], "./soad check, built from sources")
+    same(error.split("\n")[0], "soad: building check_image from sources as proved by the gate at this sum; ./soad prove checks them here", "what is said of it")
+    true(error.endswith(f"; sources {sums['sources']}\n"), f"the sum is said: {error}")
+    with open(os.path.join(new, "target/sources/check_image"), "rb") as built:
+        ours, theirs = loaded(built.read()), loaded(contents("target", "bin", "check_image"))
+    true(len(ours[".text"]) > 1000, "a program has code")
+    same([name for name in {**ours, **theirs} if ours.get(name) != theirs.get(name)], [], "the program built from sources is the one that the proof builds: sections")
+    same(shell('./soad "$@"', "check", TABLE, where=new)[2], "", "./soad check, built before")
+    true(shell("./soad --version", where=new)[1].endswith(f"sources: as proved by the gate at this sum, {sums['sources']}\n"), "./soad --version of that sum")
+    for what, change in (("another source", "echo >>crates/wire/src/lib.rt"), ("a file more", "touch crates/wire/src/more"), ("a file less", "rm crates/wire/specs/Lib.antt"),
+                         ("another list of crates", "echo >>crates.txt"), ("another kit", "sed -i 's/^kit .*/kit of another day/' crates.sum"), ("no sum", "rm crates.sum")):
+        shell(f"cp -a . ../changed && cd ../changed && {change} && rm -rf target", where=new)
+        changed = os.path.join(FOLDER, "a path with spaces", "changed")
+        said = until("soad: proving ", "check", TABLE, where=changed)
+        same(said[:1], ["soad: these sources, or this kit, are not those that the gate has proved (crates.sum)\n"], f"./soad check of {what}")
+        true(said[-1].startswith("soad: proving "), f"./soad check of {what} proves: {said}")
+        if "kit" not in what:
+            same(shell(".ci/sum --check", where=changed)[:2], (1, "rule broken: crates.sum is not the sum of this tree (.ci/sum --write)\n"), f"the gate, of {what}")
+        shell("rm -rf ../changed", where=new)
+
+
+def proves():
+    """In this checkout, where all is proved: nothing is left to prove, and the last word is OK."""
+    status, out, error = shell("./soad prove", where=ROOT)
+    same((status, out), (0, "OK\n"), f"./soad prove: {error}")
+    true(re.search(r"\nsoad: check_image and run and replay and tally and shorten proved and built \([0-9]+ crates, [0-9]+ s\)\n$", error), f"./soad prove says what: {error}")
+
+
+# 5. The table in its own file
 
 def tables():
     """`run` refuses what `check` refuses, in the same words, whatever stands in the script."""
@@ -259,7 +324,7 @@ def tables():
     same(soad("run", file("table", image), file("script", data))[0], 0, "./soad run of the table as it is")
 
 
-# 5. docs/EVENTS.md
+# 6. docs/EVENTS.md
 
 def listing():
     """The listing that the page shows, and a line of a refusal."""
@@ -281,7 +346,7 @@ def room():
 
 with tempfile.TemporaryDirectory() as FOLDER:
     CLONE = clone(FOLDER)
-    for check in (readme_commands, elsewhere, arguments, page, statuses, version, outputs, reader_gone, tables, listing, room, read_only):
+    for check in (readme_commands, elsewhere, arguments, page, statuses, version, outputs, reader_gone, sources, proves, tables, listing, room, read_only):
         try:
             check()
         except Exception:
