@@ -14,9 +14,13 @@
 # x86-64, gcc the headers that belong to no C library (stdint.h, stddef.h, ..), and the kit's emulator runs the program, or
 # qemu-user's where the kit has none.
 
+# one at a time: several tests may run side by side
 install_package() {
-    echo "installing $1" >&2
-    apt-get install -y -q "$1" >/dev/null 2>&1 || { apt-get update -q >/dev/null 2>&1 && apt-get install -y -q "$1" >/dev/null; } || {
+    (
+        flock 9
+        echo "installing $1" >&2
+        apt-get install -y -q "$1" >/dev/null 2>&1 || { apt-get update -q >/dev/null 2>&1 && apt-get install -y -q "$1" >/dev/null; }
+    ) 9>"${TMPDIR:-/tmp}/soad-packages.lock" || {
         echo "the package $1 cannot be installed" >&2
         return 1
     }
