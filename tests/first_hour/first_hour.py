@@ -242,7 +242,7 @@ def read_only():
 # 4. The first command: from sources that the gate has proved, and from others
 
 def until(line, *words, where):
-    """Starts ./soad and ends it as soon as standard error has a line that begins so, or when it ends; what it said there."""
+    """Starts ./soad and ends it as soon as standard error has a line that begins so (or so), or when it ends; what it said there."""
     with subprocess.Popen(["./soad", *words], cwd=where, stdin=subprocess.DEVNULL, stdout=subprocess.DEVNULL, stderr=subprocess.PIPE, text=True) as run:
         said = []
         for told in run.stderr:
@@ -271,6 +271,11 @@ def sources():
     true(shell(".ci/sum --write && .ci/sum --check", where=new)[0] == 0, ".ci/sum of a clone")
     sums = dict(line.split(" ", 1) for line in open(os.path.join(new, "crates.sum"), encoding="ascii").read().splitlines())
     same(contents("crates.sum").decode().split("\n")[0], f"sources {sums['sources']}", "crates.sum is the sum of this tree")
+    said = until(("soad: built", "soad: proving"), "check", TABLE, where=new)
+    if said[1:2] == ["soad: this kit does not build them from sources\n"]:
+        true(said[2].startswith("soad: proving "), f"./soad check with a kit that builds nothing without a proof: {said}")
+        return print("first hour: this kit builds no program without a proof, so ./soad proves it")
+    shell("rm -rf target", where=new)
     status, out, error = shell('./soad "$@"', "check", TABLE, where=new)
     same((status, out), soad("check", TABLE)[:2], "./soad check, built from sources")
     same(error.split("\n")[0], "soad: building check_image from sources as proved by the gate at this sum; ./soad prove checks them here", "what is said of it")
