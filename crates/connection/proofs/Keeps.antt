@@ -8,7 +8,7 @@ use native.Mathlib.Omega.{arith}
 use native.Mathlib.Decide.{ℕ-discrete}
 use Rattle.receive_part.specs.declared.Part.{Part}
 use Rattle.receive_part.specs.declared.Part.the-variants.{Header, Payload, Skip, Transfer}
-use Rattle.receive_part.specs.Part.{shaped, emptyPart, transferring}
+use Rattle.receive_part.specs.Part.{shaped, emptyPart, readyPart, transferring}
 use Rattle.lists.proofs.Both.{impossible, and-left, and-right, and3}
 use Rattle.connection.specs.declared.Mode.{Mode}
 use Rattle.connection.specs.declared.Mode.the-variants.{Offline, Reconnect, Online}
@@ -18,9 +18,9 @@ use Rattle.connection.specs.declared.Connection.{Connection}
 use Rattle.connection.specs.declared.Config.{Config}
 use Rattle.connection.specs.declared.Event.{Event}
 use Rattle.connection.specs.declared.Event.the-variants.{Open, Close, Connected, Lost, SetRemote, Switch, Cancel}
-use Rattle.connection.specs.Connection.{isOffline, isReconnect, isOnline, wildcard, withMode, withRemote, withSwitches, withPart, withSend, withWatch, freshOf, become, openOf, closeOf, connectedOf, lostOf, remoteOf, aliveAfter, metOf, closedOf, startedOf, reachOf, runOf, expires, letGoOf, sunkOf, onward, tickOf}
+use Rattle.connection.specs.Connection.{isOffline, isReconnect, isOnline, wildcard, unwatched, withMode, withRemote, withSwitches, withPart, withSend, withWatch, freshOf, become, openOf, closeOf, connectedOf, lostOf, remoteOf, aliveAfter, metOf, closedOf, startedOf, reachOf, runOf, expires, letGoOf, sunkOf, onward, tickOf}
 use Rattle.connection.specs.Event.{openAllowed, closeAllowed, connectedAllowed, lostAllowed, remoteAllowed, cancelAllowed, allowed, recordAfter, stepOf}
-use Rattle.connection.specs.Sound.{Sound}
+use Rattle.connection.specs.Sound.{openRule, closeRule, SendSound, ReceiveSound, WatchSound, Sound}
 use Rattle.connection.proofs.Ticks.{step-either, started}
 
 -- a mode is one of the three
@@ -104,20 +104,25 @@ moving (Payload r l h) t = impossible t
 moving (Skip n) t = impossible t
 moving (Transfer r n) t = refl
 
+-- THE PARTS WITH NOTHING IN THEM: no send bytes, no receive part, nobody watched, in any mode
+module _ (g : Config) (c : Connection) where
+  pub nothing-sent : SendSound g (withSend 0 0 false c)
+  nothing-sent = record { fits = leb·zero (g .size); sending = refl; timing = refl; once = refl }
+
+  nothing-received : ReceiveSound g (withPart readyPart c)
+  nothing-received = record { shape = refl; receiving = refl }
+
+  nobody-watched : WatchSound g (withWatch unwatched c)
+  nobody-watched = record { watching = refl }
+
 -- a record with nothing wanted or held is sound under every row, whatever row it comes from
 pub bare-sound : (g h : Config) → Sound g (freshOf h)
 bare-sound g h =
     record {
-      fits = leb·zero (g .size);
-      shape = refl;
-      receiving = refl;
-      sending = refl;
-      timing = refl;
-      once = refl;
-      reached = refl;
-      opening = refl;
-      closing = refl;
-      watching = refl;
+      send = nothing-sent g (freshOf h);
+      wishes = record { reached = refl; opening = refl; closing = refl };
+      receive = nothing-received g (freshOf h);
+      watch = nobody-watched g (freshOf h);
     }
 
 pub fresh-sound : (g : Config) → Sound g (freshOf g)
@@ -125,31 +130,25 @@ fresh-sound g = bare-sound g g
 
 module _ (g : Config) (c : Connection) (s : Sound g c) where
   -- other wishes, where their two rules allow them
-  wishes-keep : (o k : Bool) → (not o || (not (g .automatic) && isOffline (c .mode) && not k)) ≡ true → (not k || not (g .automatic) || (g .tcp && not (isOffline (c .mode)))) ≡ true
+  pub wishes-keep : (o k : Bool) → openRule g (withMode (c .mode) o k c) ≡ true → closeRule g (withMode (c .mode) o k c) ≡ true
       → Sound g (withMode (c .mode) o k c)
   wishes-keep o k p q =
       record {
-        fits = s .fits;
-        shape = s .shape;
-        receiving = s .receiving;
-        sending = s .sending;
-        timing = s .timing;
-        once = s .once;
-        reached = s .reached;
-        opening = p;
-        closing = q;
-        watching = s .watching;
+        send = s .send;
+        wishes = record { reached = s .wishes .reached; opening = p; closing = q };
+        receive = s .receive;
+        watch = s .watch;
       }
 
   pub open-keeps : openAllowed g c ≡ true → Sound g (openOf c)
-  open-keeps a = wishes-keep true (c .«close_wanted») a (s .closing)
+  open-keeps a = wishes-keep true (c .«close_wanted») a (s .wishes .closing)
 
   pub close-keeps : closeAllowed g c ≡ true → Sound g (closeOf c)
   close-keeps a = wishes-keep false true refl (rw (and-left (not (g .automatic)) _ a))
 
   -- R19.8: only an online TCP record has a transfer
   pub moves-online : transferring (c .part) ≡ true → (isOnline (c .mode) && g .tcp) ≡ true
-  moves-online t = rw (moving (c .part) t) at (s .receiving)
+  moves-online t = rw (moving (c .part) t) at (s .receive .receiving)
 
   -- the close that a cancel wants stands on an online TCP record, automatic or not
   pub cancel-keeps : cancelAllowed c ≡ true → Sound g (closeOf c)
@@ -160,23 +159,22 @@ module _ (g : Config) (c : Connection) (s : Sound g c) where
 
   -- a record that is not offline goes online: no open is wanted, and no close that was not
   up-keeps : (r : Remote) (v : Watch) → isOffline (c .mode) ≡ false → not (c .«close_wanted») ≡ true → wildcard r ≡ false
-      → (eqb (v .alive) 0 || (true && not (g .tcp) && leb (v .alive) (g .alive))) ≡ true → Sound g (withWatch v (become Online (withRemote r c)))
+      → WatchSound g (withWatch v (become Online c)) → Sound g (withWatch v (become Online (withRemote r c)))
   up-keeps r v off k w a =
       record {
-        fits = s .fits;
-        shape = s .shape;
-        receiving = online-too (emptyPart (c .part)) (isOnline (c .mode)) (g .tcp) (s .receiving);
-        sending = or-true (eqb (c .used) 0);
-        timing = s .timing;
-        once = s .once;
-        reached = ap not w;
-        opening = rw off at (s .opening);
-        closing = or-left (not (c .«close_wanted»)) (not (g .automatic)) (g .tcp && true) k;
-        watching = a;
+        send = record { fits = s .send .fits; sending = or-true (eqb (c .used) 0); timing = s .send .timing; once = s .send .once };
+        wishes = record {
+          reached = ap not w;
+          opening = rw off at (s .wishes .opening);
+          closing = or-left (not (c .«close_wanted»)) (not (g .automatic)) (g .tcp && true) k;
+        };
+        receive = record { shape = s .receive .shape; receiving = online-too (emptyPart (c .part)) (isOnline (c .mode)) (g .tcp) (s .receive .receiving) };
+        watch = a;
       }
 
-  still-watched : (eqb (c .watch .alive) 0 || (true && not (g .tcp) && leb (c .watch .alive) (g .alive))) ≡ true
-  still-watched = online-watched (eqb (c .watch .alive) 0) (isOnline (c .mode)) (not (g .tcp)) (leb (c .watch .alive) (g .alive)) (s .watching)
+  still-watched : WatchSound g (become Online c)
+  still-watched =
+      record { watching = online-watched (eqb (c .watch .alive) 0) (isOnline (c .mode)) (not (g .tcp)) (leb (c .watch .alive) (g .alive)) (s .watch .watching) }
 
   pub connected-keeps : connectedAllowed g c ≡ true → Sound g (connectedOf c)
   connected-keeps a =
@@ -190,84 +188,54 @@ module _ (g : Config) (c : Connection) (s : Sound g c) where
   unfolding aliveAfter
   met-keeps r n a w =
       up-keeps r _ (not-true _ (and-left (not (isOffline (c .mode))) _ a)) (and-right (not (isOffline (c .mode))) _ a) w
-      (met-watched (g .tcp) (wildcard (c .remote)) (c .watch .alive) (g .alive) n)
+      (record { watching = met-watched (g .tcp) (wildcard (c .remote)) (c .watch .alive) (g .alive) n })
 
   pub lost-keeps : lostAllowed g c ≡ true → Sound g (lostOf g c)
   lost-keeps a =
       let off : isOffline (c .mode) ≡ false = online-not-offline (c .mode) (and-right (g .tcp) _ a) in
       record {
-        fits = leb·zero (g .size);
-        shape = refl;
-        receiving = refl;
-        sending = refl;
-        timing = refl;
-        once = refl;
-        reached = refl;
-        opening = rw off at (s .opening);
-        closing = rw off at (s .closing);
-        watching = refl;
+        send = nothing-sent g c;
+        wishes = record { reached = refl; opening = rw off at (s .wishes .opening); closing = rw off at (s .wishes .closing) };
+        receive = nothing-received g c;
+        watch = nobody-watched g c;
       }
 
   pub remote-keeps : (r : Remote) → remoteAllowed c ≡ true → Sound g (remoteOf r c)
   remote-keeps r a =
       record {
-        fits = s .fits;
-        shape = s .shape;
-        receiving = s .receiving;
-        sending = s .sending;
-        timing = s .timing;
-        once = s .once;
-        reached = rw a;
-        opening = s .opening;
-        closing = s .closing;
-        watching = s .watching;
+        send = s .send;
+        wishes = record { reached = rw a; opening = s .wishes .opening; closing = s .wishes .closing };
+        receive = s .receive;
+        watch = s .watch;
       }
 
   pub switches-keep : (w : ℕ) → Sound g (withSwitches w c)
   switches-keep w =
       record {
-        fits = s .fits;
-        shape = s .shape;
-        receiving = s .receiving;
-        sending = s .sending;
-        timing = s .timing;
-        once = s .once;
-        reached = s .reached;
-        opening = s .opening;
-        closing = s .closing;
-        watching = s .watching;
+        send = s .send;
+        wishes = s .wishes;
+        receive = s .receive;
+        watch = s .watch;
       }
 
   -- an online TCP record has any receive part that is shaped
   pub part-keeps : (p : Part) → shaped p ≡ true → (isOnline (c .mode) && g .tcp) ≡ true → Sound g (withPart p c)
   part-keeps p q a =
       record {
-        fits = s .fits;
-        shape = q;
-        receiving = rw a (or-true (emptyPart p));
-        sending = s .sending;
-        timing = s .timing;
-        once = s .once;
-        reached = s .reached;
-        opening = s .opening;
-        closing = s .closing;
-        watching = s .watching;
+        send = s .send;
+        wishes = s .wishes;
+        receive = record { shape = q; receiving = rw a (or-true (emptyPart p)) };
+        watch = s .watch;
       }
 
-  -- an online record has any send bytes within its size, timed by the rules
-  pub send-keeps : (u t : ℕ) (d : Bool) → leb u (g .size) ≡ true → (eqb u 0 || isOnline (c .mode)) ≡ true → ((eqb t 0 && not d) || ltb 0 u) ≡ true → (eqb t 0 || not d) ≡ true → Sound g (withSend u t d c)
-  send-keeps u t d f b e o =
+  -- a record has any send bytes that meet their rules
+  pub send-keeps : (u t : ℕ) (d : Bool) → SendSound g (withSend u t d c) → Sound g (withSend u t d c)
+  send-keeps u t d p =
       record {
-        fits = f;
-        shape = s .shape;
-        receiving = s .receiving;
-        sending = b;
-        timing = e;
-        once = o;
-        reached = s .reached;
-        opening = s .opening;
-        closing = s .closing;
-        watching = s .watching;
+        send = p;
+        wishes = s .wishes;
+        receive = s .receive;
+        watch = s .watch;
       }
 
   -- every event that is allowed
@@ -295,16 +263,14 @@ module _ (g : Config) (c : Connection) (s : Sound g c) where
           let off : isOffline (c .mode) ≡ true = and-left (isOffline (c .mode)) _ e in
           let on : isOnline (c .mode) ≡ false = offline-not-online (c .mode) off in
           record {
-            fits = s .fits;
-            shape = s .shape;
-            receiving = rw on at (s .receiving);
-            sending = rw on at (s .sending);
-            timing = s .timing;
-            once = s .once;
-            reached = refl;
-            opening = refl;
-            closing = weaken (not (c .«close_wanted») || not (g .automatic)) (g .tcp) (rw off at (s .closing));
-            watching = rw on at (s .watching);
+            send = record { fits = s .send .fits; sending = rw on at (s .send .sending); timing = s .send .timing; once = s .send .once };
+            wishes = record {
+              reached = refl;
+              opening = refl;
+              closing = weaken (not (c .«close_wanted») || not (g .automatic)) (g .tcp) (rw off at (s .wishes .closing));
+            };
+            receive = record { shape = s .receive .shape; receiving = rw on at (s .receive .receiving) };
+            watch = record { watching = rw on at (s .watch .watching) };
           }
 
   pub reach-keeps : c .«close_wanted» ≡ false → Sound g (reachOf g c)
@@ -332,51 +298,44 @@ module _ (g : Config) (c : Connection) (s : Sound g c) where
       go : (b : Bool) → eqb (c .timer) 0 ≡ b → Sound g (cond b c (withSend (c .used) (c .timer - 1) (eqb (c .timer) 1 || c .due) c))
       go true e = s
       go false e =
-          let waiting : ltb 0 (c .used) ≡ true = rw e at (s .timing) in
-          let quiet : c .due ≡ false = not-true _ (rw e at (s .once)) in
-          send-keeps (c .used) (c .timer - 1) (eqb (c .timer) 1 || c .due) (s .fits) (s .sending) (rw waiting (or-true (eqb (c .timer - 1) 0 && not (eqb (c .timer) 1 || c .due)))) (last (eqb (c .timer) 1) (c .due) refl quiet)
+          let waiting : ltb 0 (c .used) ≡ true = rw e at (s .send .timing) in
+          let quiet : c .due ≡ false = not-true _ (rw e at (s .send .once)) in
+          send-keeps (c .used) (c .timer - 1) (eqb (c .timer) 1 || c .due) (record {
+            fits = s .send .fits;
+            sending = s .send .sending;
+            timing = rw waiting (or-true (eqb (c .timer - 1) 0 && not (eqb (c .timer) 1 || c .due)));
+            once = last (eqb (c .timer) 1) (c .due) refl quiet;
+          })
 
   -- the alive part of a tick
   pub sink-keeps : Sound g (sunkOf c)
   sink-keeps =
       record {
-        fits = s .fits;
-        shape = s .shape;
-        receiving = s .receiving;
-        sending = s .sending;
-        timing = s .timing;
-        once = s .once;
-        reached = s .reached;
-        opening = s .opening;
-        closing = s .closing;
-        watching = sunk-watched (c .watch .alive) (g .alive) (isOnline (c .mode)) (not (g .tcp)) (s .watching);
+        send = s .send;
+        wishes = s .wishes;
+        receive = s .receive;
+        watch = record { watching = sunk-watched (c .watch .alive) (g .alive) (isOnline (c .mode)) (not (g .tcp)) (s .watch .watching) };
       }
 
   -- an alive timer that ends is on an online connection that is not TCP
   pub let-go-watched : expires g c ≡ true → (isOnline (c .mode) ≡ true) × (not (g .tcp) ≡ true)
   let-go-watched e =
       let one : c .watch .alive ≡ 1 = eqb-true _ _ (and3 (eqb (c .watch .alive) 1) (not (c .watch .«remote_set»)) (not (g .tcp)) e .0) in
-      let w = watched-by (eqb (c .watch .alive) 0) (isOnline (c .mode)) (not (g .tcp)) (leb (c .watch .alive) (g .alive)) (rw one) (s .watching) in
+      let w = watched-by (eqb (c .watch .alive) 0) (isOnline (c .mode)) (not (g .tcp)) (leb (c .watch .alive) (g .alive)) (rw one) (s .watch .watching) in
       (w .0, w .1)
 
-  -- it holds no receive part
-  pub let-go-keeps : expires g c ≡ true → Sound g (letGoOf g c)
-  let-go-keeps e =
-      let w = let-go-watched e in
-      let off : isOffline (c .mode) ≡ false = online-not-offline (c .mode) (w .0) in
-      let udp : g .tcp ≡ false = not-true _ (w .1) in
+  -- a UDP connection that goes back to reconnect: it holds no receive part
+  pub back-keeps : isOffline (c .mode) ≡ false → g .tcp ≡ false → Sound g (letGoOf g c)
+  back-keeps off udp =
       record {
-        fits = leb·zero (g .size);
-        shape = s .shape;
-        receiving = no-tcp (emptyPart (c .part)) (isOnline (c .mode)) (g .tcp) udp (s .receiving);
-        sending = refl;
-        timing = refl;
-        once = refl;
-        reached = refl;
-        opening = rw off at (s .opening);
-        closing = rw off at (s .closing);
-        watching = refl;
+        send = nothing-sent g c;
+        wishes = record { reached = refl; opening = rw off at (s .wishes .opening); closing = rw off at (s .wishes .closing) };
+        receive = record { shape = s .receive .shape; receiving = no-tcp (emptyPart (c .part)) (isOnline (c .mode)) (g .tcp) udp (s .receive .receiving) };
+        watch = nobody-watched g c;
       }
+
+  pub let-go-keeps : expires g c ≡ true → Sound g (letGoOf g c)
+  let-go-keeps e = let w = let-go-watched e in back-keeps (online-not-offline (c .mode) (w .0)) (not-true _ (w .1))
 
 pub tick-keeps : (g : Config) (c : Connection) → Sound g c → Sound g (tickOf g c)
 unfolding tickOf

@@ -14,42 +14,45 @@ use Rattle.connection.specs.declared.Config.{Config}
 use Rattle.connection.specs.Connection.{isOffline, wildFields, zeroRecord}
 use Rattle.connection.specs.Sound.{usedFits, partShaped, receives, sends, timed, neverBoth, onlineRemote, openRule, closeRule, watched, soundOf, Sound, zeroOf}
 
--- ten tests that hold together hold each
-ten : (a b c d e f g h i j : Bool) → (a && b && c && d && e && f && g && h && i && j) ≡ true
-    → (a ≡ true) × (b ≡ true) × (c ≡ true) × (d ≡ true) × (e ≡ true) × (f ≡ true) × (g ≡ true) × (h ≡ true) × (i ≡ true) × (j ≡ true)
-ten false b c d e f g h i j p = impossible p
-ten true false c d e f g h i j p = impossible p
-ten true true false d e f g h i j p = impossible p
-ten true true true false e f g h i j p = impossible p
-ten true true true true false f g h i j p = impossible p
-ten true true true true true false g h i j p = impossible p
-ten true true true true true true false h i j p = impossible p
-ten true true true true true true true false i j p = impossible p
-ten true true true true true true true true false j p = impossible p
-ten true true true true true true true true true false p = impossible p
-ten true true true true true true true true true true p = (refl, refl, refl, refl, refl, refl, refl, refl, refl, refl)
+-- the last of some tests that hold together, and those before it
+both : {a b : Bool} → (a && b) ≡ true → (a ≡ true) × (b ≡ true)
+both {a} {b} p = (and-left a b p, and-right a b p)
 
 module _ (g : Config) (c : Connection) where
   pub sound-from : soundOf g c ≡ true → Sound g c
   unfolding soundOf
-  sound-from p =
-      let n = ten (usedFits g c) (partShaped c) (receives g c) (sends c) (timed c) (neverBoth c) (onlineRemote c) (openRule g c) (closeRule g c) (watched g c) p in
+  sound-from all =
+      let (before, watching) = both all in
+      let (before, closing) = both before in
+      let (before, opening) = both before in
+      let (before, reached) = both before in
+      let (before, once) = both before in
+      let (before, timing) = both before in
+      let (before, sending) = both before in
+      let (before, receiving) = both before in
+      let (fits, shape) = both before in
       record {
-        fits = n .0;
-        shape = n .1;
-        receiving = n .2;
-        sending = n .3;
-        timing = n .4;
-        once = n .5;
-        reached = n .6;
-        opening = n .7;
-        closing = n .8;
-        watching = n .9;
+        send = record { fits = fits; sending = sending; timing = timing; once = once };
+        wishes = record { reached = reached; opening = opening; closing = closing };
+        receive = record { shape = shape; receiving = receiving };
+        watch = record { watching = watching };
       }
 
   pub sound-to : Sound g c → soundOf g c ≡ true
   unfolding soundOf
-  sound-to s = rw (s .fits, s .shape, s .receiving, s .sending, s .timing, s .once, s .reached, s .opening, s .closing, s .watching)
+  sound-to s =
+      rw (
+        s .send .fits,
+        s .receive .shape,
+        s .receive .receiving,
+        s .send .sending,
+        s .send .timing,
+        s .send .once,
+        s .wishes .reached,
+        s .wishes .opening,
+        s .wishes .closing,
+        s .watch .watching,
+      )
 
 offline-is : (m : Mode) → isOffline m ≡ true → m ≡ Offline
 offline-is Offline p = refl
@@ -69,23 +72,31 @@ empty-is (Transfer r n) e = impossible e
 -- a record that tests as all zero is the zero record
 pub zero-is : (c : Connection) → zeroOf c ≡ true → c ≡ zeroRecord
 unfolding zeroOf
-zero-is c p =
-    let n =
-    ten (isOffline (c .mode)) (not (c .«open_wanted»)) (not (c .«close_wanted»)) (wildFields (c .remote) .address && wildFields (c .remote) .port)
-    (eqb (c .switches) 0) (emptyPart (c .part)) (eqb (c .used) 0) (eqb (c .timer) 0) (not (c .due)) (eqb (c .watch .alive) 0 && not (c .watch .«remote_set»)) p in
+zero-is c all =
+    let (before, watch) = both all in
+    let (before, due) = both before in
+    let (before, timer) = both before in
+    let (before, used) = both before in
+    let (before, part) = both before in
+    let (before, switches) = both before in
+    let (before, remote) = both before in
+    let (before, close) = both before in
+    let (mode, wish) = both before in
+    let (address, port) = both remote in
+    let (alive, mark) = both watch in
     rw (
-      offline-is (c .mode) (n .0),
-      not-true (c .«open_wanted») (n .1),
-      not-true (c .«close_wanted») (n .2),
-      eqb-true (c .remote .address) 0 (and-left (wildFields (c .remote) .address) _ (n .3)),
-      eqb-true (c .remote .port) 0 (and-right (wildFields (c .remote) .address) _ (n .3)),
-      eqb-true (c .switches) 0 (n .4),
-      empty-is (c .part) (n .5),
-      eqb-true (c .used) 0 (n .6),
-      eqb-true (c .timer) 0 (n .7),
-      not-true (c .due) (n .8),
-      eqb-true (c .watch .alive) 0 (and-left (eqb (c .watch .alive) 0) _ (n .9)),
-      not-true (c .watch .«remote_set») (and-right (eqb (c .watch .alive) 0) _ (n .9)),
+      offline-is (c .mode) mode,
+      not-true (c .«open_wanted») wish,
+      not-true (c .«close_wanted») close,
+      eqb-true (c .remote .address) 0 address,
+      eqb-true (c .remote .port) 0 port,
+      eqb-true (c .switches) 0 switches,
+      empty-is (c .part) part,
+      eqb-true (c .used) 0 used,
+      eqb-true (c .timer) 0 timer,
+      not-true (c .due) due,
+      eqb-true (c .watch .alive) 0 alive,
+      not-true (c .watch .«remote_set») mark,
     )
 
 -- and the zero record does

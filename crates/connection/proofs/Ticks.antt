@@ -14,7 +14,7 @@ use Rattle.connection.specs.declared.Config.{Config}
 use Rattle.connection.specs.declared.Refusal.the-variants.{Missing, Denied}
 use Rattle.connection.specs.declared.Answer.the-variants.{Done}
 use Rattle.connection.specs.declared.Event.{Event}
-use Rattle.connection.specs.Connection.{isReconnect, isOnline, wildcard, withWatch, closedOf, startedOf, reachOf, runOf, expires, letGoOf, sunkOf, onward, tickOf}
+use Rattle.connection.specs.Connection.{isReconnect, isOnline, wildcard, aliveAt, withWatch, closedOf, startedOf, reachOf, runOf, expires, letGoOf, sunkOf, onward, tickOf}
 use Rattle.connection.specs.Event.{known, allowed, recordAfter, refusedBy, stepOf}
 
 -- AN EVENT leaves the record, or, where it is known and allowed, makes of it what its own sentence says
@@ -47,7 +47,7 @@ module _ (g : Config) (c : Connection) where
 pub sunk-none : (c : Connection) → c .watch .alive ≡ 0 → c ≡ sunkOf c
 sunk-none c e =
     let same : c .watch .alive ≡ c .watch .alive - 1 = omega arith in
-    ap (λ (a : ℕ). withWatch (record { alive = a; «remote_set» = c .watch .«remote_set» }) c) same
+    ap (λ (a : ℕ). withWatch (aliveAt a (c .watch)) c) same
 
 -- A TICK THAT NEITHER CLOSES NOR LETS GO leaves part, send bytes, switches, remote, watch and the wish to close as they were once the alive
 -- timer has fallen, a TCP connection online or not, and each that is online online

@@ -44,100 +44,50 @@ wildcard r = wildFields r .address || wildFields r .port
 abbrev pub unwatched : Watch
 unwatched = record { alive = 0; «remote_set» = false }
 
--- The record with some fields replaced: what events make of it is said through these six.
+-- another alive timer; the mark that the upper layer set the remote; each time the rest of the watch stays
+abbrev pub aliveAt : ℕ → Watch → Watch
+aliveAt a w = record { alive = a; «remote_set» = w .«remote_set» }
 
--- another mode, other wishes (open, close)
-abbrev pub withMode : Mode → Bool → Bool → Connection → Connection
-withMode m o k c =
+abbrev pub markSet : Watch → Watch
+markSet w = record { alive = w .alive; «remote_set» = true }
+
+-- The record with some fields replaced: what events make of it is said through the six definitions after this one, which alone writes the
+-- fields out. A field that none of the six replaces is taken over here.
+abbrev remade : Mode → Bool → Bool → Remote → ℕ → Part → ℕ → ℕ → Bool → Watch → Connection → Connection
+remade m o k r w p u t d v c =
     record {
       mode = m;
       «open_wanted» = o;
       «close_wanted» = k;
-      remote = c .remote;
-      switches = c .switches;
-      part = c .part;
-      used = c .used;
-      timer = c .timer;
-      due = c .due;
-      watch = c .watch;
-    }
-
-abbrev pub withRemote : Remote → Connection → Connection
-withRemote r c =
-    record {
-      mode = c .mode;
-      «open_wanted» = c .«open_wanted»;
-      «close_wanted» = c .«close_wanted»;
       remote = r;
-      switches = c .switches;
-      part = c .part;
-      used = c .used;
-      timer = c .timer;
-      due = c .due;
-      watch = c .watch;
-    }
-
-abbrev pub withSwitches : ℕ → Connection → Connection
-withSwitches w c =
-    record {
-      mode = c .mode;
-      «open_wanted» = c .«open_wanted»;
-      «close_wanted» = c .«close_wanted»;
-      remote = c .remote;
       switches = w;
-      part = c .part;
-      used = c .used;
-      timer = c .timer;
-      due = c .due;
-      watch = c .watch;
-    }
-
-abbrev pub withPart : Part → Connection → Connection
-withPart p c =
-    record {
-      mode = c .mode;
-      «open_wanted» = c .«open_wanted»;
-      «close_wanted» = c .«close_wanted»;
-      remote = c .remote;
-      switches = c .switches;
       part = p;
-      used = c .used;
-      timer = c .timer;
-      due = c .due;
-      watch = c .watch;
-    }
-
--- other send bytes, timer, due mark
-abbrev pub withSend : ℕ → ℕ → Bool → Connection → Connection
-withSend u t d c =
-    record {
-      mode = c .mode;
-      «open_wanted» = c .«open_wanted»;
-      «close_wanted» = c .«close_wanted»;
-      remote = c .remote;
-      switches = c .switches;
-      part = c .part;
       used = u;
       timer = t;
       due = d;
-      watch = c .watch;
+      watch = v;
     }
+
+-- another mode, other wishes (open, close)
+abbrev pub withMode : Mode → Bool → Bool → Connection → Connection
+withMode m o k c = remade m o k (c .remote) (c .switches) (c .part) (c .used) (c .timer) (c .due) (c .watch) c
+
+abbrev pub withRemote : Remote → Connection → Connection
+withRemote r c = remade (c .mode) (c .«open_wanted») (c .«close_wanted») r (c .switches) (c .part) (c .used) (c .timer) (c .due) (c .watch) c
+
+abbrev pub withSwitches : ℕ → Connection → Connection
+withSwitches w c = remade (c .mode) (c .«open_wanted») (c .«close_wanted») (c .remote) w (c .part) (c .used) (c .timer) (c .due) (c .watch) c
+
+abbrev pub withPart : Part → Connection → Connection
+withPart p c = remade (c .mode) (c .«open_wanted») (c .«close_wanted») (c .remote) (c .switches) p (c .used) (c .timer) (c .due) (c .watch) c
+
+-- other send bytes, timer, due mark
+abbrev pub withSend : ℕ → ℕ → Bool → Connection → Connection
+withSend u t d c = remade (c .mode) (c .«open_wanted») (c .«close_wanted») (c .remote) (c .switches) (c .part) u t d (c .watch) c
 
 -- another alive timer, another mark that the upper layer set the remote
 abbrev pub withWatch : Watch → Connection → Connection
-withWatch w c =
-    record {
-      mode = c .mode;
-      «open_wanted» = c .«open_wanted»;
-      «close_wanted» = c .«close_wanted»;
-      remote = c .remote;
-      switches = c .switches;
-      part = c .part;
-      used = c .used;
-      timer = c .timer;
-      due = c .due;
-      watch = w;
-    }
+withWatch v c = remade (c .mode) (c .«open_wanted») (c .«close_wanted») (c .remote) (c .switches) (c .part) (c .used) (c .timer) (c .due) v c
 
 -- R2.12: a fresh record is offline, wants and holds nothing, and has remote and switches from the table
 abbrev pub freshOf : Config → Connection
@@ -155,10 +105,17 @@ freshOf g =
       watch = unwatched;
     }
 
+-- a remote that is all zero: both fields a wildcard
+abbrev pub zeroRemote : Remote
+zeroRemote = record { address = 0; port = 0 }
+
+-- the configuration of a row that is all zero
+abbrev pub zeroConfig : Config
+zeroConfig = record { tcp = false; automatic = false; remote = zeroRemote; size = 0; alive = 0; switches = 0 }
+
 -- the record that is all zero: fresh, with nothing from a table
 abbrev pub zeroRecord : Connection
-zeroRecord =
-    freshOf (record { tcp = false; automatic = false; remote = record { address = 0; port = 0 }; size = 0; alive = 0; switches = 0 })
+zeroRecord = freshOf zeroConfig
 
 -- the wishes stay, the mode changes
 abbrev pub become : Mode → Connection → Connection
@@ -190,7 +147,7 @@ lostOf g c = become Reconnect (resetOf g (emptied c))
 
 -- R8.7, R20.5: set remote, with the mark that the upper layer did
 abbrev pub remoteOf : Remote → Connection → Connection
-remoteOf r c = withWatch (record { alive = c .watch .alive; «remote_set» = true }) (withRemote r c)
+remoteOf r c = withWatch (markSet (c .watch)) (withRemote r c)
 
 -- R20.3: a source that replaces a wildcard starts the alive timer at the limit, and while it runs every source starts it again
 unfoldable pub aliveAfter : Config → Connection → ℕ
@@ -198,7 +155,7 @@ aliveAfter g c = cond (wildcard (c .remote) || ltb 0 (c .watch .alive)) (g .aliv
 
 -- R7.6: it becomes online with the source as remote; the mark stays
 abbrev pub metOf : Config → Remote → Connection → Connection
-metOf g source c = withWatch (record { alive = aliveAfter g c; «remote_set» = c .watch .«remote_set» }) (become Online (withRemote source c))
+metOf g source c = withWatch (aliveAt (aliveAfter g c) (c .watch)) (become Online (withRemote source c))
 
 -- R2.3: switch n is the bit worth 2 to the n; a number above 31 is no switch
 unfoldable pub worth : ℕ → ℕ
@@ -238,7 +195,7 @@ letGoOf g c = become Reconnect (resetOf g (withSend 0 0 false c))
 
 -- R20.4: else a running alive timer falls by 1; at 0 it has stopped
 abbrev pub sunkOf : Connection → Connection
-sunkOf c = withWatch (record { alive = c .watch .alive - 1; «remote_set» = c .watch .«remote_set» }) c
+sunkOf c = withWatch (aliveAt (c .watch .alive - 1) (c .watch)) c
 
 -- what a tick does where it neither closes nor lets go: R9.3, R9.4, R9.5
 abbrev pub onward : Config → Connection → Connection

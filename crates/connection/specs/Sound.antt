@@ -61,18 +61,30 @@ soundOf g c =
     && closeRule g c
     && watched g c
 
--- these rules as facts, each by its name
+-- THESE RULES AS FACTS, each by its name, in four parts. A part speaks of some fields alone, so what leaves these fields leaves the part as it is:
+-- a law about an event writes out the parts that the event touches, and takes the others over whole.
+
+-- the send bytes: R3.2, R3.6, R3.7, R3.8
+abbrev pub SendSound : Config → Connection → Type 0
+SendSound g c = record { fits : usedFits g c ≡ true; sending : sends c ≡ true; timing : timed c ≡ true; once : neverBoth c ≡ true }
+
+-- the remote and the wishes: R3.9, R3.10, R3.11
+abbrev pub WishSound : Config → Connection → Type 0
+WishSound g c = record { reached : onlineRemote c ≡ true; opening : openRule g c ≡ true; closing : closeRule g c ≡ true }
+
+-- the receive part: R3.3, R3.5
+abbrev pub ReceiveSound : Config → Connection → Type 0
+ReceiveSound g c = record { shape : partShaped c ≡ true; receiving : receives g c ≡ true }
+
+-- the watch: R20.2
+abbrev pub WatchSound : Config → Connection → Type 0
+WatchSound g c = record { watching : watched g c ≡ true }
+
 pub record Sound (g : Config) (c : Connection) : Type 0 where
-  pub fits : usedFits g c ≡ true
-  pub shape : partShaped c ≡ true
-  pub receiving : receives g c ≡ true
-  pub sending : sends c ≡ true
-  pub timing : timed c ≡ true
-  pub once : neverBoth c ≡ true
-  pub reached : onlineRemote c ≡ true
-  pub opening : openRule g c ≡ true
-  pub closing : closeRule g c ≡ true
-  pub watching : watched g c ≡ true
+  pub send : SendSound g c
+  pub wishes : WishSound g c
+  pub receive : ReceiveSound g c
+  pub watch : WatchSound g c
 
 -- R2.14, R3.1: records past the row count are all zero
 unfoldable pub zeroOf : Connection → Bool

@@ -219,9 +219,10 @@ impl Connection {
     pub fn set_remote(self, remote: Remote) -> Connection
         ensures { λ r. ⌜ r ≡ Is.remoteOf remote self ⌝ }
     {
+        let before = self.watch;
         let watch = Watch {
-            alive: self.watch.alive,
             remote_set: true,
+            ..before
         };
         Connection {
             remote: remote,
@@ -244,9 +245,10 @@ impl Connection {
     pub fn met(self, config: Config, source: Remote) -> Connection
         ensures { λ r. ⌜ r ≡ Is.metOf config source self ⌝ }
     {
+        let before = self.watch;
         let watch = Watch {
             alive: self.alive_after(config),
-            remote_set: self.watch.remote_set,
+            ..before
         };
         Connection {
             mode: Mode::Online,
@@ -298,13 +300,14 @@ impl Connection {
     fn sink(self) -> Connection
         ensures { λ r. ⌜ r ≡ Is.sunkOf self ⌝ }
     {
-        let alive = self.watch.alive;
+        let before = self.watch;
+        let alive = before.alive;
         if alive == 0 {
             return self;
         }
         let watch = Watch {
             alive: alive - 1,
-            remote_set: self.watch.remote_set,
+            ..before
         };
         Connection {
             watch: watch,

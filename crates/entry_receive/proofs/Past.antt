@@ -85,7 +85,7 @@ module _ (l : Lent) (passed : Passed l) (n : ℕ) (there : n < rowsOf (l .image)
       go (yes h) =
           let one : soundAt image n (recordAt s n) ≡ true = record-at image (s .connections) n (passed .sound) h in
           record {
-            shape = row-sound image n (recordAt s n) one there .shape;
+            shape = row-sound image n (recordAt s n) one there .receive .shape;
             fits = routed-short (bodyOf image Routes) n (recordAt s n .part) (limits image (passed .table)) (row-routed image n (recordAt s n) one there);
           }
       go (no h) =

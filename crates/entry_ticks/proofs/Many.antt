@@ -9,7 +9,7 @@ use native.Mathlib.Omega.{arith}
 use borrow.Author.Tests.{eqb-true, eq-eqb, ne-eqb, ltb-true, ltb-false}
 use Rattle.connection.specs.declared.Config.{Config}
 use Rattle.connection.specs.declared.Connection.{Connection}
-use Rattle.connection.specs.Connection.{isOffline, isReconnect, wildcard, withSend, withWatch, startedOf, reachOf, runOf, expires, sunkOf, tickOf}
+use Rattle.connection.specs.Connection.{isOffline, isReconnect, wildcard, aliveAt, withSend, withWatch, startedOf, reachOf, runOf, expires, sunkOf, tickOf}
 use Rattle.connection.proofs.Ticks.{tick-goes-on}
 use Rattle.lists.specs.Each.{eachTo}
 use Rattle.lists.specs.Fold.{foldFrom}
@@ -40,7 +40,7 @@ only-runs g c p x =
 
 -- the same record with other timers
 abbrev timed : Connection → ℕ → ℕ → Connection
-timed c t a = withWatch (record { alive = a; «remote_set» = c .watch .«remote_set» }) (withSend (c .used) t (c .due) c)
+timed c t a = withWatch (aliveAt a (c .watch)) (withSend (c .used) t (c .due) c)
 
 retimed : (c : Connection) {t u a b : ℕ} → t ≡ u → a ≡ b → timed c t a ≡ timed c u b
 retimed c {t} {u} {a} {b} e f = ap (λ (x : ℕ). timed c x a) e ∙ ap (timed c u) f

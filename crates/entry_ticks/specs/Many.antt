@@ -4,7 +4,7 @@ use mathlib.Core.Bool.{Bool, cond, not, _&&_, _||_}
 use lib.Dec.{eqb, ltb}
 use Rattle.connection.specs.declared.Config.{Config}
 use Rattle.connection.specs.declared.Connection.{Connection}
-use Rattle.connection.specs.Connection.{isOffline, isReconnect, wildcard, withSend, withWatch, tickOf}
+use Rattle.connection.specs.Connection.{isOffline, isReconnect, wildcard, aliveAt, withSend, withWatch, tickOf}
 
 -- n ticks of one record, one after the other
 unfoldable pub manyOf : Config → ℕ → Connection → Connection
@@ -32,5 +32,4 @@ quietFor g c = cond (turnsNext g c) 0 (smallerOf (beforeEnd (c .timer)) (beforeE
 
 -- what so many quiet ticks leave: both timers have fallen by as many
 abbrev pub agedBy : ℕ → Connection → Connection
-agedBy n c =
-    withWatch (record { alive = c .watch .alive - n; «remote_set» = c .watch .«remote_set» }) (withSend (c .used) (c .timer - n) (c .due) c)
+agedBy n c = withWatch (aliveAt (c .watch .alive - n) (c .watch)) (withSend (c .used) (c .timer - n) (c .due) c)

@@ -15,7 +15,7 @@ use Rattle.connection.specs.declared.Remote.{Remote}
 use Rattle.connection.specs.declared.Connection.{Connection}
 use Rattle.connection.specs.declared.Event.{Event}
 use Rattle.connection.specs.declared.Event.the-variants.{Open, Close, Connected, SetRemote, Switch, Cancel}
-use Rattle.connection.specs.Connection.{withMode, withPart, withRemote, withSwitches, withSend, withWatch, become}
+use Rattle.connection.specs.Connection.{withMode, withPart, withRemote, withSwitches, withSend, unwatched, markSet, withWatch, become}
 use Rattle.state.specs.declared.State.{State}
 use Rattle.state.specs.State.{recordAt, withRecord, withCount}
 use Rattle.gate.specs.Sound.{soundState}
@@ -192,7 +192,7 @@ changes =
     ∷ changing (watching 1 true) tickLeaves (alive 0) 1 0
     ∷ changing (watching 2 false) (ticksLeave 2) (mode 0) 2 1
     ∷ changing fresh (happens 0 (SetRemote exact)) (remoteSet 0) 0 1
-    ∷ changing (with 2 (λ c. withWatch (record { alive = 0; «remote_set» = true }) (become Online c))) (lossLeaves 2) (remoteSet 2) 1 0
+    ∷ changing (with 2 (λ c. withWatch (markSet unwatched) (become Online c))) (lossLeaves 2) (remoteSet 2) 1 0
     -- a datagram that replaces a wildcard starts the alive timer, and starts it again
     ∷ changing anybody (datagramLeaves 0 exact) (alive 0) 0 2
     ∷ changing (watching 1 false) (datagramLeaves 0 exact) (alive 0) 1 2

@@ -6,7 +6,7 @@ use lib.ListN.{replicate, set}
 use Rattle.receive_part.specs.declared.Part.the-variants.{Transfer}
 use Rattle.connection.specs.declared.Remote.{Remote}
 use Rattle.connection.specs.declared.Mode.the-variants.{Reconnect, Online}
-use Rattle.connection.specs.Connection.{become, withMode, withRemote, withPart, withSend, withWatch}
+use Rattle.connection.specs.Connection.{become, withMode, withRemote, withPart, withSend, unwatched, aliveAt, withWatch}
 use Rattle.state.specs.declared.State.{State}
 use Rattle.state.specs.State.{recordAt, withRecord}
 use Rattle.state.specs.Fresh.{freshState}
@@ -79,7 +79,7 @@ watching a set = withRecord 0 (withWatch (record { alive = a; «remote_set» = s
 
 -- connection 1 online, with one tick left of its alive timer
 abbrev pub lastTick : State
-lastTick = withRecord 1 (withWatch (record { alive = 1; «remote_set» = false }) (become Online (recordAt fresh 1))) fresh
+lastTick = withRecord 1 (withWatch (aliveAt 1 unwatched) (become Online (recordAt fresh 1))) fresh
 
 -- connection 0 as in `watching`, with close wanted
 abbrev pub closing : ℕ → State

@@ -3,13 +3,12 @@ use Prim.Native.Nat.{ℕ}
 use mathlib.Core.Bool.{Bool, true, false}
 use mathlib.Core.List.{List, [], _∷_, _++_}
 use lib.ListN.{replicate}
-use Rattle.receive_part.specs.Part.{readyPart}
 use Rattle.connection.specs.declared.Mode.{Mode}
 use Rattle.connection.specs.declared.Mode.the-variants.{Online}
 use Rattle.connection.specs.declared.Remote.{Remote}
 use Rattle.connection.specs.declared.Config.{Config}
 use Rattle.connection.specs.declared.Connection.{Connection}
-use Rattle.connection.specs.Connection.{unwatched, zeroRecord}
+use Rattle.connection.specs.Connection.{withMode, withRemote, withSend, zeroRemote, zeroRecord}
 use Rattle.table_rows.specs.declared.DestinationRow.{DestinationRow}
 use Rattle.state.specs.declared.State.{State}
 
@@ -38,19 +37,7 @@ remote a p = record { address = a; port = p }
 
 -- a record of a mode, wishing to close or not, with a remote and so many bytes used
 abbrev pub recordOf : Mode → Bool → Remote → ℕ → Connection
-recordOf m k r used =
-    record {
-      mode = m;
-      «open_wanted» = false;
-      «close_wanted» = k;
-      remote = r;
-      switches = 0;
-      part = readyPart;
-      used = used;
-      timer = 0;
-      due = false;
-      watch = unwatched;
-    }
+recordOf m k r used = withSend used 0 false (withMode m false k (withRemote r zeroRecord))
 
 -- online, with so many bytes used
 abbrev pub holding : ℕ → Connection
@@ -66,4 +53,4 @@ valveDestination longest groups = record { connection = 0; trigger = false; long
 
 -- an automatic connection whose configured remote has a wildcard
 abbrev pub service : Bool → Config
-service tcp = record { tcp = tcp; automatic = true; remote = remote 0 0; size = 1472; alive = 0; switches = 0 }
+service tcp = record { tcp = tcp; automatic = true; remote = zeroRemote; size = 1472; alive = 0; switches = 0 }

@@ -10,31 +10,17 @@ use Rattle.receive_part.specs.declared.Part.{Part}
 use Rattle.receive_part.specs.Part.{emptyPart, readyPart}
 use Rattle.connection.specs.declared.Config.{Config}
 use Rattle.connection.specs.declared.Connection.{Connection}
-use Rattle.connection.specs.declared.Mode.{Mode}
-use Rattle.connection.specs.declared.Remote.{Remote}
-use Rattle.connection.specs.declared.Watch.{Watch}
-use Rattle.connection.specs.Connection.{isOnline}
+use Rattle.connection.specs.Connection.{isOnline, withMode, withPart}
 use Rattle.connection.specs.Sound.{sends, timed, neverBoth, onlineRemote, watched, soundOf}
 use Rattle.connection.proofs.Rules.{empty-is}
 use Rattle.lists.proofs.Both.{and-left, and-right}
 use Rattle.gate.specs.Sound.{routed}
 use Rattle.gate.specs.Inner.{idle, idleSound, quietSound}
 
-module _ (g : Config) (routes : List ℕ) (n : ℕ) (mode : Mode) (remote : Remote) (switches : ℕ) (watch : Watch) where
-  abbrev holding : Part → ℕ → ℕ → Bool → Bool → Bool → Connection
-  holding part used timer due open-wanted close-wanted =
-      record {
-        mode = mode;
-        «open_wanted» = open-wanted;
-        «close_wanted» = close-wanted;
-        remote = remote;
-        switches = switches;
-        part = part;
-        used = used;
-        timer = timer;
-        due = due;
-        watch = watch;
-      }
+module _ (g : Config) (routes : List ℕ) (n : ℕ) (c : Connection) where
+  -- the record with such a receive part and such wishes
+  abbrev holding : Part → Bool → Bool → Connection
+  holding part o k = withPart part (withMode (c .mode) o k c)
 
   last : (b w : Bool) → (b && true && true && w && true) ≡ (b && w)
   last true true = refl
@@ -45,26 +31,23 @@ module _ (g : Config) (routes : List ℕ) (n : ℕ) (mode : Mode) (remote : Remo
   fewer true s t b o w = last (s && t && b && o) w
   fewer false s t b o w = refl
 
-  nothing-received : (used timer : ℕ) (due : Bool)
-      → (soundOf g (holding readyPart used timer due false false) && routed routes n readyPart) ≡ quietSound g (holding readyPart used timer due false false)
+  nothing-received : (soundOf g (holding readyPart false false) && routed routes n readyPart) ≡ quietSound g (holding readyPart false false)
   unfolding soundOf
-  nothing-received used timer due =
-      let c = holding readyPart used timer due false false in
-      fewer (leb used (g .size)) (sends c) (timed c) (neverBoth c) (onlineRemote c) (watched g c)
+  nothing-received = fewer (leb (c .used) (g .size)) (sends c) (timed c) (neverBoth c) (onlineRemote c) (watched g c)
 
-  idle-plain : (part : Part) (used timer : ℕ) (due o c : Bool) → part ≡ readyPart → o ≡ false → c ≡ false
-      → (soundOf g (holding part used timer due o c) && routed routes n part) ≡ quietSound g (holding part used timer due o c)
-  idle-plain part used timer due o c p a b = rw (p, a, b) (nothing-received used timer due)
+  idle-plain : (part : Part) (o k : Bool) → part ≡ readyPart → o ≡ false → k ≡ false
+      → (soundOf g (holding part o k) && routed routes n part) ≡ quietSound g (holding part o k)
+  idle-plain part o k p a b = rw (p, a, b) nothing-received
 
-pub idle-sound : (g : Config) (routes : List ℕ) (n : ℕ) (c : Connection) → idle c ≡ true → (soundOf g c && routed routes n (c .part)) ≡ quietSound g c
-idle-sound g routes n c p =
-    let a = emptyPart (c .part) in
-    let b = a && not (c .«open_wanted») in
-    let pb : b ≡ true = and-left b _ p in
-    idle-plain g routes n (c .mode) (c .remote) (c .switches) (c .watch) (c .part) (c .used) (c .timer) (c .due) (c .«open_wanted») (c .«close_wanted»)
-    (empty-is (c .part) (and-left a _ pb))
-    (not-true _ (and-right a _ pb))
-    (not-true _ (and-right b _ p))
+  pub idle-sound : idle c ≡ true → (soundOf g c && routed routes n (c .part)) ≡ quietSound g c
+  idle-sound p =
+      let a = emptyPart (c .part) in
+      let b = a && not (c .«open_wanted») in
+      let pb : b ≡ true = and-left b _ p in
+      idle-plain (c .part) (c .«open_wanted») (c .«close_wanted»)
+      (empty-is (c .part) (and-left a _ pb))
+      (not-true _ (and-right a _ pb))
+      (not-true _ (and-right b _ p))
 
 -- without send bytes, and with some
 module _ (size used timer : ℕ) (due online reached : Bool) where

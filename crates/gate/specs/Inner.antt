@@ -10,6 +10,7 @@ use Rattle.table_rows.specs.Rows.{groupIn, briefIn}
 use Rattle.receive_part.specs.Part.{emptyPart}
 use Rattle.connection.specs.declared.Config.{Config}
 use Rattle.connection.specs.declared.Connection.{Connection}
+use Rattle.connection.specs.Connection.{zeroRemote}
 use Rattle.connection.specs.Sound.{soundOf, zeroOf, sends, timed, neverBoth, onlineRemote, watched}
 use Rattle.state.specs.Fresh.{configIn}
 use Rattle.gate.specs.Sound.{routed}
@@ -20,7 +21,7 @@ rulesFrom row group =
     record {
       tcp = eqb (group .protocol) 2;
       automatic = row .automatic;
-      remote = record { address = 0; port = 0 };
+      remote = zeroRemote;
       size = row .size;
       alive = row .alive;
       switches = 0;

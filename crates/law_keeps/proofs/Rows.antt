@@ -13,7 +13,7 @@ use Rattle.receive_part.specs.Part.{readyPart}
 use Rattle.connection.specs.declared.Config.{Config}
 use Rattle.connection.specs.declared.Connection.{Connection}
 use Rattle.connection.specs.declared.Event.{Event}
-use Rattle.connection.specs.Connection.{zeroRecord, switchedOf, tickOf}
+use Rattle.connection.specs.Connection.{zeroConfig, zeroRecord, switchedOf, tickOf}
 use Rattle.connection.specs.Event.{recordAfter, empties, stepOf}
 use Rattle.connection.specs.Sound.{Sound}
 use Rattle.connection.proofs.Keeps.{bare-sound, step-keeps, switches-keep, tick-keeps}
@@ -56,7 +56,7 @@ tick-part g c = go (tickOf g c) (tick-is g c)
     go d (goes-on _ e x t) = stays-same (t .part)
 
 zero-sound : (g : Config) → Sound g zeroRecord
-zero-sound g = bare-sound g (record { tcp = false; automatic = false; remote = record { address = 0; port = 0 }; size = 0; alive = 0; switches = 0 })
+zero-sound g = bare-sound g zeroConfig
 
 -- the record of a row, in a list of any length
 pub sound-row-at : (image : List ℕ) (cs : List Connection) (n : ℕ) → recordsSound image cs ≡ true → n < rowsOf image Connections → soundAt image n (getD cs n zeroRecord) ≡ true

@@ -45,7 +45,7 @@ all-fit image a s h k = go (decLt k (rowsOf image Connections)) (decLt k (length
     go : Dec (k < rowsOf image Connections) → Dec (k < length (s .connections)) → recordAt s k .used ≤ 1472
     go (yes r) d =
         let one = row-sound image k (recordAt s k) (sound-row-at image (s .connections) k h r) r in
-        omega (arith, leb-true (recordAt s k .used) (configOf image k .size) (one .fits), a .sized k r .1)
+        omega (arith, leb-true (recordAt s k .used) (configOf image k .size) (one .send .fits), a .sized k r .1)
     go (no n) (yes l) = none (past-zero image k (recordAt s k) (record-at image (s .connections) k h l) (omega (arith, n)))
     go (no n) (no o) = none (List·getD-eq-default (s .connections) zeroRecord (omega (arith, o)))
 

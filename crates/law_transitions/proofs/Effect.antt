@@ -171,7 +171,7 @@ moving-online g c s = go (transferring (c .part)) refl
 rules : (g : Config) (c : Connection) → Sound g c
     → ruled (g .tcp) (g .automatic) (transferring (c .part)) (c .mode) (c .«open_wanted») (c .«close_wanted») ≡ true
 unfolding ruled
-rules g c s = and-both (and-both (s .opening) (s .closing)) (moving-online g c s)
+rules g c s = and-both (and-both (s .wishes .opening) (s .wishes .closing)) (moving-online g c s)
 
 -- an event that is allowed or not
 decided : (b : Bool) (c d : Connection) → placeOf (cond (not b) (refusedBy Denied c) (record { answer = Done; connection = d }) .connection) ≡ cond b (placeOf d) (placeOf c)

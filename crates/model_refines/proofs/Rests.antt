@@ -44,6 +44,6 @@ empty-part false false t p q = p
 pub sound-rests : (g : Config) (h : Held) → Sound g (h .connection) → Rests h
 sound-rests g h s =
     record {
-      shape = shape-cell (h .connection .part) (h .received) (s .shape);
-      quiet = λ off. empty-cell (h .connection .part) (h .received) (empty-part (emptyPart (h .connection .part)) (isOnline (h .connection .mode)) (g .tcp) (s .receiving) off);
+      shape = shape-cell (h .connection .part) (h .received) (s .receive .shape);
+      quiet = λ off. empty-cell (h .connection .part) (h .received) (empty-part (emptyPart (h .connection .part)) (isOnline (h .connection .mode)) (g .tcp) (s .receive .receiving) off);
     }

@@ -166,5 +166,5 @@ met-none g source c z l = go (wildcard (c .remote)) (c .watch .alive) z l
 pub runs-udp : (g : Config) (c : Connection) → Sound g c → 0 < c .watch .alive → g .tcp ≡ false
 runs-udp g c s l =
     let ne : eqb (c .watch .alive) 0 ≡ false = ne-eqb (c .watch .alive) 0 (λ e. omega (arith, l, e)) in
-    let w : (isOnline (c .mode) && not (g .tcp) && leb (c .watch .alive) (g .alive)) ≡ true = rw ne at (s .watching) in
+    let w : (isOnline (c .mode) && not (g .tcp) && leb (c .watch .alive) (g .alive)) ≡ true = rw ne at (s .watch .watching) in
     not-true (g .tcp) (and3 (isOnline (c .mode)) (not (g .tcp)) (leb (c .watch .alive) (g .alive)) w .1)

@@ -127,7 +127,7 @@ module _ (image : List ℕ) (j : ℕ) (there : j < rowsOf image Connections) (m 
 
   -- where nothing waits no timer runs, in a sound state
   idle : (n : Machine) → Good image n → recordAt (n .state) j .used ≡ 0 → (recordAt (n .state) j .timer ≡ 0) × (recordAt (n .state) j .due ≡ false)
-  idle n ok none = both (eqb (x .timer) 0) refl (x .due) refl (subst (λ (u : ℕ). ((eqb (x .timer) 0 && not (x .due)) || ltb 0 u) ≡ true) none (s .timing))
+  idle n ok none = both (eqb (x .timer) 0) refl (x .due) refl (subst (λ (u : ℕ). ((eqb (x .timer) 0 && not (x .due)) || ltb 0 u) ≡ true) none (s .send .timing))
     where
       x : Connection
       x = recordAt (n .state) j

@@ -111,28 +111,28 @@ module _ (image : List ℕ) (k : ℕ) (rows : length (bodyOf image Routes) / 16 
     record-words : Sound g c → routed (bodyOf image Routes) k (c .part) ≡ true → RecordRules image k c
     record-words s r =
         record {
-          used = leb-true _ _ (s .fits);
-          part = part-words (c .part) (s .shape) r;
+          used = leb-true _ _ (s .send .fits);
+          part = part-words (c .part) (s .receive .shape) r;
           receives = λ has. let f = held has in (is-online (c .mode) (and-left (isOnline (c .mode)) (g .tcp) f), and-right (isOnline (c .mode)) (g .tcp) f);
-          sends = λ h. is-online (c .mode) (or-then (eqb (c .used) 0) (isOnline (c .mode)) (s .sending) (none (c .used) h));
+          sends = λ h. is-online (c .mode) (or-then (eqb (c .used) 0) (isOnline (c .mode)) (s .send .sending) (none (c .used) h));
           timer = λ h. timed-by (and-first (eqb (c .timer) 0) (not (c .due)) (none (c .timer) h));
           due = λ h. timed-by (and-second (eqb (c .timer) 0) (not (c .due)) (ap not h));
-          never-both = λ h d. false≢true (sym (ap not d) ∙ or-then (eqb (c .timer) 0) (not (c .due)) (s .once) (none (c .timer) h));
-          reached = λ h. let w = not-true (wildcard (c .remote)) (or-then (not (isOnline (c .mode))) (not (wildcard (c .remote))) (s .reached) (ap (λ
+          never-both = λ h d. false≢true (sym (ap not d) ∙ or-then (eqb (c .timer) 0) (not (c .due)) (s .send .once) (none (c .timer) h));
+          reached = λ h. let w = not-true (wildcard (c .remote)) (or-then (not (isOnline (c .mode))) (not (wildcard (c .remote))) (s .wishes .reached) (ap (λ
               (m : Mode). not (isOnline m)) h)) in
               let n = neither (eqb (c .remote .address) 0) (eqb (c .remote .port) 0) w in
               (eqb-false _ _ (n .0), eqb-false _ _ (n .1));
           opening = λ h. let t = and3 (not (g .automatic)) (isOffline (c .mode)) (not (c .«close_wanted»))
-              (or-then (not (c .«open_wanted»)) (not (g .automatic) && isOffline (c .mode) && not (c .«close_wanted»)) (s .opening) (ap not h)) in
+              (or-then (not (c .«open_wanted»)) (not (g .automatic) && isOffline (c .mode) && not (c .«close_wanted»)) (s .wishes .opening) (ap not h)) in
               (not-true (g .automatic) (t .0), is-offline (c .mode) (t .1), not-true (c .«close_wanted») (t .2));
-          closing = λ h a. let t = or-then (not (c .«close_wanted») || not (g .automatic)) (g .tcp && not (isOffline (c .mode))) (s .closing) (both-false
-              (ap not h) (ap not a)) in (
+          closing = λ h a. let t = or-then (not (c .«close_wanted») || not (g .automatic)) (g .tcp && not (isOffline (c .mode)))
+              (s .wishes .closing) (both-false (ap not h) (ap not a)) in (
                 and-left (g .tcp) (not (isOffline (c .mode))) t,
                 λ m. false≢true (sym (ap (λ (x : Mode). not (isOffline x)) m) ∙ and-right (g .tcp) (not
                     (isOffline (c .mode))) t),
               );
           watched = λ h. let t = and3 (isOnline (c .mode)) (not (g .tcp)) (leb (c .watch .alive) (g .alive))
-              (or-then (eqb (c .watch .alive) 0) (isOnline (c .mode) && not (g .tcp) && leb (c .watch .alive) (g .alive)) (s .watching)
+              (or-then (eqb (c .watch .alive) 0) (isOnline (c .mode) && not (g .tcp) && leb (c .watch .alive) (g .alive)) (s .watch .watching)
               (none (c .watch .alive) h)) in
               (is-online (c .mode) (t .0), not-true (g .tcp) (t .1), leb-true _ _ (t .2));
         }
@@ -142,37 +142,45 @@ module _ (image : List ℕ) (k : ℕ) (rows : length (bodyOf image Routes) / 16 
           where
             go : (b : Bool) → emptyPart (c .part) ≡ b → (isOnline (c .mode) && g .tcp) ≡ true
             go true e = absurd (has (empty-is (c .part) e))
-            go false e = or-then (emptyPart (c .part)) (isOnline (c .mode) && g .tcp) (s .receiving) e
+            go false e = or-then (emptyPart (c .part)) (isOnline (c .mode) && g .tcp) (s .receive .receiving) e
 
         both-false : {a b : Bool} → a ≡ false → b ≡ false → (a || b) ≡ false
         both-false {a} {b} e f = ap (λ (x : Bool). x || b) e ∙ f
 
         timed-by : (eqb (c .timer) 0 && not (c .due)) ≡ false → 0 < c .used
-        timed-by e = ltb-true 0 (c .used) (or-then (eqb (c .timer) 0 && not (c .due)) (ltb 0 (c .used)) (s .timing) e)
+        timed-by e = ltb-true 0 (c .used) (or-then (eqb (c .timer) 0 && not (c .due)) (ltb 0 (c .used)) (s .send .timing) e)
 
     words-record : RecordRules image k c → Sound g c × (routed (bodyOf image Routes) k (c .part) ≡ true)
     words-record w = (
       record {
-        fits = le-leb _ _ (w .used);
-        shape = words-part (c .part) (w .part) .0;
-        receiving = then-or (emptyPart (c .part)) (isOnline (c .mode) && g .tcp)
-            (λ e. let h = w .receives (λ q. false≢true (sym e ∙ ap emptyPart q)) in and-both (ap isOnline (h .0)) (h .1));
-        sending = then-or (eqb (c .used) 0) (isOnline (c .mode)) (λ e. ap isOnline (w .sends (some (c .used) e)));
-        timing = then-or (eqb (c .timer) 0 && not (c .due)) (ltb 0 (c .used)) (λ e. lt-ltb 0 (c .used) (waits e));
-        once = then-or (eqb (c .timer) 0) (not (c .due)) (λ e. undue (w .never-both (some (c .timer) e)));
-        reached = then-or (not (isOnline (c .mode))) (not (wildcard (c .remote))) (λ e. let n = w .reached (is-online (c .mode) (not-false (isOnline
-            (c .mode)) e)) in
-            tame (ne-eqb _ _ (n .0)) (ne-eqb _ _ (n .1)));
-        opening = then-or (not (c .«open_wanted»)) (not (g .automatic) && isOffline (c .mode) && not (c .«close_wanted»)) (λ e. let t = w .opening
-            (not-false (c .«open_wanted») e) in
-            and-both (and-both (not-true-is (t .0)) (ap isOffline (t .1))) (not-true-is (t .2)));
-        closing = then-or (not (c .«close_wanted») || not (g .automatic)) (g .tcp && not (isOffline (c .mode))) (λ e. let n = neither (not
-            (c .«close_wanted»)) (not (g .automatic)) e in
-            let t = w .closing (not-false (c .«close_wanted») (n .0)) (not-false (g .automatic) (n .1)) in
-            and-both (t .0) (not-offline (c .mode) (t .1)));
-        watching = then-or (eqb (c .watch .alive) 0) (isOnline (c .mode) && not (g .tcp) && leb (c .watch .alive) (g .alive)) (λ e. let t = w .watched
-            (some (c .watch .alive) e) in
-            and-both (and-both (ap isOnline (t .0)) (not-true-is (t .1))) (le-leb _ _ (t .2)));
+        send = record {
+          fits = le-leb _ _ (w .used);
+          sending = then-or (eqb (c .used) 0) (isOnline (c .mode)) (λ e. ap isOnline (w .sends (some (c .used) e)));
+          timing = then-or (eqb (c .timer) 0 && not (c .due)) (ltb 0 (c .used)) (λ e. lt-ltb 0 (c .used) (waits e));
+          once = then-or (eqb (c .timer) 0) (not (c .due)) (λ e. undue (w .never-both (some (c .timer) e)));
+        };
+        wishes = record {
+          reached = then-or (not (isOnline (c .mode))) (not (wildcard (c .remote))) (λ e. let n = w .reached (is-online (c .mode) (not-false (isOnline
+              (c .mode)) e)) in
+              tame (ne-eqb _ _ (n .0)) (ne-eqb _ _ (n .1)));
+          opening = then-or (not (c .«open_wanted»)) (not (g .automatic) && isOffline (c .mode) && not (c .«close_wanted»)) (λ e. let t = w .opening
+              (not-false (c .«open_wanted») e) in
+              and-both (and-both (not-true-is (t .0)) (ap isOffline (t .1))) (not-true-is (t .2)));
+          closing = then-or (not (c .«close_wanted») || not (g .automatic)) (g .tcp && not (isOffline (c .mode))) (λ e. let n = neither (not
+              (c .«close_wanted»)) (not (g .automatic)) e in
+              let t = w .closing (not-false (c .«close_wanted») (n .0)) (not-false (g .automatic) (n .1)) in
+              and-both (t .0) (not-offline (c .mode) (t .1)));
+        };
+        receive = record {
+          shape = words-part (c .part) (w .part) .0;
+          receiving = then-or (emptyPart (c .part)) (isOnline (c .mode) && g .tcp)
+              (λ e. let h = w .receives (λ q. false≢true (sym e ∙ ap emptyPart q)) in and-both (ap isOnline (h .0)) (h .1));
+        };
+        watch = record {
+          watching = then-or (eqb (c .watch .alive) 0) (isOnline (c .mode) && not (g .tcp) && leb (c .watch .alive) (g .alive)) (λ e. let t = w .watched
+              (some (c .watch .alive) e) in
+              and-both (and-both (ap isOnline (t .0)) (not-true-is (t .1))) (le-leb _ _ (t .2)));
+        };
       },
       words-part (c .part) (w .part) .1,
     )
