@@ -10,7 +10,7 @@ use borrow.Author.Tests.{leb-true, ltb-true, eqb-true, eq-eqb, not-true}
 use Rattle.wire.specs.Be.{be}
 use Rattle.lists.proofs.Both.{and-left, and-right, and3, and4, and-both, impossible}
 use Rattle.lists.proofs.Search.{none-bad, every-at}
-use Rattle.table_layout.specs.Layout.{number, mostRows, entryAt, rowsOf, startOf, endOf, rowAt, bodyOf, rowOf, Laid}
+use Rattle.table_layout.specs.Layout.{number, mostRows, entryAt, rowsOf, startOf, endOf, rowAt, rowOf, Laid}
 use Rattle.table_layout.specs.declared.Kind.{Kind}
 use Rattle.table_layout.specs.declared.Kind.the-variants.{Group, Connection, Route, Destination}
 use Rattle.table_rows.specs.Rows.{

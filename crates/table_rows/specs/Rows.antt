@@ -12,9 +12,12 @@ use Rattle.table_rows.specs.declared.ConnectionBrief.{ConnectionBrief}
 use Rattle.table_rows.specs.declared.RouteRow.{RouteRow}
 use Rattle.table_rows.specs.declared.DestinationRow.{DestinationRow}
 
--- what the rules ask of bytes that no field shows: zero bytes, and those that must be 0 or 1
+-- what the rules ask of bytes that no field shows: zero bytes, with where they stand, and those that must be 0 or 1
+abbrev pub groupZeroAt : ℕ
+groupZeroAt = 1
+
 abbrev pub groupZero : List ℕ → ℕ
-groupZero row = be 1 row 1
+groupZero row = be 1 row groupZeroAt
 
 abbrev pub automaticByte : List ℕ → ℕ
 automaticByte row = be 1 row 1
@@ -22,8 +25,11 @@ automaticByte row = be 1 row 1
 abbrev pub transferByte : List ℕ → ℕ
 transferByte row = be 1 row 1
 
+abbrev pub routeZeroAt : ℕ
+routeZeroAt = 10
+
 abbrev pub routeZero : List ℕ → ℕ
-routeZero row = be 2 row 10
+routeZero row = be 2 row routeZeroAt
 
 abbrev pub triggerByte : List ℕ → ℕ
 triggerByte row = be 1 row 1
@@ -45,6 +51,10 @@ connectionRow row =
       switches = be 4 row 12;
     }
 
+-- where a route's header id stands, for the lookup, which reads it the other way round
+abbrev pub routeIdAt : ℕ
+routeIdAt = 4
+
 -- connection 1, transfer 1 (0 or 1, R19.1), longest payload 2, header id 4, upper PDU 2, zero 2, groups 4
 unfoldable pub routeRow : List ℕ → RouteRow
 routeRow row =
@@ -52,7 +62,7 @@ routeRow row =
       connection = be 1 row 0;
       transfer = eqb (transferByte row) 1;
       longest = be 2 row 2;
-      id = be 4 row 4;
+      id = be 4 row routeIdAt;
       pdu = be 2 row 8;
       groups = be 4 row 12;
     }
