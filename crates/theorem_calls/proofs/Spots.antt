@@ -87,20 +87,25 @@ module _ (s : List ℕ) where
 
   words-entry : (k : Kind) → GoodEntry s k → entryGood s k ≡ true
   unfolding entryGood
-  words-entry k g = rw (eq-eqb (be 2 s (entryAt k)) (number k) (g .kind), le-leb (rowsOf s k) (mostRows k) (g .most), eq-eqb (be 4 s (entryAt k + 4)) (startOf s k) (g .offset))
+  words-entry k g =
+      let kind = eq-eqb (be 2 s (entryAt k)) (number k) (g .kind) in
+      rw (kind, le-leb (rowsOf s k) (mostRows k) (g .most), eq-eqb (be 4 s (entryAt k + 4)) (startOf s k) (g .offset))
 
   -- A ROW BY ITSELF, and among the earlier ones
   row-test : (k : Kind) (i : ℕ) → rowGood s k i ≡ true → (rule s k (rowOf s k i) ≡ true) × ((j : ℕ) → j < i → share k (rowOf s k j) (rowOf s k i) ≡ true → ⊥)
   unfolding goodIn clearIn
   row-test k i e = (
     and-left (rule s k (rowOf s k i)) _ e,
-    λ j h. not-to (share k (rowOf s k j) (rowOf s k i)) (every-at (λ x. not (share k (rowOf s k x) (rowOf s k i))) i j (and-right (rule s k (rowOf s k i)) _ e) h),
+    λ j h.
+        not-to (share k (rowOf s k j) (rowOf s k i))
+        (every-at (λ x. not (share k (rowOf s k x) (rowOf s k i))) i j (and-right (rule s k (rowOf s k i)) _ e) h),
   )
 
   test-row : (k : Kind) (i : ℕ) → rule s k (rowOf s k i) ≡ true → ((j : ℕ) → j < i → share k (rowOf s k j) (rowOf s k i) ≡ true → ⊥) → rowGood s k i ≡ true
   unfolding goodIn clearIn
   test-row k i e apart =
-      and-both {a = rule s k (rowOf s k i)} e (every-all (λ x. not (share k (rowOf s k x) (rowOf s k i))) i (λ j h. to-not (share k (rowOf s k j) (rowOf s k i)) (apart j h)))
+      and-both {a = rule s k (rowOf s k i)} e
+      (every-all (λ x. not (share k (rowOf s k x) (rowOf s k i))) i (λ j h. to-not (share k (rowOf s k j) (rowOf s k i)) (apart j h)))
 
   group-words : (i : ℕ) → rowGood s Group i ≡ true → GoodGroup s i
   unfolding rule groupGood groupRow
