@@ -3,7 +3,22 @@
 use Prim.Native.Nat.{ℕ}
 use mathlib.Core.List.{List}
 use Rattle.event_decode.specs.declared.Call.{Call}
-use Rattle.event_decode.specs.declared.Call.the-variants.{Unknown, Unfit, Ticks, Own, Lost, Segment, Walk, TakeWaiting, Datagram, Accept, Transmit, SwitchAll, ReadCount, ClearCount}
+use Rattle.event_decode.specs.declared.Call.the-variants.{
+  Unknown,
+  Unfit,
+  Ticks,
+  Own,
+  Lost,
+  Segment,
+  Walk,
+  TakeWaiting,
+  Datagram,
+  Accept,
+  Transmit,
+  SwitchAll,
+  ReadCount,
+  ClearCount,
+}
 use Rattle.event_decode.specs.Calls.{callOf, bytesFrom}
 use Rattle.event_answer.specs.declared.Verdict.the-variants.{Unknown as NoEvent, Unfit as DoesNotFit}
 use Rattle.event_answer.specs.Answers.{Effect, untouched, ifRoom}

@@ -6,9 +6,9 @@ use lib.Dec.{ltb}
 use lib.ListN.{length, drop}
 use Rattle.wire.specs.Lay.{spell}
 use Rattle.lists.specs.Search.{every}
-use Rattle.table_layout.specs.Layout.{bodyOf}
+use Rattle.table_layout.specs.Layout.{rowBytes, bodyOf}
 use Rattle.table_layout.specs.declared.Kind.the-variants.{Route as Routes}
-use Rattle.table_rows.specs.Rows.{routeIn}
+use Rattle.table_rows.specs.Rows.{routeOf}
 use Rattle.state.specs.declared.State.{State}
 use Rattle.receive_stream.specs.declared.Outcome.{Outcome}
 use Rattle.receive_stream.specs.declared.Outcome.the-variants.{More, Pdu, Drop, Start, Piece}
@@ -124,7 +124,7 @@ answerRoom segment = 1503 + 32 * length segment / 9
 
 -- R19.1: no route of the image is marked
 unfoldable pub noneMarked : List ℕ → Bool
-noneMarked image = every (λ (i : ℕ). not (routeIn (bodyOf image Routes) i .transfer)) (length (bodyOf image Routes) / 16)
+noneMarked image = every (λ (i : ℕ). not (routeOf image i .transfer)) (length (bodyOf image Routes) / rowBytes image Routes)
 
 -- .. and then no take is a start or a piece, and the room is less (proofs/Room `plain-fits`): three bytes for each of the segment
 abbrev pub plainRoom : List ℕ → ℕ

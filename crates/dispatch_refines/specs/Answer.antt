@@ -11,7 +11,22 @@ use Rattle.entry_receive.specs.Walk.{walkOf}
 use Rattle.entry_arrivals.specs.Arrivals.{datagramOf, acceptOf}
 use Rattle.entry_send.specs.Sending.{sendOf, takenWaiting, takenOut}
 use Rattle.event_decode.specs.declared.Call.{Call}
-use Rattle.event_decode.specs.declared.Call.the-variants.{Unknown, Unfit, Ticks, Own, Lost, Segment, Walk, TakeWaiting, Datagram, Accept, Transmit, SwitchAll, ReadCount, ClearCount}
+use Rattle.event_decode.specs.declared.Call.the-variants.{
+  Unknown,
+  Unfit,
+  Ticks,
+  Own,
+  Lost,
+  Segment,
+  Walk,
+  TakeWaiting,
+  Datagram,
+  Accept,
+  Transmit,
+  SwitchAll,
+  ReadCount,
+  ClearCount,
+}
 use Rattle.event_decode.specs.Calls.{callOf, bytesFrom}
 use Rattle.dispatch_events.specs.Events.{toldBytes, lossBytes, ticksBytes, countBytes}
 use Rattle.dispatch_receive.specs.Walk.{walkedBytes}

@@ -9,7 +9,22 @@ use Rattle.wire.specs.Be.{be}
 use Rattle.table_layout.specs.Layout.{partOf}
 use Rattle.reading.specs.Feed.{Out, pdu, dropped, start, piece}
 use Rattle.event_decode.specs.declared.Call.{Call}
-use Rattle.event_decode.specs.declared.Call.the-variants.{Unknown, Unfit, Ticks, Own, Lost, Segment, Walk, TakeWaiting, Datagram, Accept, Transmit, SwitchAll, ReadCount, ClearCount}
+use Rattle.event_decode.specs.declared.Call.the-variants.{
+  Unknown,
+  Unfit,
+  Ticks,
+  Own,
+  Lost,
+  Segment,
+  Walk,
+  TakeWaiting,
+  Datagram,
+  Accept,
+  Transmit,
+  SwitchAll,
+  ReadCount,
+  ClearCount,
+}
 use Rattle.event_decode.specs.Calls.{callOf, bytesFrom}
 use Rattle.event_answer.specs.Answers.{room}
 use Rattle.model_refines.specs.Machine.{Machine}

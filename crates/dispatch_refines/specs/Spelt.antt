@@ -8,7 +8,22 @@ use lib.ListN.{length, replicate}
 use Rattle.connection.specs.declared.Event.the-variants.{Lost as Loses}
 use Rattle.reading_lengths.specs.Listed.{Bytes}
 use Rattle.event_decode.specs.declared.Call.{Call}
-use Rattle.event_decode.specs.declared.Call.the-variants.{Unknown, Unfit, Ticks, Own, Lost, Segment, Walk, TakeWaiting, Datagram, Accept, Transmit, SwitchAll, ReadCount, ClearCount}
+use Rattle.event_decode.specs.declared.Call.the-variants.{
+  Unknown,
+  Unfit,
+  Ticks,
+  Own,
+  Lost,
+  Segment,
+  Walk,
+  TakeWaiting,
+  Datagram,
+  Accept,
+  Transmit,
+  SwitchAll,
+  ReadCount,
+  ClearCount,
+}
 use Rattle.event_decode.specs.Calls.{callOf, bytesFrom}
 use Rattle.event_answer.specs.Answers.{Effect, room}
 use Rattle.dispatch_send.specs.Send.{roomOf}

@@ -14,7 +14,22 @@ use Rattle.entry_receive.specs.Answer.{isDone}
 use Rattle.entry_receive.specs.Segment.{payloadOf}
 use Rattle.entry_receive.specs.Walk.{walkOf}
 use Rattle.event_decode.specs.declared.Call.{Call}
-use Rattle.event_decode.specs.declared.Call.the-variants.{Unknown, Unfit, Ticks, Own, Lost, Segment, Walk, TakeWaiting, Datagram, Accept, Transmit, SwitchAll, ReadCount, ClearCount}
+use Rattle.event_decode.specs.declared.Call.the-variants.{
+  Unknown,
+  Unfit,
+  Ticks,
+  Own,
+  Lost,
+  Segment,
+  Walk,
+  TakeWaiting,
+  Datagram,
+  Accept,
+  Transmit,
+  SwitchAll,
+  ReadCount,
+  ClearCount,
+}
 use Rattle.event_decode.specs.Calls.{callOf, bytesFrom}
 use Rattle.dispatch_receive.specs.Segment.{lentNext, takeBytes, Progress, begun, takeAt, memoryAt, oneTake}
 use Rattle.model_refines.specs.Machine.{Machine, lentTo, loanTo}

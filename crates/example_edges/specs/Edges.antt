@@ -29,7 +29,22 @@ use Rattle.select.specs.declared.Arrival.the-variants.{Met, Refused, Unmatched}
 use Rattle.select.specs.Choose.{oneOf, arriveOf, arrivalNumber}
 use Rattle.send.specs.Verdict.{transmissionNumber}
 use Rattle.send.specs.Send.{checkOf}
-use Rattle.example_edges.specs.Table.{image, markedUdp, markedTwice, limitedTcp, limitOne, fresh, waitingFor, used, moving, exact, anybody, watching, closing, lends}
+use Rattle.example_edges.specs.Table.{
+  image,
+  markedUdp,
+  markedTwice,
+  limitedTcp,
+  limitOne,
+  fresh,
+  waitingFor,
+  used,
+  moving,
+  exact,
+  anybody,
+  watching,
+  closing,
+  lends,
+}
 
 pub record Edge : Type 0 where
   pub is : List ℕ

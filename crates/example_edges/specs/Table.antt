@@ -75,7 +75,8 @@ anybody = withRecord 0 (become Reconnect (recordAt fresh 0)) fresh
 
 -- connection 0 online with a peer, ten bytes waiting and a timer that runs; its alive timer, and whether the upper layer set its remote
 abbrev pub watching : ℕ → Bool → State
-watching a set = withRecord 0 (withWatch (record { alive = a; «remote_set» = set }) (withSend 10 5 false (become Online (withRemote exact (recordAt fresh 0))))) fresh
+watching a set =
+    withRecord 0 (withWatch (record { alive = a; «remote_set» = set }) (withSend 10 5 false (become Online (withRemote exact (recordAt fresh 0))))) fresh
 
 -- connection 1 online, with one tick left of its alive timer
 abbrev pub lastTick : State

@@ -79,6 +79,8 @@ module _ (rx tx : List ℕ) where
   -- THE ONE STATEMENT: the table, and which bytes wait after 1,462 + 8 + 2; after 1,463 all is as it was
   pub record EntryEdges : Type 0 where
     pub rows : AllAsSaid entryEdges
-    pub then-wait : waits (afterEvent image (onWhole (transmit 9 (0 ∷ 180 ∷ []))) (over (used 1462)) .state) (afterEvent image (onWhole (transmit 9 (0 ∷ 180 ∷ []))) (over (used 1462)) .tx) 2
+    pub then-wait :
+        waits (afterEvent image (onWhole (transmit 9 (0 ∷ 180 ∷ []))) (over (used 1462)) .state)
+        (afterEvent image (onWhole (transmit 9 (0 ∷ 180 ∷ []))) (over (used 1462)) .tx) 2
         ≡ waits (used 1462) tx 2 ++ frame 0x202 (0 ∷ 180 ∷ [])
     pub full-stays : afterEvent image (onWhole (transmit 9 (0 ∷ 180 ∷ []))) (over (used 1463)) ≡ over (used 1463)

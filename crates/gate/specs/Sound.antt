@@ -4,7 +4,7 @@ use mathlib.Core.Bool.{Bool, true, false, cond, not, _&&_}
 use mathlib.Core.List.{List}
 use lib.Dec.{eqb, leb, ltb}
 use lib.ListN.{length}
-use Rattle.table_layout.specs.Layout.{rowsOf, bodyOf}
+use Rattle.table_layout.specs.Layout.{rowWidth, rowsOf, bodyOf}
 use Rattle.table_layout.specs.declared.Kind.the-variants.{Connection as Connections, Route as Routes}
 use Rattle.table_rows.specs.Rows.{routeIn}
 use Rattle.table.specs.declared.TableAnswer.{TableAnswer}
@@ -23,13 +23,13 @@ use Rattle.state.specs.Fresh.{configOf}
 abbrev pub routed : List ℕ → ℕ → Part → Bool
 routed routes n (Header held value) = true
 routed routes n (Payload route len held) =
-    ltb route (length routes / 16)
+    ltb route (length routes / rowWidth Routes)
     && eqb (routeIn routes route .connection) n
     && leb len (routeIn routes route .longest)
     && not (routeIn routes route .transfer)
 routed routes n (Skip bytes) = true
 routed routes n (Transfer route left) =
-    ltb route (length routes / 16) && eqb (routeIn routes route .connection) n && routeIn routes route .transfer
+    ltb route (length routes / rowWidth Routes) && eqb (routeIn routes route .connection) n && routeIn routes route .transfer
 
 -- R3.1: a row's record meets the rules, and records past the row count are all zero
 unfoldable pub soundAt : List ℕ → ℕ → Connection → Bool

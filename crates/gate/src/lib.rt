@@ -9,6 +9,7 @@ ghost use Rattle.state.specs.Fresh.{configIn};
 ghost use Rattle.gate.specs.Sound.{routed, recordsSound};
 ghost use Rattle.gate.specs.Inner.{rulesFrom, rulesIn, soundIn, idle, idleSound, quietSound};
 ghost use Rattle.gate.specs.Lent.{lent};
+ghost use Rattle.table_layout.specs.Layout.{rowWidth};
 ghost use Rattle.table_rows.specs.Rules.{sizeIn};
 ghost use Rattle.gate.specs.Gate.{gateOf, gateAt};
 use connection::Config;
@@ -122,7 +123,7 @@ fn is_watched(connections: &[u8], groups: &[u8], n: usize, c: Connection) -> boo
 
 // The rules that are left of such a record: without send bytes no timer and no due mark; with them online, not both, and within the size.
 fn is_idle_sound(connections: &[u8], n: usize, c: Connection) -> bool
-    ensures { λ r. ⌜ r ≡ idleSound (sizeIn 16 (now (connections .entry)) n) c ⌝ }
+    ensures { λ r. ⌜ r ≡ idleSound (sizeIn (rowWidth Kind.Connection) (now (connections .entry)) n) c ⌝ }
 {
     let reached = is_reached(c);
     if c.used == 0 {

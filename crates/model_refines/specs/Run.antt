@@ -16,7 +16,24 @@ use Rattle.entry_ticks.specs.Tick.{tickEvent}
 use Rattle.entry_arrivals.specs.Arrivals.{datagramOf, acceptOf}
 use Rattle.entry_receive.specs.Walk.{walkOf}
 use Rattle.entry_send.specs.Sending.{sendOf, sentMemory, takenWaiting}
-use Rattle.model.specs.Events.{Own, change, segment, walk, takeWaiting, Whole, datagram, accept, tick, transmit, switchAll, readCount, clearCount, Event, on, onWhole}
+use Rattle.model.specs.Events.{
+  Own,
+  change,
+  segment,
+  walk,
+  takeWaiting,
+  Whole,
+  datagram,
+  accept,
+  tick,
+  transmit,
+  switchAll,
+  readCount,
+  clearCount,
+  Event,
+  on,
+  onWhole,
+}
 use Rattle.model_refines.specs.Machine.{Machine, machine, lentTo, loanTo, afterSegment, toldSegment}
 
 -- WHAT A WALK FOUND: a PDU, with the payload that stands at its place, or a drop

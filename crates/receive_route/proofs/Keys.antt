@@ -11,6 +11,7 @@ use lib.ListN.{length}
 use Rattle.wire.specs.Be.{be, byteAt, Number, Little}
 use Rattle.wire.specs.Lay.{spell, lay}
 use Rattle.wire.proofs.Spell.{be-lay}
+use Rattle.table_rows.specs.Rows.{routeRow}
 use Rattle.receive_route.specs.Route.{Key}
 
 -- a number of four bytes, the last the highest
@@ -47,6 +48,7 @@ load-is row a b d e p q r s =
 
 -- an id written to a row's place
 pub key-is : (d row : List ℕ) (id key : ℕ) → row ≡ lay d 4 (spell 4 id) → 8 ≤ length d → id < 256 ^ 4 → Little row 4 key → Key id key
+unfolding routeRow
 key-is d row id key e h s l = record { row = row; read = l; is = ap (λ (x : List ℕ). be 4 x 4) e ∙ be-lay 4 d 4 id h s }
 
 -- a row's id by its bytes
@@ -70,6 +72,7 @@ module _ (s t : List ℕ) (x y : ℕ) (p : Little s 4 x) (q : Little t 4 y) wher
 
 -- a row has the id exactly when it is loaded as the key
 pub key-tells : (row : List ℕ) (id x key : ℕ) → Little row 4 x → Key id key → eqb x key ≡ eqb (be 4 row 4) id
+unfolding routeRow
 key-tells row id x key p k = go (eqb x key) refl
   where
     go : (b : Bool) → eqb x key ≡ b → b ≡ eqb (be 4 row 4) id

@@ -10,25 +10,27 @@ use Rattle.reading.specs.declared.Decision.the-variants.{Accept, Refuse, Transf
 use Rattle.reading.specs.Feed.{Routes}
 use Rattle.switches.specs.Switches.{isOn}
 use Rattle.lists.specs.Search.{firstBad}
+use Rattle.table_layout.specs.Layout.{rowWidth}
+use Rattle.table_layout.specs.declared.Kind.the-variants.{Route}
 use Rattle.table_rows.specs.declared.RouteRow.{RouteRow}
-use Rattle.table_rows.specs.Rows.{routeIn}
-use Rattle.wire.specs.Be.{be, Little}
+use Rattle.table_rows.specs.Rows.{routeIdAt, routeRow, routeIn}
+use Rattle.wire.specs.Be.{Little}
 
 -- how many rows a body of routes has: 64 at most
 unfoldable pub rowsIn : List ℕ → ℕ
-rowsIn routes = cond (leb (length routes / 16) 64) (length routes / 16) 64
+rowsIn routes = cond (leb (length routes / rowWidth Route) 64) (length routes / rowWidth Route) 64
 
 -- n is that number, and its rows stand within the body
 pub record RowsCounted (routes : List ℕ) (n : ℕ) : Type 0 where
   pub is : n ≡ rowsIn routes
   pub most : n ≤ 64
-  pub within : n ≤ length routes / 16
+  pub within : n ≤ length routes / rowWidth Route
 
--- key is an id whose four bytes were read the other way round, the last the highest
+-- key is a row's id whose four bytes were read the other way round, the last the highest
 pub record Key (id key : ℕ) : Type 0 where
   pub row : List ℕ
-  pub read : Little row 4 key
-  pub is : be 4 row 4 ≡ id
+  pub read : Little row routeIdAt key
+  pub is : routeRow row .id ≡ id
 
 -- R5.2: a route counts for a header by connection and id
 unfoldable pub counts : RouteRow → ℕ → ℕ → Bool

@@ -77,7 +77,8 @@ transmittedOf image s pdu payload tx =
 pub record Ready (image : List ℕ) : Type 0 where
   pub there : (i : ℕ) → i < destinations image → destinationOf image i .connection < 16
   pub sized : (i : ℕ) → i < destinations image → connectionOf image (destinationOf image i .connection) .size ≤ 1472
-  pub apart : (i j : ℕ) → i < j → j < destinations image → destinationOf image i .pdu ≡ destinationOf image j .pdu → destinationOf image i .connection ≡ destinationOf image j .connection → ⊥
+  pub apart : (i j : ℕ) → i < j → j < destinations image
+      → destinationOf image i .pdu ≡ destinationOf image j .pdu → destinationOf image i .connection ≡ destinationOf image j .connection → ⊥
 
 -- and, of the state, after the check: each wanted destination has room
 abbrev pub Roomy : List ℕ → State → ℕ → List ℕ → Type 0

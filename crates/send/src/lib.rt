@@ -4,6 +4,7 @@ ghost use mathlib.Core.Path.{_≡_};
 ghost use Prim.Native.Nat.{_+_, _/_, _<_, _≤_};
 ghost use lib.Dec.{eqb};
 ghost use lib.ListN.{length};
+ghost use Rattle.table_layout.specs.Layout.{rowWidth};
 ghost use Rattle.table_rows.specs.Rows.{destinationIn};
 ghost use Rattle.send.specs.Verdict as Is;
 ghost use Rattle.send.specs.Send.{
@@ -57,7 +58,7 @@ fn outcome(seen: u8) -> Transmission
 
 // Whether row i is for a PDU. Of the number's two bytes the last differs more often: it is read first.
 fn is_for(body: &[u8], i: usize, pdu: u16) -> bool
-    requires { ⌜ i < length (now body) / 16 ⌝ }
+    requires { ⌜ i < length (now body) / rowWidth Kind.Destination ⌝ }
     ensures { λ r. ⌜ r ≡ eqb (destinationIn (now (body .entry)) i .pdu) pdu ⌝ }
 {
     let at = i * 16;

@@ -10,13 +10,23 @@ use borrow.Author.Tests.{leb-true, ltb-true, eqb-true, eq-eqb, not-true}
 use Rattle.wire.specs.Be.{be}
 use Rattle.lists.proofs.Both.{and-left, and-right, and3, and4, and-both, impossible}
 use Rattle.lists.proofs.Search.{none-bad, every-at}
-use Rattle.table_layout.specs.Layout.{number, mostRows, entryAt, rowsOf, startOf, endOf, rowAt, bodyOf, rowOf, Laid}
+use Rattle.table_layout.specs.Layout.{number, mostRows, entryAt, rowsOf, startOf, endOf, rowAt, rowOf, Laid}
 use Rattle.table_layout.specs.declared.Kind.{Kind}
 use Rattle.table_layout.specs.declared.Kind.the-variants.{Group, Connection, Route, Destination}
-use Rattle.table_rows.specs.Rows.{groupRow, connectionRow, routeRow, destinationRow}
+use Rattle.table_rows.specs.Rows.{
+  groupRow,
+  connectionRow,
+  routeRow,
+  destinationRow,
+  groupZero,
+  automaticByte,
+  transferByte,
+  routeZero,
+  triggerByte,
+}
 use Rattle.table_rows.specs.Rules.{groupGood, connectionGood, routeGood, destinationGood, sizeIn, groupTcp, tcpIn, routesShare, destinationsShare}
 use Rattle.table_scan.specs.Scan.{share, clearIn, goodIn}
-use Rattle.table.specs.Table.{entryGood, groupTcpOf, tcpOf, rule, rowGood, badRow, demand, rowsPlace, entriesPlace, headPlace, allRowsPlace, checkTable}
+use Rattle.table.specs.Table.{entryGood, groupTcpOf, tcpOf, sizeOf, rule, rowGood, badRow, demand, rowsPlace, entriesPlace, headPlace, allRowsPlace, checkTable}
 use Rattle.table.specs.Accepts.{Accepts}
 use Rattle.table.specs.declared.TableAnswer.the-variants.{Accepted}
 use Rattle.table.proofs.Answers.{then-first, then-second, demand-held}
@@ -95,37 +105,37 @@ module _ (s : List ℕ) (e : checkTable s ≡ Accepted) where
   unfolding rule
   route-rule i h = ruled Route i h
 
-  destination-rule : (i : ℕ) → i < rowsOf s Destination → destinationGood (rowsOf s Connection) (sizeIn 16 (bodyOf s Connection)) (rowOf s Destination i) ≡ true
+  destination-rule : (i : ℕ) → i < rowsOf s Destination → destinationGood (rowsOf s Connection) (sizeOf s) (rowOf s Destination i) ≡ true
   unfolding rule
   destination-rule i h = ruled Destination i h
 
 pub record GroupFacts (row : List ℕ) : Type 0 where
-  pub low : 1 ≤ be 1 row 0
-  pub high : be 1 row 0 ≤ 2
+  pub low : 1 ≤ groupRow row .protocol
+  pub high : groupRow row .protocol ≤ 2
 
 pub record ConnectionFacts (groups : ℕ) (tcp : ℕ → Bool) (row : List ℕ) : Type 0 where
-  pub group : be 1 row 0 < groups
-  pub automatic : be 1 row 1 ≤ 1
-  pub low : 8 ≤ be 2 row 8
-  pub high : be 2 row 8 ≤ 1472
-  pub unlimited : tcp (be 1 row 0) ≡ true → be 2 row 10 ≡ 0
+  pub group : connectionRow row .group < groups
+  pub automatic : automaticByte row ≤ 1
+  pub low : 8 ≤ connectionRow row .size
+  pub high : connectionRow row .size ≤ 1472
+  pub unlimited : tcp (connectionRow row .group) ≡ true → connectionRow row .alive ≡ 0
 
 pub record RouteFacts (connections : ℕ) (tcp : ℕ → Bool) (row : List ℕ) : Type 0 where
-  pub connection : be 1 row 0 < connections
-  pub transfer : be 1 row 1 ≤ 1
-  pub marked : eqb (be 1 row 1) 1 ≡ true → tcp (be 1 row 0) ≡ true
-  pub longest : be 2 row 2 ≤ 1464
+  pub connection : routeRow row .connection < connections
+  pub transfer : transferByte row ≤ 1
+  pub marked : routeRow row .transfer ≡ true → tcp (routeRow row .connection) ≡ true
+  pub longest : routeRow row .longest ≤ 1464
 
 pub record DestinationFacts (connections : ℕ) (size : ℕ → ℕ) (row : List ℕ) : Type 0 where
-  pub connection : be 1 row 0 < connections
-  pub trigger : be 1 row 1 ≤ 1
-  pub longest : be 2 row 2 ≤ 1464
-  pub fits : be 2 row 2 + 8 ≤ size (be 1 row 0)
+  pub connection : destinationRow row .connection < connections
+  pub trigger : triggerByte row ≤ 1
+  pub longest : destinationRow row .longest ≤ 1464
+  pub fits : destinationRow row .longest + 8 ≤ size (destinationRow row .connection)
 
 group-facts : (row : List ℕ) → groupGood row ≡ true → GroupFacts row
 unfolding groupGood
 group-facts row e =
-    let f = and3 (leb 1 (be 1 row 0)) (leb (be 1 row 0) 2) (eqb (be 1 row 1) 0) e in
+    let f = and3 (leb 1 (groupRow row .protocol)) (leb (groupRow row .protocol) 2) (eqb (groupZero row) 0) e in
     record { low = leb-true _ _ (f .0); high = leb-true _ _ (f .1) }
 
 -- what holds where the first does not fail, and where the second does
@@ -139,13 +149,14 @@ where-second false true e h = e
 where-second false false e h = impossible h
 
 connection-facts : (groups : ℕ) (tcp : ℕ → Bool) (row : List ℕ) → connectionGood groups tcp row ≡ true → ConnectionFacts groups tcp row
-unfolding connectionGood connectionRow
+unfolding connectionGood
 connection-facts groups tcp row e =
-    let a = ltb (be 1 row 0) groups in
-    let b = leb (be 1 row 1) 1 in
-    let c = leb 8 (be 2 row 8) in
-    let d = leb (be 2 row 8) 1472 in
-    let z = eqb (be 2 row 10) 0 || not (tcp (be 1 row 0)) in
+    let v = connectionRow row in
+    let a = ltb (v .group) groups in
+    let b = leb (automaticByte row) 1 in
+    let c = leb 8 (v .size) in
+    let d = leb (v .size) 1472 in
+    let z = eqb (v .alive) 0 || not (tcp (v .group)) in
     let f = and4 a b c d (and-left (a && b && c && d) z e) in
     record {
       group = ltb-true _ _ (f .0);
@@ -156,19 +167,21 @@ connection-facts groups tcp row e =
     }
 
 route-facts : (connections : ℕ) (tcp : ℕ → Bool) (row : List ℕ) → routeGood connections tcp row ≡ true → RouteFacts connections tcp row
-unfolding routeGood routeRow
+unfolding routeGood
 route-facts connections tcp row e =
-    let a = ltb (be 1 row 0) connections in
-    let b = leb (be 1 row 1) 1 in
-    let c = not (eqb (be 1 row 1) 1) || tcp (be 1 row 0) in
-    let d = leb (be 2 row 2) 1464 in
-    let f = and4 a b c d (and-left (a && b && c && d) (eqb (be 2 row 10) 0) e) in
+    let v = routeRow row in
+    let a = ltb (v .connection) connections in
+    let b = leb (transferByte row) 1 in
+    let c = not (v .transfer) || tcp (v .connection) in
+    let d = leb (v .longest) 1464 in
+    let f = and4 a b c d (and-left (a && b && c && d) (eqb (routeZero row) 0) e) in
     record { connection = ltb-true _ _ (f .0); transfer = leb-true _ _ (f .1); marked = where-first _ _ (f .2); longest = leb-true _ _ (f .3) }
 
 destination-facts : (connections : ℕ) (size : ℕ → ℕ) (row : List ℕ) → destinationGood connections size row ≡ true → DestinationFacts connections size row
-unfolding destinationGood destinationRow
+unfolding destinationGood
 destination-facts connections size row e =
-    let f = and4 (ltb (be 1 row 0) connections) (leb (be 1 row 1) 1) (leb (be 2 row 2) 1464) (leb (be 2 row 2 + 8) (size (be 1 row 0))) e in
+    let v = destinationRow row in
+    let f = and4 (ltb (v .connection) connections) (leb (triggerByte row) 1) (leb (v .longest) 1464) (leb (v .longest + 8) (size (v .connection))) e in
     record { connection = ltb-true _ _ (f .0); trigger = leb-true _ _ (f .1); longest = leb-true _ _ (f .2); fits = leb-true _ _ (f .3) }
 
 module _ (s : List ℕ) (e : checkTable s ≡ Accepted) (i : ℕ) where
@@ -181,8 +194,8 @@ module _ (s : List ℕ) (e : checkTable s ≡ Accepted) (i : ℕ) where
   routes-keep : i < rowsOf s Route → RouteFacts (rowsOf s Connection) (tcpOf s) (rowOf s Route i)
   routes-keep h = route-facts (rowsOf s Connection) (tcpOf s) (rowOf s Route i) (route-rule s e i h)
 
-  destinations-keep : i < rowsOf s Destination → DestinationFacts (rowsOf s Connection) (sizeIn 16 (bodyOf s Connection)) (rowOf s Destination i)
-  destinations-keep h = destination-facts (rowsOf s Connection) (sizeIn 16 (bodyOf s Connection)) (rowOf s Destination i) (destination-rule s e i h)
+  destinations-keep : i < rowsOf s Destination → DestinationFacts (rowsOf s Connection) (sizeOf s) (rowOf s Destination i)
+  destinations-keep h = destination-facts (rowsOf s Connection) (sizeOf s) (rowOf s Destination i) (destination-rule s e i h)
 
 -- a test of sharing that fails
 apart-of : (share : Bool) → share ≡ false → share ≡ true → ⊥

@@ -1,20 +1,19 @@
 -- The first bad row of a body is the first bad row of its kind, in an image that is laid out.
-use Prim.Native.Nat.{ℕ, _+_, _*_, _/_, _<_, _≤_}
+use Prim.Native.Nat.{ℕ, _+_, _*_, _<_, _≤_}
 use mathlib.Core.Path.{_≡_, ap, _∙_}
 use mathlib.Core.List.{List}
 use native.Mathlib.Omega.{arith}
 use lib.Dec.{leb}
-use lib.ListN.{length}
 use borrow.Author.Tests.{le-leb, lt-leb}
 use Rattle.lists.specs.Search.{firstBad}
 use Rattle.table_layout.specs.Layout.{rowBytes, rowsOf, startOf, rowAt, bodyOf, Laid}
 use Rattle.table_layout.proofs.Parts.{body-rows}
 use Rattle.table_layout.specs.declared.Kind.{Kind}
 use Rattle.table_layout.specs.declared.Kind.the-variants.{Group, Connection, Route, Destination}
-use Rattle.table_rows.specs.Rules.{groupGood, connectionGood, routeGood, destinationGood, sizeIn}
+use Rattle.table_rows.specs.Rules.{connectionGood, routeGood, destinationGood}
 use Rattle.table_scan.specs.declared.BadRows.{BadRows}
-use Rattle.table_scan.specs.Scan.{share, goodIn, connectionRule, badRoute, badRows}
-use Rattle.table.specs.Table.{groupTcpOf, tcpOf, rule, demand, thenCheck, rowsPlace}
+use Rattle.table_scan.specs.Scan.{badIn, badGroup, badConnection, badRoute, badDestination, badRows}
+use Rattle.table.specs.Table.{groupTcpOf, tcpOf, sizeOf, rule, rowGood, demand, thenCheck, rowsPlace}
 use Rattle.table.specs.declared.TableAnswer.{TableAnswer}
 use Rattle.table.specs.declared.TableAnswer.the-variants.{Accepted, Refused}
 
@@ -29,26 +28,23 @@ module _ (s : List ℕ) (k : Kind) (rows bad start size : ℕ) (er : rows ≡ ro
 
 -- each kind, by values that are its body and its numbers
 module _ (s : List ℕ) (l : Laid s) (r : TableAnswer) (bad : ℕ) where
-  place : (k : Kind) → bad ≡ firstBad (goodIn (rule s k) (share k) (rowBytes s k) (bodyOf s k)) (length (bodyOf s k) / rowBytes s k)
-      → r ≡ demand (leb (rowsOf s k) bad) (rowAt s k bad) → r ≡ rowsPlace s k
-  place k e f =
-      f ∙ ap (λ (b : ℕ). demand (leb (rowsOf s k) b) (rowAt s k b)) (e ∙ ap (firstBad (goodIn (rule s k) (share k) (rowBytes s k) (bodyOf s k))) (body-rows s l k))
+  place : (k : Kind) → bad ≡ badIn (rule s k) k (bodyOf s k) → r ≡ demand (leb (rowsOf s k) bad) (rowAt s k bad) → r ≡ rowsPlace s k
+  place k e f = f ∙ ap (λ (b : ℕ). demand (leb (rowsOf s k) b) (rowAt s k b)) (e ∙ ap (firstBad (rowGood s k)) (body-rows s l k))
 
-  pub groups-place : (body : List ℕ) → body ≡ bodyOf s Group
-      → bad ≡ firstBad (goodIn groupGood (share Group) 2 body) (length body / 2)
+  pub groups-place : (body : List ℕ) → body ≡ bodyOf s Group → bad ≡ badGroup body
       → r ≡ demand (leb (rowsOf s Group) bad) (rowAt s Group bad) → r ≡ rowsPlace s Group
   unfolding rule
-  groups-place body b e f = place Group (e ∙ ap (λ (x : List ℕ). firstBad (goodIn groupGood (share Group) 2 x) (length x / 2)) b) f
+  groups-place body b e f = place Group (e ∙ ap badGroup b) f
 
   pub connections-place : (body groups : List ℕ) → body ≡ bodyOf s Connection → groups ≡ bodyOf s Group
-      → bad ≡ firstBad (goodIn (connectionRule groups) (share Connection) 16 body) (length body / 16)
+      → bad ≡ badConnection groups body
       → r ≡ demand (leb (rowsOf s Connection) bad) (rowAt s Connection bad) → r ≡ rowsPlace s Connection
   unfolding rule
   connections-place body groups b g e f =
       place Connection
-      (e ∙ ap (λ (x : List ℕ). firstBad (goodIn (connectionRule groups) (share Connection) 16 x) (length x / 16)) b
-      ∙ ap (λ (x : List ℕ). firstBad (goodIn (connectionRule x) (share Connection) 16 (bodyOf s Connection)) (length (bodyOf s Connection) / 16)) g
-      ∙ ap (λ (n : ℕ). firstBad (goodIn (connectionGood n (groupTcpOf s)) (share Connection) 16 (bodyOf s Connection)) (length (bodyOf s Connection) / 16)) (body-rows s l Group))
+      (e ∙ ap (badConnection groups) b
+      ∙ ap (λ (x : List ℕ). badConnection x (bodyOf s Connection)) g
+      ∙ ap (λ (n : ℕ). badIn (connectionGood n (groupTcpOf s)) Connection (bodyOf s Connection)) (body-rows s l Group))
       f
 
   pub routes-place : (body connections groups : List ℕ) → body ≡ bodyOf s Route → connections ≡ bodyOf s Connection → groups ≡ bodyOf s Group
@@ -60,18 +56,18 @@ module _ (s : List ℕ) (l : Laid s) (r : TableAnswer) (bad : ℕ) where
       (e ∙ ap (badRoute connections groups) b
       ∙ ap (λ (x : List ℕ). badRoute x groups (bodyOf s Route)) c
       ∙ ap (λ (x : List ℕ). badRoute (bodyOf s Connection) x (bodyOf s Route)) g
-      ∙ ap (λ (n : ℕ). firstBad (goodIn (routeGood n (tcpOf s)) (share Route) 16 (bodyOf s Route)) (length (bodyOf s Route) / 16)) (body-rows s l Connection))
+      ∙ ap (λ (n : ℕ). badIn (routeGood n (tcpOf s)) Route (bodyOf s Route)) (body-rows s l Connection))
       f
 
   pub destinations-place : (body connections : List ℕ) → body ≡ bodyOf s Destination → connections ≡ bodyOf s Connection
-      → bad ≡ firstBad (goodIn (destinationGood (length connections / 16) (sizeIn 16 connections)) (share Destination) 16 body) (length body / 16)
+      → bad ≡ badDestination connections body
       → r ≡ demand (leb (rowsOf s Destination) bad) (rowAt s Destination bad) → r ≡ rowsPlace s Destination
   unfolding rule
   destinations-place body connections b c e f =
       place Destination
-      (e ∙ ap (λ (x : List ℕ). firstBad (goodIn (destinationGood (length connections / 16) (sizeIn 16 connections)) (share Destination) 16 x) (length x / 16)) b
-      ∙ ap (λ (x : List ℕ). firstBad (goodIn (destinationGood (length x / 16) (sizeIn 16 x)) (share Destination) 16 (bodyOf s Destination)) (length (bodyOf s Destination) / 16)) c
-      ∙ ap (λ (n : ℕ). firstBad (goodIn (destinationGood n (sizeIn 16 (bodyOf s Connection))) (share Destination) 16 (bodyOf s Destination)) (length (bodyOf s Destination) / 16)) (body-rows s l Connection))
+      (e ∙ ap (badDestination connections) b
+      ∙ ap (λ (x : List ℕ). badDestination x (bodyOf s Destination)) c
+      ∙ ap (λ (n : ℕ). badIn (destinationGood n (sizeOf s)) Destination (bodyOf s Destination)) (body-rows s l Connection))
       f
 
 -- the last two kinds, by what one search gives

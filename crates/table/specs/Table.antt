@@ -32,12 +32,16 @@ groupTcpOf s g = groupTcp (rowBytes s Group) (bodyOf s Group) g
 abbrev pub tcpOf : List ℕ → ℕ → Bool
 tcpOf s c = tcpIn (rowBytes s Group) (bodyOf s Group) (rowBytes s Connection) (bodyOf s Connection) c
 
+-- the send size of connection c of an image
+abbrev pub sizeOf : List ℕ → ℕ → ℕ
+sizeOf s c = sizeIn (rowBytes s Connection) (bodyOf s Connection) c
+
 -- R1.6, R1.7: each kind's row rule, with the row counts of groups and connections
 unfoldable pub rule : List ℕ → Kind → List ℕ → Bool
 rule s Group row = groupGood row
 rule s Connection row = connectionGood (rowsOf s Group) (groupTcpOf s) row
 rule s Route row = routeGood (rowsOf s Connection) (tcpOf s) row
-rule s Destination row = destinationGood (rowsOf s Connection) (sizeIn (rowBytes s Connection) (bodyOf s Connection)) row
+rule s Destination row = destinationGood (rowsOf s Connection) (sizeOf s) row
 
 -- row i of a kind is good
 abbrev pub rowGood : List ℕ → Kind → ℕ → Bool

@@ -12,14 +12,27 @@ use lib.ListN.{length}
 use Rattle.wire.specs.Be.{be}
 use Rattle.lists.specs.Search.{firstBad, every}
 use Rattle.lists.proofs.Both.{impossible, and-both}
-use Rattle.table_layout.specs.Layout.{number, mostRows, entryAt, rowsOf, startOf, endOf, bodyOf, rowOf}
+use Rattle.table_layout.specs.Layout.{number, mostRows, entryAt, rowBytes, rowsOf, startOf, endOf, bodyOf, rowOf}
 use Rattle.table_layout.specs.declared.Kind.{Kind}
 use Rattle.table_layout.specs.declared.Kind.the-variants.{Group, Connection, Route, Destination}
-use Rattle.table_rows.specs.Rows.{connectionRow, routeRow, destinationRow, groupOf}
-use Rattle.table_rows.specs.Rules.{groupGood, connectionGood, routeGood, destinationGood, sizeIn, groupTcp}
+use Rattle.table_rows.specs.Rows.{
+  groupRow,
+  connectionRow,
+  routeRow,
+  destinationRow,
+  groupZeroAt,
+  groupZero,
+  automaticByte,
+  transferByte,
+  routeZeroAt,
+  routeZero,
+  triggerByte,
+  groupOf,
+}
+use Rattle.table_rows.specs.Rules.{groupGood, connectionGood, routeGood, destinationGood, groupTcp}
 use Rattle.table_scan.specs.Scan.{goodIn}
 use Rattle.table_scan.proofs.Rows.{free, groups-free, connections-free}
-use Rattle.table.specs.Table.{headGood, entryGood, groupTcpOf, tcpOf, rule, rowGood, demand, headPlace, entriesPlace, allRowsPlace, checkTable}
+use Rattle.table.specs.Table.{headGood, entryGood, groupTcpOf, tcpOf, sizeOf, rule, rowGood, demand, headPlace, entriesPlace, allRowsPlace, checkTable}
 use Rattle.table.specs.declared.TableAnswer.the-variants.{Accepted, Refused}
 use Rattle.table.proofs.Answers.{then-first, then-second, demand-held}
 use Rattle.table.proofs.Facts.{accepted-row}
@@ -152,41 +165,55 @@ module _ (s : List ℕ) where
 
   group-tells : (row : List ℕ) → Tells (groupGood row) (groupFault row)
   unfolding groupGood groupFault passesTest
-  group-tells row = test Protocol (be 1 row 0) 2 _ _ (last Zero (be 1 row 1) 1)
+  group-tells row = test Protocol (groupRow row .protocol) 2 _ _ (last Zero (groupZero row) groupZeroAt)
 
   connection-tells : (row : List ℕ)
-      → Tells (connectionGood (rowsOf s Group) (groupTcpOf s) row) (connectionFault (rowsOf s Group) (groupOf s (be 1 row 0) .protocol) row)
-  unfolding connectionGood connectionRow groupTcp connectionFault passesTest
+      → Tells (connectionGood (rowsOf s Group) (groupTcpOf s) row) (connectionFault (rowsOf s Group) (groupOf s (connectionRow row .group) .protocol) row)
+  unfolding connectionGood groupTcp connectionFault passesTest
   connection-tells row =
-      let protocol = groupOf s (be 1 row 0) .protocol in
-      same _ (sized (ltb (be 1 row 0) (rowsOf s Group)) (leb (be 1 row 1) 1) (leb 8 (be 2 row 8)) (leb (be 2 row 8) 1472) (eqb (be 2 row 10) 0 || not (eqb protocol 2)))
-      (test NoGroup (be 1 row 0) (rowsOf s Group) _ _ (test Automatic (be 1 row 1) 1 _ _ (test SendSize (be 2 row 8) 1472 _ _ (last NotUdp (be 2 row 10) protocol))))
+      let v = connectionRow row in
+      let protocol = groupOf s (v .group) .protocol in
+      let there = ltb (v .group) (rowsOf s Group) in
+      same _ (sized there (leb (automaticByte row) 1) (leb 8 (v .size)) (leb (v .size) 1472) (eqb (v .alive) 0 || not (eqb protocol 2)))
+      (test NoGroup (v .group) (rowsOf s Group) _ _
+      (test Automatic (automaticByte row) 1 _ _
+      (test SendSize (v .size) 1472 _ _
+      (last NotUdp (v .alive) protocol))))
 
   route-tells : (connections : ℕ) (tcp : ℕ → Bool) (row : List ℕ) (b : Bool) (shared : Told) → Tells b shared
-      → Tells (routeGood connections tcp row && b) (routeFault connections (mostMark (tcp (be 1 row 0))) shared row)
+      → Tells (routeGood connections tcp row && b) (routeFault connections (mostMark (tcp (routeRow row .connection))) shared row)
   unfolding routeGood routeRow routeFault passesTest
   route-tells connections tcp row b shared h =
-      let there = ltb (be 1 row 0) connections in
-      let long = leb (be 2 row 2) 1464 in
-      let zeros = eqb (be 2 row 10) 0 in
-      let tp = not (eqb (be 1 row 1) 1) || tcp (be 1 row 0) in
-      same _ (ap (λ (y : Bool). there && y) (not-above (be 1 row 1) (tcp (be 1 row 0)) (long && (zeros && b))) ∙ six there (leb (be 1 row 1) 1) tp long zeros b)
-      (test NoConnection (be 1 row 0) connections _ _ (test Transfer (be 1 row 1) 1 _ _ (test NotTcp (be 1 row 1) (mostMark (tcp (be 1 row 0))) _ _
-      (test Longest (be 2 row 2) 1464 _ _ (test Zero (be 2 row 10) 10 _ _ h)))))
+      let v = routeRow row in
+      let m = transferByte row in
+      let there = ltb (v .connection) connections in
+      let long = leb (v .longest) 1464 in
+      let zeros = eqb (routeZero row) 0 in
+      let tp = not (v .transfer) || tcp (v .connection) in
+      same _ (ap (λ (y : Bool). there && y) (not-above m (tcp (v .connection)) (long && (zeros && b))) ∙ six there (leb m 1) tp long zeros b)
+      (test NoConnection (v .connection) connections _ _
+      (test Transfer m 1 _ _
+      (test NotTcp m (mostMark (tcp (v .connection))) _ _
+      (test Longest (v .longest) 1464 _ _
+      (test Zero (routeZero row) routeZeroAt _ _ h)))))
 
   destination-tells : (connections : ℕ) (size : ℕ → ℕ) (row : List ℕ) (b : Bool) (shared : Told) → Tells b shared
-      → Tells (destinationGood connections size row && b) (destinationFault connections (size (be 1 row 0)) shared row)
-  unfolding destinationGood destinationRow destinationFault passesTest
+      → Tells (destinationGood connections size row && b) (destinationFault connections (size (destinationRow row .connection)) shared row)
+  unfolding destinationGood destinationFault passesTest
   destination-tells connections size row b shared h =
-      same _ (five (ltb (be 1 row 0) connections) (leb (be 1 row 1) 1) (leb (be 2 row 2) 1464) _ _)
-      (test NoConnection (be 1 row 0) connections _ _ (test Trigger (be 1 row 1) 1 _ _ (test Longest (be 2 row 2) 1464 _ _ (test Room (be 2 row 2) (size (be 1 row 0)) _ _ h))))
+      let v = destinationRow row in
+      same _ (five (ltb (v .connection) connections) (leb (triggerByte row) 1) (leb (v .longest) 1464) _ _)
+      (test NoConnection (v .connection) connections _ _
+      (test Trigger (triggerByte row) 1 _ _
+      (test Longest (v .longest) 1464 _ _
+      (test Room (v .longest) (size (v .connection)) _ _ h))))
 
   row-tells : (k : Kind) (i : ℕ) → Tells (rowGood s k i) (rowFault s k i)
   unfolding goodIn rule rowFault
-  row-tells Group i = same _ (with-true _ _ (free Group 2 (bodyOf s Group) i groups-free)) (group-tells (rowOf s Group i))
-  row-tells Connection i = same _ (with-true _ _ (free Connection 16 (bodyOf s Connection) i connections-free)) (connection-tells (rowOf s Connection i))
+  row-tells Group i = same _ (with-true _ _ (free Group (rowBytes s Group) (bodyOf s Group) i groups-free)) (group-tells (rowOf s Group i))
+  row-tells Connection i = same _ (with-true _ _ (free Connection (rowBytes s Connection) (bodyOf s Connection) i connections-free)) (connection-tells (rowOf s Connection i))
   row-tells Route i = route-tells (rowsOf s Connection) (tcpOf s) (rowOf s Route i) _ _ (shared-tells Route i)
-  row-tells Destination i = destination-tells (rowsOf s Connection) (sizeIn 16 (bodyOf s Connection)) (rowOf s Destination i) _ _ (shared-tells Destination i)
+  row-tells Destination i = destination-tells (rowsOf s Connection) (sizeOf s) (rowOf s Destination i) _ _ (shared-tells Destination i)
 
   pub told-fails : (at : Spot) → Tells (goodAt s at) (faultAt s at)
   unfolding goodAt faultAt

@@ -10,13 +10,12 @@ use borrow.Author.Tests.{not-false}
 use Rattle.lists.specs.Search.{firstBad, every}
 use Rattle.lists.proofs.Search.{none-bad, found-bad, every-all, pass-failed}
 use Rattle.wire.specs.Be.{be}
-use Rattle.table_layout.specs.Layout.{rowsOf, bodyOf, rowOf}
+use Rattle.table_layout.specs.Layout.{rowsOf, rowOf}
 use Rattle.table_layout.specs.declared.Kind.{Kind}
 use Rattle.table_layout.specs.declared.Kind.the-variants.{Group, Connection, Route, Destination}
-use Rattle.table_rows.specs.Rows.{groupOf}
-use Rattle.table_rows.specs.Rules.{sizeIn}
+use Rattle.table_rows.specs.Rows.{groupOf, connectionOf, routeOf, destinationOf}
 use Rattle.table_scan.specs.Scan.{clearIn}
-use Rattle.table.specs.Table.{tcpOf}
+use Rattle.table.specs.Table.{tcpOf, sizeOf}
 use Rattle.table_fault.specs.Faults.{faultTold, noFault, passesTest, unless, groupFault, connectionFault, mostMark, routeFault, destinationFault, sharesNothing, sharedFault, rowFault}
 use Rattle.table_fault.specs.Good.{SharesWith}
 use Rattle.table_fault.specs.declared.Fault.{Fault}
@@ -123,7 +122,8 @@ module _ (s : List ℕ) where
   pub told-shares : (k : Kind) (i : ℕ) → rowFault s k i .fault ≡ Shared → SharesWith s k i (rowFault s k i .found)
   unfolding rowFault
   told-shares Group i e = never _ (group-through (rowOf s Group i) e) e
-  told-shares Connection i e = never _ (connection-through (rowsOf s Group) (groupOf s (be 1 (rowOf s Connection i) 0) .protocol) (rowOf s Connection i) e) e
-  told-shares Route i e = shared Route i _ (route-through (rowsOf s Connection) (mostMark (tcpOf s (be 1 (rowOf s Route i) 0))) (sharedFault s Route i) (rowOf s Route i) e) e
+  told-shares Connection i e = never _ (connection-through (rowsOf s Group) (groupOf s (connectionOf s i .group) .protocol) (rowOf s Connection i) e) e
+  told-shares Route i e = shared Route i _ (route-through (rowsOf s Connection) (mostMark (tcpOf s (routeOf s i .connection))) (sharedFault s Route i) (rowOf s Route i) e) e
   told-shares Destination i e =
-      shared Destination i _ (destination-through (rowsOf s Connection) (sizeIn 16 (bodyOf s Connection) (be 1 (rowOf s Destination i) 0)) (sharedFault s Destination i) (rowOf s Destination i) e) e
+      shared Destination i _
+      (destination-through (rowsOf s Connection) (sizeOf s (destinationOf s i .connection)) (sharedFault s Destination i) (rowOf s Destination i) e) e

@@ -9,10 +9,25 @@ use Rattle.lists.specs.Search.{firstBad, every}
 use Rattle.table_layout.specs.Layout.{number, mostRows, entryAt, rowBytes, rowsOf, startOf, endOf, bodyOf, rowOf}
 use Rattle.table_layout.specs.declared.Kind.{Kind}
 use Rattle.table_layout.specs.declared.Kind.the-variants.{Group, Connection, Route, Destination}
-use Rattle.table_rows.specs.Rows.{groupOf}
-use Rattle.table_rows.specs.Rules.{sizeIn}
+use Rattle.table_rows.specs.Rows.{
+  groupRow,
+  connectionRow,
+  routeRow,
+  destinationRow,
+  groupZeroAt,
+  groupZero,
+  automaticByte,
+  transferByte,
+  routeZeroAt,
+  routeZero,
+  triggerByte,
+  groupOf,
+  connectionOf,
+  routeOf,
+  destinationOf,
+}
 use Rattle.table_scan.specs.Scan.{share, clearIn}
-use Rattle.table.specs.Table.{tcpOf}
+use Rattle.table.specs.Table.{tcpOf, sizeOf}
 use Rattle.table_fault.specs.Spots.{spotOf}
 use Rattle.table_fault.specs.declared.Spot.{Spot}
 use Rattle.table_fault.specs.declared.Spot.the-variants.{Head, Entry, Total, Row}
@@ -99,16 +114,16 @@ totalFault s = unless Length (length s) (endOf s) noFault
 
 unfoldable pub groupFault : List ℕ → Told
 groupFault row =
-    unless Protocol (be 1 row 0) 2
-    (unless Zero (be 1 row 1) 1 noFault)
+    unless Protocol (groupRow row .protocol) 2
+    (unless Zero (groupZero row) groupZeroAt noFault)
 
 -- `protocol` is its group's: R20.1, no alive limit where it is 2 (TCP)
 unfoldable pub connectionFault : ℕ → ℕ → List ℕ → Told
 connectionFault groups protocol row =
-    unless NoGroup (be 1 row 0) groups
-    (unless Automatic (be 1 row 1) 1
-    (unless SendSize (be 2 row 8) 1472
-    (unless NotUdp (be 2 row 10) protocol noFault)))
+    unless NoGroup (connectionRow row .group) groups
+    (unless Automatic (automaticByte row) 1
+    (unless SendSize (connectionRow row .size) 1472
+    (unless NotUdp (connectionRow row .alive) protocol noFault)))
 
 -- R19.1: the highest transfer mark that a route may have, on a connection that is TCP or is not
 abbrev pub mostMark : Bool → ℕ
@@ -117,18 +132,18 @@ mostMark tcp = cond tcp 1 0
 -- `most` is the highest mark of its connection; `shared` is told of a row whose fields are right
 unfoldable pub routeFault : ℕ → ℕ → Told → List ℕ → Told
 routeFault connections most shared row =
-    unless NoConnection (be 1 row 0) connections
-    (unless Transfer (be 1 row 1) 1
-    (unless NotTcp (be 1 row 1) most
-    (unless Longest (be 2 row 2) 1464
-    (unless Zero (be 2 row 10) 10 shared))))
+    unless NoConnection (routeRow row .connection) connections
+    (unless Transfer (transferByte row) 1
+    (unless NotTcp (transferByte row) most
+    (unless Longest (routeRow row .longest) 1464
+    (unless Zero (routeZero row) routeZeroAt shared))))
 
 unfoldable pub destinationFault : ℕ → ℕ → Told → List ℕ → Told
 destinationFault connections size shared row =
-    unless NoConnection (be 1 row 0) connections
-    (unless Trigger (be 1 row 1) 1
-    (unless Longest (be 2 row 2) 1464
-    (unless Room (be 2 row 2) size shared)))
+    unless NoConnection (destinationRow row .connection) connections
+    (unless Trigger (triggerByte row) 1
+    (unless Longest (destinationRow row .longest) 1464
+    (unless Room (destinationRow row .longest) size shared)))
 
 -- row i shares with row j nothing that it may not
 abbrev pub sharesNothing : List ℕ → Kind → ℕ → ℕ → Bool
@@ -141,12 +156,12 @@ sharedFault s k i = cond (every (sharesNothing s k i) i) noFault (faultTold Shar
 unfoldable pub rowFault : List ℕ → Kind → ℕ → Told
 rowFault s Group i = groupFault (rowOf s Group i)
 rowFault s Connection i =
-    connectionFault (rowsOf s Group) (groupOf s (be 1 (rowOf s Connection i) 0) .protocol) (rowOf s Connection i)
+    connectionFault (rowsOf s Group) (groupOf s (connectionOf s i .group) .protocol) (rowOf s Connection i)
 rowFault s Route i =
-    routeFault (rowsOf s Connection) (mostMark (tcpOf s (be 1 (rowOf s Route i) 0)))
+    routeFault (rowsOf s Connection) (mostMark (tcpOf s (routeOf s i .connection)))
     (sharedFault s Route i) (rowOf s Route i)
 rowFault s Destination i =
-    destinationFault (rowsOf s Connection) (sizeIn (rowBytes s Connection) (bodyOf s Connection) (be 1 (rowOf s Destination i) 0))
+    destinationFault (rowsOf s Connection) (sizeOf s (destinationOf s i .connection))
     (sharedFault s Destination i) (rowOf s Destination i)
 
 unfoldable pub faultAt : List ℕ → Spot → Told

@@ -30,12 +30,16 @@ entryAt Connection = 12
 entryAt Route = 20
 entryAt Destination = 28
 
--- the bytes of a row: the same for every image of edition 1; the image is named so that another edition may have other rows
+-- R1.5: the bytes of a row of edition 1. A body lent by itself is cut by it; no other place has these numbers for a width
+abbrev pub rowWidth : Kind → ℕ
+rowWidth Group = 2
+rowWidth Connection = 16
+rowWidth Route = 16
+rowWidth Destination = 16
+
+-- the bytes of a row of an image: the same for every image of edition 1; the image is named so that another edition may have other rows
 abbrev pub rowBytes : List ℕ → Kind → ℕ
-rowBytes s Group = 2
-rowBytes s Connection = 16
-rowBytes s Route = 16
-rowBytes s Destination = 16
+rowBytes s k = rowWidth k
 
 -- R1.3: of a contents entry, kind (2), row count (2), offset (4), the row count
 unfoldable pub rowsOf : List ℕ → Kind → ℕ

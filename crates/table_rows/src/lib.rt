@@ -1,9 +1,8 @@
 // Rows of the table image: each kind's row as a value, read by its number, and each kind's rule as a test on a row's
 // bytes. Everything is total: a row that is not there is the zero row.
 ghost use mathlib.Core.Path.{_≡_};
-ghost use Prim.Native.Nat.{_/_};
-ghost use lib.ListN.{length};
 ghost use Rattle.wire.specs.Be.{be, Number};
+ghost use Rattle.table_layout.specs.Layout.{rowWidth};
 ghost use Rattle.table_rows.specs.Rows.{
   groupRow,
   connectionRow,
@@ -24,9 +23,9 @@ ghost use Rattle.table_rows.specs.Rules.{
   groupTcp,
   tcpIn,
   groupGood,
-  connectionGood,
-  routeGood,
-  destinationGood,
+  connectionRule,
+  routeRule,
+  destinationRule,
   routesShare,
   destinationsShare,
 };
@@ -236,14 +235,14 @@ pub fn group_good(row: &[u8]) -> bool
 
 // Group g is TCP, out of the body of groups.
 pub fn is_group_tcp(groups: &[u8], g: usize) -> bool
-    ensures { λ r. ⌜ r ≡ groupTcp 2 (now (groups .entry)) g ⌝ }
+    ensures { λ r. ⌜ r ≡ groupTcp (rowWidth Kind.Group) (now (groups .entry)) g ⌝ }
 {
     be8(row_in(groups, 2, g), 0) == 2
 }
 
 // The protocol is asked for only where there is an alive limit.
 pub fn connection_good(row: &[u8], groups: &[u8]) -> bool
-    ensures { λ r. ⌜ r ≡ connectionGood (length (now (groups .entry)) / 2) (groupTcp 2 (now (groups .entry))) (now (row .entry)) ⌝ }
+    ensures { λ r. ⌜ r ≡ connectionRule (now (groups .entry)) (now (row .entry)) ⌝ }
 {
     let size = be16(row, 8);
     let group = be8(row, 0);
@@ -263,7 +262,7 @@ pub fn owner_of(row: &[u8]) -> usize
 
 // Connection c is TCP, out of the bodies of connections and groups.
 pub fn is_tcp(connections: &[u8], groups: &[u8], c: usize) -> bool
-    ensures { λ r. ⌜ r ≡ tcpIn 2 (now (groups .entry)) 16 (now (connections .entry)) c ⌝ }
+    ensures { λ r. ⌜ r ≡ tcpIn (rowWidth Kind.Group) (now (groups .entry)) (rowWidth Kind.Connection) (now (connections .entry)) c ⌝ }
 {
     is_group_tcp(groups, be8(row_in(connections, 16, c), 0))
 }
@@ -271,7 +270,7 @@ pub fn is_tcp(connections: &[u8], groups: &[u8], c: usize) -> bool
 // Transfer mark (65,536) and longest payload are one number as well. The protocol is asked for only where there is a mark; a row
 // without one is tested by itself, so that it costs what it would cost without marks.
 pub fn route_good(row: &[u8], connections: &[u8], groups: &[u8]) -> bool
-    ensures { λ r. ⌜ r ≡ routeGood (length (now (connections .entry)) / 16) (tcpIn 2 (now (groups .entry)) 16 (now (connections .entry))) (now (row .entry)) ⌝ }
+    ensures { λ r. ⌜ r ≡ routeRule (now (connections .entry)) (now (groups .entry)) (now (row .entry)) ⌝ }
 {
     let head = be32(row, 0);
     let low = head % 16777216;
@@ -291,14 +290,14 @@ pub fn route_good(row: &[u8], connections: &[u8], groups: &[u8]) -> bool
 
 // The send size of connection c, out of the body of connections.
 pub fn size_in(connections: &[u8], c: usize) -> usize
-    ensures { λ r. ⌜ r ≡ sizeIn 16 (now (connections .entry)) c ⌝ }
+    ensures { λ r. ⌜ r ≡ sizeIn (rowWidth Kind.Connection) (now (connections .entry)) c ⌝ }
 {
     be16(row_in(connections, 16, c), 8)
 }
 
 // The same, with the trigger in the place of the transfer mark.
 pub fn destination_good(row: &[u8], connections: &[u8]) -> bool
-    ensures { λ r. ⌜ r ≡ destinationGood (length (now (connections .entry)) / 16) (sizeIn 16 (now (connections .entry))) (now (row .entry)) ⌝ }
+    ensures { λ r. ⌜ r ≡ destinationRule (now (connections .entry)) (now (row .entry)) ⌝ }
 {
     let head = be32(row, 0);
     let connection = head / 16777216;

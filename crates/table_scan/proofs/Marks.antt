@@ -13,7 +13,8 @@ use Rattle.wire.specs.Be.{be}
 use Rattle.lists.specs.Search.{every, firstBad}
 use Rattle.lists.proofs.Both.{and-left, and-right, impossible}
 use Rattle.lists.proofs.Search.{every-all, search-start, search-ended}
-use Rattle.table_layout.specs.Layout.{rowIn}
+use Rattle.table_layout.specs.Layout.{rowWidth, rowIn}
+use Rattle.table_layout.specs.declared.Kind.{Kind}
 use Rattle.table_layout.specs.declared.Kind.the-variants.{Route, Destination}
 use Rattle.table_rows.specs.Rows.{routeRow, destinationRow}
 use Rattle.table_rows.specs.Rules.{routesShare, destinationsShare}
@@ -38,77 +39,77 @@ destinations-marked a b e =
     let one : be 1 a 0 ≡ be 1 b 0 = eqb-true _ _ (and-right (eqb (be 2 a 8) (be 2 b 8)) (eqb (be 1 a 0) (be 1 b 0)) e) in
     rw (two, one)
 
-module _ (shares : List ℕ → List ℕ → Bool) (mark : List ℕ → ℕ) (tag : ℕ) (body : List ℕ) where
+module _ (n : ℕ) (shares : List ℕ → List ℕ → Bool) (mark : List ℕ → ℕ) (tag : ℕ) (body : List ℕ) where
   -- the marks of the rows before i are noted
   abbrev Noted : List ℕ → ℕ → Type 0
-  Noted seen i = (j : ℕ) → j < i → getD seen (mark (rowIn 16 body j)) 0 ≡ tag
+  Noted seen i = (j : ℕ) → j < i → getD seen (mark (rowIn n body j)) 0 ≡ tag
 
   -- a mark that was not met: no earlier row shares
   noted-new : ((a b : List ℕ) → shares a b ≡ true → mark a ≡ mark b)
-      → (seen : List ℕ) (i m : ℕ) (row : List ℕ) → row ≡ rowIn 16 body i → m ≡ mark row → Noted seen i → (getD seen m 0 ≡ tag → ⊥)
-      → every (clearIn shares 16 body i) i ≡ true
+      → (seen : List ℕ) (i m : ℕ) (row : List ℕ) → row ≡ rowIn n body i → m ≡ mark row → Noted seen i → (getD seen m 0 ≡ tag → ⊥)
+      → every (clearIn shares n body i) i ≡ true
   unfolding clearIn
-  noted-new law seen i m row is e noted new = every-all _ i (λ j h. go j h (shares (rowIn 16 body j) (rowIn 16 body i)) refl)
+  noted-new law seen i m row is e noted new = every-all _ i (λ j h. go j h (shares (rowIn n body j) (rowIn n body i)) refl)
     where
-      go : (j : ℕ) → j < i → (b : Bool) → shares (rowIn 16 body j) (rowIn 16 body i) ≡ b → not (shares (rowIn 16 body j) (rowIn 16 body i)) ≡ true
+      go : (j : ℕ) → j < i → (b : Bool) → shares (rowIn n body j) (rowIn n body i) ≡ b → not (shares (rowIn n body j) (rowIn n body i)) ≡ true
       go j h false q = ap not q
       go j h true q =
-          absurd (new (ap (λ (x : ℕ). getD seen x 0) (e ∙ ap mark is ∙ sym (law (rowIn 16 body j) (rowIn 16 body i) q)) ∙ noted j h))
+          absurd (new (ap (λ (x : ℕ). getD seen x 0) (e ∙ ap mark is ∙ sym (law (rowIn n body j) (rowIn n body i) q)) ∙ noted j h))
 
   -- one more
-  noted-more : (seen : List ℕ) (i m : ℕ) (row : List ℕ) → row ≡ rowIn 16 body i → m ≡ mark row → m < length seen → Noted seen i → Noted (set seen m tag) (i + 1)
-  noted-more seen i m row is e h noted j l = go (ℕ-discrete (mark (rowIn 16 body j)) m)
+  noted-more : (seen : List ℕ) (i m : ℕ) (row : List ℕ) → row ≡ rowIn n body i → m ≡ mark row → m < length seen → Noted seen i → Noted (set seen m tag) (i + 1)
+  noted-more seen i m row is e h noted j l = go (ℕ-discrete (mark (rowIn n body j)) m)
     where
-      go : Dec (mark (rowIn 16 body j) ≡ m) → getD (set seen m tag) (mark (rowIn 16 body j)) 0 ≡ tag
+      go : Dec (mark (rowIn n body j) ≡ m) → getD (set seen m tag) (mark (rowIn n body j)) 0 ≡ tag
       go (yes q) = ap (λ (x : ℕ). getD (set seen m tag) x 0) q ∙ getD-set-same seen m tag 0 h
-      go (no q) = getD-set-other seen m (mark (rowIn 16 body j)) tag 0 q ∙ before (ℕ-discrete j i)
+      go (no q) = getD-set-other seen m (mark (rowIn n body j)) tag 0 q ∙ before (ℕ-discrete j i)
         where
-          before : Dec (j ≡ i) → getD seen (mark (rowIn 16 body j)) 0 ≡ tag
-          before (yes p) = absurd (q (ap (λ (x : ℕ). mark (rowIn 16 body x)) p ∙ ap mark (sym is) ∙ sym e))
+          before : Dec (j ≡ i) → getD seen (mark (rowIn n body j)) 0 ≡ tag
+          before (yes p) = absurd (q (ap (λ (x : ℕ). mark (rowIn n body x)) p ∙ ap mark (sym is) ∙ sym e))
           before (no p) = noted j (omega arith)
 
 -- the two loops, at the places where they stand
-module _ (good : List ℕ → Bool) (shares : List ℕ → List ℕ → Bool) (mark : List ℕ → ℕ) (tag : ℕ) (body : List ℕ) where
+module _ (good : List ℕ → Bool) (k : Kind) (mark : List ℕ → ℕ) (tag : ℕ) (body : List ℕ) where
   -- before the first row nothing is noted, whatever the marks hold
-  pub come-start : (seen : List ℕ) → length seen ≡ 2048 → Come good shares mark tag body seen 0
+  pub come-start : (seen : List ℕ) → length seen ≡ 2048 → Come good k mark tag body seen 0
   come-start seen size =
-      let s = search-start (goodIn good shares 16 body) (length body / 16) in
+      let s = search-start (goodIn good (share k) (rowWidth k) body) (length body / rowWidth k) in
       record { low = s .0; rest = s .1; size = size; noted = λ j l. absurd (omega arith) }
 
-  pub struck-end : (seen : List ℕ) (i : ℕ) → Come good shares mark tag body seen i → length body / 16 ≤ i → Struck good shares mark tag body seen i
+  pub struck-end : (seen : List ℕ) (i : ℕ) → Come good k mark tag body seen i → length body / rowWidth k ≤ i → Struck good k mark tag body seen i
   struck-end seen i c h = record { come = c; met = λ l g. absurd (omega arith) }
 
-  module _ (seen : List ℕ) (i : ℕ) (row : List ℕ) (is : row ≡ rowIn 16 body i) where
+  module _ (seen : List ℕ) (i : ℕ) (row : List ℕ) (is : row ≡ rowIn (rowWidth k) body i) where
     -- the loop that most rows stay in
-    pub struck-bad : Come good shares mark tag body seen i → {ok : Bool} → ok ≡ good row → ok ≡ false → Struck good shares mark tag body seen i
+    pub struck-bad : Come good k mark tag body seen i → {ok : Bool} → ok ≡ good row → ok ≡ false → Struck good k mark tag body seen i
     struck-bad c e f = record { come = c; met = λ l g. impossible (sym f ∙ e ∙ ap good is ∙ g) }
 
     module _ (m : ℕ) (em : m ≡ mark row) where
-      pub struck-met : Come good shares mark tag body seen i → getD seen m 0 ≡ tag → Struck good shares mark tag body seen i
+      pub struck-met : Come good k mark tag body seen i → getD seen m 0 ≡ tag → Struck good k mark tag body seen i
       struck-met c e = record { come = c; met = λ l g. ap (λ (x : ℕ). getD seen x 0) (sym (em ∙ ap mark is)) ∙ e }
 
-      pub come-on : ((a b : List ℕ) → shares a b ≡ true → mark a ≡ mark b) → Come good shares mark tag body seen i → i < length body / 16
-          → {ok : Bool} → ok ≡ good row → ok ≡ true → m < 2048 → (getD seen m 0 ≡ tag → ⊥) → Come good shares mark tag body (set seen m tag) (i + 1)
+      pub come-on : ((a b : List ℕ) → share k a b ≡ true → mark a ≡ mark b) → Come good k mark tag body seen i → i < length body / rowWidth k
+          → {ok : Bool} → ok ≡ good row → ok ≡ true → m < 2048 → (getD seen m 0 ≡ tag → ⊥) → Come good k mark tag body (set seen m tag) (i + 1)
       come-on law c h e t l new =
-          let a = good-row good shares 16 body i row (c .low, c .rest) h is e t (sym (noted-new shares mark tag body law seen i m row is em (c .noted) new)) refl in
-          record { low = a .0; rest = a .1; size = length-set seen m tag ∙ c .size; noted = noted-more shares mark tag body seen i m row is em (rw (c .size) l) (c .noted) }
+          let a = good-row good (share k) (rowWidth k) body i row (c .low, c .rest) h is e t (sym (noted-new (rowWidth k) (share k) mark tag body law seen i m row is em (c .noted) new)) refl in
+          record { low = a .0; rest = a .1; size = length-set seen m tag ∙ c .size; noted = noted-more (rowWidth k) (share k) mark tag body seen i m row is em (rw (c .size) l) (c .noted) }
 
     -- the loop around it, at a row that was struck
-    module _ (s : Struck good shares mark tag body seen i) (h : i < length body / 16) where
-      pub found-bad : {ok : Bool} → ok ≡ good row → ok ≡ false → i ≡ firstBad (goodIn good shares 16 body) (length body / 16)
-      found-bad e f = bad-row good shares 16 body i row (s .come .low, s .come .rest) h is e f
+    module _ (s : Struck good k mark tag body seen i) (h : i < length body / rowWidth k) where
+      pub found-bad : {ok : Bool} → ok ≡ good row → ok ≡ false → i ≡ firstBad (goodIn good (share k) (rowWidth k) body) (length body / rowWidth k)
+      found-bad e f = bad-row good (share k) (rowWidth k) body i row (s .come .low, s .come .rest) h is e f
 
-      pub found-shared : {ok : Bool} → ok ≡ every (clearIn shares 16 body i) i → ok ≡ false → i ≡ firstBad (goodIn good shares 16 body) (length body / 16)
-      found-shared e f = shared-row good shares 16 body i row (s .come .low, s .come .rest) h is e f
+      pub found-shared : {ok : Bool} → ok ≡ every (clearIn (share k) (rowWidth k) body i) i → ok ≡ false → i ≡ firstBad (goodIn good (share k) (rowWidth k) body) (length body / rowWidth k)
+      found-shared e f = shared-row good (share k) (rowWidth k) body i row (s .come .low, s .come .rest) h is e f
 
-      pub come-past : {ok new : Bool} → ok ≡ good row → ok ≡ true → new ≡ every (clearIn shares 16 body i) i → new ≡ true → Come good shares mark tag body seen (i + 1)
+      pub come-past : {ok new : Bool} → ok ≡ good row → ok ≡ true → new ≡ every (clearIn (share k) (rowWidth k) body i) i → new ≡ true → Come good k mark tag body seen (i + 1)
       come-past e t f u =
-          let a = good-row good shares 16 body i row (s .come .low, s .come .rest) h is e t f u in
+          let a = good-row good (share k) (rowWidth k) body i row (s .come .low, s .come .rest) h is e t f u in
           record { low = a .0; rest = a .1; size = s .come .size; noted = λ j l. go j l (ℕ-discrete j i) }
         where
-          go : (j : ℕ) → j < i + 1 → Dec (j ≡ i) → getD seen (mark (rowIn 16 body j)) 0 ≡ tag
-          go j l (yes p) = ap (λ (x : ℕ). getD seen (mark (rowIn 16 body x)) 0) p ∙ s .met h (ap good (sym is) ∙ sym e ∙ t)
+          go : (j : ℕ) → j < i + 1 → Dec (j ≡ i) → getD seen (mark (rowIn (rowWidth k) body j)) 0 ≡ tag
+          go j l (yes p) = ap (λ (x : ℕ). getD seen (mark (rowIn (rowWidth k) body x)) 0) p ∙ s .met h (ap good (sym is) ∙ sym e ∙ t)
           go j l (no p) = s .come .noted j (omega arith)
 
-  pub found-none : (seen : List ℕ) (i : ℕ) → Struck good shares mark tag body seen i → length body / 16 ≤ i → i ≡ firstBad (goodIn good shares 16 body) (length body / 16)
-  found-none seen i s h = search-ended (goodIn good shares 16 body) (length body / 16) i (s .come .low, s .come .rest) h
+  pub found-none : (seen : List ℕ) (i : ℕ) → Struck good k mark tag body seen i → length body / rowWidth k ≤ i → i ≡ firstBad (goodIn good (share k) (rowWidth k) body) (length body / rowWidth k)
+  found-none seen i s h = search-ended (goodIn good (share k) (rowWidth k) body) (length body / rowWidth k) i (s .come .low, s .come .rest) h

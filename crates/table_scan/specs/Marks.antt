@@ -6,10 +6,11 @@ use mathlib.Core.Path.{_≡_}
 use mathlib.Core.Bool.{Bool, true}
 use mathlib.Core.List.{List}
 use lib.ListN.{length, getD}
-use Rattle.lists.specs.Search.{badFrom, firstBad}
-use Rattle.table_layout.specs.Layout.{rowIn}
+use Rattle.lists.specs.Search.{badFrom}
+use Rattle.table_layout.specs.Layout.{rowWidth, rowIn}
+use Rattle.table_layout.specs.declared.Kind.{Kind}
 use Rattle.table_rows.specs.Rows.{routeRow, destinationRow}
-use Rattle.table_scan.specs.Scan.{goodIn}
+use Rattle.table_scan.specs.Scan.{share, goodIn, badIn}
 
 -- of a connection and the key beside it
 unfoldable pub markOf : ℕ → ℕ → ℕ
@@ -21,15 +22,15 @@ routeMark row = markOf (routeRow row .connection) (routeRow row .id)
 unfoldable pub destinationMark : List ℕ → ℕ
 destinationMark row = markOf (destinationRow row .connection) (destinationRow row .pdu)
 
-module _ (good : List ℕ → Bool) (shares : List ℕ → List ℕ → Bool) (mark : List ℕ → ℕ) (tag : ℕ) (body seen : List ℕ) (i : ℕ) where
+module _ (good : List ℕ → Bool) (k : Kind) (mark : List ℕ → ℕ) (tag : ℕ) (body seen : List ℕ) (i : ℕ) where
   -- a search that has come to row i: what is left of it has the whole one's answer, and the rows before i have left the tag at their marks
   pub record Come : Type 0 where
-    pub low : i ≤ length body / 16
-    pub rest : badFrom (goodIn good shares 16 body) (length body / 16 - i) i ≡ firstBad (goodIn good shares 16 body) (length body / 16)
+    pub low : i ≤ length body / rowWidth k
+    pub rest : badFrom (goodIn good (share k) (rowWidth k) body) (length body / rowWidth k - i) i ≡ badIn good k body
     pub size : length seen ≡ 2048
-    pub noted : (j : ℕ) → j < i → getD seen (mark (rowIn 16 body j)) 0 ≡ tag
+    pub noted : (j : ℕ) → j < i → getD seen (mark (rowIn (rowWidth k) body j)) 0 ≡ tag
 
   -- the same, stopped at row i: if that row is good by itself, its mark is noted
   pub record Struck : Type 0 where
     pub come : Come
-    pub met : i < length body / 16 → good (rowIn 16 body i) ≡ true → getD seen (mark (rowIn 16 body i)) 0 ≡ tag
+    pub met : i < length body / rowWidth k → good (rowIn (rowWidth k) body i) ≡ true → getD seen (mark (rowIn (rowWidth k) body i)) 0 ≡ tag

@@ -4,10 +4,10 @@ use mathlib.Core.Bool.{Bool, false, not, _&&_}
 use mathlib.Core.List.{List}
 use lib.ListN.{length}
 use Rattle.lists.specs.Search.{every, firstBad}
-use Rattle.table_layout.specs.Layout.{rowIn}
+use Rattle.table_layout.specs.Layout.{rowWidth, rowIn}
 use Rattle.table_layout.specs.declared.Kind.{Kind}
 use Rattle.table_layout.specs.declared.Kind.the-variants.{Group, Connection, Route, Destination}
-use Rattle.table_rows.specs.Rules.{connectionGood, routeGood, destinationGood, sizeIn, groupTcp, tcpIn, routesShare, destinationsShare}
+use Rattle.table_rows.specs.Rules.{groupGood, connectionRule, routeRule, destinationRule, routesShare, destinationsShare}
 use Rattle.table_scan.specs.declared.BadRows.{BadRows}
 
 -- two rows of a kind share what they may not; groups and connections share freely
@@ -25,24 +25,24 @@ clearIn shares n body i j = not (shares (rowIn n body j) (rowIn n body i))
 unfoldable pub goodIn : (List ℕ → Bool) → (List ℕ → List ℕ → Bool) → ℕ → List ℕ → ℕ → Bool
 goodIn good shares n body i = good (rowIn n body i) && every (clearIn shares n body i) i
 
--- a connection by itself, under the body of groups
-abbrev pub connectionRule : List ℕ → List ℕ → Bool
-connectionRule groups = connectionGood (length groups / 2) (groupTcp 2 groups)
+-- the first bad row of a kind's body, under the rule of a row by itself; the row count where there is none
+abbrev pub badIn : (List ℕ → Bool) → Kind → List ℕ → ℕ
+badIn good k body = firstBad (goodIn good (share k) (rowWidth k) body) (length body / rowWidth k)
 
--- a route by itself, under the bodies of connections and groups
-abbrev pub routeRule : List ℕ → List ℕ → List ℕ → Bool
-routeRule connections groups = routeGood (length connections / 16) (tcpIn 2 groups 16 connections)
+abbrev pub badGroup : List ℕ → ℕ
+badGroup body = badIn groupGood Group body
 
--- a destination by itself, under a body of connections
-abbrev pub destinationRule : List ℕ → List ℕ → Bool
-destinationRule connections = destinationGood (length connections / 16) (sizeIn 16 connections)
+-- under the body of groups
+abbrev pub badConnection : List ℕ → List ℕ → ℕ
+badConnection groups body = badIn (connectionRule groups) Connection body
 
--- the first bad route under the bodies of connections and groups, and the first bad destination under a body of connections
+-- under the bodies of connections and groups
 abbrev pub badRoute : List ℕ → List ℕ → List ℕ → ℕ
-badRoute connections groups body = firstBad (goodIn (routeRule connections groups) (share Route) 16 body) (length body / 16)
+badRoute connections groups body = badIn (routeRule connections groups) Route body
 
+-- under the body of connections
 abbrev pub badDestination : List ℕ → List ℕ → ℕ
-badDestination connections body = firstBad (goodIn (destinationRule connections) (share Destination) 16 body) (length body / 16)
+badDestination connections body = badIn (destinationRule connections) Destination body
 
 abbrev pub badRows : List ℕ → List ℕ → List ℕ → List ℕ → BadRows
 badRows routes destinations connections groups =

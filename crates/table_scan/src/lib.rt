@@ -3,9 +3,10 @@
 ghost use mathlib.Core.Path.{_≡_};
 ghost use Prim.Native.Nat.{ℕ, _/_, _<_, _≤_};
 ghost use lib.ListN.{length};
-ghost use Rattle.lists.specs.Search.{firstBad, every};
-ghost use Rattle.table_rows.specs.Rules.{groupGood};
-ghost use Rattle.table_scan.specs.Scan.{share, clearIn, goodIn, connectionRule, routeRule, destinationRule, badRoute, badDestination, badRows};
+ghost use Rattle.lists.specs.Search.{every};
+ghost use Rattle.table_layout.specs.Layout.{rowWidth};
+ghost use Rattle.table_rows.specs.Rules.{routeRule, destinationRule};
+ghost use Rattle.table_scan.specs.Scan.{share, clearIn, badGroup, badConnection, badRoute, badDestination, badRows};
 ghost use Rattle.table_scan.specs.Marks.{markOf, routeMark, destinationMark, Come, Struck};
 use table_layout::Kind;
 use table_rows::connection_good;
@@ -26,7 +27,7 @@ pub struct BadRows {
 
 // The first bad group, or the row count where there is none.
 pub fn first_bad_group(body: &[u8]) -> usize
-    ensures { λ r. ⌜ r ≡ firstBad (goodIn groupGood (share Kind.Group) 2 (now (body .entry))) (length (now (body .entry)) / 2) ⌝ }
+    ensures { λ r. ⌜ r ≡ badGroup (now (body .entry)) ⌝ }
 {
     let n = body.len() / 2;
     let mut i = 0;
@@ -43,7 +44,7 @@ pub fn first_bad_group(body: &[u8]) -> usize
 
 // The first bad connection, or the row count where there is none.
 pub fn first_bad_connection(body: &[u8], groups: &[u8]) -> usize
-    ensures { λ r. ⌜ r ≡ firstBad (goodIn (connectionRule (now (groups .entry))) (share Kind.Connection) 16 (now (body .entry))) (length (now (body .entry)) / 16) ⌝ }
+    ensures { λ r. ⌜ r ≡ badConnection (now (groups .entry)) (now (body .entry)) ⌝ }
 {
     let n = body.len() / 16;
     let mut i = 0;
@@ -70,10 +71,10 @@ pub fn rows_share(k: Kind, a: &[u8], b: &[u8]) -> bool
     }
 }
 
-// Row i shares with no earlier row what it may not.
+// Row i shares with no earlier row what it may not. Routes and destinations have rows of one width.
 fn fresh(body: &[u8], k: Kind, i: usize) -> bool
-    requires { ⌜ i < length (now body) / 16 ⌝ }
-    ensures { λ r. ⌜ r ≡ every (clearIn (share k) 16 (now (body .entry)) i) i ⌝ }
+    requires { ⌜ i < length (now body) / rowWidth Kind.Route ⌝ }
+    ensures { λ r. ⌜ r ≡ every (clearIn (share k) (rowWidth Kind.Route) (now (body .entry)) i) i ⌝ }
 {
     let own = i * 16;
     let row = &body[own..own + 16];
@@ -117,8 +118,8 @@ fn next_route<'a>(
     seen: &mut [u8; 2048],
     from: usize,
 ) -> usize
-    requires { ⌜ Come (routeRule (now connections) (now groups)) (share Kind.Route) routeMark 1 (now body) (now seen) from ⌝ }
-    ensures { λ r. ⌜ (from ≤ r) × Struck (routeRule (now (connections .entry)) (now (groups .entry))) (share Kind.Route) routeMark 1 (now (body .entry)) (now (seen .exit)) r ⌝ }
+    requires { ⌜ Come (routeRule (now connections) (now groups)) Kind.Route routeMark 1 (now body) (now seen) from ⌝ }
+    ensures { λ r. ⌜ (from ≤ r) × Struck (routeRule (now (connections .entry)) (now (groups .entry))) Kind.Route routeMark 1 (now (body .entry)) (now (seen .exit)) r ⌝ }
 {
     let n = body.len() / 16;
     let mut i = from;
@@ -175,8 +176,8 @@ fn next_destination<'a>(
     seen: &mut [u8; 2048],
     from: usize,
 ) -> usize
-    requires { ⌜ Come (destinationRule (now connections)) (share Kind.Destination) destinationMark 2 (now body) (now seen) from ⌝ }
-    ensures { λ r. ⌜ (from ≤ r) × Struck (destinationRule (now (connections .entry))) (share Kind.Destination) destinationMark 2 (now (body .entry)) (now (seen .exit)) r ⌝ }
+    requires { ⌜ Come (destinationRule (now connections)) Kind.Destination destinationMark 2 (now body) (now seen) from ⌝ }
+    ensures { λ r. ⌜ (from ≤ r) × Struck (destinationRule (now (connections .entry))) Kind.Destination destinationMark 2 (now (body .entry)) (now (seen .exit)) r ⌝ }
 {
     let n = body.len() / 16;
     let mut i = from;

@@ -69,7 +69,8 @@ module _ (image : List ℕ) (m : Machine) where
     -- connection i: a member that counts, and both fields match
     abbrev pub matching : ℕ → Bool
     matching i =
-        member image (m .state) accept group source i && memberCounts accept (here i) && matches (equalFields (here i .remote) source) (wildFields (here i .remote))
+        member image (m .state) accept group source i && memberCounts accept (here i)
+        && matches (equalFields (here i .remote) source) (wildFields (here i .remote))
 
     -- R7.1, R7.2, R7.5: 2; 3 for a group of the other protocol or a source with a wildcard; 10 where no connection matches
     abbrev pub arrives : List Check

@@ -10,13 +10,25 @@ use Rattle.lists.specs.Search.{every}
 use Rattle.lists.proofs.Both.{impossible, and-left, and-right, and-both, and3, and4}
 use Rattle.lists.proofs.Search.{every-at, every-all}
 use Rattle.wire.specs.Be.{be}
-use Rattle.table_layout.specs.Layout.{number, mostRows, entryAt, rowsOf, startOf, endOf, rowOf, rowBytes, bodyOf}
+use Rattle.table_layout.specs.Layout.{number, mostRows, entryAt, rowsOf, startOf, endOf, rowOf}
 use Rattle.table_layout.specs.declared.Kind.{Kind}
 use Rattle.table_layout.specs.declared.Kind.the-variants.{Group, Connection, Route, Destination}
-use Rattle.table_rows.specs.Rows.{groupRow, connectionRow, routeRow, destinationRow, routeOf, destinationOf}
+use Rattle.table_rows.specs.Rows.{
+  groupRow,
+  connectionRow,
+  routeRow,
+  destinationRow,
+  groupZero,
+  automaticByte,
+  transferByte,
+  routeZero,
+  triggerByte,
+  routeOf,
+  destinationOf,
+}
 use Rattle.table_rows.specs.Rules.{groupGood, connectionGood, routeGood, destinationGood, sizeIn, groupTcp, tcpIn, routesShare, destinationsShare}
 use Rattle.table_scan.specs.Scan.{share, clearIn, goodIn}
-use Rattle.table.specs.Table.{headGood, entryGood, groupTcpOf, tcpOf, rule, rowGood}
+use Rattle.table.specs.Table.{headGood, entryGood, groupTcpOf, tcpOf, sizeOf, rule, rowGood}
 use Rattle.table_fault.specs.declared.Spot.{Spot}
 use Rattle.table_fault.specs.declared.Spot.the-variants.{Head, Entry, Total, Row}
 use Rattle.table_fault.specs.Good.{goodAt}
@@ -75,26 +87,32 @@ module _ (s : List ℕ) where
 
   words-entry : (k : Kind) → GoodEntry s k → entryGood s k ≡ true
   unfolding entryGood
-  words-entry k g = rw (eq-eqb (be 2 s (entryAt k)) (number k) (g .kind), le-leb (rowsOf s k) (mostRows k) (g .most), eq-eqb (be 4 s (entryAt k + 4)) (startOf s k) (g .offset))
+  words-entry k g =
+      let kind = eq-eqb (be 2 s (entryAt k)) (number k) (g .kind) in
+      rw (kind, le-leb (rowsOf s k) (mostRows k) (g .most), eq-eqb (be 4 s (entryAt k + 4)) (startOf s k) (g .offset))
 
   -- A ROW BY ITSELF, and among the earlier ones
   row-test : (k : Kind) (i : ℕ) → rowGood s k i ≡ true → (rule s k (rowOf s k i) ≡ true) × ((j : ℕ) → j < i → share k (rowOf s k j) (rowOf s k i) ≡ true → ⊥)
   unfolding goodIn clearIn
   row-test k i e = (
     and-left (rule s k (rowOf s k i)) _ e,
-    λ j h. not-to (share k (rowOf s k j) (rowOf s k i)) (every-at (λ x. not (share k (rowOf s k x) (rowOf s k i))) i j (and-right (rule s k (rowOf s k i)) _ e) h),
+    λ j h.
+        not-to (share k (rowOf s k j) (rowOf s k i))
+        (every-at (λ x. not (share k (rowOf s k x) (rowOf s k i))) i j (and-right (rule s k (rowOf s k i)) _ e) h),
   )
 
   test-row : (k : Kind) (i : ℕ) → rule s k (rowOf s k i) ≡ true → ((j : ℕ) → j < i → share k (rowOf s k j) (rowOf s k i) ≡ true → ⊥) → rowGood s k i ≡ true
   unfolding goodIn clearIn
   test-row k i e apart =
-      and-both {a = rule s k (rowOf s k i)} e (every-all (λ x. not (share k (rowOf s k x) (rowOf s k i))) i (λ j h. to-not (share k (rowOf s k j) (rowOf s k i)) (apart j h)))
+      and-both {a = rule s k (rowOf s k i)} e
+      (every-all (λ x. not (share k (rowOf s k x) (rowOf s k i))) i (λ j h. to-not (share k (rowOf s k j) (rowOf s k i)) (apart j h)))
 
   group-words : (i : ℕ) → rowGood s Group i ≡ true → GoodGroup s i
   unfolding rule groupGood groupRow
   group-words i e =
       let row = rowOf s Group i in
-      let f = and3 (leb 1 (be 1 row 0)) (leb (be 1 row 0) 2) (eqb (be 1 row 1) 0) (row-test Group i e .0) in
+      let v = groupRow row in
+      let f = and3 (leb 1 (v .protocol)) (leb (v .protocol) 2) (eqb (groupZero row) 0) (row-test Group i e .0) in
       record { low = leb-true _ _ (f .0); high = leb-true _ _ (f .1); zero = eqb-true _ _ (f .2) }
 
   words-group : (i : ℕ) → GoodGroup s i → rowGood s Group i ≡ true
@@ -105,11 +123,12 @@ module _ (s : List ℕ) where
   unfolding rule connectionGood groupTcp connectionRow groupRow
   connection-words i e =
       let row = rowOf s Connection i in
-      let a = ltb (be 1 row 0) (rowsOf s Group) in
-      let b = leb (be 1 row 1) 1 in
-      let c = leb 8 (be 2 row 8) in
-      let d = leb (be 2 row 8) 1472 in
-      let z = eqb (be 2 row 10) 0 || not (groupTcpOf s (be 1 row 0)) in
+      let v = connectionRow row in
+      let a = ltb (v .group) (rowsOf s Group) in
+      let b = leb (automaticByte row) 1 in
+      let c = leb 8 (v .size) in
+      let d = leb (v .size) 1472 in
+      let z = eqb (v .alive) 0 || not (groupTcpOf s (v .group)) in
       let all = row-test Connection i e .0 in
       let f = and4 a b c d (and-left (a && b && c && d) z all) in
       record {
@@ -117,15 +136,16 @@ module _ (s : List ℕ) where
         automatic = leb-true _ _ (f .1);
         low = leb-true _ _ (f .2);
         high = leb-true _ _ (f .3);
-        unlimited = λ t. eqb-true _ _ (from-or (eqb (be 2 row 10) 0) (groupTcpOf s (be 1 row 0)) (and-right (a && b && c && d) z all) (eq-eqb _ 2 t));
+        unlimited = λ t. eqb-true _ _ (from-or (eqb (v .alive) 0) (groupTcpOf s (v .group)) (and-right (a && b && c && d) z all) (eq-eqb _ 2 t));
       }
 
   words-connection : (i : ℕ) → GoodConnection s i → rowGood s Connection i ≡ true
   unfolding rule connectionGood groupTcp connectionRow groupRow share
   words-connection i g =
       let row = rowOf s Connection i in
-      let z : (eqb (be 2 row 10) 0 || not (groupTcpOf s (be 1 row 0))) ≡ true =
-      to-or (eqb (be 2 row 10) 0) (groupTcpOf s (be 1 row 0)) (λ h. eq-eqb _ 0 (g .unlimited (eqb-true _ 2 h))) in
+      let v = connectionRow row in
+      let z : (eqb (v .alive) 0 || not (groupTcpOf s (v .group))) ≡ true =
+      to-or (eqb (v .alive) 0) (groupTcpOf s (v .group)) (λ h. eq-eqb _ 0 (g .unlimited (eqb-true _ 2 h))) in
       test-row Connection i (rw (lt-ltb _ _ (g .group), le-leb _ 1 (g .automatic), le-leb 8 _ (g .low), le-leb _ 1472 (g .high)) z) (λ j h q. impossible q)
 
   route-words : (i : ℕ) → rowGood s Route i ≡ true → GoodRoute s i
@@ -133,16 +153,17 @@ module _ (s : List ℕ) where
   route-words i e =
       let row = rowOf s Route i in
       let t = row-test Route i e in
-      let a = ltb (be 1 row 0) (rowsOf s Connection) in
-      let b = leb (be 1 row 1) 1 in
-      let c = not (eqb (be 1 row 1) 1) || tcpOf s (be 1 row 0) in
-      let d = leb (be 2 row 2) 1464 in
-      let z = eqb (be 2 row 10) 0 in
+      let v = routeRow row in
+      let a = ltb (v .connection) (rowsOf s Connection) in
+      let b = leb (transferByte row) 1 in
+      let c = not (v .transfer) || tcpOf s (v .connection) in
+      let d = leb (v .longest) 1464 in
+      let z = eqb (routeZero row) 0 in
       let f = and4 a b c d (and-left (a && b && c && d) z (t .0)) in
       record {
         connection = ltb-true _ _ (f .0);
         transfer = leb-true _ _ (f .1);
-        marked = λ m. eqb-true _ _ (from-either (eqb (be 1 row 1) 1) (tcpOf s (be 1 row 0)) (f .2) m);
+        marked = λ m. eqb-true _ _ (from-either (v .transfer) (tcpOf s (v .connection)) (f .2) m);
         longest = leb-true _ _ (f .3);
         zeros = eqb-true _ _ (and-right (a && b && c && d) z (t .0));
         apart = λ j h p q. t .1 j h (and-both (eq-eqb _ _ p) (eq-eqb _ _ q));
@@ -152,7 +173,9 @@ module _ (s : List ℕ) where
   unfolding rule routeGood routeRow tcpIn groupTcp groupRow connectionRow share routesShare
   words-route i g =
       let row = rowOf s Route i in
-      let m : (not (eqb (be 1 row 1) 1) || tcpOf s (be 1 row 0)) ≡ true = to-either (eqb (be 1 row 1) 1) (tcpOf s (be 1 row 0)) (λ h. eq-eqb _ 2 (g .marked h)) in
+      let v = routeRow row in
+      let m : (not (v .transfer) || tcpOf s (v .connection)) ≡ true =
+      to-either (v .transfer) (tcpOf s (v .connection)) (λ h. eq-eqb _ 2 (g .marked h)) in
       test-row Route i
       (and-both (and-both (and-both (and-both (lt-ltb _ _ (g .connection)) (le-leb _ 1 (g .transfer))) m) (le-leb _ 1464 (g .longest))) (eq-eqb _ 0 (g .zeros)))
       (λ j h q.
@@ -165,7 +188,9 @@ module _ (s : List ℕ) where
   destination-words i e =
       let row = rowOf s Destination i in
       let t = row-test Destination i e in
-      let f = and4 (ltb (be 1 row 0) (rowsOf s Connection)) (leb (be 1 row 1) 1) (leb (be 2 row 2) 1464) (leb (be 2 row 2 + 8) (sizeIn 16 (bodyOf s Connection) (be 1 row 0))) (t .0) in
+      let v = destinationRow row in
+      let room = leb (v .longest + 8) (sizeOf s (v .connection)) in
+      let f = and4 (ltb (v .connection) (rowsOf s Connection)) (leb (triggerByte row) 1) (leb (v .longest) 1464) room (t .0) in
       record {
         connection = ltb-true _ _ (f .0);
         trigger = leb-true _ _ (f .1);

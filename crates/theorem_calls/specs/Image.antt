@@ -9,7 +9,17 @@ use Rattle.wire.specs.Be.{be}
 use Rattle.table_layout.specs.Layout.{number, mostRows, entryAt, rowsOf, startOf, endOf, rowOf}
 use Rattle.table_layout.specs.declared.Kind.{Kind}
 use Rattle.table_layout.specs.declared.Kind.the-variants.{Group, Connection, Route, Destination}
-use Rattle.table_rows.specs.Rows.{groupOf, connectionOf, routeOf, destinationOf}
+use Rattle.table_rows.specs.Rows.{
+  groupZero,
+  automaticByte,
+  transferByte,
+  routeZero,
+  triggerByte,
+  groupOf,
+  connectionOf,
+  routeOf,
+  destinationOf,
+}
 use Rattle.table.specs.declared.TableAnswer.{TableAnswer}
 use Rattle.table.specs.declared.TableAnswer.the-variants.{Accepted, Refused}
 use Rattle.table_fault.specs.declared.Spot.{Spot}
@@ -51,12 +61,12 @@ module _ (s : List ℕ) where
   pub record GoodGroup (i : ℕ) : Type 0 where
     pub low : 1 ≤ groupOf s i .protocol
     pub high : groupOf s i .protocol ≤ 2
-    pub zero : be 1 (rowOf s Group i) 1 ≡ 0
+    pub zero : groupZero (rowOf s Group i) ≡ 0
 
   -- R1.5, R1.7, R20.1: a connection has a group that is there, automatic 0 or 1, send size 8..1,472, and an alive limit only where its group is not TCP
   pub record GoodConnection (i : ℕ) : Type 0 where
     pub group : connectionOf s i .group < rowsOf s Group
-    pub automatic : be 1 (rowOf s Connection i) 1 ≤ 1
+    pub automatic : automaticByte (rowOf s Connection i) ≤ 1
     pub low : 8 ≤ connectionOf s i .size
     pub high : connectionOf s i .size ≤ 1472
     pub unlimited : groupOf s (connectionOf s i .group) .protocol ≡ 2 → connectionOf s i .alive ≡ 0
@@ -65,17 +75,17 @@ module _ (s : List ℕ) where
   -- payload 0..1,464, its zero bytes, and shares connection and id with no earlier one
   pub record GoodRoute (i : ℕ) : Type 0 where
     pub connection : routeOf s i .connection < rowsOf s Connection
-    pub transfer : be 1 (rowOf s Route i) 1 ≤ 1
+    pub transfer : transferByte (rowOf s Route i) ≤ 1
     pub marked : routeOf s i .transfer ≡ true → groupOf s (connectionOf s (routeOf s i .connection) .group) .protocol ≡ 2
     pub longest : routeOf s i .longest ≤ 1464
-    pub zeros : be 2 (rowOf s Route i) 10 ≡ 0
+    pub zeros : routeZero (rowOf s Route i) ≡ 0
     pub apart : (j : ℕ) → j < i → routeOf s j .connection ≡ routeOf s i .connection → routeOf s j .id ≡ routeOf s i .id → ⊥
 
   -- R1.5, R1.7 to R1.9: a destination has a connection that is there, trigger 0 or 1, longest payload 0..1,464, which with 8 more fits the send size, and
   -- shares PDU and connection with no earlier one
   pub record GoodDestination (i : ℕ) : Type 0 where
     pub connection : destinationOf s i .connection < rowsOf s Connection
-    pub trigger : be 1 (rowOf s Destination i) 1 ≤ 1
+    pub trigger : triggerByte (rowOf s Destination i) ≤ 1
     pub longest : destinationOf s i .longest ≤ 1464
     pub fits : destinationOf s i .longest + 8 ≤ connectionOf s (destinationOf s i .connection) .size
     pub apart : (j : ℕ) → j < i → destinationOf s j .pdu ≡ destinationOf s i .pdu → destinationOf s j .connection ≡ destinationOf s i .connection → ⊥

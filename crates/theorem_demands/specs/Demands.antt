@@ -67,23 +67,28 @@ module _ (image : List ℕ) (m : Machine) where
     -- switches: on when the groups are 0 or share a set bit
     pub switches : (groups word : ℕ) → (isOn groups word ≡ true) ↔ ((groups ≡ 0) ⊎ Shared groups word)
     -- selection: a datagram, an accept
-    pub selection : (accept : Bool) (group : ℕ) (source : Remote) (x : Arrival) → (arrivalOf (lentTo image m) accept group source .answer ≡ x) ↔ Arrives (lentTo image m) accept group source x
+    pub selection : (accept : Bool) (group : ℕ) (source : Remote) (x : Arrival)
+        → (arrivalOf (lentTo image m) accept group source .answer ≡ x) ↔ Arrives (lentTo image m) accept group source x
     -- connection states: events and ticks move mode and wishes as the one table says
     pub states : (k : ℕ) → k < rowsOf image Connections → (e : Change)
-        → placeOf (stepOf e (demandedRow k) (demandedRecord k) .connection) ≡ move (happeningOf e) (demandedRow k .tcp) (demandedRow k .automatic) (wildcard (demandedRecord k .remote))
+        → placeOf (stepOf e (demandedRow k) (demandedRecord k) .connection)
+        ≡ move (happeningOf e) (demandedRow k .tcp) (demandedRow k .automatic) (wildcard (demandedRecord k .remote))
         (transferring (demandedRecord k .part)) (placeOf (demandedRecord k))
     pub tick-states : (k : ℕ) → k < rowsOf image Connections
-        → placeOf (tickOf (demandedRow k) (demandedRecord k)) ≡ move (tickHappening (demandedRow k) (demandedRecord k)) (demandedRow k .tcp) (demandedRow k .automatic) (wildcard (demandedRecord k .remote))
+        → placeOf (tickOf (demandedRow k) (demandedRecord k))
+        ≡ move (tickHappening (demandedRow k) (demandedRecord k)) (demandedRow k .tcp) (demandedRow k .automatic) (wildcard (demandedRecord k .remote))
         (transferring (demandedRecord k .part)) (placeOf (demandedRecord k))
     -- send buffers: a transmit's answer, and what waits after any run
-    pub transmits : (pdu : ℕ) (payload : List ℕ) (x : Transmission) → (sendOf (loanTo image m) pdu payload .answer ≡ x) ↔ ExactlyWhen (loanTo image m) pdu payload x
+    pub transmits : (pdu : ℕ) (payload : List ℕ) (x : Transmission)
+        → (sendOf (loanTo image m) pdu payload .answer ≡ x) ↔ ExactlyWhen (loanTo image m) pdu payload x
     pub waiting : (j : ℕ) (es : List Event) → RunBytes es
         → waits (afterRun image m es .state) (afterRun image m es .tx) j
         ≡ cond (anyEmpties (turnsOf image j m es)) (since (turnsOf image j m es)) (waits (m .state) (m .tx) j ++ since (turnsOf image j m es))
     -- what is framed is read back: what a take gives out after any run, cut in any way or as one datagram, by any other good machine
     pub stream-trip : (j : ℕ) → j < rowsOf image Connections → demandedRecord j .used ≡ 0 → (es : List Event) → RunBytes es → (out : List ℕ)
-        → recordAt (afterRun image m es .state) j .used ≤ length out → (image′ : List ℕ) (b : Machine) → Good image′ b → (k : ℕ) → Reader image′ b k → (ps : List Pdu)
-        → Routed (routesIn image′ (b .state) k) (sentIn image j m es []) ps → (pieces : List (List ℕ)) → flatten pieces ≡ outgoing image (afterRun image m es) j out → RunBytes (asSegments k pieces)
+        → recordAt (afterRun image m es .state) j .used ≤ length out → (image′ : List ℕ) (b : Machine) → Good image′ b
+        → (k : ℕ) → Reader image′ b k → (ps : List Pdu) → Routed (routesIn image′ (b .state) k) (sentIn image j m es []) ps
+        → (pieces : List (List ℕ)) → flatten pieces ≡ outgoing image (afterRun image m es) j out → RunBytes (asSegments k pieces)
         → givenIn image′ k b (asSegments k pieces) ≡ map asOut ps
     -- .. on marked routes, each as one transfer, byte by byte
     pub carried-trip : (j : ℕ) → j < rowsOf image Connections → demandedRecord j .used ≡ 0 → (es : List Event) → RunBytes es → (out : List ℕ)
@@ -92,6 +97,7 @@ module _ (image : List ℕ) (m : Machine) where
         → flatten pieces ≡ outgoing image (afterRun image m es) j out → RunBytes (asSegments k pieces)
         → fine (givenIn image′ k b (asSegments k pieces)) ≡ fine os
     pub datagram-trip : (j : ℕ) → j < rowsOf image Connections → demandedRecord j .used ≡ 0 → (es : List Event) → RunBytes es → (out : List ℕ)
-        → recordAt (afterRun image m es .state) j .used ≤ length out → (image′ : List ℕ) (b : Machine) → Good image′ b → (k : ℕ) → Walker image′ b k → (ps : List Pdu)
+        → recordAt (afterRun image m es .state) j .used ≤ length out → (image′ : List ℕ) (b : Machine) → Good image′ b
+        → (k : ℕ) → Walker image′ b k → (ps : List Pdu)
         → Routed (routesIn image′ (b .state) k) (sentIn image j m es []) ps → (steps : ℕ) → length (sentIn image j m es []) ≤ steps
         → givenIn image′ k b (asWalks image′ k (outgoing image (afterRun image m es) j out) steps b 0) ≡ map asOut ps

@@ -17,7 +17,8 @@ pub data MayHappen (g : Config) (c : Connection) : Event → Type 0 where
   may-close-opening : g .automatic ≡ false → c .«open_wanted» ≡ true → MayHappen g c Close
   may-close-up : g .automatic ≡ false → (c .mode ≡ Offline → ⊥) → MayHappen g c Close
   -- connected: TCP, reconnect, close not wanted, a remote without wildcard
-  may-connect : g .tcp ≡ true → c .mode ≡ Reconnect → c .«close_wanted» ≡ false → (c .remote .address ≡ 0 → ⊥) → (c .remote .port ≡ 0 → ⊥) → MayHappen g c Connected
+  may-connect : g .tcp ≡ true → c .mode ≡ Reconnect → c .«close_wanted» ≡ false
+      → (c .remote .address ≡ 0 → ⊥) → (c .remote .port ≡ 0 → ⊥) → MayHappen g c Connected
   -- lost: TCP online
   may-lose : g .tcp ≡ true → c .mode ≡ Online → MayHappen g c Lost
   -- set remote: not online

@@ -1,4 +1,5 @@
--- WHOSE REMOTE A RECORD HAS after an event (R8.6, R8.7, R9.2, R10.9, R20.4), with the mark that the upper layer set it (R20.5, R20.6), and WHAT FOLLOWS A TAKE of its waiting bytes (R10.6, R10.7, R10.9), field by field.
+-- WHOSE REMOTE A RECORD HAS after an event (R8.6, R8.7, R9.2, R10.9, R20.4), with the mark that the upper layer set it (R20.5, R20.6),
+-- and WHAT FOLLOWS A TAKE of its waiting bytes (R10.6, R10.7, R10.9), field by field.
 use Prim.Native.Nat.{ℕ, _<_, _≤_}
 use mathlib.Core.Path.{_≡_}
 use mathlib.Core.Bool.{Bool, true, false}

@@ -31,7 +31,8 @@ pub data WaitsSince : List BufferStep → Bool → ℕ → ℕ → Type 0 where
   just-stored : (d : DestinationRow) (used : ℕ) (steps : List BufferStep) → WaitsSince (stores d used ∷ steps) (d .trigger) (d .timeout) 0
   stored-before : (d : DestinationRow) (used : ℕ) {steps : List BufferStep} {trigger : Bool} {timeout age : ℕ} → WaitsSince steps trigger timeout age
       → WaitsSince (stores d used ∷ steps) trigger timeout age
-  one-tick-more : {steps : List BufferStep} {trigger : Bool} {timeout age : ℕ} → WaitsSince steps trigger timeout age → WaitsSince (ticks ∷ steps) trigger timeout (suc age)
+  one-tick-more : {steps : List BufferStep} {trigger : Bool} {timeout age : ℕ}
+      → WaitsSince steps trigger timeout age → WaitsSince (ticks ∷ steps) trigger timeout (suc age)
 
 -- it makes the buffer due: by its trigger, or its timeout has passed
 pub data Overdue : Bool → ℕ → ℕ → Type 0 where
@@ -61,5 +62,6 @@ pub record TimerReads (steps : List BufferStep) (timer : ℕ) (due : Bool) : Typ
   -- then the timer is stopped
   pub stopped : due ≡ true → timer ≡ 0
   -- else, where one has a timeout, the timer is the least of what they still allow: each allows as much, and one no more
-  pub each-allows : due ≡ false → (trigger : Bool) (timeout age : ℕ) → WaitsSince steps trigger timeout age → 0 < timeout → (0 < timer) × (age + timer ≤ timeout)
+  pub each-allows : due ≡ false → (trigger : Bool) (timeout age : ℕ) → WaitsSince steps trigger timeout age
+      → 0 < timeout → (0 < timer) × (age + timer ≤ timeout)
   pub one-allows : 0 < timer → AllowsStill steps timer

@@ -41,7 +41,9 @@ payloadHeld k m = heldBy (recordAt (m .state) k .part)
 module _ (image : List ℕ) (k : ℕ) where
   -- ONE TAKE writes place i: the bytes that it adds stand behind those held before it, in the connection's stretch
   abbrev pub TakeWrites : Machine → List ℕ → ℕ → Type 0
-  TakeWrites m bytes i = Within (k * 1464 + payloadHeld k m) (addedBy (taken image k m bytes .outcome) (payloadHeld k m) (payloadHeld k (afterOne image k m bytes))) i
+  TakeWrites m bytes i =
+      Within (k * 1464 + payloadHeld k m)
+      (addedBy (taken image k m bytes .outcome) (payloadHeld k m) (payloadHeld k (afterOne image k m bytes))) i
 
   -- A SEGMENT EVENT writes it: its first take does, or, where another follows (as in `afterTakes`), one of those
   pub data SegmentWrites (i : ℕ) : Machine → List ℕ → Type 0 where
@@ -56,7 +58,8 @@ module _ (image : List ℕ) (m : Machine) where
 
   -- A FRAME writes place i of send memory: header and payload at destination row d, behind the bytes used on its connection
   abbrev pub FrameWrites : ℕ → List ℕ → ℕ → Type 0
-  FrameWrites d payload i = Within (destinationOf image d .connection * 1472 + recordAt (m .state) (destinationOf image d .connection) .used) (8 + length payload) i
+  FrameWrites d payload i =
+      Within (destinationOf image d .connection * 1472 + recordAt (m .state) (destinationOf image d .connection) .used) (8 + length payload) i
 
   -- AN EVENT WRITES PLACE i OF SEND MEMORY: the bytes that a transmit appends, where it is stored, one frame at each destination of the PDU
   -- that is switched on at the call (no two destinations share PDU and connection: at most one frame on each connection)

@@ -29,4 +29,5 @@ pub data Shut (image : List ℕ) (m : Machine) : ℕ → Type 0 where
 -- changes
 pub data Run (image : List ℕ) (m : Machine) (es : List Event) : Type 0 where
   keeps-good : gateHere image m ≡ Pass → Good image (afterRun image m es) → Run image m es
-  leaves-all : (r : Refusal) → gateHere image m ≡ Refused r → numbersIn image m es ≡ map (λ (e : Event). refusalNumber r) es → afterRun image m es ≡ m → Run image m es
+  leaves-all : (r : Refusal) → gateHere image m ≡ Refused r
+      → numbersIn image m es ≡ map (λ (e : Event). refusalNumber r) es → afterRun image m es ≡ m → Run image m es

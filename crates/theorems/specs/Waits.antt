@@ -1,5 +1,6 @@
 -- R10.10, WHAT AN EVENT MAKES OF THE BYTES WAITING ON A CONNECTION, by the event: a loss, a closing tick, a tick that lets a silent peer go and a
--- non-empty take empty them; a stored transmit adds the frames of its switched-on destinations there; every other event leaves them. And the PDUs whose frames these bytes are.
+-- non-empty take empty them; a stored transmit adds the frames of its switched-on destinations there; every other event leaves them.
+-- And the PDUs whose frames these bytes are.
 use Prim.Native.Nat.{ℕ, zero, suc}
 use mathlib.Core.Bool.{Bool, cond, not, _&&_}
 use mathlib.Core.List.{List, [], _∷_, _++_}

@@ -2,6 +2,7 @@
 use Rattle.table_fault.specs.declared.Fault.the-variants.{NoGroup, Automatic, SendSize, NotUdp}
 use Rattle.table_fault.proofs.Asks.{next-fault}
 use mathlib.Core.Path.{refl}
+use Rattle.table_rows.specs.Rows.{connectionRow}
 use Rattle.table_fault.specs.Faults.{connectionFault}
 use borrow.Author.Needs.{needs}
 use Rattle.table_fault.proofs.connection_fault.Statement.{statement}
@@ -35,7 +36,7 @@ ask-requires-4 : tie.Need-ask-requires-4
 ask-requires-4 c κs = search needs
 
 returns : tie.Need-returns
-unfolding connectionFault
+unfolding connectionFault connectionRow
 returns c =
     let a₃ = c .before .before in
     let a₂ = a₃ .before .before in

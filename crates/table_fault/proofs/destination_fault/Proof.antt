@@ -2,6 +2,7 @@
 use Rattle.table_fault.specs.declared.Fault.the-variants.{NoConnection, Trigger, Longest, Room}
 use Rattle.table_fault.proofs.Asks.{next-fault}
 use mathlib.Core.Path.{refl}
+use Rattle.table_rows.specs.Rows.{destinationRow}
 use Rattle.table_fault.specs.Faults.{destinationFault}
 use borrow.Author.Needs.{needs}
 use Rattle.table_fault.proofs.destination_fault.Statement.{statement}
@@ -29,7 +30,7 @@ ask-requires-4 : tie.Need-ask-requires-4
 ask-requires-4 c κs = search needs
 
 returns : tie.Need-returns
-unfolding destinationFault
+unfolding destinationFault destinationRow
 returns c =
     let a₃ = c .before .before in
     let a₂ = a₃ .before .before in

@@ -1,4 +1,5 @@
 -- `table_fault::group_fault` meets its contract.
+use Rattle.table_rows.specs.Rows.{groupRow}
 use Rattle.table_fault.specs.Faults.{groupFault}
 use borrow.Author.Needs.{needs}
 use Rattle.table_fault.proofs.group_fault.Statement.{statement}
@@ -20,7 +21,7 @@ ask-requires-2 : tie.Need-ask-requires-2
 ask-requires-2 c κs = search needs
 
 returns : tie.Need-returns
-unfolding groupFault
+unfolding groupFault groupRow
 returns c = cc
 
 pub group-fault-spec : {M : Type 1} → statement M

@@ -2,6 +2,7 @@
 use Rattle.table_fault.specs.declared.Fault.the-variants.{NoConnection, Transfer, NotTcp, Zero, Longest}
 use Rattle.table_fault.proofs.Asks.{next-fault}
 use mathlib.Core.Path.{refl}
+use Rattle.table_rows.specs.Rows.{routeRow}
 use Rattle.table_fault.specs.Faults.{routeFault}
 use borrow.Author.Needs.{needs}
 use Rattle.table_fault.proofs.route_fault.Statement.{statement}
@@ -35,7 +36,7 @@ ask-requires-5 : tie.Need-ask-requires-5
 ask-requires-5 c κs = search needs
 
 returns : tie.Need-returns
-unfolding routeFault
+unfolding routeFault routeRow
 returns c =
     let a₄ = c .before .before in
     let a₃ = a₄ .before in

@@ -1,4 +1,5 @@
 -- `table_rows::group_good` meets its contract.
+use Rattle.table_rows.specs.Rows.{groupRow}
 use Rattle.table_rows.specs.Rules.{groupGood}
 use borrow.Author.Needs.{needs}
 use Rattle.table_rows.proofs.group_good.Statement.{statement}
@@ -11,7 +12,7 @@ be8-requires-2 : tie.Need-be8-requires-2
 be8-requires-2 c κs = search needs
 
 returns : tie.Need-returns
-unfolding groupGood
+unfolding groupGood groupRow
 returns c = cc
 
 pub group-good-spec : {M : Type 1} → statement M

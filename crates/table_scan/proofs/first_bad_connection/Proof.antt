@@ -1,6 +1,7 @@
 -- `table_scan::first_bad_connection` meets its contract. The loop's invariant: what is left of the search has the whole one's answer.
 use Rattle.table_scan.proofs.Rows.{At, bad-row, good-row, free, connections-free}
-use Rattle.table_scan.specs.Scan.{share, connectionRule}
+use Rattle.table_rows.specs.Rules.{connectionRule}
+use Rattle.table_scan.specs.Scan.{share}
 use Rattle.table_layout.proofs.Parts.{row-in, row-range}
 use Rattle.table_layout.specs.declared.Kind.the-variants.{Connection}
 use Rattle.lists.proofs.Search.{search-start, search-ended}

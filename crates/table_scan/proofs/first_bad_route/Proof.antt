@@ -2,7 +2,8 @@
 -- of the rows passed are noted.
 use Rattle.table_scan.proofs.Marks.{come-start, found-bad, found-shared, found-none, come-past}
 use Rattle.table_scan.specs.Marks.{routeMark, Come}
-use Rattle.table_scan.specs.Scan.{share, routeRule}
+use Rattle.table_rows.specs.Rules.{routeRule}
+use Rattle.table_scan.specs.Scan.{share}
 use Rattle.table_layout.proofs.Parts.{row-in, row-range}
 use Rattle.table_layout.specs.declared.Kind.the-variants.{Route}
 use lib.ListN.{length}
@@ -14,7 +15,7 @@ use Rattle.table_scan.proofs.first_bad_route.Statement.{statement}
 use Rattle.table_scan.proofs.first_bad_route.Tie as tie
 
 abbrev Inv-loop : tie.InvT-loop
-Inv-loop body connections groups seen₀ n i₀ seen i = Come (routeRule connections groups) (share Route) routeMark 1 body seen i
+Inv-loop body connections groups seen₀ n i₀ seen i = Come (routeRule connections groups) Route routeMark 1 body seen i
 
 abbrev μ-loop : tie.MeasureT-loop
 μ-loop body connections groups seen₀ n i₀ seen i = length body / 16 - i

@@ -2,7 +2,7 @@
 -- of the rows passed are noted.
 use Rattle.table_scan.proofs.Marks.{struck-bad, struck-met, struck-end, come-on, destinations-marked}
 use Rattle.table_scan.specs.Marks.{destinationMark, Come}
-use Rattle.table_scan.specs.Scan.{share, destinationRule}
+use Rattle.table_rows.specs.Rules.{destinationRule}
 use Rattle.table_layout.proofs.Parts.{row-in, row-range}
 use Rattle.table_layout.specs.declared.Kind.the-variants.{Destination}
 use lib.ListN.{length}
@@ -14,7 +14,7 @@ use Rattle.table_scan.proofs.next_destination.Statement.{statement}
 use Rattle.table_scan.proofs.next_destination.Tie as tie
 
 abbrev Inv-loop : tie.InvT-loop
-Inv-loop body connections seen₀ from n i₀ seen i = (from ≤ i) × Come (destinationRule connections) (share Destination) destinationMark 2 body seen i
+Inv-loop body connections seen₀ from n i₀ seen i = (from ≤ i) × Come (destinationRule connections) Destination destinationMark 2 body seen i
 
 abbrev μ-loop : tie.MeasureT-loop
 μ-loop body connections seen₀ from n i₀ seen i = length body / 16 - i

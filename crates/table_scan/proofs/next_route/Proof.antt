@@ -2,7 +2,7 @@
 -- of the rows passed are noted.
 use Rattle.table_scan.proofs.Marks.{struck-bad, struck-met, struck-end, come-on, routes-marked}
 use Rattle.table_scan.specs.Marks.{routeMark, Come}
-use Rattle.table_scan.specs.Scan.{share, routeRule}
+use Rattle.table_rows.specs.Rules.{routeRule}
 use Rattle.table_layout.proofs.Parts.{row-in, row-range}
 use Rattle.table_layout.specs.declared.Kind.the-variants.{Route}
 use lib.ListN.{length}
@@ -14,7 +14,7 @@ use Rattle.table_scan.proofs.next_route.Statement.{statement}
 use Rattle.table_scan.proofs.next_route.Tie as tie
 
 abbrev Inv-loop : tie.InvT-loop
-Inv-loop body connections groups seen₀ from n i₀ seen i = (from ≤ i) × Come (routeRule connections groups) (share Route) routeMark 1 body seen i
+Inv-loop body connections groups seen₀ from n i₀ seen i = (from ≤ i) × Come (routeRule connections groups) Route routeMark 1 body seen i
 
 abbrev μ-loop : tie.MeasureT-loop
 μ-loop body connections groups seen₀ from n i₀ seen i = length body / 16 - i
