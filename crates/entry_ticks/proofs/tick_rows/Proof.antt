@@ -1,144 +1,158 @@
--- `entry_ticks::tick_rows` meets its contract. The invariant: the records below i have ticked, and those that failed are marked.
-use Prim.Native.Nat.{_<_, _≤_, _-_}
-use mathlib.Core.Path.{_≡_, refl, sym, _∙_}
-use lib.ListN.{length}
-use native.Mathlib.Omega.{arith}
-use borrow.Author.Needs.{needs}
-use Rattle.lists.proofs.Each.{long}
-use Rattle.lists.proofs.Fold.{fold-start}
-use Rattle.state.proofs.Config.{config-bodies}
-use Rattle.state.proofs.Upto.{Upto}
-use Rattle.entry_ticks.proofs.Many.{manyAt, ticks-each}
-use Rattle.entry_ticks.proofs.Marks.{Marked, many-mark, rest-mark, coast-mark, marks-whole}
-use Rattle.entry_ticks.proofs.Turns.{many-turn, rest-turn, coast-turn}
 use Rattle.entry_ticks.proofs.tick_rows.Statement.{statement}
 use Rattle.entry_ticks.proofs.tick_rows.Tie as tie
+use Rattle.entry_ticks.proofs.tick_rows.Reads as reads
+use Rattle.entry_ticks.proofs.tick_rows.Lts as lts
+use Rattle.connection.proofs.failed.Reads as failed-reads
+use Rattle.entry_ticks.proofs.is_still.Reads as is-still-reads
+use Rattle.entry_ticks.proofs.is_up.Reads as is-up-reads
+use Rattle.entry_ticks.proofs.later.Reads as later-reads
+use Rattle.entry_ticks.proofs.marked.Reads as marked-reads
+use Rattle.entry_ticks.proofs.settled.Reads as settled-reads
+use Rattle.entry_ticks.proofs.stays.Reads as stays-reads
+use Rattle.entry_ticks.proofs.tick_many.Reads as tick-many-reads
+use Rattle.state.proofs.config_of.Reads as config-of-reads
 
 abbrev Inv-loop : tie.InvT-loop
-Inv-loop image rows count connections groups after₀ failed₀ i₀ after failed i =
-    (i ≤ rows) × (rows ≤ 16) × (length (after₀ .connections) ≡ 16) × Upto (manyAt image count) after₀ after i × Marked image rows count after₀ i failed
+Inv-loop image rows count after₀ failed₀ i₀ after failed i = ?
 
 abbrev μ-loop : tie.MeasureT-loop
-μ-loop image rows count connections groups after₀ failed₀ i₀ after failed i = rows - i
+μ-loop image rows count after₀ failed₀ i₀ after failed i = ?
 
-body-of-requires : tie.Need-body-of-requires Inv-loop μ-loop
-body-of-requires c κs = search needs
-
-body-of-requires-2 : tie.Need-body-of-requires-2 Inv-loop μ-loop
-body-of-requires-2 c κs = search needs
-
+-- src/lib.rt:148:5
 loop-holds : tie.Need-loop-holds Inv-loop μ-loop
-loop-holds c =
-    let s = c .before .before .before in
-    (search needs, search needs, long _ (s .args .state .connections) (s .good .1 .1 .0 .1 .1 .0 .1 .0 .1), refl, fold-start _ _ _)
+loop-holds c = ?
 
+-- src/lib.rt:149:26
 mul-connection : tie.Need-mul-connection Inv-loop μ-loop
-mul-connection c = search needs
+mul-connection c = ?
 
+-- src/lib.rt:149:26
 element-copy-out-connection : tie.Need-element-copy-out-connection Inv-loop μ-loop
-element-copy-out-connection c = search needs
+element-copy-out-connection c = ?
 
-rests-requires : tie.Need-rests-requires Inv-loop μ-loop
-rests-requires c κs = search needs
+-- src/lib.rt:150:13
+is-up-requires : tie.Need-is-up-requires Inv-loop μ-loop
+is-up-requires c κs = ?
 
-add-i : tie.Need-add-i Inv-loop μ-loop
-add-i c = search needs
+-- src/lib.rt:151:25
+mul-whole : tie.Need-mul-whole Inv-loop μ-loop
+mul-whole c = ?
 
-loop-less : tie.Need-loop-less Inv-loop μ-loop
-loop-less c = search needs
+-- src/lib.rt:151:25
+element-copy-out-whole : tie.Need-element-copy-out-whole Inv-loop μ-loop
+element-copy-out-whole c = ?
 
-loop-again : tie.Need-loop-again Inv-loop μ-loop
-loop-again c =
-    let b = c .before .before .before .before in
-    let a = b .before .before .before .before .args in
-    let h : b .loop .i < length (a .state .connections) = omega arith in
-    let still = sym (c .before .rests .ensures) ∙ c .if1 .taken in (
-      omega arith,
-      b .loop .inv .1,
-      b .loop .inv .2,
-      rest-turn _ _ _ _ _ h (b .loop .inv .3) still,
-      rest-mark _ _ _ _ _ _ _ (c .before .before .before .loop-test .taken) h (b .loop .inv .3) (b .loop .inv .4) still,
-    )
+-- src/lib.rt:152:34
+config-of-requires : tie.Need-config-of-requires Inv-loop μ-loop
+config-of-requires c κs = ?
 
-coasts-requires : tie.Need-coasts-requires Inv-loop μ-loop
-coasts-requires c κs = search needs
-
-aged-requires : tie.Need-aged-requires Inv-loop μ-loop
-aged-requires c κs = search needs
-
-mul-later : tie.Need-mul-later Inv-loop μ-loop
-mul-later c = search needs
-
-element-set-from-later : tie.Need-element-set-from-later Inv-loop μ-loop
-element-set-from-later c = search needs
-
-add-i-2 : tie.Need-add-i-2 Inv-loop μ-loop
-add-i-2 c = search needs
-
-loop-less-2 : tie.Need-loop-less-2 Inv-loop μ-loop
-loop-less-2 c = search needs
-
-loop-again-2 : tie.Need-loop-again-2 Inv-loop μ-loop
-loop-again-2 c =
-    let t = c .before .before in
-    let b = t .before .before .before .before .before in
-    let a = b .before .before .before .before .args in
-    let h : b .loop .i < length (a .state .connections) = omega arith in
-    let on = sym (t .coasts .ensures) ∙ c .before .if2 .taken in (
-      omega arith,
-      b .loop .inv .1,
-      b .loop .inv .2,
-      coast-turn _ _ _ _ _ h (b .loop .inv .3) _ (c .aged .ensures) on,
-      coast-mark _ _ _ _ _ _ _ (t .before .before .before .before .loop-test .taken) h (b .loop .inv .3) (b .loop .inv .4) on,
-    )
-
-config-in-requires : tie.Need-config-in-requires Inv-loop μ-loop
-config-in-requires c κs = search needs
-
+-- src/lib.rt:152:17
 tick-many-requires : tie.Need-tick-many-requires Inv-loop μ-loop
-tick-many-requires c κs = search needs
+tick-many-requires c κs = ?
 
+-- src/lib.rt:153:13
 mul-next : tie.Need-mul-next Inv-loop μ-loop
-mul-next c = search needs
+mul-next c = ?
 
+-- src/lib.rt:153:13
 element-set-from-next : tie.Need-element-set-from-next Inv-loop μ-loop
-element-set-from-next c = search needs
+element-set-from-next c = ?
 
+-- src/lib.rt:154:40
 failed-requires : tie.Need-failed-requires Inv-loop μ-loop
-failed-requires c κs = search needs
+failed-requires c κs = ?
 
+-- src/lib.rt:154:13
 marked-requires : tie.Need-marked-requires Inv-loop μ-loop
-marked-requires c κs = omega (arith, c .before .before .before .before .before .before .before .before .loop-test .taken)
+marked-requires c κs = ?
 
+-- src/lib.rt:155:13
+add-i : tie.Need-add-i Inv-loop μ-loop
+add-i c = ?
+
+-- src/lib.rt:148:5
+loop-less : tie.Need-loop-less Inv-loop μ-loop
+loop-less c = ?
+
+-- src/lib.rt:148:5
+loop-again : tie.Need-loop-again Inv-loop μ-loop
+loop-again c = ?
+
+-- src/lib.rt:158:12
+is-still-requires : tie.Need-is-still-requires Inv-loop μ-loop
+is-still-requires c κs = ?
+
+-- src/lib.rt:159:13
+add-i-2 : tie.Need-add-i-2 Inv-loop μ-loop
+add-i-2 c = ?
+
+-- src/lib.rt:148:5
+loop-less-2 : tie.Need-loop-less-2 Inv-loop μ-loop
+loop-less-2 c = ?
+
+-- src/lib.rt:148:5
+loop-again-2 : tie.Need-loop-again-2 Inv-loop μ-loop
+loop-again-2 c = ?
+
+-- src/lib.rt:162:12
+stays-requires : tie.Need-stays-requires Inv-loop μ-loop
+stays-requires c κs = ?
+
+-- src/lib.rt:163:17
+later-requires : tie.Need-later-requires Inv-loop μ-loop
+later-requires c κs = ?
+
+-- src/lib.rt:164:13
+mul-next-2 : tie.Need-mul-next-2 Inv-loop μ-loop
+mul-next-2 c = ?
+
+-- src/lib.rt:164:13
+element-set-from-next-2 : tie.Need-element-set-from-next-2 Inv-loop μ-loop
+element-set-from-next-2 c = ?
+
+-- src/lib.rt:165:13
 add-i-3 : tie.Need-add-i-3 Inv-loop μ-loop
-add-i-3 c = search needs
+add-i-3 c = ?
 
+-- src/lib.rt:148:5
 loop-less-3 : tie.Need-loop-less-3 Inv-loop μ-loop
-loop-less-3 c = search needs
+loop-less-3 c = ?
 
+-- src/lib.rt:148:5
 loop-again-3 : tie.Need-loop-again-3 Inv-loop μ-loop
-loop-again-3 c =
-    let m = c .before .before in
-    let t = m .before .before .before .before .before .before .before in
-    let b = t .before in
-    let r = b .before in
-    let a = r .before .before .before .args in
-    let h : b .loop .i < length (a .state .connections) = omega (arith, t .loop-test .taken) in
-    let config = config-bodies _ _ _ _ _ (r .before .body-of .ensures .0) (r .body-of2 .ensures .0) (m .before .config-in .ensures) in (
-      omega (arith, t .loop-test .taken),
-      b .loop .inv .1,
-      b .loop .inv .2,
-      many-turn _ _ _ _ _ h (b .loop .inv .3) _ _ config (m .tick-many .ensures),
-      many-mark _ _ _ _ _ _ _ (t .loop-test .taken) h (b .loop .inv .3) (b .loop .inv .4) _ _ _ _ config (m .tick-many .ensures)
-          (c .before .failed .ensures) (c .marked .ensures),
-    )
+loop-again-3 c = ?
 
+-- src/lib.rt:168:28
+config-of-requires-2 : tie.Need-config-of-requires-2 Inv-loop μ-loop
+config-of-requires-2 c κs = ?
+
+-- src/lib.rt:168:13
+settled-requires : tie.Need-settled-requires Inv-loop μ-loop
+settled-requires c κs = ?
+
+-- src/lib.rt:169:9
+mul-next-3 : tie.Need-mul-next-3 Inv-loop μ-loop
+mul-next-3 c = ?
+
+-- src/lib.rt:169:9
+element-set-from-next-3 : tie.Need-element-set-from-next-3 Inv-loop μ-loop
+element-set-from-next-3 c = ?
+
+-- src/lib.rt:170:9
+add-i-4 : tie.Need-add-i-4 Inv-loop μ-loop
+add-i-4 c = ?
+
+-- src/lib.rt:148:5
+loop-less-4 : tie.Need-loop-less-4 Inv-loop μ-loop
+loop-less-4 c = ?
+
+-- src/lib.rt:148:5
+loop-again-4 : tie.Need-loop-again-4 Inv-loop μ-loop
+loop-again-4 c = ?
+
+-- src/lib.rt:141:1
 returns : tie.Need-returns Inv-loop μ-loop
-returns c =
-    let l = c .before in
-    let a = l .before .before .before .before .args in
-    let e : l .loop .i ≡ a .rows = omega arith in
-    marks-whole _ _ _ _ _ _ _ (omega arith) (l .loop .inv .4) ((rw e at (l .loop .inv .3)) ∙ sym (ticks-each (a .image .now) (a .rows) (a .count) (a .state)))
+returns c = ?
 
 pub tick-rows-spec : {M : Type 1} → statement M
 tick-rows-spec =
@@ -146,29 +160,37 @@ tick-rows-spec =
     (tie.spec
     Inv-loop
     μ-loop
-    body-of-requires
-    body-of-requires-2
     loop-holds
     mul-connection
     element-copy-out-connection
-    rests-requires
-    add-i
-    loop-less
-    loop-again
-    coasts-requires
-    aged-requires
-    mul-later
-    element-set-from-later
-    add-i-2
-    loop-less-2
-    loop-again-2
-    config-in-requires
+    is-up-requires
+    mul-whole
+    element-copy-out-whole
+    config-of-requires
     tick-many-requires
     mul-next
     element-set-from-next
     failed-requires
     marked-requires
+    add-i
+    loop-less
+    loop-again
+    is-still-requires
+    add-i-2
+    loop-less-2
+    loop-again-2
+    stays-requires
+    later-requires
+    mul-next-2
+    element-set-from-next-2
     add-i-3
     loop-less-3
     loop-again-3
+    config-of-requires-2
+    settled-requires
+    mul-next-3
+    element-set-from-next-3
+    add-i-4
+    loop-less-4
+    loop-again-4
     returns)
