@@ -1,158 +1,180 @@
+-- `entry_ticks::tick_rows` meets its contract. The invariant: the records below i have ticked, and those that failed are marked.
+use Prim.Native.Nat.{_<_, _≤_, _-_}
+use mathlib.Core.Path.{_≡_, refl, sym, _∙_}
+use lib.ListN.{length}
+use native.Mathlib.Omega.{arith}
+use borrow.Author.Needs.{needs}
+use borrow.Author.Tests.{not-false}
+use Rattle.lists.proofs.Each.{long}
+use Rattle.lists.proofs.Fold.{fold-start}
+use Rattle.state.proofs.Upto.{Upto}
+use Rattle.entry_ticks.proofs.Many.{manyAt, ticks-each}
+use Rattle.entry_ticks.proofs.Marks.{Marked, many-mark, up-mark, marks-whole}
+use Rattle.entry_ticks.proofs.Turns.{many-turn, still-turn, stays-turn, up-turn}
 use Rattle.entry_ticks.proofs.tick_rows.Statement.{statement}
 use Rattle.entry_ticks.proofs.tick_rows.Tie as tie
-use Rattle.entry_ticks.proofs.tick_rows.Reads as reads
-use Rattle.entry_ticks.proofs.tick_rows.Lts as lts
-use Rattle.connection.proofs.failed.Reads as failed-reads
-use Rattle.entry_ticks.proofs.is_still.Reads as is-still-reads
-use Rattle.entry_ticks.proofs.is_up.Reads as is-up-reads
-use Rattle.entry_ticks.proofs.later.Reads as later-reads
-use Rattle.entry_ticks.proofs.marked.Reads as marked-reads
-use Rattle.entry_ticks.proofs.settled.Reads as settled-reads
-use Rattle.entry_ticks.proofs.stays.Reads as stays-reads
-use Rattle.entry_ticks.proofs.tick_many.Reads as tick-many-reads
-use Rattle.state.proofs.config_of.Reads as config-of-reads
 
 abbrev Inv-loop : tie.InvT-loop
-Inv-loop image rows count after₀ failed₀ i₀ after failed i = ?
+Inv-loop image rows count after₀ failed₀ i₀ after failed i =
+    (i ≤ rows) × (rows ≤ 16) × (length (after₀ .connections) ≡ 16) × Upto (manyAt image count) after₀ after i × Marked image rows count after₀ i failed
 
 abbrev μ-loop : tie.MeasureT-loop
-μ-loop image rows count after₀ failed₀ i₀ after failed i = ?
+μ-loop image rows count after₀ failed₀ i₀ after failed i = rows - i
 
--- src/lib.rt:148:5
 loop-holds : tie.Need-loop-holds Inv-loop μ-loop
-loop-holds c = ?
+loop-holds c =
+    let s = c .before in
+    (search needs, search needs, long _ (s .args .state .connections) (s .good .1 .1 .0 .1 .1 .0 .1 .0 .1), refl, fold-start _ _ _)
 
--- src/lib.rt:149:26
 mul-connection : tie.Need-mul-connection Inv-loop μ-loop
-mul-connection c = ?
+mul-connection c = search needs
 
--- src/lib.rt:149:26
 element-copy-out-connection : tie.Need-element-copy-out-connection Inv-loop μ-loop
-element-copy-out-connection c = ?
+element-copy-out-connection c = search needs
 
--- src/lib.rt:150:13
 is-up-requires : tie.Need-is-up-requires Inv-loop μ-loop
-is-up-requires c κs = ?
+is-up-requires c κs = search needs
 
--- src/lib.rt:151:25
 mul-whole : tie.Need-mul-whole Inv-loop μ-loop
-mul-whole c = ?
+mul-whole c = search needs
 
--- src/lib.rt:151:25
 element-copy-out-whole : tie.Need-element-copy-out-whole Inv-loop μ-loop
-element-copy-out-whole c = ?
+element-copy-out-whole c = search needs
 
--- src/lib.rt:152:34
 config-of-requires : tie.Need-config-of-requires Inv-loop μ-loop
-config-of-requires c κs = ?
+config-of-requires c κs = search needs
 
--- src/lib.rt:152:17
 tick-many-requires : tie.Need-tick-many-requires Inv-loop μ-loop
-tick-many-requires c κs = ?
+tick-many-requires c κs = search needs
 
--- src/lib.rt:153:13
 mul-next : tie.Need-mul-next Inv-loop μ-loop
-mul-next c = ?
+mul-next c = search needs
 
--- src/lib.rt:153:13
 element-set-from-next : tie.Need-element-set-from-next Inv-loop μ-loop
-element-set-from-next c = ?
+element-set-from-next c = search needs
 
--- src/lib.rt:154:40
 failed-requires : tie.Need-failed-requires Inv-loop μ-loop
-failed-requires c κs = ?
+failed-requires c κs = search needs
 
--- src/lib.rt:154:13
 marked-requires : tie.Need-marked-requires Inv-loop μ-loop
-marked-requires c κs = ?
+marked-requires c κs = omega (arith, c .before .before .before .before .before .before .before .loop-test .taken)
 
--- src/lib.rt:155:13
 add-i : tie.Need-add-i Inv-loop μ-loop
-add-i c = ?
+add-i c = search needs
 
--- src/lib.rt:148:5
 loop-less : tie.Need-loop-less Inv-loop μ-loop
-loop-less c = ?
+loop-less c = search needs
 
--- src/lib.rt:148:5
 loop-again : tie.Need-loop-again Inv-loop μ-loop
-loop-again c = ?
+loop-again c =
+    let m = c .before .before in
+    let t = m .before .before .before .before .before .before in
+    let b = t .before in
+    let h : b .loop .i < length (b .before .before .args .state .connections) = omega (arith, t .loop-test .taken) in
+    let config = m .before .config-of .ensures in (
+      omega (arith, t .loop-test .taken),
+      b .loop .inv .1,
+      b .loop .inv .2,
+      many-turn _ _ _ _ _ h (b .loop .inv .3) _ _ config (m .tick-many .ensures),
+      many-mark _ _ _ _ _ _ _ (t .loop-test .taken) h (b .loop .inv .3) (b .loop .inv .4) _ _ _ _ config (m .tick-many .ensures)
+          (c .before .failed .ensures) (c .marked .ensures),
+    )
 
--- src/lib.rt:158:12
 is-still-requires : tie.Need-is-still-requires Inv-loop μ-loop
-is-still-requires c κs = ?
+is-still-requires c κs = search needs
 
--- src/lib.rt:159:13
 add-i-2 : tie.Need-add-i-2 Inv-loop μ-loop
-add-i-2 c = ?
+add-i-2 c = search needs
 
--- src/lib.rt:148:5
 loop-less-2 : tie.Need-loop-less-2 Inv-loop μ-loop
-loop-less-2 c = ?
+loop-less-2 c = search needs
 
--- src/lib.rt:148:5
 loop-again-2 : tie.Need-loop-again-2 Inv-loop μ-loop
-loop-again-2 c = ?
+loop-again-2 c =
+    let u = c .before .before .before in
+    let t = u .before .before in
+    let b = t .before in
+    let h : b .loop .i < length (b .before .before .args .state .connections) = omega (arith, t .loop-test .taken) in
+    let up = sym (u .is-up .ensures) ∙ not-false _ (c .before .before .if1 .left) in (
+      omega (arith, t .loop-test .taken),
+      b .loop .inv .1,
+      b .loop .inv .2,
+      still-turn _ _ _ _ _ h (b .loop .inv .3) up (sym (c .before .is-still .ensures) ∙ c .if2 .taken),
+      up-mark _ _ _ _ _ _ _ (t .loop-test .taken) h (b .loop .inv .3) (b .loop .inv .4) up,
+    )
 
--- src/lib.rt:162:12
 stays-requires : tie.Need-stays-requires Inv-loop μ-loop
-stays-requires c κs = ?
+stays-requires c κs = search needs
 
--- src/lib.rt:163:17
 later-requires : tie.Need-later-requires Inv-loop μ-loop
-later-requires c κs = ?
+later-requires c κs = search needs
 
--- src/lib.rt:164:13
 mul-next-2 : tie.Need-mul-next-2 Inv-loop μ-loop
-mul-next-2 c = ?
+mul-next-2 c = search needs
 
--- src/lib.rt:164:13
 element-set-from-next-2 : tie.Need-element-set-from-next-2 Inv-loop μ-loop
-element-set-from-next-2 c = ?
+element-set-from-next-2 c = search needs
 
--- src/lib.rt:165:13
 add-i-3 : tie.Need-add-i-3 Inv-loop μ-loop
-add-i-3 c = ?
+add-i-3 c = search needs
 
--- src/lib.rt:148:5
 loop-less-3 : tie.Need-loop-less-3 Inv-loop μ-loop
-loop-less-3 c = ?
+loop-less-3 c = search needs
 
--- src/lib.rt:148:5
 loop-again-3 : tie.Need-loop-again-3 Inv-loop μ-loop
-loop-again-3 c = ?
+loop-again-3 c =
+    let s = c .before .before in
+    let u = s .before .before .before .before in
+    let t = u .before .before in
+    let b = t .before in
+    let h : b .loop .i < length (b .before .before .args .state .connections) = omega (arith, t .loop-test .taken) in
+    let up = sym (u .is-up .ensures) ∙ not-false _ (s .before .before .before .if1 .left) in (
+      omega (arith, t .loop-test .taken),
+      b .loop .inv .1,
+      b .loop .inv .2,
+      stays-turn _ _ _ _ _ h (b .loop .inv .3) _ up (sym (s .stays .ensures) ∙ c .before .if3 .taken) (c .later .ensures),
+      up-mark _ _ _ _ _ _ _ (t .loop-test .taken) h (b .loop .inv .3) (b .loop .inv .4) up,
+    )
 
--- src/lib.rt:168:28
 config-of-requires-2 : tie.Need-config-of-requires-2 Inv-loop μ-loop
-config-of-requires-2 c κs = ?
+config-of-requires-2 c κs = search needs
 
--- src/lib.rt:168:13
 settled-requires : tie.Need-settled-requires Inv-loop μ-loop
-settled-requires c κs = ?
+settled-requires c κs = search needs
 
--- src/lib.rt:169:9
 mul-next-3 : tie.Need-mul-next-3 Inv-loop μ-loop
-mul-next-3 c = ?
+mul-next-3 c = search needs
 
--- src/lib.rt:169:9
 element-set-from-next-3 : tie.Need-element-set-from-next-3 Inv-loop μ-loop
-element-set-from-next-3 c = ?
+element-set-from-next-3 c = search needs
 
--- src/lib.rt:170:9
 add-i-4 : tie.Need-add-i-4 Inv-loop μ-loop
-add-i-4 c = ?
+add-i-4 c = search needs
 
--- src/lib.rt:148:5
 loop-less-4 : tie.Need-loop-less-4 Inv-loop μ-loop
-loop-less-4 c = ?
+loop-less-4 c = search needs
 
--- src/lib.rt:148:5
 loop-again-4 : tie.Need-loop-again-4 Inv-loop μ-loop
-loop-again-4 c = ?
+loop-again-4 c =
+    let s = c .before .before .before in
+    let u = s .before .before .before .before in
+    let t = u .before .before in
+    let b = t .before in
+    let h : b .loop .i < length (b .before .before .args .state .connections) = omega (arith, t .loop-test .taken) in
+    let up = sym (u .is-up .ensures) ∙ not-false _ (s .before .before .before .if1 .left) in (
+      omega (arith, t .loop-test .taken),
+      b .loop .inv .1,
+      b .loop .inv .2,
+      up-turn _ _ _ _ _ h (b .loop .inv .3) _ _ up (c .before .config-of2 .ensures) (c .settled .ensures),
+      up-mark _ _ _ _ _ _ _ (t .loop-test .taken) h (b .loop .inv .3) (b .loop .inv .4) up,
+    )
 
--- src/lib.rt:141:1
 returns : tie.Need-returns Inv-loop μ-loop
-returns c = ?
+returns c =
+    let l = c .before in
+    let a = l .before .before .args in
+    let e : l .loop .i ≡ a .rows = omega arith in
+    marks-whole _ _ _ _ _ _ _ (omega arith) (l .loop .inv .4) ((rw e at (l .loop .inv .3)) ∙ sym (ticks-each (a .image .now) (a .rows) (a .count) (a .state)))
 
 pub tick-rows-spec : {M : Type 1} → statement M
 tick-rows-spec =
