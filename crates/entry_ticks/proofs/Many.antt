@@ -1,6 +1,6 @@
 -- MANY TICKS AT ONCE. Of a record that the next tick does not turn, n ticks let the timers run (`many-later`), or let it go at the end of its
--- alive timer (`many-leaves`), and then reach it or never (`gone-many`): so `settledOf` is n ticks (`settled-many`). Many ticks of the whole
--- module are as many of each record (`ticks-each`).
+-- alive timer (`many-leaves`), and then reach it in the next tick or never (`gone-many`): `settledOf` is n ticks (`settled-many`). Of any other
+-- record single ticks come first, of which two are enough (`two-settle`). Many ticks of the whole module are as many of each record (`ticks-each`).
 use Prim.Native.Nat.{ℕ, zero, suc, _+_, _-_, _<_, _≤_}
 use mathlib.Core.Path.{_≡_, refl, sym, ap, ap₂, _∙_, subst}
 use mathlib.Core.Bool.{Bool, true, false, cond, not, _&&_, _||_}
@@ -12,15 +12,15 @@ use borrow.Author.Tests.{eqb-true, eq-eqb, ne-eqb, lt-ltb, ltb-true, le-leb, leb
 use Rattle.connection.specs.declared.Config.{Config}
 use Rattle.connection.specs.declared.Connection.{Connection}
 use Rattle.connection.specs.declared.Mode.the-variants.{Online}
-use Rattle.connection.specs.Connection.{isOffline, isReconnect, wildcard, become, withSend, withWatch, startedOf, reachOf, runOf, expires, letGoOf, sunkOf, tickOf}
-use Rattle.connection.proofs.Ticks.{tick-goes-on, tick-lets-go}
+use Rattle.connection.specs.Connection.{become, withSend, withWatch, startedOf, reachOf, runOf, expires, closedOf, letGoOf, sunkOf, tickOf}
+use Rattle.connection.proofs.Ticks.{tick-closes, tick-goes-on, tick-lets-go, started}
 use Rattle.lists.specs.Each.{eachTo}
 use Rattle.lists.specs.Fold.{foldFrom}
 use Rattle.lists.proofs.Both.{impossible, and-left, and-right, and-both, neither}
 use Rattle.state.specs.declared.State.{State}
 use Rattle.state.specs.State.{withRecords}
 use Rattle.state.specs.Fresh.{configOf}
-use Rattle.entry_ticks.specs.Many.{manyOf, turnsNext, endsIn, staysOf, laterBy, goneOf, settledOf}
+use Rattle.entry_ticks.specs.Many.{manyOf, startsNext, reachesNext, turnsNext, endsIn, staysOf, laterBy, goneOf, settledOf}
 use Rattle.entry_ticks.specs.Tick.{tickAt, tickedTo, tickOnce, ticksTo}
 
 -- ONE TIMER: whether it ends within n ticks. Each timer of a record takes these laws once.
@@ -29,7 +29,7 @@ ends-yes : (n t : ℕ) → 0 < t → t ≤ n → endsIn n t ≡ true
 unfolding endsIn
 ends-yes n t h l = rw (lt-ltb 0 t h, le-leb t n l)
 
-pub ends-is : (n t : ℕ) → endsIn n t ≡ true → (0 < t) × (t ≤ n)
+ends-is : (n t : ℕ) → endsIn n t ≡ true → (0 < t) × (t ≤ n)
 unfolding endsIn
 ends-is n t e = (ltb-true 0 t (and-left (ltb 0 t) (leb t n) e), leb-true t n (and-right (ltb 0 t) (leb t n) e))
 
@@ -78,22 +78,22 @@ ends-all n t e = sym (ends-more n t) ∙ ap (λ (b : Bool). b || endsIn 1 t) e
 -- A TICK THAT TURNS NOTHING
 
 module _ (g : Config) (c : Connection) where
-  start-stays : (isOffline (c .mode) && (c .«open_wanted» || g .automatic)) ≡ false → startedOf g c ≡ c
+  start-stays : startsNext g c ≡ false → startedOf g c ≡ c
   unfolding startedOf
   start-stays p = rw p
 
-  reach-stays : (isReconnect (c .mode) && not (g .tcp) && not (wildcard (c .remote))) ≡ false → reachOf g c ≡ c
+  reach-stays : reachesNext g c ≡ false → reachOf g c ≡ c
   unfolding reachOf
   reach-stays p = rw p
 
   -- what does not turn is not to be closed
   no-close : turnsNext g c ≡ false → c .«close_wanted» ≡ false
-  no-close p = neither (c .«close_wanted») _ (neither (c .«close_wanted» || (isOffline (c .mode) && (c .«open_wanted» || g .automatic))) _ p .0) .0
+  no-close p = neither (c .«close_wanted») _ (neither (c .«close_wanted» || startsNext g c) _ p .0) .0
 
 -- a tick that does not close, let go, start or reach lets the timers run and does no more
-pub only-runs : (g : Config) (c : Connection) → turnsNext g c ≡ false → expires g c ≡ false → tickOf g c ≡ runOf (sunkOf c)
+only-runs : (g : Config) (c : Connection) → turnsNext g c ≡ false → expires g c ≡ false → tickOf g c ≡ runOf (sunkOf c)
 only-runs g c p x =
-    let t = neither (c .«close_wanted» || (isOffline (c .mode) && (c .«open_wanted» || g .automatic))) _ p in
+    let t = neither (c .«close_wanted» || startsNext g c) _ p in
     let u = neither (c .«close_wanted») _ (t .0) in
     sym (tick-goes-on g c (u .0) x) ∙ ap (λ (d : Connection). runOf (reachOf g d)) (start-stays g (sunkOf c) (u .1)) ∙ ap runOf (reach-stays g (sunkOf c) (t .1))
 
@@ -213,7 +213,7 @@ module _ (g : Config) (c : Connection) (quiet : turnsNext g c ≡ false) where
   -- the tick after it reaches the record where it can be reached
   gone-runs : runOf (reachOf g (startedOf g (sunkOf (letGoOf g c)))) ≡ reachOf g (letGoOf g c)
   unfolding startedOf reachOf runOf
-  gone-runs = go (isReconnect (letGoOf g c .mode) && not (g .tcp) && not (wildcard (g .remote)))
+  gone-runs = go (reachesNext g (letGoOf g c))
     where
       go : (b : Bool) → runOf (cond b (become Online (letGoOf g c)) (letGoOf g c)) ≡ cond b (become Online (letGoOf g c)) (letGoOf g c)
       go true = refl
@@ -225,9 +225,9 @@ module _ (g : Config) (c : Connection) (quiet : turnsNext g c ≡ false) where
   -- and those after that do nothing
   gone-waits : (n : ℕ) → manyOf g n (reachOf g (letGoOf g c)) ≡ reachOf g (letGoOf g c)
   unfolding reachOf
-  gone-waits n = go (isReconnect (letGoOf g c .mode) && not (g .tcp) && not (wildcard (g .remote))) refl
+  gone-waits n = go (reachesNext g (letGoOf g c)) refl
     where
-      go : (b : Bool) → (isReconnect (letGoOf g c .mode) && not (g .tcp) && not (wildcard (g .remote))) ≡ b
+      go : (b : Bool) → reachesNext g (letGoOf g c) ≡ b
           → manyOf g n (cond b (become Online (letGoOf g c)) (letGoOf g c)) ≡ cond b (become Online (letGoOf g c)) (letGoOf g c)
       go true e = waits g (become Online (letGoOf g c)) (ap (λ (k : Bool). k || false || false) (no-close g c quiet)) refl refl n
       go false e = waits g (letGoOf g c) (ap₂ (λ (k b : Bool). k || false || b) (no-close g c quiet) e) refl refl n
@@ -258,23 +258,15 @@ module _ (g : Config) (c : Connection) (quiet : turnsNext g c ≡ false) where
       go true e = sym (many-later g n c quiet e)
       go false e = gone-is n e
 
--- what the tests of `settledOf` say
-module _ (g : Config) (n : ℕ) (c : Connection) {s : Bool} (is : s ≡ staysOf n c) where
-  pub settled-runs : (s || g .tcp) ≡ true → laterBy n c ≡ settledOf g n c
-  unfolding settledOf
-  settled-runs p = sym (ap (λ (b : Bool). cond b (laterBy n c) (goneOf g n c)) (ap (λ (b : Bool). b || g .tcp) (sym is) ∙ p))
-
-  leaves : (s || g .tcp) ≡ false → goneOf g n c ≡ settledOf g n c
-  unfolding settledOf
-  leaves p = sym (ap (λ (b : Bool). cond b (laterBy n c) (goneOf g n c)) (ap (λ (b : Bool). b || g .tcp) (sym is) ∙ p))
-
-  pub settled-gone : (s || g .tcp) ≡ false → {l : Bool} → l ≡ leb n (c .watch .alive) → l ≡ true → letGoOf g c ≡ settledOf g n c
+-- what the tests of `goneOf` and `settledOf` say
+module _ (g : Config) (n : ℕ) (c : Connection) {t b : Bool} where
+  pub gone-at : t ≡ leb n (c .watch .alive) → t ≡ b → cond b (letGoOf g c) (reachOf g (letGoOf g c)) ≡ goneOf g n c
   unfolding goneOf
-  settled-gone p e l = sym (ap (λ (b : Bool). cond b (letGoOf g c) (reachOf g (letGoOf g c))) (sym e ∙ l)) ∙ leaves p
+  gone-at is e = ap (λ (x : Bool). cond x (letGoOf g c) (reachOf g (letGoOf g c))) (sym e ∙ is)
 
-  pub settled-reached : (s || g .tcp) ≡ false → {l : Bool} → l ≡ leb n (c .watch .alive) → l ≡ false → reachOf g (letGoOf g c) ≡ settledOf g n c
-  unfolding goneOf
-  settled-reached p e l = sym (ap (λ (b : Bool). cond b (letGoOf g c) (reachOf g (letGoOf g c))) (sym e ∙ l)) ∙ leaves p
+  pub settled-at : t ≡ staysOf n c → (t || g .tcp) ≡ b → cond b (laterBy n c) (goneOf g n c) ≡ settledOf g n c
+  unfolding settledOf
+  settled-at is e = ap (λ (x : Bool). cond x (laterBy n c) (goneOf g n c)) (sym e ∙ ap (λ (x : Bool). x || g .tcp) is)
 
 -- THE LOOP of single ticks while they turn: the ticks that are left lead to the whole's end
 
@@ -301,6 +293,51 @@ module _ (g : Config) where
       go : (b : Bool) → eqb n 0 ≡ b → (b || not t) ≡ true → settledOf g n c ≡ manyOf g n c
       go true e p = let z : n ≡ 0 = eqb-true _ _ e in subst (λ (k : ℕ). settledOf g k c ≡ manyOf g k c) (sym z) (settled-none c)
       go false e p = settled-many g c (sym is ∙ not-true t p) n
+
+-- AND THERE ARE AT MOST TWO OF THEM
+
+module _ (g : Config) where
+  started-settles : (c : Connection) → startsNext g (startedOf g c) ≡ false
+  unfolding startedOf
+  started-settles c = go (startsNext g c) refl
+    where
+      go : (b : Bool) → startsNext g c ≡ b
+          → startsNext g (startedOf g c) ≡ false
+      go true e = rw e
+      go false e = rw e e
+
+  reached-settles : (c : Connection) → c .«close_wanted» ≡ false → startsNext g c ≡ false
+      → turnsNext g (reachOf g c) ≡ false
+  unfolding reachOf
+  reached-settles c k s = go (reachesNext g c) refl
+    where
+      go : (b : Bool) → reachesNext g c ≡ b → turnsNext g (cond b (become Online c) c) ≡ false
+      go true e = ap (λ (b : Bool). b || false || false) k
+      go false e = ap₂ (λ (a b : Bool). a || b) (ap₂ (λ (a b : Bool). a || b) k s) e
+
+  run-turns : (c : Connection) → turnsNext g (runOf c) ≡ turnsNext g c
+  unfolding runOf
+  run-turns c = go (eqb (c .timer) 0)
+    where
+      go : (b : Bool) → turnsNext g (cond b c (withSend (c .used) (c .timer - 1) (eqb (c .timer) 1 || c .due) c)) ≡ turnsNext g c
+      go true = refl
+      go false = refl
+
+  -- a tick that neither closes nor lets go leaves nothing to turn
+  onward-settles : (c : Connection) → c .«close_wanted» ≡ false → expires g c ≡ false → turnsNext g (tickOf g c) ≡ false
+  onward-settles c k x =
+      subst (λ (d : Connection). turnsNext g d ≡ false) (tick-goes-on g c k x)
+      (run-turns (reachOf g (startedOf g (sunkOf c)))
+      ∙ reached-settles (startedOf g (sunkOf c)) (started g (sunkOf c) .wish ∙ k) (started-settles (sunkOf c)))
+
+  -- one that closes or lets go leaves no alive timer, so the next neither closes nor lets go: TWO TICKS SETTLE A RECORD
+  pub two-settle : (c : Connection) → turnsNext g (tickOf g c) ≡ true → turnsNext g (tickOf g (tickOf g c)) ≡ false
+  two-settle c p = go (c .«close_wanted») (expires g c) refl refl
+    where
+      go : (b x : Bool) → c .«close_wanted» ≡ b → expires g c ≡ x → turnsNext g (tickOf g (tickOf g c)) ≡ false
+      go true x k e = subst (λ (d : Connection). turnsNext g (tickOf g d) ≡ false) (tick-closes g c k) (onward-settles (closedOf g c) refl refl)
+      go false true k e = subst (λ (d : Connection). turnsNext g (tickOf g d) ≡ false) (tick-lets-go g c k e) (onward-settles (letGoOf g c) k refl)
+      go false false k e = impossible (sym (onward-settles c k e) ∙ p)
 
 -- OF THE WHOLE MODULE
 

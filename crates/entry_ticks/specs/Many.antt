@@ -11,14 +11,18 @@ unfoldable pub manyOf : Config → ℕ → Connection → Connection
 manyOf g zero c = c
 manyOf g (suc n) c = manyOf g n (tickOf g c)
 
+-- what a tick starts (R9.3) and what it reaches (R9.4)
+abbrev pub startsNext : Config → Connection → Bool
+startsNext g c = isOffline (c .mode) && (c .«open_wanted» || g .automatic)
+
+abbrev pub reachesNext : Config → Connection → Bool
+reachesNext g c = isReconnect (c .mode) && not (g .tcp) && not (wildcard (c .remote))
+
 -- the next tick turns a record: it closes, starts or reaches
 abbrev pub turnsNext : Config → Connection → Bool
-turnsNext g c =
-    c .«close_wanted»
-    || (isOffline (c .mode) && (c .«open_wanted» || g .automatic))
-    || (isReconnect (c .mode) && not (g .tcp) && not (wildcard (c .remote)))
+turnsNext g c = c .«close_wanted» || startsNext g c || reachesNext g c
 
--- online and not to be closed: whatever the row says, no tick turns it
+-- online and not to be closed: whatever the row says, the next tick does not turn it
 abbrev pub upOf : Connection → Bool
 upOf c = not (c .«close_wanted») && isOnline (c .mode)
 

@@ -25,7 +25,7 @@ pub struct Ticked {
     pub failed: u16,
 }
 
-// Whether a connection is online and not to be closed: ticks let its timers run or let it go, and do no more.
+// Whether a connection is online and not to be closed: the next tick does not turn it, whatever its row says.
 fn is_up(c: Connection) -> bool
     ensures { λ r. ⌜ r ≡ upOf c ⌝ }
 {

@@ -2,7 +2,7 @@
 use mathlib.Core.Path.{_≡_, ap, _∙_}
 use borrow.Author.Needs.{needs}
 use Rattle.connection.specs.Connection.{reachOf}
-use Rattle.entry_ticks.proofs.Many.{settled-runs, settled-gone, settled-reached}
+use Rattle.entry_ticks.proofs.Many.{gone-at, settled-at}
 use Rattle.entry_ticks.proofs.settled.Statement.{statement}
 use Rattle.entry_ticks.proofs.settled.Tie as tie
 
@@ -13,7 +13,7 @@ later-requires : tie.Need-later-requires
 later-requires c κs = search needs
 
 returns : tie.Need-returns
-returns c = c .later .ensures ∙ settled-runs _ _ _ (c .before .before .before .stays .ensures) (c .before .if1 .taken)
+returns c = c .later .ensures ∙ settled-at _ _ _ (c .before .before .before .stays .ensures) (c .before .if1 .taken)
 
 let-go-requires : tie.Need-let-go-requires
 let-go-requires c κs = search needs
@@ -24,7 +24,9 @@ lasts-requires c κs = search needs
 returns-2 : tie.Need-returns-2
 returns-2 c =
     let b = c .before .before in
-    b .let-go .ensures ∙ settled-gone _ _ _ (b .before .before .before .stays .ensures) (b .before .if1 .left) (c .before .lasts .ensures) (c .if2 .taken)
+    b .let-go .ensures
+    ∙ gone-at _ _ _ (c .before .lasts .ensures) (c .if2 .taken)
+    ∙ settled-at _ _ _ (b .before .before .before .stays .ensures) (b .before .if1 .left)
 
 reach-requires : tie.Need-reach-requires
 reach-requires c κs = search needs
@@ -34,7 +36,8 @@ returns-3 c =
     let b = c .before .before .before in
     c .reach .ensures
     ∙ ap (reachOf _) (b .let-go .ensures)
-    ∙ settled-reached _ _ _ (b .before .before .before .stays .ensures) (b .before .if1 .left) (c .before .before .lasts .ensures) (c .before .if2 .left)
+    ∙ gone-at _ _ _ (c .before .before .lasts .ensures) (c .before .if2 .left)
+    ∙ settled-at _ _ _ (b .before .before .before .stays .ensures) (b .before .if1 .left)
 
 pub settled-spec : {M : Type 1} → statement M
 settled-spec =
