@@ -1,14 +1,14 @@
 -- One turn of the loop over the records, as far as it marks whose transfers end.
 use Prim.Native.Nat.{ℕ, _+_, _<_, _≤_}
 use mathlib.Core.Path.{_≡_, refl, sym, ap, _∙_}
-use mathlib.Core.Bool.{Bool, false, true, not, _&&_}
+use mathlib.Core.Bool.{Bool, false, true, not}
 use mathlib.Core.List.{List}
 use borrow.Author.Tests.{not-true}
 use lib.ListN.{length}
 use Rattle.connection.specs.declared.Answer.the-variants.{Done}
 use Rattle.connection.specs.declared.Config.{Config}
 use Rattle.connection.specs.declared.Connection.{Connection}
-use Rattle.connection.specs.Connection.{isOnline, failedOf}
+use Rattle.connection.specs.Connection.{failedOf}
 use Rattle.connection.proofs.Fails.{kept-fails}
 use Rattle.lists.proofs.Both.{and-left}
 use Rattle.lists.proofs.Fold.{Folded, fold-on, fold-ended}
@@ -16,8 +16,8 @@ use Rattle.state.specs.declared.State.{State}
 use Rattle.state.specs.State.{recordAt}
 use Rattle.state.specs.Fresh.{configOf}
 use Rattle.state.proofs.Upto.{Upto, still}
-use Rattle.entry_ticks.specs.Many.{manyOf}
-use Rattle.entry_ticks.specs.Tick.{restsOf, coastsOf, ticksTo, markedOf, failsAt, failedBit, failedTo, tickedFrom}
+use Rattle.entry_ticks.specs.Many.{manyOf, upOf}
+use Rattle.entry_ticks.specs.Tick.{ticksTo, markedOf, failsAt, failedBit, failedTo, tickedFrom}
 use Rattle.entry_ticks.proofs.Many.{manyAt}
 use Rattle.entry_ticks.proofs.Fails.{kept-part, ticked-at}
 
@@ -41,26 +41,16 @@ module _ (image : List ℕ) (rows count : ℕ) (s n : State) (i w : ℕ) (low : 
       fold-on (failedBit s (ticksTo image rows count s)) rows 0 i w v so low
       (marks ∙ ap (λ (b : Bool). markedOf i b w) (fails ∙ fails-is d (ticked ∙ ap (λ (x : Config). manyOf x count (recordAt n i)) config)))
 
-  -- of one that is not to be closed: it has no mark
-  quiet-mark : recordAt n i .«close_wanted» ≡ false → Marked image rows count s (i + 1) w
+  -- of one that is up: it is not to be closed, so it has no mark
+  pub up-mark : upOf (recordAt n i) ≡ true → Marked image rows count s (i + 1) w
   unfolding markedOf
-  quiet-mark k =
-      let d = manyAt image count i (recordAt n i) in
-      let same = kept-part (configOf image i) count (recordAt n i) k in
-      let none : failsAt s (ticksTo image rows count s) i ≡ false = sym (fails-is d refl) ∙ kept-fails (recordAt n i) d same in
-      fold-on (failedBit s (ticksTo image rows count s)) rows 0 i w w so low (sym (ap (λ (b : Bool). markedOf i b w) none))
-
-  up : (b : Bool) → (not (recordAt n i .«close_wanted») && isOnline (recordAt n i .mode) && b) ≡ true → recordAt n i .«close_wanted» ≡ false
-  up b p =
+  up-mark u =
       let c = recordAt n i in
-      not-true (c .«close_wanted») (and-left (not (c .«close_wanted»)) _ (and-left (not (c .«close_wanted») && isOnline (c .mode)) b p))
-
-  -- of one that rests, and of one that coasts
-  pub rest-mark : restsOf (recordAt n i) ≡ true → Marked image rows count s (i + 1) w
-  rest-mark p = quiet-mark (up _ p)
-
-  pub coast-mark : coastsOf count (recordAt n i) ≡ true → Marked image rows count s (i + 1) w
-  coast-mark p = quiet-mark (up _ p)
+      let d = manyAt image count i c in
+      let open-still = not-true (c .«close_wanted») (and-left (not (c .«close_wanted»)) _ u) in
+      let same = kept-part (configOf image i) count c open-still in
+      let none : failsAt s (ticksTo image rows count s) i ≡ false = sym (fails-is d refl) ∙ kept-fails c d same in
+      fold-on (failedBit s (ticksTo image rows count s)) rows 0 i w w so low (sym (ap (λ (b : Bool). markedOf i b w) none))
 
 -- all of them
 pub marks-whole : (image : List ℕ) (rows count : ℕ) (s n : State) (i w : ℕ) → rows ≤ i → Marked image rows count s i w → n ≡ ticksTo image rows count s

@@ -1,15 +1,14 @@
 -- A tick, and many, and which transfers they end. A refusal carries its number, and the state stays.
 use Prim.Native.Nat.{ℕ, _^_}
-use mathlib.Core.Bool.{Bool, cond, not, _&&_}
+use mathlib.Core.Bool.{Bool, cond}
 use mathlib.Core.List.{List}
-use lib.Dec.{eqb, leb}
 use lib.Bits.{bitOr}
 use Rattle.table_layout.specs.Layout.{rowsOf}
 use Rattle.table_layout.specs.declared.Kind.the-variants.{Connection as Connections}
 use Rattle.connection.specs.declared.Connection.{Connection}
 use Rattle.connection.specs.declared.Refusal.{Refusal}
 use Rattle.connection.specs.declared.Answer.the-variants.{Done, Refused}
-use Rattle.connection.specs.Connection.{isOnline, tickOf, failedOf}
+use Rattle.connection.specs.Connection.{tickOf, failedOf}
 use Rattle.lists.specs.Each.{eachTo}
 use Rattle.lists.specs.Fold.{foldFrom}
 use Rattle.state.specs.declared.State.{State}
@@ -18,19 +17,10 @@ use Rattle.state.specs.Fresh.{configOf}
 use Rattle.gate.specs.Lent.{Lent}
 use Rattle.gate.specs.Gate.{gateOf, through}
 use Rattle.entry_ticks.specs.declared.Ticked.{Ticked}
-use Rattle.entry_ticks.specs.Many.{beforeEnd}
 
 -- what a tick makes of connection i
 abbrev pub tickAt : List ℕ → ℕ → Connection → Connection
 tickAt image i c = tickOf (configOf image i) c
-
--- an online connection, not to be closed, with no timer that runs: a tick finds nothing to do
-abbrev pub restsOf : Connection → Bool
-restsOf c = not (c .«close_wanted») && isOnline (c .mode) && (eqb (c .timer) 0 && eqb (c .watch .alive) 0)
-
--- an online connection, not to be closed, with no timer that ends within n ticks: they lower both, and find nothing else to do
-abbrev pub coastsOf : ℕ → Connection → Bool
-coastsOf n c = not (c .«close_wanted») && isOnline (c .mode) && (leb n (beforeEnd (c .timer)) && leb n (beforeEnd (c .watch .alive)))
 
 -- R9.1: each connection in order, of the first `rows` records; the records past them stay
 unfoldable pub tickedTo : List ℕ → ℕ → State → State

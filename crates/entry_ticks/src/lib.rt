@@ -1,22 +1,21 @@
-// A tick of the whole module, and many ticks under one check, by jumps from change to change. Assumes nothing: no entry relies on its caller.
+// A tick of the whole module, and many ticks under one check, at once where a record has settled. Assumes nothing: no entry relies on its caller.
 ghost use mathlib.Core.Path.{_≡_};
+ghost use lib.Dec.{leb};
 ghost use Prim.Native.Nat.{_-_, _<_, _≤_};
 ghost use Rattle.gate.specs.Lent.{lentBy};
-ghost use Rattle.entry_ticks.specs.Many.{manyOf, beforeEnd, quietFor, smallerOf, agedBy};
-ghost use Rattle.entry_ticks.specs.Tick.{restsOf, coastsOf, ticksTo, markedOf, tickedFrom, tickEvent, ticksEvent};
+ghost use Rattle.entry_ticks.specs.Many.{manyOf, turnsNext, upOf, stillOf, endsIn, staysOf, laterBy, settledOf};
+ghost use Rattle.entry_ticks.specs.Tick.{ticksTo, markedOf, tickedFrom, tickEvent, ticksEvent};
 use connection::Answer;
 use connection::Config;
 use connection::Connection;
-use connection::Watch;
 use connection::has_wildcard;
 use connection::is_offline;
 use connection::is_online;
 use connection::is_reconnect;
 use gate::Gate;
 use state::State;
-use state::config_in;
+use state::config_of;
 use table_layout::Kind;
-use table_layout::body_of;
 use table_layout::rows_of;
 
 // What a tick answers, the state after it, and whose transfers it ended: bit k, worth 2 to the k, for connection k.
@@ -26,45 +25,51 @@ pub struct Ticked {
     pub failed: u16,
 }
 
-// Whether a tick finds nothing to do.
-fn rests(c: Connection) -> bool
-    ensures { λ r. ⌜ r ≡ restsOf c ⌝ }
+// Whether a connection is online and not to be closed: the next tick does not turn it, whatever its row says.
+fn is_up(c: Connection) -> bool
+    ensures { λ r. ⌜ r ≡ upOf c ⌝ }
 {
     let mode = c.mode;
-    !c.close_wanted & is_online(mode) & ((c.timer == 0) & (c.watch.alive == 0))
+    !c.close_wanted & is_online(mode)
 }
 
-// How many ticks lower a timer and do not end it; any number where it does not run.
-fn before_end(timer: u16) -> u32
-    ensures { λ r. ⌜ r ≡ beforeEnd timer ⌝ }
+// Whether no timer runs.
+fn is_still(c: Connection) -> bool
+    ensures { λ r. ⌜ r ≡ stillOf c ⌝ }
 {
-    if timer == 0 {
-        return 4294967295;
-    }
-    timer as u32 - 1
+    (c.timer == 0) & (c.watch.alive == 0)
 }
 
-// Whether `count` ticks do no more than lower the timers, whatever the row says.
-fn coasts(c: Connection, count: u32) -> bool
-    ensures { λ r. ⌜ r ≡ coastsOf count c ⌝ }
+// Whether a timer that runs ends within n ticks.
+fn ends_in(timer: u16, n: u32) -> bool
+    ensures { λ r. ⌜ r ≡ endsIn n timer ⌝ }
 {
-    let mode = c.mode;
-    let alive = before_end(c.watch.alive);
-    !c.close_wanted & is_online(mode) & ((count <= before_end(c.timer)) & (count <= alive))
+    (0 < timer) & (timer as u32 <= n)
 }
 
-// The time to the next change: so many ticks from now on do no more than lower the timers.
-fn quiet_for(config: Config, c: Connection) -> u32
-    ensures { λ r. ⌜ r ≡ quietFor config c ⌝ }
+// Whether a timer lasts for n ticks: it does not end before the last of them.
+fn lasts(timer: u16, n: u32) -> bool
+    ensures { λ r. ⌜ r ≡ leb n timer ⌝ }
+{
+    n <= timer as u32
+}
+
+// Whether n ticks do not let it go, whatever the row says.
+fn stays(c: Connection, n: u32) -> bool
+    ensures { λ r. ⌜ r ≡ staysOf n c ⌝ }
+{
+    c.watch.remote_set | !ends_in(c.watch.alive, n)
+}
+
+// Whether the next tick turns a record: it closes, starts or reaches.
+fn turns_next(config: Config, c: Connection) -> bool
+    ensures { λ r. ⌜ r ≡ turnsNext config c ⌝ }
 {
     let mode = c.mode;
     let remote = c.remote;
     let starts = is_offline(mode) & (c.open_wanted | config.automatic);
     let reaches = is_reconnect(mode) & !config.tcp & !has_wildcard(remote);
-    if c.close_wanted | starts | reaches {
-        return 0;
-    }
-    smaller(before_end(c.timer), before_end(c.watch.alive))
+    c.close_wanted | starts | reaches
 }
 
 // A timer that falls by n, and not below 0.
@@ -77,40 +82,42 @@ fn fallen(timer: u16, n: u32) -> u16
     timer - n as u16
 }
 
-// So many quiet ticks at once.
-fn aged(c: Connection, n: u32) -> Connection
-    ensures { λ r. ⌜ r ≡ agedBy n c ⌝ }
+// n ticks that let the timers run, at once.
+fn later(mut c: Connection, n: u32) -> Connection
+    ensures { λ r. ⌜ r ≡ laterBy n c ⌝ }
 {
-    let before = c.watch;
-    let watch = Watch {
-        alive: fallen(before.alive, n),
-        ..before
-    };
-    let sent = c.with_send(c.used, fallen(c.timer, n), c.due);
-    sent.with_watch(watch)
+    let ends = ends_in(c.timer, n);
+    let timer = fallen(c.timer, n);
+    let alive = fallen(c.watch.alive, n);
+    c.due = ends | c.due;
+    c.timer = timer;
+    c.watch.alive = alive;
+    c
 }
 
-fn smaller(a: u32, b: u32) -> u32
-    ensures { λ r. ⌜ r ≡ smallerOf a b ⌝ }
+// n ticks at once of a record that the next one does not turn: its timers run, or it is let go and, with a tick left, reached.
+fn settled(config: Config, c: Connection, n: u32) -> Connection
+    ensures { λ r. ⌜ r ≡ settledOf config n c ⌝ }
 {
-    if a < b {
-        return a;
+    if stays(c, n) | config.tcp {
+        return later(c, n);
     }
-    b
+    let gone = c.let_go(config);
+    if lasts(c.watch.alive, n) {
+        return gone;
+    }
+    gone.reach(config)
 }
 
-// `count` ticks of one record: it jumps to the next change, and ticks there.
+// `count` ticks of one record: single ones while they turn it, and then all that are left at once.
 fn tick_many(config: Config, c: Connection, count: u32) -> Connection
     ensures { λ r. ⌜ r ≡ manyOf config count c ⌝ }
 {
     let mut next = c;
     let mut left = count;
     loop {
-        let jump = smaller(quiet_for(config, next), left);
-        next = aged(next, jump);
-        left -= jump;
-        if left == 0 {
-            return next;
+        if (left == 0) | !turns_next(config, next) {
+            return settled(config, next, left);
         }
         next = next.tick(config);
         left -= 1;
@@ -129,32 +136,37 @@ fn marked(word: u16, k: usize, on: bool) -> u16
     word
 }
 
-// `count` ticks of the first `rows` connections, in order, and whose transfers they end; the row of one that rests or coasts is not
-// asked for, and its transfer goes on.
+// `count` ticks of the first `rows` connections, in order, and whose transfers they end. Of one that is up the row is asked for only where
+// they may let it go, and its transfer goes on; only of one that is not up the whole record is read.
 fn tick_rows(image: &[u8], rows: usize, state: State, count: u32) -> Ticked
     requires { ⌜ rows ≤ 16 ⌝ }
     ensures { λ r. ⌜ r ≡ tickedFrom rows state (ticksTo (now (image .entry)) rows count state) ⌝ }
 {
-    let connections = body_of(image, Kind::Connection);
-    let groups = body_of(image, Kind::Group);
     let mut after = state;
     let mut failed: u16 = 0;
     let mut i: usize = 0;
     while i < rows {
         let connection = after.connections[i];
-        if rests(connection) {
+        if !is_up(connection) {
+            let whole = after.connections[i];
+            let next = tick_many(config_of(image, i), whole, count);
+            after.connections[i] = next;
+            failed = marked(failed, i, connection::failed(whole, next));
             i += 1;
             continue;
         }
-        if coasts(connection, count) {
-            let later = aged(connection, count);
-            after.connections[i] = later;
+        if is_still(connection) {
             i += 1;
             continue;
         }
-        let next = tick_many(config_in(connections, groups, i), connection, count);
+        if stays(connection, count) {
+            let next = later(connection, count);
+            after.connections[i] = next;
+            i += 1;
+            continue;
+        }
+        let next = settled(config_of(image, i), connection, count);
         after.connections[i] = next;
-        failed = marked(failed, i, connection::failed(connection, next));
         i += 1;
     }
     Ticked {
