@@ -53,7 +53,8 @@ fn row_of_kind(image: &[u8], k: Kind, i: usize) {
         \x20 group @: %u00\n/\
         \x20 connection @: group %b00, %f01, remote %q02 port %r06, send size %h08 byte^, start switches 0x%i12\n/\
         \x20 receive route @: connection %b00, header id 0x%i04, upper PDU 0x%p08, longest payload %h02 byte^, routing groups 0x%i12\n/\
-        \x20 destination @: PDU 0x%p08, connection %b00, header id 0x%i04, longest payload %h02 byte^, trigger %b01, timeout %h10 tick^, routing groups 0x%i12\n/\
+        \x20 destination @: PDU 0x%p08, connection %b00, header id 0x%i04, longest payload %h02 byte^, trigger %b01, \
+        timeout %h10 tick^, routing groups 0x%i12\n/\
         \x20 receive route @: connection %b00, transfer (TP), header id 0x%i04, upper PDU 0x%p08, longest payload %h02 byte^, routing groups 0x%i12\n/\
         \x20 connection @: group %b00, %f01, remote %q02 port %r06, send size %h08 byte^, alive limit %h10 tick^, start switches 0x%i12\n/";
     let row = row_in(body_of(image, k), row_bytes(image, k), i);

@@ -18,7 +18,9 @@ use Rattle.connection.specs.declared.Connection.{Connection}
 use Rattle.connection.specs.declared.Config.{Config}
 use Rattle.connection.specs.declared.Event.{Event}
 use Rattle.connection.specs.declared.Event.the-variants.{Open, Close, Connected, Lost, SetRemote, Switch, Cancel}
-use Rattle.connection.specs.Connection.{isOffline, isReconnect, isOnline, wildcard, unwatched, withMode, withRemote, withSwitches, withPart, withSend, withWatch, freshOf, become, openOf, closeOf, connectedOf, lostOf, remoteOf, aliveAfter, metOf, closedOf, startedOf, reachOf, runOf, expires, letGoOf, sunkOf, onward, tickOf}
+use Rattle.connection.specs.Connection.{isOffline, isReconnect, isOnline, wildcard, unwatched, withMode, withRemote, withSwitches, withPart, withSend}
+use Rattle.connection.specs.Connection.{withWatch, freshOf, become, openOf, closeOf, connectedOf, lostOf, remoteOf, aliveAfter, metOf}
+use Rattle.connection.specs.Connection.{closedOf, startedOf, reachOf, runOf, expires, letGoOf, sunkOf, onward, tickOf}
 use Rattle.connection.specs.Event.{openAllowed, closeAllowed, connectedAllowed, lostAllowed, remoteAllowed, cancelAllowed, allowed, recordAfter, stepOf}
 use Rattle.connection.specs.Sound.{openRule, closeRule, SendSound, ReceiveSound, WatchSound, Sound}
 use Rattle.connection.proofs.Ticks.{step-either, started}

@@ -12,7 +12,8 @@ use Rattle.connection.specs.declared.Mode.the-variants.{Offline, Reconne
 use Rattle.connection.specs.declared.Connection.{Connection}
 use Rattle.connection.specs.declared.Config.{Config}
 use Rattle.connection.specs.Connection.{isOffline, wildFields, zeroRecord}
-use Rattle.connection.specs.Sound.{usedFits, partShaped, receives, sends, timed, neverBoth, onlineRemote, openRule, closeRule, watched, soundOf, Sound, zeroOf}
+use Rattle.connection.specs.Sound.{usedFits, partShaped, receives, sends, timed, neverBoth, onlineRemote}
+use Rattle.connection.specs.Sound.{openRule, closeRule, watched, soundOf, Sound, zeroOf}
 
 -- the last of some tests that hold together, and those before it
 both : {a b : Bool} → (a && b) ≡ true → (a ≡ true) × (b ≡ true)

@@ -14,11 +14,13 @@ use Rattle.connection.specs.declared.Config.{Config}
 use Rattle.connection.specs.declared.Refusal.the-variants.{Missing, Denied}
 use Rattle.connection.specs.declared.Answer.the-variants.{Done}
 use Rattle.connection.specs.declared.Event.{Event}
-use Rattle.connection.specs.Connection.{isReconnect, isOnline, wildcard, aliveAt, withWatch, closedOf, startedOf, reachOf, runOf, expires, letGoOf, sunkOf, onward, tickOf}
+use Rattle.connection.specs.Connection.{isReconnect, isOnline, wildcard, aliveAt, withWatch, closedOf, startedOf}
+use Rattle.connection.specs.Connection.{reachOf, runOf, expires, letGoOf, sunkOf, onward, tickOf}
 use Rattle.connection.specs.Event.{known, allowed, recordAfter, refusedBy, stepOf}
 
 -- AN EVENT leaves the record, or, where it is known and allowed, makes of it what its own sentence says
-pub step-either : (e : Event) (g : Config) (c : Connection) (P : Connection → Type 0) → ((known e && allowed e g c) ≡ false → P c) → (allowed e g c ≡ true → P (recordAfter e g c)) → P (stepOf e g c .connection)
+pub step-either : (e : Event) (g : Config) (c : Connection) (P : Connection → Type 0)
+    → ((known e && allowed e g c) ≡ false → P c) → (allowed e g c ≡ true → P (recordAfter e g c)) → P (stepOf e g c .connection)
 unfolding stepOf
 step-either e g c P p q = go (known e) (allowed e g c) refl p
   where
@@ -67,8 +69,10 @@ unfolding startedOf
 started g c = go (c .mode) refl (c .«open_wanted» || g .automatic) refl
   where
     go : (m : Mode) → c .mode ≡ m → (b : Bool) → (c .«open_wanted» || g .automatic) ≡ b → GoesOn g c (startedOf g c)
-    go Offline p true q = rw (p, q) (record { part = refl; used = refl; switches = refl; remote = refl; watch = refl; wish = refl; online = λ _. refl; up = λ h. h })
-    go Offline p false q = rw (p, q) (record { part = refl; used = refl; switches = refl; remote = refl; watch = refl; wish = refl; online = λ _. refl; up = λ h. h })
+    go Offline p true q = rw (p, q)
+        (record { part = refl; used = refl; switches = refl; remote = refl; watch = refl; wish = refl; online = λ _. refl; up = λ h. h })
+    go Offline p false q = rw (p, q)
+        (record { part = refl; used = refl; switches = refl; remote = refl; watch = refl; wish = refl; online = λ _. refl; up = λ h. h })
     go Reconnect p b q = rw p (record { part = refl; used = refl; switches = refl; remote = refl; watch = refl; wish = refl; online = λ _. refl; up = λ h. h })
     go Online p b q = rw p (record { part = refl; used = refl; switches = refl; remote = refl; watch = refl; wish = refl; online = λ _. refl; up = λ h. h })
 
@@ -82,9 +86,11 @@ reached g c = go (g .tcp) refl (isReconnect (c .mode) && not (g .tcp) && not (wi
 
     go : (t : Bool) → g .tcp ≡ t → (b : Bool) → (isReconnect (c .mode) && not (g .tcp) && not (wildcard (c .remote))) ≡ b → GoesOn g c (reachOf g c)
     go t e false q = rw q (record { part = refl; used = refl; switches = refl; remote = refl; watch = refl; wish = refl; online = λ _. refl; up = λ h. h })
-    go false e true q = rw q (record { part = refl; used = refl; switches = refl; remote = refl; watch = refl; wish = refl; online = λ h. impossible (sym e ∙ h); up = λ _. refl })
+    go false e true q = rw q
+        (record { part = refl; used = refl; switches = refl; remote = refl; watch = refl; wish = refl; online = λ h. impossible (sym e ∙ h); up = λ _. refl })
     go true e true q =
-        impossible (sym (never (isReconnect (c .mode)) (not (wildcard (c .remote)))) ∙ ap (λ (t : Bool). isReconnect (c .mode) && not t && not (wildcard (c .remote))) (sym e) ∙ q)
+        impossible (sym (never (isReconnect (c .mode)) (not (wildcard (c .remote))))
+        ∙ ap (λ (t : Bool). isReconnect (c .mode) && not t && not (wildcard (c .remote))) (sym e) ∙ q)
 
 run : (g : Config) (c : Connection) → GoesOn g c (runOf c)
 unfolding runOf

@@ -11,7 +11,8 @@ use Rattle.wire.specs.Be.{be}
 use Rattle.lists.proofs.Both.{and-right}
 use Rattle.connection.specs.declared.Event.the-variants.{Open, Close, Connected, SetRemote, Switch, Cancel}
 use Rattle.event_decode.specs.declared.Call.{Call}
-use Rattle.event_decode.specs.declared.Call.the-variants.{Unknown, Unfit, Ticks, Own, Lost, Segment, Walk, TakeWaiting, Datagram, Accept, Transmit, SwitchAll, ReadCount, ClearCount}
+use Rattle.event_decode.specs.declared.Call.the-variants.{Unknown, Unfit, Ticks, Own, Lost, Segment, Walk}
+use Rattle.event_decode.specs.declared.Call.the-variants.{TakeWaiting, Datagram, Accept, Transmit, SwitchAll, ReadCount, ClearCount}
 use Rattle.event_decode.specs.Calls.{fitted, plain, lengthFits, addressed, remoteIn, positioned, callOf, bytesFrom}
 use Rattle.dispatch_receive.specs.Long.{longestBody}
 
@@ -47,7 +48,11 @@ fits-short b false x p = omega arith
 -- behind its length, at the place at of the body, are 4 bytes and the place fewer
 counted-short : (b : List ℕ) (at : ℕ) → lengthFits b at ≡ true → length (drop (at + 4) b) ≤ 4096 - (at + 4)
 counted-short b at e =
-    omega (arith, length-drop (at + 4) b, leb-true (length b) 4096 (and-right (eqb (be 4 b at + (at + 4)) (length b) && eqb (be 1 b 0) 0) (leb (length b) 4096) e))
+    omega (
+      arith,
+      length-drop (at + 4) b,
+      leb-true (length b) 4096 (and-right (eqb (be 4 b at + (at + 4)) (length b) && eqb (be 1 b 0) 0) (leb (length b) 4096) e),
+    )
 
 segment-short : (b : List ℕ) → lengthFits b 2 ≡ true → Short b (Segment (be 1 b 1) 6)
 unfolding carried

@@ -15,7 +15,8 @@ use Rattle.entry_ticks.specs.Tick.{ticksEvent}
 use Rattle.entry_arrivals.specs.Arrivals.{datagramOf, acceptOf}
 use Rattle.event_answer.specs.Answers.{Effect, ifRoom}
 use Rattle.event_answer.proofs.Short.{room-keeps}
-use Rattle.dispatch_events.specs.Events.{toldEffect, lossEffect, ticked, countedEffect, ownEffect, lostEffect, ticksEffect, switchAllEffect, readEffect, clearEffect}
+use Rattle.dispatch_events.specs.Events.{toldEffect, lossEffect, ticked, countedEffect, ownEffect}
+use Rattle.dispatch_events.specs.Events.{lostEffect, ticksEffect, switchAllEffect, readEffect, clearEffect}
 use Rattle.dispatch_send.specs.Send.{roomOf, arrivedEffect, datagramEffect, acceptEffect, sentEffect, transmitEffect, takeInto, takeEffect}
 
 module _ (l : Loan) (out : List ℕ) where

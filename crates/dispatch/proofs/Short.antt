@@ -5,7 +5,8 @@ use mathlib.Core.Path.{_≡_, refl, sym, ap, _∙_}
 use mathlib.Core.List.{List}
 use lib.ListN.{length}
 use Rattle.event_decode.specs.declared.Call.{Call}
-use Rattle.event_decode.specs.declared.Call.the-variants.{Unknown, Unfit, Ticks, Own, Lost, Segment, Walk, TakeWaiting, Datagram, Accept, Transmit, SwitchAll, ReadCount, ClearCount}
+use Rattle.event_decode.specs.declared.Call.the-variants.{Unknown, Unfit, Ticks, Own, Lost, Segment, Walk}
+use Rattle.event_decode.specs.declared.Call.the-variants.{TakeWaiting, Datagram, Accept, Transmit, SwitchAll, ReadCount, ClearCount}
 use Rattle.event_answer.specs.declared.Verdict.{Verdict}
 use Rattle.event_answer.specs.Answers.{Effect, untouched, room, ifRoom}
 use Rattle.event_answer.proofs.Short.{no-room}
@@ -27,7 +28,8 @@ module _ (l : Loan) (out : List ℕ) (short : length out < room) where
 
   -- the step of each call: so of each function that the dispatcher hands its out buffer to
   pub short-stays : (body : List ℕ) (call : Call) → Stays (effectOf l out body call)
-  unfolding effectOf ownEffect lostEffect ticksEffect switchAllEffect readEffect clearEffect segmentEffect walkEffect datagramEffect acceptEffect transmitEffect takeEffect
+  unfolding effectOf ownEffect lostEffect ticksEffect switchAllEffect readEffect
+      clearEffect segmentEffect walkEffect datagramEffect acceptEffect transmitEffect takeEffect
   short-stays body Unknown = refl
   short-stays body Unfit = refl
   short-stays body (Ticks n) = refused _

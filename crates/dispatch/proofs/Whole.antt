@@ -12,7 +12,8 @@ use Rattle.wire.proofs.Lay.{lay-fits}
 use Rattle.connection.specs.declared.Event.{Event}
 use Rattle.connection.specs.declared.Remote.{Remote}
 use Rattle.event_decode.specs.declared.Call.{Call}
-use Rattle.event_decode.specs.declared.Call.the-variants.{Unknown, Unfit, Ticks, Own, Lost, Segment, Walk, TakeWaiting, Datagram, Accept, Transmit, SwitchAll, ReadCount, ClearCount}
+use Rattle.event_decode.specs.declared.Call.the-variants.{Unknown, Unfit, Ticks, Own, Lost, Segment, Walk}
+use Rattle.event_decode.specs.declared.Call.the-variants.{TakeWaiting, Datagram, Accept, Transmit, SwitchAll, ReadCount, ClearCount}
 use Rattle.event_decode.specs.Calls.{callOf, bytesFrom}
 use Rattle.entry_events.specs.Change.{eventOf, lossOf}
 use Rattle.entry_events.specs.Module.{switchAllOf}
@@ -24,7 +25,8 @@ use Rattle.entry_send.specs.Sending.{sendOf, takenWaiting, takenOut}
 use Rattle.event_answer.specs.declared.Verdict.the-variants.{Done, Small}
 use Rattle.event_answer.specs.Answers.{Effect, untouched, room, ifRoom}
 use Rattle.event_answer.proofs.Short.{with-room}
-use Rattle.dispatch_events.specs.Events.{toldEffect, lossEffect, ticked, countedEffect, ownEffect, lostEffect, ticksEffect, switchAllEffect, readEffect, clearEffect}
+use Rattle.dispatch_events.specs.Events.{toldEffect, lossEffect, ticked, countedEffect, ownEffect}
+use Rattle.dispatch_events.specs.Events.{lostEffect, ticksEffect, switchAllEffect, readEffect, clearEffect}
 use Rattle.dispatch_receive.specs.Long.{longestBody}
 use Rattle.dispatch_receive.specs.Walk.{walkEffect}
 use Rattle.dispatch_receive.specs.Segment.{segmentEffect}
@@ -34,7 +36,8 @@ use Rattle.dispatch.specs.Dispatch.{effectOf, dispatchOf}
 use Rattle.dispatch.specs.Whole.{StandsWhole, answer, unknown, unfit, small}
 use Rattle.dispatch.proofs.Calls.{Short, call-short, segment-fits, walk-fits}
 use Rattle.gate.specs.Lent.{Loan, sizes}
-use Rattle.dispatch.proofs.Sizes.{told-size, loss-size, ticks-size, count-size, arrival-size, transmission-size, walked-size, taking-size, taken-size, buffer-size}
+use Rattle.dispatch.proofs.Sizes.{told-size, loss-size, ticks-size, count-size, arrival-size}
+use Rattle.dispatch.proofs.Sizes.{transmission-size, walked-size, taking-size, taken-size, buffer-size}
 
 module _ (l : Loan) (out : List ℕ) (long : room ≤ length out) where
   abbrev Told : Effect → Type 0
@@ -56,11 +59,13 @@ module _ (l : Loan) (out : List ℕ) (long : room ≤ length out) where
 
   lost-whole : (c : ℕ) → Told (lostEffect l out c)
   unfolding lostEffect
-  lost-whole c = past (lossEffect (lossOf (sizes l) c) (l .rx) (l .tx) out) (laid _ (omega (arith, loss-size (lossOf (sizes l) c .answer) (lossOf (sizes l) c .failed))))
+  lost-whole c = past (lossEffect (lossOf (sizes l) c) (l .rx) (l .tx) out)
+      (laid _ (omega (arith, loss-size (lossOf (sizes l) c .answer) (lossOf (sizes l) c .failed))))
 
   ticks-whole : (n : ℕ) → Told (ticksEffect l out n)
   unfolding ticksEffect
-  ticks-whole n = past (ticked (ticksEvent (sizes l) n) (l .rx) (l .tx) out) (laid _ (omega (arith, ticks-size (ticksEvent (sizes l) n .answer) (ticksEvent (sizes l) n .failed))))
+  ticks-whole n = past (ticked (ticksEvent (sizes l) n) (l .rx) (l .tx) out)
+      (laid _ (omega (arith, ticks-size (ticksEvent (sizes l) n .answer) (ticksEvent (sizes l) n .failed))))
 
   switch-all-whole : (number : ℕ) (on : Bool) → Told (switchAllEffect l out number on)
   unfolding switchAllEffect
@@ -93,12 +98,14 @@ module _ (l : Loan) (out : List ℕ) (long : room ≤ length out) where
   datagram-whole : (group : ℕ) (source : Remote) → Told (datagramEffect l out group source)
   unfolding datagramEffect
   datagram-whole group source =
-      past (arrivedEffect (datagramOf (sizes l) group source) (l .rx) (l .tx) out) (laid _ (omega (arith, arrival-size (datagramOf (sizes l) group source .answer))))
+      past (arrivedEffect (datagramOf (sizes l) group source) (l .rx) (l .tx) out)
+      (laid _ (omega (arith, arrival-size (datagramOf (sizes l) group source .answer))))
 
   accept-whole : (group : ℕ) (source : Remote) → Told (acceptEffect l out group source)
   unfolding acceptEffect
   accept-whole group source =
-      past (arrivedEffect (acceptOf (sizes l) group source) (l .rx) (l .tx) out) (laid _ (omega (arith, arrival-size (acceptOf (sizes l) group source .answer))))
+      past (arrivedEffect (acceptOf (sizes l) group source) (l .rx) (l .tx) out)
+      (laid _ (omega (arith, arrival-size (acceptOf (sizes l) group source .answer))))
 
   transmit-whole : (pdu : ℕ) (payload : List ℕ) → Told (transmitEffect l out pdu payload)
   unfolding transmitEffect

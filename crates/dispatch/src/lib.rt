@@ -20,10 +20,14 @@ fn answer_call(
     call: Call,
     out: &mut [u8],
 ) -> Dispatched
-    ensures { λ r. ⌜ r ≡ dispatched (effectOf (loan (now (image .entry)) state (now (rx .entry)) (now (tx .entry))) (now (out .entry)) (now (body .entry)) call) ⌝ }
-    ensures { λ _. ⌜ now (rx .exit) ≡ effectOf (loan (now (image .entry)) state (now (rx .entry)) (now (tx .entry))) (now (out .entry)) (now (body .entry)) call .rx ⌝ }
-    ensures { λ _. ⌜ now (tx .exit) ≡ effectOf (loan (now (image .entry)) state (now (rx .entry)) (now (tx .entry))) (now (out .entry)) (now (body .entry)) call .tx ⌝ }
-    ensures { λ _. ⌜ now (out .exit) ≡ effectOf (loan (now (image .entry)) state (now (rx .entry)) (now (tx .entry))) (now (out .entry)) (now (body .entry)) call .out ⌝ }
+    ensures { λ r. ⌜ r ≡ dispatched
+        (effectOf (loan (now (image .entry)) state (now (rx .entry)) (now (tx .entry))) (now (out .entry)) (now (body .entry)) call) ⌝ }
+    ensures { λ _. ⌜ now (rx .exit)
+        ≡ effectOf (loan (now (image .entry)) state (now (rx .entry)) (now (tx .entry))) (now (out .entry)) (now (body .entry)) call .rx ⌝ }
+    ensures { λ _. ⌜ now (tx .exit)
+        ≡ effectOf (loan (now (image .entry)) state (now (rx .entry)) (now (tx .entry))) (now (out .entry)) (now (body .entry)) call .tx ⌝ }
+    ensures { λ _. ⌜ now (out .exit)
+        ≡ effectOf (loan (now (image .entry)) state (now (rx .entry)) (now (tx .entry))) (now (out .entry)) (now (body .entry)) call .out ⌝ }
 {
     match call {
         Call::Unknown => Dispatched {
@@ -95,10 +99,14 @@ pub fn dispatch(
     body: &[u8],
     out: &mut [u8],
 ) -> Dispatched
-    ensures { λ r. ⌜ r ≡ dispatched (dispatchOf (loan (now (image .entry)) state (now (rx .entry)) (now (tx .entry))) (now (out .entry)) number (now (body .entry))) ⌝ }
-    ensures { λ _. ⌜ now (rx .exit) ≡ dispatchOf (loan (now (image .entry)) state (now (rx .entry)) (now (tx .entry))) (now (out .entry)) number (now (body .entry)) .rx ⌝ }
-    ensures { λ _. ⌜ now (tx .exit) ≡ dispatchOf (loan (now (image .entry)) state (now (rx .entry)) (now (tx .entry))) (now (out .entry)) number (now (body .entry)) .tx ⌝ }
-    ensures { λ _. ⌜ now (out .exit) ≡ dispatchOf (loan (now (image .entry)) state (now (rx .entry)) (now (tx .entry))) (now (out .entry)) number (now (body .entry)) .out ⌝ }
+    ensures { λ r. ⌜ r ≡ dispatched
+        (dispatchOf (loan (now (image .entry)) state (now (rx .entry)) (now (tx .entry))) (now (out .entry)) number (now (body .entry))) ⌝ }
+    ensures { λ _. ⌜ now (rx .exit)
+        ≡ dispatchOf (loan (now (image .entry)) state (now (rx .entry)) (now (tx .entry))) (now (out .entry)) number (now (body .entry)) .rx ⌝ }
+    ensures { λ _. ⌜ now (tx .exit)
+        ≡ dispatchOf (loan (now (image .entry)) state (now (rx .entry)) (now (tx .entry))) (now (out .entry)) number (now (body .entry)) .tx ⌝ }
+    ensures { λ _. ⌜ now (out .exit)
+        ≡ dispatchOf (loan (now (image .entry)) state (now (rx .entry)) (now (tx .entry))) (now (out .entry)) number (now (body .entry)) .out ⌝ }
 {
     if out.len() < 16384 {
         return Dispatched {

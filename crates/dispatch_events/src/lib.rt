@@ -77,7 +77,8 @@ pub fn own(
     out: &mut [u8],
 ) -> Dispatched
     ensures { λ r. ⌜ r ≡ dispatched (Is.ownEffect (loan (now (image .entry)) state (now (rx .entry)) (now (tx .entry))) (now (out .entry)) connection event) ⌝ }
-    ensures { λ _. ⌜ now (out .exit) ≡ Is.ownEffect (loan (now (image .entry)) state (now (rx .entry)) (now (tx .entry))) (now (out .entry)) connection event .out ⌝ }
+    ensures { λ _. ⌜ now (out .exit)
+        ≡ Is.ownEffect (loan (now (image .entry)) state (now (rx .entry)) (now (tx .entry))) (now (out .entry)) connection event .out ⌝ }
 {
     if out.len() < 16384 {
         return Dispatched {
@@ -104,7 +105,8 @@ pub fn lost(
     out: &mut [u8],
 ) -> Dispatched
     ensures { λ r. ⌜ r ≡ dispatched (Is.lostEffect (loan (now (image .entry)) state (now (rx .entry)) (now (tx .entry))) (now (out .entry)) connection) ⌝ }
-    ensures { λ _. ⌜ now (out .exit) ≡ Is.lostEffect (loan (now (image .entry)) state (now (rx .entry)) (now (tx .entry))) (now (out .entry)) connection .out ⌝ }
+    ensures { λ _. ⌜ now (out .exit)
+        ≡ Is.lostEffect (loan (now (image .entry)) state (now (rx .entry)) (now (tx .entry))) (now (out .entry)) connection .out ⌝ }
 {
     if out.len() < 16384 {
         return Dispatched {
@@ -159,7 +161,8 @@ pub fn switch_all(
     out: &mut [u8],
 ) -> Dispatched
     ensures { λ r. ⌜ r ≡ dispatched (Is.switchAllEffect (loan (now (image .entry)) state (now (rx .entry)) (now (tx .entry))) (now (out .entry)) number on) ⌝ }
-    ensures { λ _. ⌜ now (out .exit) ≡ Is.switchAllEffect (loan (now (image .entry)) state (now (rx .entry)) (now (tx .entry))) (now (out .entry)) number on .out ⌝ }
+    ensures { λ _. ⌜ now (out .exit)
+        ≡ Is.switchAllEffect (loan (now (image .entry)) state (now (rx .entry)) (now (tx .entry))) (now (out .entry)) number on .out ⌝ }
 {
     if out.len() < 16384 {
         return Dispatched {

@@ -90,26 +90,37 @@ module _ (l : Loan) (k : ℕ) (segment : List ℕ) (t : Turn) (rx : List ℕ) (t
 
   same-taken : takenAt image at-turn rx k (drop (t .at) segment) ≡ taken
   same-taken =
-      ap (λ (c : Connection). takenOf (bodyOf image Routes) k (c .switches) (c .part) (stretch 1464 k rx) (drop (t .at) segment)) (record-joined s k there (t .part) (t .drops))
+      ap (λ (c : Connection). takenOf (bodyOf image Routes) k (c .switches) (c .part) (stretch 1464 k rx) (drop (t .at) segment))
+      (record-joined s k there (t .part) (t .drops))
 
   pub turn-taken : takeAt (received l at-turn rx) k segment (t .at) ≡ turned
   unfolding takeOn
   turn-taken =
       taken-is (received l at-turn rx) k (drop (t .at) segment) clear
-      ∙ ap (λ (x : State). record { answer = Done; read = takenAt image at-turn rx k (drop (t .at) segment) .read; outcome = takenAt image at-turn rx k (drop (t .at) segment) .outcome; state = x })
-      (joined-again s k there (t .part) (t .drops) (takenAt image at-turn rx k (drop (t .at) segment) .part) (takenAt image at-turn rx k (drop (t .at) segment) .outcome))
-      ∙ ap (λ (u : Taken). record { answer = Done; read = u .read; outcome = u .outcome; state = putBack s k (u .part) (dropsAfter (u .outcome) (t .drops)) }) same-taken
+      ∙ ap (λ (x : State). record {
+        answer = Done;
+        read = takenAt image at-turn rx k (drop (t .at) segment) .read;
+        outcome =
+            takenAt image at-turn rx k (drop (t .at) segment) .outcome;
+        state = x;
+      })
+      (joined-again s k there (t .part) (t .drops) (takenAt image at-turn rx k (drop (t .at) segment) .part)
+      (takenAt image at-turn rx k (drop (t .at) segment) .outcome))
+      ∙ ap (λ (u : Taken). record
+      { answer = Done; read = u .read; outcome = u .outcome; state = putBack s k (u .part) (dropsAfter (u .outcome) (t .drops)) }) same-taken
 
   pub turn-memory : memoryAt (received l at-turn rx) k segment (t .at) ≡ memory
   unfolding memoryOn
   turn-memory =
       memory-is (received l at-turn rx) k (drop (t .at) segment) clear
-      ∙ ap (λ (c : Connection). lay rx (k * 1464) (rxAfter (bodyOf image Routes) k (c .switches) (c .part) (stretch 1464 k rx) (drop (t .at) segment))) (record-joined s k there (t .part) (t .drops))
+      ∙ ap (λ (c : Connection). lay rx (k * 1464) (rxAfter (bodyOf image Routes) k (c .switches) (c .part) (stretch 1464 k rx) (drop (t .at) segment)))
+      (record-joined s k there (t .part) (t .drops))
 
   pub turn-bytes : bytesAt (received l at-turn rx) k segment (t .at) ≡ turnBytes (bodyOf image Routes) (recordAt s k .switches) k segment t rx
   unfolding bytesAt
   turn-bytes =
-      ap₂ (λ (u : SegmentTaken) (m : List ℕ). bytesIfDone (u .answer) (takeBytes (t .at) (u .read) (u .outcome) (payloadOf (drop (t .at) segment) m k (u .outcome))))
+      ap₂ (λ (u : SegmentTaken) (m : List ℕ). bytesIfDone (u .answer)
+      (takeBytes (t .at) (u .read) (u .outcome) (payloadOf (drop (t .at) segment) m k (u .outcome))))
       turn-taken turn-memory
 
 -- ONE TURN, on the lent part of receive memory
@@ -132,7 +143,8 @@ module _ (routes : List ℕ) (switches k : ℕ) (segment : List ℕ) (t : Turn) 
       laid =
           ap (putMid (k * 1464) (k * 1464 + 1464 - k * 1464) rx) (em ∙ ap₂ (λ (l z : List ℕ). rxAfter routes k switches (t .part) l z) (stretch-all k rx) left)
           ∙ mid-laid k rx _ (goes .small) (goes .room)
-          (leaves-length routes k switches (t .part) (stretch 1464 k rx) (drop (t .at) segment) (goes .fit) (bytes-drop (t .at) segment bytes) ∙ goes .fit .room)
+          (leaves-length routes k switches (t .part) (stretch 1464 k rx) (drop (t .at) segment) (goes .fit) (bytes-drop (t .at) segment bytes)
+          ∙ goes .fit .room)
 
       pub turn-is : {payload : List ℕ} {place drops : ℕ} {out′ : List ℕ}
           → payload ≡ payloadOf rest (putMid (k * 1464) (k * 1464 + 1464 - k * 1464) rx m) k (u .outcome)
@@ -145,9 +157,11 @@ module _ (routes : List ℕ) (switches k : ℕ) (segment : List ℕ) (t : Turn) 
       turn-is {payload} {place} {drops} {out′} ep el eo ed =
           let told : takeBytes (t .at) (u .read) (u .outcome) payload ≡ turnBytes routes switches k segment t rx =
           ap (takeBytes (t .at) (u .read) (u .outcome)) (ep ∙ ap₂ (λ (z w : List ℕ). payloadOf z w k (u .outcome)) left laid)
-          ∙ ap (λ (v : Taken). takeBytes (t .at) (v .read) (v .outcome) (payloadOf (drop (t .at) segment) (memoryFrom routes switches k segment t rx) k (v .outcome))) same in (
+          ∙ ap (λ (v : Taken). takeBytes (t .at) (v .read) (v .outcome)
+          (payloadOf (drop (t .at) segment) (memoryFrom routes switches k segment t rx) k (v .outcome))) same in (
             ap₂ (turnWith u) ed (el ∙ ap (placeAfter out (t .place)) told)
-                ∙ ap (λ (v : Taken). turnWith v (dropsAfter (v .outcome) (t .drops)) (placeAfter out (t .place) (turnBytes routes switches k segment t rx))) same,
+                ∙ ap (λ (v : Taken). turnWith v (dropsAfter (v .outcome) (t .drops))
+                (placeAfter out (t .place) (turnBytes routes switches k segment t rx))) same,
             (laid, eo ∙ ap (lay out (t .place)) told),
           )
         where

@@ -52,7 +52,8 @@ use Rattle.event_answer.proofs.Chain.{length-found}
 use Rattle.event_answer.proofs.Short.{no-room, room-keeps}
 use Rattle.dispatch_receive.specs.Long.{longestBody, tooLong, ifFits}
 use Rattle.dispatch_receive.specs.Walk.{walkedEffect, walkEffect}
-use Rattle.dispatch_receive.specs.Segment.{lentNext, takeBytes, bytesIfDone, Progress, begun, takeAt, memoryAt, bytesAt, oneTake, takeFollows, takesUpTo, allTakes, eventBytes, takesEffect, answerRoom, noneMarked, plainRoom, segmentEffect}
+use Rattle.dispatch_receive.specs.Segment.{lentNext, takeBytes, bytesIfDone, Progress, begun, takeAt, memoryAt, bytesAt, oneTake}
+use Rattle.dispatch_receive.specs.Segment.{takeFollows, takesUpTo, allTakes, eventBytes, takesEffect, answerRoom, noneMarked, plainRoom, segmentEffect}
 use Rattle.dispatch_receive.proofs.Size.{NoneMarked, Pays, whole, most, most-all, most-least, spent-within, spent-goes}
 
 -- what nothing refuses is done
@@ -145,11 +146,17 @@ module _ (l : Loan) (k : ℕ) (seg : List ℕ) where
   on-within : (from : ℕ) (m : List ℕ) → 9 * length (bytesFrom from m (takeOn image s rx k seg)) ≤ most (recordAt s k .part)
   unfolding takeOn takenOf tookOf
   on-within from m =
-      spent-within from (length seg - length (takeB (lookupOf (bodyOf image RouteRows) k (recordAt s k .switches)) (cellOf (recordAt s k .part) (stretch 1464 k rx)) seg .rest)) seg m k
+      spent-within from (length seg - length
+      (takeB (lookupOf (bodyOf image RouteRows) k (recordAt s k .switches)) (cellOf (recordAt s k .part) (stretch 1464 k rx)) seg .rest)) seg m k
       (lookupOf (bodyOf image RouteRows) k (recordAt s k .switches)) (idOf (bodyOf image RouteRows)) (stretch 1464 k rx) (recordAt s k .part)
 
   none-within : (from : ℕ) (m : List ℕ) → 9 * length (bytesFrom from m (noneTaken s answer)) ≤ most (recordAt s k .part)
-  none-within from m = omega (arith, bytes-of-within answer (takeBytes from 0 (noneTaken s answer .outcome) (payloadOf seg m k (noneTaken s answer .outcome))), length-found 0 0 0 0 0, most-least (recordAt s k .part))
+  none-within from m = omega (
+    arith,
+    bytes-of-within answer (takeBytes from 0 (noneTaken s answer .outcome) (payloadOf seg m k (noneTaken s answer .outcome))),
+    length-found 0 0 0 0 0,
+    most-least (recordAt s k .part),
+  )
 
   pub take-within : (from : ℕ) (m : List ℕ) → 9 * length (bytesFrom from m (segmentOf l k seg)) ≤ most (recordAt s k .part)
   take-within from m = go (isDone answer) refl
@@ -162,7 +169,8 @@ module _ (l : Loan) (k : ℕ) (seg : List ℕ) where
   part-after : isDone answer ≡ true → recordAt (takeOn image s rx k seg .state) k .part ≡ takenAt image s rx k seg .part
   unfolding takeOn
   part-after e =
-      ap (λ (cs : List Connection). getD cs k zeroRecord .part) (count-records (takenAt image s rx k seg .outcome) (withRecord k (withPart (takenAt image s rx k seg .part) (recordAt s k)) s))
+      ap (λ (cs : List Connection). getD cs k zeroRecord .part)
+      (count-records (takenAt image s rx k seg .outcome) (withRecord k (withPart (takenAt image s rx k seg .part) (recordAt s k)) s))
       ∙ ap (λ (c : Connection). c .part) (getD-set-same (s .connections) k (withPart (takenAt image s rx k seg .part) (recordAt s k)) zeroRecord
       (in-range s k (done-clear (sizes l) k (configOf image k .tcp) e .receives)))
 
@@ -177,7 +185,8 @@ module _ (l : Loan) (k : ℕ) (seg : List ℕ) where
 
   -- where it left bytes there is enough for the next
   on-goes : {pay : ℕ} (from : ℕ) (m : List ℕ) → Rate image pay → isDone answer ≡ true → takeOn image s rx k seg .read < length seg
-      → 9 * length (bytesFrom from m (takeOn image s rx k seg)) + most (recordAt (takeOn image s rx k seg .state) k .part) + pay * (length seg - takeOn image s rx k seg .read)
+      → 9 * length (bytesFrom from m (takeOn image s rx k seg)) + most
+      (recordAt (takeOn image s rx k seg .state) k .part) + pay * (length seg - takeOn image s rx k seg .read)
       ≤ most (recordAt s k .part) + pay * length seg
   unfolding takeOn takenOf tookOf
   on-goes {pay} from m rate e h =
@@ -188,7 +197,8 @@ module _ (l : Loan) (k : ℕ) (seg : List ℕ) where
         arith,
         ap most (part-after e),
         ap (λ (n : ℕ). pay * n) left,
-        spent-goes from (length seg - length (takeB R c seg .rest)) seg m k R (idOf (bodyOf image RouteRows)) (stretch 1464 k rx) (recordAt s k .part) (pays-here rate e) (omega arith),
+        spent-goes from (length seg - length (takeB R c seg .rest)) seg m k R (idOf (bodyOf image RouteRows))
+            (stretch 1464 k rx) (recordAt s k .part) (pays-here rate e) (omega arith),
       )
 
   pub take-goes : {pay : ℕ} (from : ℕ) (m : List ℕ) → Rate image pay → isDone (segmentOf l k seg .answer) ≡ true → segmentOf l k seg .read < length seg
@@ -196,11 +206,13 @@ module _ (l : Loan) (k : ℕ) (seg : List ℕ) where
       ≤ most (recordAt s k .part) + pay * length seg
   take-goes {pay} from m rate d =
       let e : isDone answer ≡ true = sym answer-is ∙ d in
-      subst (λ (t : SegmentTaken). t .read < length seg → 9 * length (bytesFrom from m t) + most (recordAt (t .state) k .part) + pay * (length seg - t .read) ≤ most (recordAt s k .part) + pay * length seg)
+      subst (λ (t : SegmentTaken). t .read < length seg
+      → 9 * length (bytesFrom from m t) + most (recordAt (t .state) k .part) + pay * (length seg - t .read) ≤ most (recordAt s k .part) + pay * length seg)
       (sym (taken-is e)) (on-goes from m rate e)
 
   -- the next take is not refused
-  pub take-next : Bytes seg → isDone (segmentOf l k seg .answer) ≡ true → isDone (segmentAnswer (sizes (received l (segmentOf l k seg .state) (memoryOf l k seg))) k) ≡ true
+  pub take-next : Bytes seg → isDone (segmentOf l k seg .answer) ≡ true
+      → isDone (segmentAnswer (sizes (received l (segmentOf l k seg .state) (memoryOf l k seg))) k) ≡ true
   take-next bytes d =
       let e : isDone answer ≡ true = sym answer-is ∙ d in
       ap (λ (t : SegmentTaken). isDone (segmentAnswer (sizes (received l (t .state) (memoryOf l k seg))) k)) (taken-is e)
@@ -215,7 +227,8 @@ module _ (l : Loan) (k : ℕ) (segment : List ℕ) (at : ℕ) where
   bytes-within = take-within l k (drop at segment) at (memoryAt l k segment at)
 
   pub bytes-go : {pay : ℕ} → Rate (l .image) pay → isDone (takeAt l k segment at .answer) ≡ true → at + takeAt l k segment at .read < length segment
-      → 9 * length (bytesAt l k segment at) + most (recordAt (takeAt l k segment at .state) k .part) + pay * (length segment - (at + takeAt l k segment at .read))
+      → 9 * length (bytesAt l k segment at) + most (recordAt (takeAt l k segment at .state) k .part) + pay *
+      (length segment - (at + takeAt l k segment at .read))
       ≤ most (recordAt (l .state) k .part) + pay * (length segment - at)
   unfolding bytesAt
   bytes-go {pay} rate d h =
@@ -237,12 +250,14 @@ module _ (l : Loan) (k : ℕ) (segment : List ℕ) where
   run-fits : {pay : ℕ} → Rate (l .image) pay → (n : ℕ) (r : Progress)
       → 9 * length (takesUpTo l k segment n r .bytes) ≤ 9 * length (r .bytes) + most (recordAt (r .state) k .part) + pay * (length segment - r .at)
   unfolding takesUpTo oneTake
-  run-fits rate zero r = omega (arith, length-append (r .bytes) (bytesAt (lentNext l k segment r) k segment (r .at)), bytes-within (lentNext l k segment r) k segment (r .at))
+  run-fits rate zero r = omega
+      (arith, length-append (r .bytes) (bytesAt (lentNext l k segment r) k segment (r .at)), bytes-within (lentNext l k segment r) k segment (r .at))
   run-fits {pay} rate (suc n) r = go (takeFollows l k segment (oneTake l k segment r)) refl (run-fits rate n (oneTake l k segment r))
     where
       go : (b : Bool) → takeFollows l k segment (oneTake l k segment r) ≡ b
           → 9 * length (takesUpTo l k segment n (oneTake l k segment r) .bytes)
-          ≤ 9 * length (oneTake l k segment r .bytes) + most (recordAt (oneTake l k segment r .state) k .part) + pay * (length segment - oneTake l k segment r .at)
+          ≤ 9 * length (oneTake l k segment r .bytes) + most
+          (recordAt (oneTake l k segment r .state) k .part) + pay * (length segment - oneTake l k segment r .at)
           → 9 * length (cond b (takesUpTo l k segment n (oneTake l k segment r)) (oneTake l k segment r) .bytes)
           ≤ 9 * length (r .bytes) + most (recordAt (r .state) k .part) + pay * (length segment - r .at)
       go true e h =
@@ -250,10 +265,18 @@ module _ (l : Loan) (k : ℕ) (segment : List ℕ) where
             arith,
             h,
             length-append (r .bytes) (bytesAt (lentNext l k segment r) k segment (r .at)),
-            bytes-go (lentNext l k segment r) k segment (r .at) rate (and-left (isDone (takeAt (lentNext l k segment r) k segment (r .at) .answer)) (ltb (r .at + takeAt (lentNext l k segment r) k segment (r .at) .read) (length segment)) e)
-                (ltb-true (r .at + takeAt (lentNext l k segment r) k segment (r .at) .read) (length segment) (and-right (isDone (takeAt (lentNext l k segment r) k segment (r .at) .answer)) (ltb (r .at + takeAt (lentNext l k segment r) k segment (r .at) .read) (length segment)) e)),
+            bytes-go (lentNext l k segment r) k segment (r .at) rate
+                (and-left (isDone (takeAt (lentNext l k segment r) k segment (r .at) .answer))
+                (ltb (r .at + takeAt (lentNext l k segment r) k segment (r .at) .read) (length segment)) e)
+                (ltb-true (r .at + takeAt (lentNext l k segment r) k segment (r .at) .read) (length segment)
+                (and-right (isDone (takeAt (lentNext l k segment r) k segment (r .at) .answer))
+                (ltb (r .at + takeAt (lentNext l k segment r) k segment (r .at) .read) (length segment)) e)),
           )
-      go false e h = omega (arith, length-append (r .bytes) (bytesAt (lentNext l k segment r) k segment (r .at)), bytes-within (lentNext l k segment r) k segment (r .at))
+      go false e h = omega (
+        arith,
+        length-append (r .bytes) (bytesAt (lentNext l k segment r) k segment (r .at)),
+        bytes-within (lentNext l k segment r) k segment (r .at),
+      )
 
   -- THE WHOLE ANSWER, of any takes; and where no route is marked
   pub takes-fit : 4 + length (allTakes l k segment .bytes) ≤ answerRoom segment
@@ -294,7 +317,8 @@ module _ (l : Loan) (out bytes : List ℕ) (e : Effect) where
   long-is roomy long = ap₂ judged (le-ltb (length out) room roomy) (lt-ltb longestBody (length bytes) long)
 
   -- what the event leaves as it was, a refusal does
-  pub fits-keeps : {A : Type 0} (f : Effect → A) (x : A) → ((v : Verdict) → x ≡ f (untouched v (l .state) (l .rx) (l .tx) out)) → x ≡ f e → x ≡ f (ifFits l out bytes e)
+  pub fits-keeps : {A : Type 0} (f : Effect → A) (x : A)
+      → ((v : Verdict) → x ≡ f (untouched v (l .state) (l .rx) (l .tx) out)) → x ≡ f e → x ≡ f (ifFits l out bytes e)
   fits-keeps f x refusing h = room-keeps (l .state) (l .rx) (l .tx) out _ f x (refusing Small) (go (tooLong bytes))
     where
       go : (long : Bool) → x ≡ f (judged false long)
@@ -343,5 +367,7 @@ module _ (l : Loan) (out : List ℕ) (k place : ℕ) (datagram : List ℕ) where
   -- refused or not, both memories stay
   pub walk-kept : (l .rx ≡ walkEffect l out k place datagram .rx) × (l .tx ≡ walkEffect l out k place datagram .tx)
   unfolding walkEffect
-  walk-kept =
-      (fits-keeps l out datagram walked (λ (e : Effect). e .rx) (l .rx) (λ v. refl) refl, fits-keeps l out datagram walked (λ (e : Effect). e .tx) (l .tx) (λ v. refl) refl)
+  walk-kept = (
+    fits-keeps l out datagram walked (λ (e : Effect). e .rx) (l .rx) (λ v. refl) refl,
+    fits-keeps l out datagram walked (λ (e : Effect). e .tx) (l .tx) (λ v. refl) refl,
+  )

@@ -34,7 +34,8 @@ use Rattle.event_answer.specs.declared.Dispatched.{Dispatched}
 use Rattle.event_answer.specs.Answers.{dispatched, doneWith}
 use Rattle.dispatch_receive.specs.declared.Takes.{Takes}
 use Rattle.dispatch_receive.specs.Long.{longestBody}
-use Rattle.dispatch_receive.specs.Segment.{lentNext, bytesIfDone, Progress, begun, takeAt, memoryAt, bytesAt, oneTake, takeFollows, takesUpTo, allTakes, eventBytes, takesEffect, answerRoom}
+use Rattle.dispatch_receive.specs.Segment.{lentNext, bytesIfDone, Progress, begun, takeAt, memoryAt, bytesAt}
+use Rattle.dispatch_receive.specs.Segment.{oneTake, takeFollows, takesUpTo, allTakes, eventBytes, takesEffect, answerRoom}
 use Rattle.dispatch_receive.specs.Turn.{takenBytes, takesOf, frontOf, answerLength}
 use Rattle.dispatch_receive.proofs.Once.{refused-none, done-all}
 use Rattle.dispatch_receive.proofs.Size.{most, most-all}
@@ -51,7 +52,8 @@ module _ (l : Loan) (connection : ℕ) (seg : List ℕ) where
   unfolding segmentOf takeOn takenOf
   read-within = go (isDone (segmentAnswer (sizes l) connection))
     where
-      go : (b : Bool) → cond b (takeOn (l .image) (l .state) (l .rx) connection seg) (noneTaken (l .state) (segmentAnswer (sizes l) connection)) .read ≤ length seg
+      go : (b : Bool) → cond b (takeOn (l .image) (l .state) (l .rx) connection seg)
+          (noneTaken (l .state) (segmentAnswer (sizes l) connection)) .read ≤ length seg
       go true = omega arith
       go false = omega arith
 
@@ -62,7 +64,11 @@ module _ (l : Loan) (connection : ℕ) (seg : List ℕ) where
       go : (b : Bool) → isDone (segmentAnswer (sizes l) connection) ≡ b
           → isDone (cond b (takeOn (l .image) (l .state) (l .rx) connection seg) (noneTaken (l .state) (segmentAnswer (sizes l) connection)) .answer) ≡ true
           → 0 < cond b (takeOn (l .image) (l .state) (l .rx) connection seg) (noneTaken (l .state) (segmentAnswer (sizes l) connection)) .read
-      go true e i = omega (arith, rest-less (lookupOf (bodyOf (l .image) RouteRows) connection (recordAt (l .state) connection .switches)) (cellOf (recordAt (l .state) connection .part) (stretch 1464 connection (l .rx))) seg h)
+      go true e i = omega (
+        arith,
+        rest-less (lookupOf (bodyOf (l .image) RouteRows) connection (recordAt (l .state) connection .switches))
+            (cellOf (recordAt (l .state) connection .part) (stretch 1464 connection (l .rx))) seg h,
+      )
       go false e i = let z : _≡_ {A = ℕ} 0 1 = cc in absurd (omega arith)
 
 pub is-done : (a : Answer) → isDone a ≡ true → a ≡ Done
@@ -75,22 +81,27 @@ abbrev pub runAt : State → List ℕ → List ℕ → ℕ → ℕ → Progress
 runAt s rx bytes count at = record { answer = Done; state = s; rx = rx; bytes = bytes; count = count; at = at }
 
 module _ (l : Loan) (connection : ℕ) (segment : List ℕ) where
-  stops : (n : ℕ) (r : Progress) → takeFollows l connection segment (oneTake l connection segment r) ≡ false → takesUpTo l connection segment n r ≡ oneTake l connection segment r
+  stops : (n : ℕ) (r : Progress) → takeFollows l connection segment (oneTake l connection segment r) ≡ false
+      → takesUpTo l connection segment n r ≡ oneTake l connection segment r
   unfolding takesUpTo
   stops zero r e = refl
   stops (suc n) r e = rw e
 
-  more : (n : ℕ) (r : Progress) → takeFollows l connection segment (oneTake l connection segment r) ≡ true → takesUpTo l connection segment (suc n) r ≡ takesUpTo l connection segment n (oneTake l connection segment r)
+  more : (n : ℕ) (r : Progress) → takeFollows l connection segment (oneTake l connection segment r) ≡ true
+      → takesUpTo l connection segment (suc n) r ≡ takesUpTo l connection segment n (oneTake l connection segment r)
   unfolding takesUpTo
   more n r e = rw e
 
   -- A LATER TAKE IS NEVER REFUSED: the event's answer is that of its first take
-  run-done : Bytes segment → (n : ℕ) (r : Progress) → isDone (segmentAnswer (sizes (lentNext l connection segment r)) connection) ≡ true → isDone (takesUpTo l connection segment n r .answer) ≡ true
+  run-done : Bytes segment → (n : ℕ) (r : Progress) → isDone (segmentAnswer (sizes (lentNext l connection segment r)) connection) ≡ true
+      → isDone (takesUpTo l connection segment n r .answer) ≡ true
   unfolding takesUpTo oneTake
   run-done small zero r d = answer-is (lentNext l connection segment r) connection (drop (r .at) segment) ∙ d
   run-done small (suc n) r d =
       go (takeFollows l connection segment (oneTake l connection segment r))
-      (run-done small n (oneTake l connection segment r) (bytes-next (lentNext l connection segment r) connection segment (r .at) small (answer-is (lentNext l connection segment r) connection (drop (r .at) segment) ∙ d)))
+      (run-done small n (oneTake l connection segment r)
+      (bytes-next (lentNext l connection segment r) connection segment (r .at) small
+      (answer-is (lentNext l connection segment r) connection (drop (r .at) segment) ∙ d)))
     where
       go : (b : Bool) → isDone (takesUpTo l connection segment n (oneTake l connection segment r) .answer) ≡ true
           → isDone (cond b (takesUpTo l connection segment n (oneTake l connection segment r)) (oneTake l connection segment r) .answer) ≡ true
@@ -106,7 +117,8 @@ module _ (l : Loan) (connection : ℕ) (segment : List ℕ) where
           is-done (allTakes l connection segment .answer)
           (run-done small (length segment) (begun (l .state) (l .rx)) (sym (answer-is l connection (drop 0 segment)) ∙ e))
           ∙ sym (is-done (takeAt l connection segment 0 .answer) e)
-      go false e = ap (λ (r : Progress). r .answer) (stops (length segment) (begun (l .state) (l .rx)) (and-first (isDone (takeAt l connection segment 0 .answer)) _ e))
+      go false e = ap (λ (r : Progress). r .answer)
+          (stops (length segment) (begun (l .state) (l .rx)) (and-first (isDone (takeAt l connection segment 0 .answer)) _ e))
 
   -- EACH TAKE BEFORE ANOTHER READS A BYTE: so there are no more takes than bytes
   run-count : (n : ℕ) (r : Progress) → r .count ≤ r .at → r .at < length segment → takesUpTo l connection segment n r .count ≤ length segment
@@ -118,11 +130,13 @@ module _ (l : Loan) (connection : ℕ) (segment : List ℕ) where
       t = takeAt (lentNext l connection segment r) connection segment (r .at)
 
       go : (b : Bool) → takeFollows l connection segment (oneTake l connection segment r) ≡ b
-          → (r .count + 1 ≤ r .at + t .read → r .at + t .read < length segment → takesUpTo l connection segment n (oneTake l connection segment r) .count ≤ length segment)
+          → (r .count + 1 ≤ r .at + t .read → r .at + t .read < length segment
+          → takesUpTo l connection segment n (oneTake l connection segment r) .count ≤ length segment)
           → cond b (takesUpTo l connection segment n (oneTake l connection segment r)) (oneTake l connection segment r) .count ≤ length segment
       go true e h =
           let done : isDone (t .answer) ≡ true = and-left (isDone (t .answer)) (ltb (r .at + t .read) (length segment)) e in
-          let left : r .at + t .read < length segment = ltb-true (r .at + t .read) (length segment) (and-right (isDone (t .answer)) (ltb (r .at + t .read) (length segment)) e) in
+          let left : r .at + t .read < length segment =
+          ltb-true (r .at + t .read) (length segment) (and-right (isDone (t .answer)) (ltb (r .at + t .read) (length segment)) e) in
           let some = read-some (lentNext l connection segment r) connection (drop (r .at) segment) done (omega (arith, inside, length-drop (r .at) segment)) in
           h (omega (arith, low, some)) left
       go false e h = omega (arith, low, inside)
@@ -147,7 +161,8 @@ module _ (l : Loan) (connection : ℕ) (segment : List ℕ) where
     pub spare : 9 * place + most (recordAt s connection .part) + 32 * (length segment - at) ≤ 9 * length out₀
     pub clear : isDone (segmentAnswer (sizes (received l s rx)) connection) ≡ true
 
-  pub going-start : (out : List ℕ) → answerRoom segment ≤ length out → isDone (segmentAnswer (sizes l) connection) ≡ true → Going out (l .state) (l .rx) out 4 0 0
+  pub going-start : (out : List ℕ) → answerRoom segment ≤ length out
+      → isDone (segmentAnswer (sizes l) connection) ≡ true → Going out (l .state) (l .rx) out 4 0 0
   going-start out h d =
       record {
         bytes = [];
@@ -192,7 +207,8 @@ module _ (l : Loan) (connection : ℕ) (segment : List ℕ) where
 
       -- where bytes are left
       pub going-on : Bytes segment → at + taken .read < length segment
-          → Going out₀ (taken .state) (memoryAt (received l s rx) connection segment at) (lay out place more-bytes) (placeAfter out place more-bytes) (count + 1) (at + taken .read)
+          → Going out₀ (taken .state) (memoryAt (received l s rx) connection segment at)
+          (lay out place more-bytes) (placeAfter out place more-bytes) (count + 1) (at + taken .read)
       unfolding oneTake
       going-on small left =
           let dropped = length-drop at segment in
@@ -201,7 +217,8 @@ module _ (l : Loan) (connection : ℕ) (segment : List ℕ) where
           record {
             bytes = g .bytes ++ more-bytes;
             same =
-                blind (length segment - (count + 1)) (taken .answer) (taken .state) (memoryAt (received l s rx) connection segment at) (g .bytes ++ more-bytes) (count + 1) (at + taken .read)
+                blind (length segment - (count + 1)) (taken .answer) (taken .state)
+                (memoryAt (received l s rx) connection segment at) (g .bytes ++ more-bytes) (count + 1) (at + taken .read)
                 ∙ sym (more (length segment - (count + 1)) (runAt s rx (g .bytes) count at) (and-both done (lt-ltb _ _ left)))
                 ∙ ap (λ (k : ℕ). takesUpTo l connection segment k (runAt s rx (g .bytes) count at)) (sym n)
                 ∙ g .same;
@@ -223,7 +240,8 @@ module _ (l : Loan) (connection : ℕ) (segment : List ℕ) where
 
       -- where all is read
       pub going-end : length segment ≤ at + taken .read
-          → (record { answer = Done; count = count + 1; place = placeAfter out place more-bytes; state = taken .state } ≡ takesOf (allTakes l connection segment))
+          → (record { answer = Done; count = count + 1; place = placeAfter out place more-bytes; state = taken .state }
+          ≡ takesOf (allTakes l connection segment))
           × ((memoryAt (received l s rx) connection segment at ≡ allTakes l connection segment .rx)
           × (lay out place more-bytes ≡ lay out₀ 4 (takenBytes (allTakes l connection segment))))
       unfolding oneTake
@@ -231,7 +249,8 @@ module _ (l : Loan) (connection : ℕ) (segment : List ℕ) where
           let r : oneTake l connection segment (runAt s rx (g .bytes) count at) ≡ allTakes l connection segment =
           sym (stops (length segment - count) (runAt s rx (g .bytes) count at) (and-second (isDone (taken .answer)) _ (le-ltb _ _ left))) ∙ g .same in
           let b : g .bytes ++ more-bytes ≡ bytesIfDone (taken .answer) (g .bytes ++ more-bytes) = done-all (taken .answer) (g .bytes ++ more-bytes) done in (
-            ap₂ (λ (a : Answer) (p : ℕ). kept a (count + 1) p (taken .state)) (sym (is-done (taken .answer) done)) (all-placed ∙ ap (λ (x : List ℕ). 4 + length x) b) ∙ ap takesOf r,
+            ap₂ (λ (a : Answer) (p : ℕ). kept a (count + 1) p (taken .state))
+                (sym (is-done (taken .answer) done)) (all-placed ∙ ap (λ (x : List ℕ). 4 + length x) b) ∙ ap takesOf r,
             (ap (λ (u : Progress). u .rx) r, all-wrote ∙ ap (lay out₀ 4) b ∙ ap (λ (u : Progress). lay out₀ 4 (takenBytes u)) r),
           )
         where
@@ -291,7 +310,8 @@ told-length Done count bytes = simp (length-append, length-spell)
 told-length (Refused r) count bytes = refl
 told-length NotReceiving count bytes = refl
 
-told-out : (a : Answer) (count : ℕ) (bytes out : List ℕ) → 4 + length bytes ≤ length out → lay (lay out 4 (bytesIfDone a bytes)) 0 (frontOf a count) ≡ lay out 0 (eventBytes a count bytes)
+told-out : (a : Answer) (count : ℕ) (bytes out : List ℕ) → 4 + length bytes ≤ length out
+    → lay (lay out 4 (bytesIfDone a bytes)) 0 (frontOf a count) ≡ lay out 0 (eventBytes a count bytes)
 told-out Done count bytes out h = lay-front out 4 (doneWith 2 count) bytes (simp (length-append, length-spell)) h
 told-out (Refused r) count bytes out h = ap (λ (o : List ℕ). lay o 0 (frontOf (Refused r) count)) (lay-nothing out 4)
 told-out NotReceiving count bytes out h = ap (λ (o : List ℕ). lay o 0 (frontOf NotReceiving count)) (lay-nothing out 4)

@@ -12,7 +12,8 @@ use lib.Dec.{leb, ltb}
 use lib.ListN.{length, take, drop, length-take, length-drop}
 use Rattle.reading.specs.declared.Decision.{Decision}
 use Rattle.reading.specs.declared.Decision.the-variants.{Accept, Refuse, Transfer as Move}
-use Rattle.reading.specs.Feed.{Routes, PieceKind, header, payload, skip, Cell, cell, transfer, Out, nothing, pdu, dropped, start, piece, Fed, ready, decided, pieceDone, feed, after, stops, Took, took, pieceBy, takeB, Ends, at-end, at-byte, at-seam, at-mark}
+use Rattle.reading.specs.Feed.{Routes, PieceKind, header, payload, skip, Cell, cell, transfer, Out, nothing, pdu, dropped, start, piece, Fed}
+use Rattle.reading.specs.Feed.{ready, decided, pieceDone, feed, after, stops, Took, took, pieceBy, takeB, Ends, at-end, at-byte, at-seam, at-mark}
 use Rattle.reading.proofs.Cut.{moves, take-ends, take-less}
 use Rattle.table_layout.specs.Layout.{partOf}
 use Rattle.receive_part.specs.declared.Part.{Part}
@@ -126,7 +127,8 @@ decided-most (Move r) i (suc n) s = omega arith
 stop-most : (R : Routes) (c : Cell) (b : ℕ) → stops (feed R c b .out) ≡ true → most (partFrom (feed R c b .to)) ≤ leaves (feed R c b .out)
 unfolding feed pieceDone most
 stop-most R (cell zero k) b s = absurd (false≢true s)
-stop-most R (cell (suc zero) (header v)) b s = decided-most (R ((v * 256 + b) / 2 ^ 32) ((v * 256 + b) % 2 ^ 32)) ((v * 256 + b) / 2 ^ 32) ((v * 256 + b) % 2 ^ 32) s
+stop-most R (cell (suc zero) (header v)) b s =
+    decided-most (R ((v * 256 + b) / 2 ^ 32) ((v * 256 + b) % 2 ^ 32)) ((v * 256 + b) / 2 ^ 32) ((v * 256 + b) % 2 ^ 32) s
 stop-most R (cell (suc zero) (payload r h)) b s = omega arith
 stop-most R (cell (suc zero) skip) b s = absurd (false≢true s)
 stop-most R (cell (suc (suc n)) k) b s = absurd (false≢true s)
@@ -196,7 +198,12 @@ module _ (from read : ℕ) (seg m : List ℕ) (k : ℕ) where
   any-size ids s nothing = omega (arith, length-found read 0 0 0 0)
   any-size ids true (pdu r p) = omega (arith, length-here read r (ids r) (length p) from (read - length p))
   any-size ids false (pdu r p) =
-      omega (arith, length-held read r (ids r) (length p) (partOf (stretch 1464 k m) 0 (length p)), part-within (stretch 1464 k m) 0 (length p), stretch-within k m)
+      omega (
+        arith,
+        length-held read r (ids r) (length p) (partOf (stretch 1464 k m) 0 (length p)),
+        part-within (stretch 1464 k m) 0 (length p),
+        stretch-within k m,
+      )
   any-size ids s (dropped reason id n) = omega (arith, length-found read 2 reason id n)
   any-size ids s (start r i n b) = omega (arith, length-found read 3 r i n)
   any-size ids s (piece r p b) = omega (arith, length-piece read r (ids r) (length p) b from (read - length p))
@@ -242,7 +249,8 @@ module _ (from read : ℕ) (seg m : List ℕ) (k : ℕ) where
 
     -- one that begins in the middle of a header or of a payload
     held-goes : (pay : ℕ) (s : Bool) (c : Cell) (bs : List ℕ) → 0 < length (takeB R c bs .rest)
-        → 9 * length (bytes (takeOutcome ids s read (takeB R c bs .out))) + most (partFrom (takeB R c bs .to)) + pay * length (takeB R c bs .rest) ≤ 13482 + pay * length bs
+        → 9 * length (bytes (takeOutcome ids s read (takeB R c bs .out))) + most
+        (partFrom (takeB R c bs .to)) + pay * length (takeB R c bs .rest) ≤ 13482 + pay * length bs
     held-goes pay s c bs h =
         let few : length (takeB R c bs .rest) ≤ length bs = omega (arith, take-less R c bs) in
         omega (arith, any-size ids s (takeB R c bs .out), ends-most R c bs (takeB R c bs) (take-ends R c bs) h, mul-le-mul-left pay few)

@@ -90,7 +90,8 @@ module _ (l : Loan) (k : ℕ) (segment : List ℕ) (out₀ : List ℕ) where
     -- what the take asks
     pub turn-goes : Goes routes k segment t rx
     turn-goes =
-        let c : Clear (sizes (received l at-turn rx)) k (configOf image k .tcp) = done-clear (sizes (received l at-turn rx)) k (configOf image k .tcp) (g .clear) in
+        let c : Clear (sizes (received l at-turn rx)) k (configOf image k .tcp) =
+        done-clear (sizes (received l at-turn rx)) k (configOf image k .tcp) (g .clear) in
         let a : Takes image at-turn rx k = passed-takes (received l at-turn rx) k (c .passed) (c .there) in
         record {
           small = a .small;
@@ -104,12 +105,17 @@ module _ (l : Loan) (k : ℕ) (segment : List ℕ) (out₀ : List ℕ) where
 
     -- what holds of the take, its memory and its bytes, holds of the turn
     moved : (P : SegmentTaken → List ℕ → List ℕ → Type 0)
-        → P (takeAt (received l at-turn rx) k segment (t .at)) (memoryAt (received l at-turn rx) k segment (t .at)) (bytesAt (received l at-turn rx) k segment (t .at))
-        → P (turned l k segment t rx there (g .clear)) (memoryFrom (bodyOf image Routes) switches k segment t rx) (turnBytes (bodyOf image Routes) switches k segment t rx)
+        → P (takeAt (received l at-turn rx) k segment (t .at))
+        (memoryAt (received l at-turn rx) k segment (t .at)) (bytesAt (received l at-turn rx) k segment (t .at))
+        → P (turned l k segment t rx there (g .clear)) (memoryFrom (bodyOf image Routes) switches k segment t rx)
+        (turnBytes (bodyOf image Routes) switches k segment t rx)
     moved P p =
-        subst (P (turned l k segment t rx there (g .clear)) (memoryFrom (bodyOf image Routes) switches k segment t rx)) (turn-bytes l k segment t rx there (g .clear))
-        (subst (λ (m : List ℕ). P (turned l k segment t rx there (g .clear)) m (bytesAt (received l at-turn rx) k segment (t .at))) (turn-memory l k segment t rx there (g .clear))
-        (subst (λ (u : SegmentTaken). P u (memoryAt (received l at-turn rx) k segment (t .at)) (bytesAt (received l at-turn rx) k segment (t .at))) (turn-taken l k segment t rx there (g .clear)) p))
+        subst (P (turned l k segment t rx there (g .clear)) (memoryFrom (bodyOf image Routes) switches k segment t rx))
+        (turn-bytes l k segment t rx there (g .clear))
+        (subst (λ (m : List ℕ). P (turned l k segment t rx there (g .clear)) m (bytesAt (received l at-turn rx) k segment (t .at)))
+        (turn-memory l k segment t rx there (g .clear))
+        (subst (λ (u : SegmentTaken). P u (memoryAt (received l at-turn rx) k segment (t .at)) (bytesAt (received l at-turn rx) k segment (t .at)))
+        (turn-taken l k segment t rx there (g .clear)) p))
 
     read-is : takeAt (received l at-turn rx) k segment (t .at) .read ≡ turned l k segment t rx there (g .clear) .read
     read-is = ap (λ (u : SegmentTaken). u .read) (turn-taken l k segment t rx there (g .clear))
@@ -122,7 +128,8 @@ module _ (l : Loan) (k : ℕ) (segment : List ℕ) (out₀ : List ℕ) where
           (lay out (t .place) (turnBytes (bodyOf image Routes) switches k segment t rx)) → P r rx′ out′
       to P p =
           subst (λ (x : Turn). P x rx′ out′) (sym (is ∙ ap (λ (z : List ℕ). takeTurn z switches k segment t rx out) er))
-          (subst (λ (m : List ℕ). P (takeTurn (bodyOf image Routes) switches k segment t rx out) m out′) (sym (memory ∙ ap (λ (z : List ℕ). memoryFrom z switches k segment t rx) er))
+          (subst (λ (m : List ℕ). P (takeTurn (bodyOf image Routes) switches k segment t rx out) m out′)
+          (sym (memory ∙ ap (λ (z : List ℕ). memoryFrom z switches k segment t rx) er))
           (subst (P (takeTurn (bodyOf image Routes) switches k segment t rx out) (memoryFrom (bodyOf image Routes) switches k segment t rx))
           (sym (wrote ∙ ap (λ (z : List ℕ). lay out (t .place) (turnBytes z switches k segment t rx)) er)) p))
 
@@ -133,7 +140,8 @@ module _ (l : Loan) (k : ℕ) (segment : List ℕ) (out₀ : List ℕ) where
       pub turn-on : Bytes segment → r .at < length segment → AtTurn r rx′ out′
       turn-on small h =
           to AtTurn
-          (moved (λ (u : SegmentTaken) (m b : List ℕ). Going l k segment out₀ (u .state) m (lay out (t .place) b) (placeAfter out (t .place) b) (t .count + 1) (t .at + u .read))
+          (moved (λ (u : SegmentTaken) (m b : List ℕ). Going l k segment out₀ (u .state) m
+          (lay out (t .place) b) (placeAfter out (t .place) b) (t .count + 1) (t .at + u .read))
           (going-on l k segment at-turn rx out (t .place) (t .count) (t .at) g small (subst (λ (n : ℕ). n < length segment) far h)))
 
       -- all is read

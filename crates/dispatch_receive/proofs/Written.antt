@@ -41,17 +41,20 @@ sum-low a b =
 pub length-here : (read route id n from at : ℕ) → length (hereBytes read route id n from at) ≡ 19
 length-here read route id n from at = simp (length-append, length-spell)
 
-pub here-laid : {e f g : List ℕ} (d : List ℕ) (place read route id n from at : ℕ) → e ≡ lay d place (foundBytes read 1 route id n) → f ≡ lay e (place + 14) (spell 1 0)
+pub here-laid : {e f g : List ℕ} (d : List ℕ) (place read route id n from at : ℕ)
+    → e ≡ lay d place (foundBytes read 1 route id n) → f ≡ lay e (place + 14) (spell 1 0)
     → g ≡ lay f (place + 15) (spell 4 (from + at)) → place + 19 ≤ length d → g ≡ lay d place (hereBytes read route id n from at)
 here-laid d place read route id n from at p q r h =
     let m = length-found read 1 route id n in
     let p₂ = then d place (place + 14) (foundBytes read 1 route id n) (spell 1 0) p q (omega arith) (simp length-spell (omega arith)) in
-    then d place (place + 15) (foundBytes read 1 route id n ++ spell 1 0) (spell 4 (from + at)) p₂ r (simp (length-append, length-spell)) (simp length-spell (omega arith))
+    then d place (place + 15) (foundBytes read 1 route id n ++ spell 1 0)
+    (spell 4 (from + at)) p₂ r (simp (length-append, length-spell)) (simp length-spell (omega arith))
 
 pub length-held : (read route id n : ℕ) (payload : List ℕ) → length (heldBytes read route id n payload) ≡ length payload + 15
 length-held read route id n payload = simp (length-append, length-spell) (omega arith)
 
-pub held-laid : {e f g : List ℕ} (d : List ℕ) (place read route id n : ℕ) (payload : List ℕ) → e ≡ lay d place (foundBytes read 1 route id n) → f ≡ lay e (place + 14) (spell 1 1)
+pub held-laid : {e f g : List ℕ} (d : List ℕ) (place read route id n : ℕ) (payload : List ℕ)
+    → e ≡ lay d place (foundBytes read 1 route id n) → f ≡ lay e (place + 14) (spell 1 1)
     → g ≡ lay f (place + 15) payload → place + (length payload + 15) ≤ length d → g ≡ lay d place (heldBytes read route id n payload)
 held-laid d place read route id n payload p q r h =
     let m = length-found read 1 route id n in

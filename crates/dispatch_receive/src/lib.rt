@@ -112,8 +112,10 @@ pub fn walk(
     datagram: &[u8],
     out: &mut [u8],
 ) -> Dispatched
-    ensures { λ r. ⌜ r ≡ dispatched (Wk.walkEffect (loan (now (image .entry)) state (now (rx .entry)) (now (tx .entry))) (now (out .entry)) connection place (now (datagram .entry))) ⌝ }
-    ensures { λ _. ⌜ now (out .exit) ≡ Wk.walkEffect (loan (now (image .entry)) state (now (rx .entry)) (now (tx .entry))) (now (out .entry)) connection place (now (datagram .entry)) .out ⌝ }
+    ensures { λ r. ⌜ r ≡ dispatched
+        (Wk.walkEffect (loan (now (image .entry)) state (now (rx .entry)) (now (tx .entry))) (now (out .entry)) connection place (now (datagram .entry))) ⌝ }
+    ensures { λ _. ⌜ now (out .exit) ≡ Wk.walkEffect (loan (now (image .entry)) state (now (rx .entry)) (now (tx .entry)))
+        (now (out .entry)) connection place (now (datagram .entry)) .out ⌝ }
 {
     if out.len() < 16384 {
         return Dispatched {
@@ -320,7 +322,8 @@ fn take_once(
     requires { ⌜ Turning.Goes (now routes) connection (now segment) turn (now rx) ⌝ }
     ensures { λ r. ⌜ r ≡ Turning.takeTurn (now (routes .entry)) switches connection (now (segment .entry)) turn (now (rx .entry)) (now (out .entry)) ⌝ }
     ensures { λ _. ⌜ now (rx .exit) ≡ Turning.memoryFrom (now (routes .entry)) switches connection (now (segment .entry)) turn (now (rx .entry)) ⌝ }
-    ensures { λ _. ⌜ now (out .exit) ≡ lay (now (out .entry)) (turn .place) (Turning.turnBytes (now (routes .entry)) switches connection (now (segment .entry)) turn (now (rx .entry))) ⌝ }
+    ensures { λ _. ⌜ now (out .exit)
+        ≡ lay (now (out .entry)) (turn .place) (Turning.turnBytes (now (routes .entry)) switches connection (now (segment .entry)) turn (now (rx .entry))) ⌝ }
 {
     let rest = bytes_from(segment, turn.at);
     let part = turn.part;
@@ -367,9 +370,12 @@ fn take_all(
     out: &mut [u8],
 ) -> Takes
     requires { ⌜ Seg.answerRoom (now segment) ≤ length (now out) ⌝ }
-    ensures { λ r. ⌜ r ≡ Turning.takesOf (Seg.allTakes (loan (now (image .entry)) state (now (rx .entry)) (now (tx .entry))) connection (now (segment .entry))) ⌝ }
-    ensures { λ _. ⌜ now (rx .exit) ≡ Seg.allTakes (loan (now (image .entry)) state (now (rx .entry)) (now (tx .entry))) connection (now (segment .entry)) .rx ⌝ }
-    ensures { λ _. ⌜ now (out .exit) ≡ lay (now (out .entry)) 4 (Turning.takenBytes (Seg.allTakes (loan (now (image .entry)) state (now (rx .entry)) (now (tx .entry))) connection (now (segment .entry)))) ⌝ }
+    ensures { λ r. ⌜ r ≡ Turning.takesOf
+        (Seg.allTakes (loan (now (image .entry)) state (now (rx .entry)) (now (tx .entry))) connection (now (segment .entry))) ⌝ }
+    ensures { λ _. ⌜ now (rx .exit)
+        ≡ Seg.allTakes (loan (now (image .entry)) state (now (rx .entry)) (now (tx .entry))) connection (now (segment .entry)) .rx ⌝ }
+    ensures { λ _. ⌜ now (out .exit) ≡ lay (now (out .entry)) 4
+        (Turning.takenBytes (Seg.allTakes (loan (now (image .entry)) state (now (rx .entry)) (now (tx .entry))) connection (now (segment .entry)))) ⌝ }
 {
     let answer = may_take(image, state, rx.len(), tx.len(), connection);
     let done = is_done(answer);
@@ -434,9 +440,12 @@ pub fn segment(
     segment: &[u8],
     out: &mut [u8],
 ) -> Dispatched
-    ensures { λ r. ⌜ r ≡ dispatched (Seg.segmentEffect (loan (now (image .entry)) state (now (rx .entry)) (now (tx .entry))) (now (out .entry)) connection (now (segment .entry))) ⌝ }
-    ensures { λ _. ⌜ now (rx .exit) ≡ Seg.segmentEffect (loan (now (image .entry)) state (now (rx .entry)) (now (tx .entry))) (now (out .entry)) connection (now (segment .entry)) .rx ⌝ }
-    ensures { λ _. ⌜ now (out .exit) ≡ Seg.segmentEffect (loan (now (image .entry)) state (now (rx .entry)) (now (tx .entry))) (now (out .entry)) connection (now (segment .entry)) .out ⌝ }
+    ensures { λ r. ⌜ r ≡ dispatched
+        (Seg.segmentEffect (loan (now (image .entry)) state (now (rx .entry)) (now (tx .entry))) (now (out .entry)) connection (now (segment .entry))) ⌝ }
+    ensures { λ _. ⌜ now (rx .exit)
+        ≡ Seg.segmentEffect (loan (now (image .entry)) state (now (rx .entry)) (now (tx .entry))) (now (out .entry)) connection (now (segment .entry)) .rx ⌝ }
+    ensures { λ _. ⌜ now (out .exit)
+        ≡ Seg.segmentEffect (loan (now (image .entry)) state (now (rx .entry)) (now (tx .entry))) (now (out .entry)) connection (now (segment .entry)) .out ⌝ }
 {
     if out.len() < 16384 {
         return Dispatched {

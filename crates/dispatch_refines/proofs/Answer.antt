@@ -21,13 +21,15 @@ use Rattle.entry_events.specs.Count.{readOf, clearOf}
 use Rattle.entry_ticks.specs.Tick.{ticksEvent}
 use Rattle.entry_arrivals.specs.Arrivals.{datagramOf, acceptOf}
 use Rattle.event_decode.specs.declared.Call.{Call}
-use Rattle.event_decode.specs.declared.Call.the-variants.{Unknown, Unfit, Ticks, Own, Lost, Segment, Walk, TakeWaiting, Datagram, Accept, Transmit, SwitchAll, ReadCount, ClearCount}
+use Rattle.event_decode.specs.declared.Call.the-variants.{Unknown, Unfit, Ticks, Own, Lost, Segment, Walk}
+use Rattle.event_decode.specs.declared.Call.the-variants.{TakeWaiting, Datagram, Accept, Transmit, SwitchAll, ReadCount, ClearCount}
 use Rattle.event_decode.specs.Calls.{callOf, bytesFrom}
 use Rattle.event_answer.specs.declared.Verdict.{Verdict}
 use Rattle.event_answer.specs.declared.Verdict.the-variants.{Done, Unknown as NoEvent, Unfit as DoesNotFit, Small}
 use Rattle.event_answer.specs.Answers.{Effect, answers, untouched, room, ifRoom}
 use Rattle.event_answer.proofs.Short.{with-room}
-use Rattle.dispatch_events.specs.Events.{toldEffect, lossEffect, ticked, countedEffect, ownEffect, lostEffect, ticksEffect, switchAllEffect, readEffect, clearEffect}
+use Rattle.dispatch_events.specs.Events.{toldEffect, lossEffect, ticked, countedEffect, ownEffect}
+use Rattle.dispatch_events.specs.Events.{lostEffect, ticksEffect, switchAllEffect, readEffect, clearEffect}
 use Rattle.dispatch_receive.specs.Long.{longestBody}
 use Rattle.dispatch_receive.specs.Walk.{walkedBytes}
 use Rattle.dispatch_receive.specs.Segment.{Progress, begun, oneTake, takesUpTo, allTakes, eventBytes, segmentEffect}
@@ -49,7 +51,8 @@ last-counts : (done : Bool) (t : Take) (ts : List Take) → done ≡ true → 1 
 last-counts true t ts e = refl
 last-counts false t ts e = absurd (false≢true e)
 
-more-counts : (done left : Bool) (x y : Progress) (c : ℕ) (t : Take) (ts : List Take) → isDone (y .answer) ≡ done → isDone (cond (done && left) x y .answer) ≡ true
+more-counts : (done left : Bool) (x y : Progress) (c : ℕ) (t : Take) (ts : List Take)
+    → isDone (y .answer) ≡ done → isDone (cond (done && left) x y .answer) ≡ true
     → y .count ≡ c + 1 → (isDone (x .answer) ≡ true → x .count ≡ y .count + length ts)
     → cond (done && left) x y .count ≡ c + length (tookThen done left t ts)
 more-counts true true x y c t ts same d e h = omega (arith, h d, e)
@@ -60,7 +63,8 @@ module _ (l : Loan) (k : ℕ) (seg : List ℕ) where
   abbrev next : Progress → Progress
   next r = oneTake l k seg r
 
-  pub takes-count : (n : ℕ) (r : Progress) → isDone (takesUpTo l k seg n r .answer) ≡ true → takesUpTo l k seg n r .count ≡ r .count + length (takesFrom l k seg n r)
+  pub takes-count : (n : ℕ) (r : Progress) → isDone (takesUpTo l k seg n r .answer) ≡ true
+      → takesUpTo l k seg n r .count ≡ r .count + length (takesFrom l k seg n r)
   unfolding takesUpTo oneTake takesFrom
   takes-count zero r d = ap (λ (n : ℕ). r .count + n) (last-counts (isDone (next r .answer)) (nextTake l k seg r) [] d)
   takes-count (suc n) r d =
@@ -188,7 +192,8 @@ pub event-answered : (image : List ℕ) (m : Machine) (c : Spoken) → room ≤ 
     → dispatchOf (loanTo image m) (c .out) (c .number) (c .body) .verdict ≡ Done (length (answerBy image m c))
 unfolding dispatchOf
 event-answered image m c long known fit =
-    ap (λ (b : Bool). cond b (untouched Small (m .state) (m .rx) (m .tx) (c .out)) (effectOf (loanTo image m) (c .out) (c .body) (callOf (c .number) (c .body))) .verdict)
+    ap (λ (b : Bool). cond b (untouched Small (m .state) (m .rx) (m .tx) (c .out))
+    (effectOf (loanTo image m) (c .out) (c .body) (callOf (c .number) (c .body))) .verdict)
     (le-ltb (length (c .out)) room long)
     ∙ call-answered (loanTo image m) (c .out) long (c .body) (callOf (c .number) (c .body)) (call-short (c .number) (c .body)) known fit
 
@@ -202,9 +207,11 @@ answer-named image m c n said = go (ltb (length (c .out)) room) refl said
     low = fits (c .out) (answer-whole (loanTo image m) (c .out) (c .number) (c .body)) n said
 
     go : (b : Bool) → ltb (length (c .out)) room ≡ b
-        → cond b (untouched Small (m .state) (m .rx) (m .tx) (c .out)) (effectOf (loanTo image m) (c .out) (c .body) (callOf (c .number) (c .body))) .verdict ≡ Done n
+        → cond b (untouched Small (m .state) (m .rx) (m .tx) (c .out)) (effectOf (loanTo image m) (c .out) (c .body) (callOf (c .number) (c .body))) .verdict
+        ≡ Done n
         → Named (c .out) (answerBy image m c) n
         (cond b (untouched Small (m .state) (m .rx) (m .tx) (c .out)) (effectOf (loanTo image m) (c .out) (c .body) (callOf (c .number) (c .body))) .out)
     go true e d = absurd (false≢true (ap answered d))
     go false e d =
-        call-named (loanTo image m) (c .out) n low (ltb-false (length (c .out)) room e) (c .body) (callOf (c .number) (c .body)) (call-short (c .number) (c .body)) d
+        call-named (loanTo image m) (c .out) n low (ltb-false (length (c .out)) room e)
+        (c .body) (callOf (c .number) (c .body)) (call-short (c .number) (c .body)) d

@@ -11,7 +11,8 @@ use Rattle.connection.specs.declared.Refusal.{Refusal}
 use Rattle.gate.specs.declared.Gate.the-variants.{Refused}
 use Rattle.gate.specs.Gate.{gateOf}
 use Rattle.event_decode.specs.declared.Call.{Call}
-use Rattle.event_decode.specs.declared.Call.the-variants.{Unknown, Unfit, Ticks, Own, Lost, Segment, Walk, TakeWaiting, Datagram, Accept, Transmit, SwitchAll, ReadCount, ClearCount}
+use Rattle.event_decode.specs.declared.Call.the-variants.{Unknown, Unfit, Ticks, Own, Lost, Segment, Walk}
+use Rattle.event_decode.specs.declared.Call.the-variants.{TakeWaiting, Datagram, Accept, Transmit, SwitchAll, ReadCount, ClearCount}
 use Rattle.event_decode.specs.Calls.{callOf}
 use Rattle.event_answer.specs.Answers.{room}
 use Rattle.model.specs.Events.{tick, Event, onWhole}

@@ -116,7 +116,8 @@ module _ (R : Routes) (small : (i n q : ℕ) → R i n ≡ Refuse q → q < 256)
 be-small : (w : ℕ) (s : List ℕ) (at : ℕ) → Bytes s → be w s at < 256 ^ w
 unfolding be
 be-small zero s at b = omega arith
-be-small (suc w) s at b = subst (λ (m : ℕ). be w s at * 256 + byteAt s (at + w) < 256 ^ m) (add-one w) (grow w (be w s at) (byteAt s (at + w)) (be-small w s at b) (b (at + w)))
+be-small (suc w) s at b =
+    subst (λ (m : ℕ). be w s at * 256 + byteAt s (at + w) < 256 ^ m) (add-one w) (grow w (be w s at) (byteAt s (at + w)) (be-small w s at b) (b (at + w)))
 
 abbrev HeadFits : Head → Type 0
 HeadFits ended = Unit {0}

@@ -14,7 +14,8 @@ use Rattle.entry_events.specs.Change.{lossOf}
 use Rattle.entry_send.specs.declared.Taken.{Taken}
 use Rattle.entry_send.specs.Sending.{notTaken, takePast, takenWaiting}
 use Rattle.event_decode.specs.declared.Call.{Call}
-use Rattle.event_decode.specs.declared.Call.the-variants.{Unknown, Unfit, Ticks, Own, Lost, Segment, Walk, TakeWaiting, Datagram, Accept, Transmit, SwitchAll, ReadCount, ClearCount}
+use Rattle.event_decode.specs.declared.Call.the-variants.{Unknown, Unfit, Ticks, Own, Lost, Segment, Walk}
+use Rattle.event_decode.specs.declared.Call.the-variants.{TakeWaiting, Datagram, Accept, Transmit, SwitchAll, ReadCount, ClearCount}
 use Rattle.event_decode.specs.Calls.{callOf, bytesFrom}
 use Rattle.event_answer.specs.declared.Verdict.the-variants.{Small}
 use Rattle.event_answer.specs.Answers.{Effect, untouched, room, ifRoom}
@@ -47,7 +48,8 @@ module _ (image : List ℕ) (m : Machine) (out body : List ℕ) (long : room ≤
 
   -- the step of a call whose segment or datagram, where it has one, is short enough
   call-events : (call : Call) → Short body call → machineOf (effectOf (loanTo image m) out body call) ≡ afterRun image m (eventsOf body call)
-  unfolding effectOf eventsOf afterRun afterEvent afterOwn afterWhole ownEffect lostEffect lossOf ticksEffect switchAllEffect readEffect clearEffect datagramEffect acceptEffect transmitEffect takeEffect
+  unfolding effectOf eventsOf afterRun afterEvent afterOwn afterWhole ownEffect lostEffect lossOf
+      ticksEffect switchAllEffect readEffect clearEffect datagramEffect acceptEffect transmitEffect takeEffect
   call-events Unknown h = refl
   call-events Unfit h = refl
   call-events (Ticks n) h = past _ ∙ ticks-run image (m .rx) (m .tx) (m .state) n
@@ -59,7 +61,8 @@ module _ (image : List ℕ) (m : Machine) (out body : List ℕ) (long : room ≤
   call-events (Walk c place at) h = ap machineOf (walk-short (loanTo image m) out c place (bytesFrom body at) long (walk-fits body c place at h))
   call-events (TakeWaiting c n) h =
       past _
-      ∙ ap (λ (t : Taken). machine (t .state) (m .rx) (m .tx)) (take-room (loanTo image m) c (front (roomOf n) (replicate 1472 0)) (replicate (roomOf n) 0) (buffer-room n))
+      ∙ ap (λ (t : Taken). machine (t .state) (m .rx) (m .tx))
+      (take-room (loanTo image m) c (front (roomOf n) (replicate 1472 0)) (replicate (roomOf n) 0) (buffer-room n))
   call-events (Datagram group source) h = past _
   call-events (Accept group source) h = past _
   call-events (Transmit pdu at) h = past _

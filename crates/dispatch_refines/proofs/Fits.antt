@@ -49,7 +49,8 @@ use Rattle.entry_receive.proofs.Keeps.{in-range}
 use Rattle.entry_receive.proofs.Past.{stretch-length, passed-takes}
 use Rattle.entry_receive.proofs.Routed.{routed-owns}
 use Rattle.event_decode.specs.declared.Call.{Call}
-use Rattle.event_decode.specs.declared.Call.the-variants.{Unknown, Unfit, Ticks, Own, Lost, Segment, Walk, TakeWaiting, Datagram, Accept, Transmit, SwitchAll, ReadCount, ClearCount}
+use Rattle.event_decode.specs.declared.Call.the-variants.{Unknown, Unfit, Ticks, Own, Lost, Segment, Walk}
+use Rattle.event_decode.specs.declared.Call.the-variants.{TakeWaiting, Datagram, Accept, Transmit, SwitchAll, ReadCount, ClearCount}
 use Rattle.event_decode.specs.Calls.{callOf, bytesFrom}
 use Rattle.dispatch_receive.specs.Long.{longestBody}
 use Rattle.dispatch_receive.specs.Segment.{lentNext, Progress, begun, takeAt, memoryAt, oneTake, allTakes, eventBytes}
@@ -116,7 +117,8 @@ outcome-fits ids true begins read rest rx k (pdu r p) small spelt within room =
 outcome-fits ids false begins read rest rx k (pdu r p) small spelt within room =
     let h = small r p refl in
     let l : length (partOf (stretch 1464 k rx) 0 (length p)) ≡ length p =
-    ap length (part-fits (stretch 1464 k rx) 0 (length p) (omega (arith, h .1, room))) ∙ length-take-le (length p) (drop 0 (stretch 1464 k rx)) (omega (arith, h .1, room)) in
+    ap length (part-fits (stretch 1464 k rx) 0 (length p) (omega (arith, h .1, room)))
+    ∙ length-take-le (length p) (drop 0 (stretch 1464 k rx)) (omega (arith, h .1, room)) in
     (omega (arith, h .0), (omega (arith, h .1), l))
 outcome-fits ids s begins read rest rx k (dropped j i n) small spelt within room = spelt
 outcome-fits ids s begins read rest rx k (start r i n m) small spelt within room = spelt
@@ -163,7 +165,8 @@ module _ (start : Loan) (k : ℕ) (seg : List ℕ) (bytes : Bytes seg) (notLong 
     held : PartHolds Within Row (recordAt s k .part)
     held =
         owned-small routes k (recordAt s k .part) (takes .fit .limits)
-        (routed-owns routes k (recordAt s k .part) few (row-routed image k (recordAt s k) (record-at image (s .connections) k (clear .passed .sound) (in-range s k (clear .receives))) (clear .there)))
+        (routed-owns routes k (recordAt s k .part) few
+        (row-routed image k (recordAt s k) (record-at image (s .connections) k (clear .passed .sound) (in-range s k (clear .receives))) (clear .there)))
 
     decides : (i n r : ℕ) → R i n ≡ Decided.Accept r → Within r n
     decides i n r a =
@@ -184,7 +187,8 @@ module _ (start : Loan) (k : ℕ) (seg : List ℕ) (bytes : Bytes seg) (notLong 
         outs-fit R (reason-small routes k (recordAt s k .switches)) (λ i n r e. omega (arith, moves i n r e)) part rest (bytes-drop at seg bytes)
         (omega (arith, notLong, length-drop at seg)) (sane-heads Within Row (λ r low. omega (arith, low)) part sane)
 
-    outcome-is : segmentOf l k rest .outcome ≡ takeOutcome (idOf routes) (inSegment part) (length rest - length (takeB R part rest .rest)) (takeB R part rest .out)
+    outcome-is : segmentOf l k rest .outcome
+        ≡ takeOutcome (idOf routes) (inSegment part) (length rest - length (takeB R part rest .rest)) (takeB R part rest .out)
     unfolding segmentOf takeOn takenOf tookOf
     outcome-is = rw e refl
 
@@ -195,7 +199,8 @@ module _ (start : Loan) (k : ℕ) (seg : List ℕ) (bytes : Bytes seg) (notLong 
     pub take-fits : TakeFits at (takeAt l k seg at .outcome) (payloadOf rest (memoryAt l k seg at) k (takeAt l k seg at .outcome))
     take-fits =
         subst (λ (o : _). TakeFits at o (payloadOf rest (memoryOf l k rest) k o)) (sym outcome-is)
-        (outcome-fits (idOf routes) (inSegment part) at (length rest - length (takeB R part rest .rest)) rest (memoryOf l k rest) k (takeB R part rest .out) small spelt
+        (outcome-fits (idOf routes) (inSegment part) at (length rest - length (takeB R part rest .rest)) rest
+        (memoryOf l k rest) k (takeB R part rest .out) small spelt
         (omega (arith, within, notLong, length-drop at seg)) (stretch-length k (memoryOf l k rest) (takes .small) memory-long))
 
   -- THE TAKES, one after the other
@@ -207,7 +212,8 @@ module _ (start : Loan) (k : ℕ) (seg : List ℕ) (bytes : Bytes seg) (notLong 
   unfolding takesFrom oneTake takesRead bytesIn outsIn
   takes-back zero r within = more-back seg (isDone (next r .answer)) false (nextTake start k seg r) [] (take-fits (lentNext start k seg r) (r .at) within) refl
   takes-back (suc n) r within =
-      more-back seg (isDone (next r .answer)) (ltb (next r .at) (length seg)) (nextTake start k seg r) (takesFrom start k seg n (next r)) (take-fits (lentNext start k seg r) (r .at) within)
+      more-back seg (isDone (next r .answer)) (ltb (next r .at) (length seg)) (nextTake start k seg r)
+      (takesFrom start k seg n (next r)) (take-fits (lentNext start k seg r) (r .at) within)
       (takes-back n (next r) (omega (arith, within, read-within (lentNext start k seg r) k (drop (r .at) seg), length-drop (r .at) seg)))
 
   none-taken : (n : ℕ) (r : Progress) → isDone (next r .answer) ≡ false → takesFrom start k seg n r ≡ []
@@ -267,7 +273,8 @@ walk-read l k datagram place bytes notLong = go (isDone (walkAnswer l k datagram
         → walkRead datagram (walkedBytes (cond b (walkOn (l .image) (l .state) k datagram place) (noneWalked (l .state) place (walkAnswer l k datagram place))))
         ≡ toldWalk datagram (cond b (walkOn (l .image) (l .state) k datagram place) (noneWalked (l .state) place (walkAnswer l k datagram place)) .outcome)
     go true =
-        walk-read-back datagram Done (walkOn (l .image) (l .state) k datagram place .next) (walkOn (l .image) (l .state) k datagram place .outcome) (fits (headOf (drop place datagram)) refl) (λ z. absurd (true≢false z))
+        walk-read-back datagram Done (walkOn (l .image) (l .state) k datagram place .next)
+        (walkOn (l .image) (l .state) k datagram place .outcome) (fits (headOf (drop place datagram)) refl) (λ z. absurd (true≢false z))
     go false = walk-read-back datagram (walkAnswer l k datagram place) place Met.End tt (λ z. refl)
 
 -- THE ANSWER OF A CALL, whose body is bytes: reading it gives exactly what the call tells

@@ -91,7 +91,8 @@ module _ (segment : List ℕ) where
   piece-read true l route place n e w p m = (rw (e, w, p, m) refl, rw e refl)
   piece-read false l route place n e w p m = (rw (e, w, p, m) refl, rw e refl)
 
-  pdu-read : (l : List ℕ) (route : ℕ) (payload : List ℕ) → be 1 l 4 ≡ 1 → be 1 l 5 ≡ route → payloadRead segment l ≡ payload → takeRead segment l ≡ pdu route payload ∷ []
+  pdu-read : (l : List ℕ) (route : ℕ) (payload : List ℕ) → be 1 l 4 ≡ 1 → be 1 l 5 ≡ route
+      → payloadRead segment l ≡ payload → takeRead segment l ≡ pdu route payload ∷ []
   unfolding takeRead
   pdu-read l route payload e f g = rw (e, f, g) refl
 
@@ -146,7 +147,8 @@ module _ (segment : List ℕ) where
       let behind : List ℕ = spell 1 0 ++ (spell 4 (begins + at) ++ rest) in
       let is : l ≡ foundBytes read 1 route id n ++ behind = simp append-assoc in
       let kind : be 1 l 4 ≡ 1 = kind-at read 1 route id n behind is (omega arith) in
-      let where₀ : be 1 l 14 ≡ 0 = number-at 1 0 (foundBytes read 1 route id n) (spell 4 (begins + at) ++ rest) 14 (omega arith) (length-found read 1 route id n) is in
+      let where₀ : be 1 l 14 ≡ 0 =
+      number-at 1 0 (foundBytes read 1 route id n) (spell 4 (begins + at) ++ rest) 14 (omega arith) (length-found read 1 route id n) is in
       let place : be 4 l 15 ≡ begins + at =
       number-at 4 (begins + at) (foundBytes read 1 route id n ++ spell 1 0) rest 15 (h .1 .1) (simp (length-append, length-spell)) (simp append-assoc) in
       let t = here-read l (begins + at) n kind where₀ place (length-at read 1 route id n behind is (h .1 .0)) in (
@@ -243,8 +245,13 @@ module _ (datagram : List ℕ) where
   unfolding walkRead stepRead
   drop-step next reason id n h =
       let is = behind next 2 reason id n in
-      rw
-      (is-done next 2 reason id n, kind-at next 2 reason id n [] is (omega arith), which-at next 2 reason id n [] is (h .0), id-at next 2 reason id n [] is (h .1 .0), length-at next 2 reason id n [] is (h .1 .1))
+      rw (
+        is-done next 2 reason id n,
+        kind-at next 2 reason id n [] is (omega arith),
+        which-at next 2 reason id n [] is (h .0),
+        id-at next 2 reason id n [] is (h .1 .0),
+        length-at next 2 reason id n [] is (h .1 .1),
+      )
       refl
 
   step-back : (next : ℕ) (o : Step) → StepFits o → walkRead datagram (walkBytes next o) ≡ toldWalk datagram o
@@ -255,14 +262,18 @@ module _ (datagram : List ℕ) where
       let l : List ℕ = walkBytes next (Met.Pdu route id at n) in
       let zero-at : be 2 l 0 ≡ 0 = number-at 2 0 [] (foundBytes next 1 route id n ++ spell 4 at) 0 (omega arith) refl (simp append-assoc) in
       let is : drop 2 l ≡ foundBytes next 1 route id n ++ spell 4 at =
-      ap (drop 2) (append-assoc (spell 2 0) (foundBytes next 1 route id n) (spell 4 at)) ∙ drop-at (spell 2 0) (foundBytes next 1 route id n ++ spell 4 at) 2 (length-spell 2 0) in
+      ap (drop 2) (append-assoc (spell 2 0) (foundBytes next 1 route id n) (spell 4 at))
+      ∙ drop-at (spell 2 0) (foundBytes next 1 route id n ++ spell 4 at) 2 (length-spell 2 0) in
       let k : be 1 (drop 2 l) 4 ≡ 1 = kind-at next 1 route id n (spell 4 at) is (omega arith) in
       let w : be 1 (drop 2 l) 5 ≡ route = which-at next 1 route id n (spell 4 at) is (h .0) in
       let m : be 4 (drop 2 l) 10 ≡ n = length-at next 1 route id n (spell 4 at) is (h .1 .0) in
-      let p : be 4 (drop 2 l) 14 ≡ at = number-at 4 at (foundBytes next 1 route id n) [] 14 (h .1 .1) (length-found next 1 route id n) (is ∙ ap (λ (x : List ℕ). foundBytes next 1 route id n ++ x) (sym (append-nil (spell 4 at)))) in
+      let p : be 4 (drop 2 l) 14 ≡ at =
+      number-at 4 at (foundBytes next 1 route id n) [] 14 (h .1 .1) (length-found next 1 route id n)
+      (is ∙ ap (λ (x : List ℕ). foundBytes next 1 route id n ++ x) (sym (append-nil (spell 4 at)))) in
       rw (zero-at, k, w, m, p) refl
 
-  pub walk-read-back : (a : Answer) (next : ℕ) (o : Step) → StepFits o → (isDone a ≡ false → o ≡ Met.End) → walkRead datagram (orRefused a (walkBytes next o)) ≡ toldWalk datagram o
+  pub walk-read-back : (a : Answer) (next : ℕ) (o : Step) → StepFits o → (isDone a ≡ false → o ≡ Met.End)
+      → walkRead datagram (orRefused a (walkBytes next o)) ≡ toldWalk datagram o
   unfolding walkRead
   walk-read-back Done next o h none = step-back next o h
   walk-read-back (Refused r) next o h none = not-read (refusalNumber r) _ (some-number r .0) (some-number r .1) ∙ sym (ap (toldWalk datagram) (none refl))

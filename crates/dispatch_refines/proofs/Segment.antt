@@ -64,7 +64,9 @@ module _ (l : Loan) (k : ℕ) (seg : List ℕ) where
       machine-if (isDone (t .answer) && ltb (r .at + t .read) (length seg)) (many n (next r)) (next r)
       ∙ ap (λ (x : Machine). cond (isDone (t .answer) && ltb (r .at + t .read) (length seg)) x (afterOne image k (machineAt r) (drop (r .at) seg)))
       (takes-machine n (next r) ∙ ap (afterTakes image k (suc n) (afterOne image k (machineAt r) (drop (r .at) seg))) (sym (drop-drop (t .read) (r .at) seg)))
-      ∙ ap (λ (b : Bool). cond b (afterTakes image k (suc n) (afterOne image k (machineAt r) (drop (r .at) seg)) (restOf image k (machineAt r) (drop (r .at) seg))) (afterOne image k (machineAt r) (drop (r .at) seg)))
+      ∙ ap (λ (b : Bool). cond b
+      (afterTakes image k (suc n) (afterOne image k (machineAt r) (drop (r .at) seg)) (restOf image k (machineAt r) (drop (r .at) seg)))
+      (afterOne image k (machineAt r) (drop (r .at) seg)))
       (goes-alike image k (isDone (t .answer)) (t .read) (r .at) seg)
 
 -- A SEGMENT EVENT, of either

@@ -28,7 +28,8 @@ use Rattle.dispatch_refines.proofs.Segment.{either-way, goes-alike, mac
 abbrev bytesFor : Take → List ℕ
 bytesFor t = takeBytes (t .begins) (t .read) (t .outcome) (t .payload)
 
-last-bytes : (a : Answer) (before : List ℕ) (t : Take) (ts : List Take) → before ++ bytesIfDone a (bytesFor t) ≡ before ++ bytesIn (tookThen (isDone a) false t ts)
+last-bytes : (a : Answer) (before : List ℕ) (t : Take) (ts : List Take)
+    → before ++ bytesIfDone a (bytesFor t) ≡ before ++ bytesIn (tookThen (isDone a) false t ts)
 unfolding bytesIn
 last-bytes Done before t ts = ap (λ (l : List ℕ). before ++ l) (sym (append-nil (bytesFor t)))
 last-bytes (Refused r) before t ts = refl
@@ -129,12 +130,15 @@ module _ (l : Loan) (k : ℕ) (seg : List ℕ) where
   takes-told : (n : ℕ) (r : Progress) → toldTakes image k (suc n) (here r) (rest r) ≡ outsIn seg (takesFrom l k seg n r)
   unfolding toldTakes takesFrom oneTake
   takes-told zero r =
-      ap (λ (ps : List Out). toldBy image k (here r) (rest r) ++ ps) (sym (either-way (goesOn image k (isDone (taken image k (here r) (rest r) .answer)) (restOf image k (here r) (rest r))) []))
-      ∙ last-told image k seg (isDone (taken image k (here r) (rest r) .answer)) (toldBy image k (here r) (rest r)) (nextTake l k seg r) [] (own-none r) (own-told r)
+      ap (λ (ps : List Out). toldBy image k (here r) (rest r) ++ ps)
+      (sym (either-way (goesOn image k (isDone (taken image k (here r) (rest r) .answer)) (restOf image k (here r) (rest r))) []))
+      ∙ last-told image k seg (isDone (taken image k (here r) (rest r) .answer))
+      (toldBy image k (here r) (rest r)) (nextTake l k seg r) [] (own-none r) (own-told r)
   takes-told (suc n) r =
       let t = taken image k (here r) (rest r) in
       let r′ = oneTake l k seg r in
-      ap (λ (b : Bool). toldBy image k (here r) (rest r) ++ cond b (toldTakes image k (suc n) (afterOne image k (here r) (rest r)) (restOf image k (here r) (rest r))) [])
+      ap (λ (b : Bool). toldBy image k (here r) (rest r) ++ cond b
+      (toldTakes image k (suc n) (afterOne image k (here r) (rest r)) (restOf image k (here r) (rest r))) [])
       (sym (goes-alike image k (isDone (t .answer)) (t .read) (r .at) seg))
       ∙ more-told image k seg (isDone (t .answer)) (ltb (r′ .at) (length seg)) (toldBy image k (here r) (rest r))
       (toldTakes image k (suc n) (afterOne image k (here r) (rest r)) (restOf image k (here r) (rest r))) (nextTake l k seg r) (takesFrom l k seg n r′)

@@ -8,7 +8,8 @@ use lib.ListN.{length, replicate}
 use Rattle.reading.specs.Feed.{Out, compared}
 use Rattle.reading_lengths.specs.Listed.{Bytes}
 use Rattle.event_decode.specs.declared.Call.{Call}
-use Rattle.event_decode.specs.declared.Call.the-variants.{Unknown, Unfit, Ticks, Own, Lost, Segment, Walk, TakeWaiting, Datagram, Accept, Transmit, SwitchAll, ReadCount, ClearCount}
+use Rattle.event_decode.specs.declared.Call.the-variants.{Unknown, Unfit, Ticks, Own, Lost, Segment, Walk}
+use Rattle.event_decode.specs.declared.Call.the-variants.{TakeWaiting, Datagram, Accept, Transmit, SwitchAll, ReadCount, ClearCount}
 use Rattle.event_decode.specs.Calls.{callOf, bytesFrom}
 use Rattle.event_answer.specs.Answers.{room}
 use Rattle.model.specs.Events.{tick, Event, onWhole}
@@ -55,7 +56,8 @@ module _ (image : List ℕ) (k : ℕ) where
   unfolding tellsBy speltBy givenIn
   call-told m c = go (ltb (length (c .out)) room)
     where
-      go : (b : Bool) → cond b [] (tellsOf image k m (c .body) (callOf (c .number) (c .body))) ≡ givenIn image k m (cond b [] (eventsOf (c .body) (callOf (c .number) (c .body))))
+      go : (b : Bool) → cond b [] (tellsOf image k m (c .body) (callOf (c .number) (c .body)))
+          ≡ givenIn image k m (cond b [] (eventsOf (c .body) (callOf (c .number) (c .body))))
       go true = refl
       go false = call-tells m (c .body) (callOf (c .number) (c .body))
 

@@ -68,8 +68,10 @@ pub fn datagram(
     source: Remote,
     out: &mut [u8],
 ) -> Dispatched
-    ensures { λ r. ⌜ r ≡ dispatched (Is.datagramEffect (loan (now (image .entry)) state (now (rx .entry)) (now (tx .entry))) (now (out .entry)) group source) ⌝ }
-    ensures { λ _. ⌜ now (out .exit) ≡ Is.datagramEffect (loan (now (image .entry)) state (now (rx .entry)) (now (tx .entry))) (now (out .entry)) group source .out ⌝ }
+    ensures { λ r. ⌜ r ≡ dispatched
+        (Is.datagramEffect (loan (now (image .entry)) state (now (rx .entry)) (now (tx .entry))) (now (out .entry)) group source) ⌝ }
+    ensures { λ _. ⌜ now (out .exit)
+        ≡ Is.datagramEffect (loan (now (image .entry)) state (now (rx .entry)) (now (tx .entry))) (now (out .entry)) group source .out ⌝ }
 {
     if out.len() < 16384 {
         return Dispatched {
@@ -97,7 +99,8 @@ pub fn accept(
     out: &mut [u8],
 ) -> Dispatched
     ensures { λ r. ⌜ r ≡ dispatched (Is.acceptEffect (loan (now (image .entry)) state (now (rx .entry)) (now (tx .entry))) (now (out .entry)) group source) ⌝ }
-    ensures { λ _. ⌜ now (out .exit) ≡ Is.acceptEffect (loan (now (image .entry)) state (now (rx .entry)) (now (tx .entry))) (now (out .entry)) group source .out ⌝ }
+    ensures { λ _. ⌜ now (out .exit)
+        ≡ Is.acceptEffect (loan (now (image .entry)) state (now (rx .entry)) (now (tx .entry))) (now (out .entry)) group source .out ⌝ }
 {
     if out.len() < 16384 {
         return Dispatched {
@@ -124,9 +127,12 @@ pub fn transmit(
     payload: &[u8],
     out: &mut [u8],
 ) -> Dispatched
-    ensures { λ r. ⌜ r ≡ dispatched (Is.transmitEffect (loan (now (image .entry)) state (now (rx .entry)) (now (tx .entry))) (now (out .entry)) pdu (now (payload .entry))) ⌝ }
-    ensures { λ _. ⌜ now (tx .exit) ≡ Is.transmitEffect (loan (now (image .entry)) state (now (rx .entry)) (now (tx .entry))) (now (out .entry)) pdu (now (payload .entry)) .tx ⌝ }
-    ensures { λ _. ⌜ now (out .exit) ≡ Is.transmitEffect (loan (now (image .entry)) state (now (rx .entry)) (now (tx .entry))) (now (out .entry)) pdu (now (payload .entry)) .out ⌝ }
+    ensures { λ r. ⌜ r ≡ dispatched
+        (Is.transmitEffect (loan (now (image .entry)) state (now (rx .entry)) (now (tx .entry))) (now (out .entry)) pdu (now (payload .entry))) ⌝ }
+    ensures { λ _. ⌜ now (tx .exit)
+        ≡ Is.transmitEffect (loan (now (image .entry)) state (now (rx .entry)) (now (tx .entry))) (now (out .entry)) pdu (now (payload .entry)) .tx ⌝ }
+    ensures { λ _. ⌜ now (out .exit)
+        ≡ Is.transmitEffect (loan (now (image .entry)) state (now (rx .entry)) (now (tx .entry))) (now (out .entry)) pdu (now (payload .entry)) .out ⌝ }
 {
     if out.len() < 16384 {
         return Dispatched {
@@ -163,8 +169,10 @@ fn take_into(
     buffer: &mut [u8],
     out: &mut [u8],
 ) -> Dispatched
-    ensures { λ r. ⌜ r ≡ dispatched (Is.takeInto (loan (now (image .entry)) state (now (rx .entry)) (now (tx .entry))) (now (out .entry)) connection (now (buffer .entry))) ⌝ }
-    ensures { λ _. ⌜ now (out .exit) ≡ Is.takeInto (loan (now (image .entry)) state (now (rx .entry)) (now (tx .entry))) (now (out .entry)) connection (now (buffer .entry)) .out ⌝ }
+    ensures { λ r. ⌜ r ≡ dispatched
+        (Is.takeInto (loan (now (image .entry)) state (now (rx .entry)) (now (tx .entry))) (now (out .entry)) connection (now (buffer .entry))) ⌝ }
+    ensures { λ _. ⌜ now (out .exit)
+        ≡ Is.takeInto (loan (now (image .entry)) state (now (rx .entry)) (now (tx .entry))) (now (out .entry)) connection (now (buffer .entry)) .out ⌝ }
 {
     let entry = entry_send::take_waiting(image, state, rx, tx, connection, buffer);
     let answer = entry.answer;
@@ -186,7 +194,8 @@ pub fn take_waiting(
     out: &mut [u8],
 ) -> Dispatched
     ensures { λ r. ⌜ r ≡ dispatched (Is.takeEffect (loan (now (image .entry)) state (now (rx .entry)) (now (tx .entry))) (now (out .entry)) connection room) ⌝ }
-    ensures { λ _. ⌜ now (out .exit) ≡ Is.takeEffect (loan (now (image .entry)) state (now (rx .entry)) (now (tx .entry))) (now (out .entry)) connection room .out ⌝ }
+    ensures { λ _. ⌜ now (out .exit)
+        ≡ Is.takeEffect (loan (now (image .entry)) state (now (rx .entry)) (now (tx .entry))) (now (out .entry)) connection room .out ⌝ }
 {
     let short = out.len() < 16384;
     if short {

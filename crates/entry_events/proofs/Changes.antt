@@ -14,13 +14,15 @@ use Rattle.state.specs.State.{recordAt, withRecord}
 use Rattle.state.specs.Fresh.{configOf}
 use Rattle.entry_events.specs.Change.{refusedTold, toldOf, changeOf}
 
-module _ (image : List ℕ) (s : State) (n : ℕ) (e : Event) (g : Config) (t : Stepped) (config : g ≡ configOf image n) (stepped : t ≡ stepOf e g (recordAt s n)) where
+module _ (image : List ℕ) (s : State) (n : ℕ) (e : Event) (g : Config) (t : Stepped)
+    (config : g ≡ configOf image n) (stepped : t ≡ stepOf e g (recordAt s n)) where
   is : t ≡ stepOf e (configOf image n) (recordAt s n)
   is = stepped ∙ ap (λ (x : Config). stepOf e x (recordAt s n)) config
 
   pub change-refused : (r : Refusal) → t .answer ≡ Refused r → refusedTold s r ≡ changeOf image s n e
   unfolding changeOf toldOf
-  change-refused r a = sym (ap (λ (x : Answer). toldOf s n x (stepOf e (configOf image n) (recordAt s n) .connection)) (ap (λ (x : Stepped). x .answer) (sym is) ∙ a))
+  change-refused r a = sym
+      (ap (λ (x : Answer). toldOf s n x (stepOf e (configOf image n) (recordAt s n) .connection)) (ap (λ (x : Stepped). x .answer) (sym is) ∙ a))
 
   pub change-done : t .answer ≡ Done → record { answer = Done; state = withRecord n (t .connection) s } ≡ changeOf image s n e
   unfolding changeOf toldOf

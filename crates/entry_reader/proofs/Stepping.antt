@@ -48,7 +48,8 @@ refused-stays r l k h =
     h
 
 -- so a reader that is moved to the next place is the reader as it was
-pub refused-reader : (r : DatagramReader) (l : Lent) (k : ℕ) → isDone (walkAnswer l k (now (r .datagram)) (r .place)) ≡ false → movedTo r (answerAt r l k .next) ≡ r
+pub refused-reader : (r : DatagramReader) (l : Lent) (k : ℕ)
+    → isDone (walkAnswer l k (now (r .datagram)) (r .place)) ≡ false → movedTo r (answerAt r l k .next) ≡ r
 refused-reader r l k h = ap (λ (a : DatagramWalked). movedTo r (a .next)) (refused-stays r l k h)
 
 module _ (l : Lent) (k : ℕ) (d : List ℕ) where
@@ -67,7 +68,8 @@ module _ (l : Lent) (k : ℕ) (d : List ℕ) where
     -- a walk that nothing refuses is not refused at a later place either
     still-done : (t : State) (q : ℕ) → t .connections ≡ l .state .connections → q ≤ length d → isDone (walkAnswer (next l t) k d q) ≡ true
     still-done t q e le =
-        let allowed : walkAllowed (l .image) k d q ≡ true = and-both (and-left (not (configOf (l .image) k .tcp)) (leb p (length d)) allows) (le-leb q (length d) le) in
+        let allowed : walkAllowed (l .image) k d q ≡ true =
+        and-both (and-left (not (configOf (l .image) k .tcp)) (leb p (length d)) allows) (le-leb q (length d) le) in
         ap isDone (by-records t (walkAllowed (l .image) k d q) e ∙ ap (judgedAnswer l k) (allowed ∙ sym allows)) ∙ done
 
     goes-on : walkOf l k d p ≡ walkOn (l .image) (l .state) k d p
@@ -110,7 +112,8 @@ module _ (l : Lent) (k : ℕ) (x : RefT (List ℕ)) where
   reads-walk zero p s e done = refl
   reads-walk (suc f) p s e done =
       let later : readAll f (movedTo (opened x) (w s p e done .next)) (next l (w s p e done .state)) k ≡ walks R f d (walkAt R d p .next) =
-      reads-walk f (w s p e done .next) (w s p e done .state) (walk-records (next l s) k d p ∙ e) (next-done s p e done) ∙ ap (walks R f d) (next-is s p e done) in
+      reads-walk f (w s p e done .next) (w s p e done .state) (walk-records (next l s) k d p ∙ e) (next-done s p e done)
+      ∙ ap (walks R f d) (next-is s p e done) in
       ap₂ (tellOf d) (outcome-is s p e done) later ∙ told-is R d p (walks R f d (walkAt R d p .next)) (within (next l s) k d p done)
 
 -- A READER THAT IS NOT REFUSED gives, answer after answer from its place on, the list of the rest of its datagram: by lengths alone, as the definition says it

@@ -32,7 +32,8 @@ judged-clear : (allowed : Bool) (c : Connection) → isDone (judgedOf allowed c)
 unfolding judgedOf
 judged-clear allowed c p = go allowed (receiving c) refl refl p
   where
-    go : (a b : Bool) → allowed ≡ a → receiving c ≡ b → isDone (cond a (cond b Done NotReceiving) (Refused Denied)) ≡ true → (allowed ≡ true) × (receiving c ≡ true)
+    go : (a b : Bool) → allowed ≡ a → receiving c ≡ b
+        → isDone (cond a (cond b Done NotReceiving) (Refused Denied)) ≡ true → (allowed ≡ true) × (receiving c ≡ true)
     go true true e f q = (e, f)
     go true false e f q = impossible q
     go false b e f q = impossible q
@@ -60,7 +61,8 @@ module _ (allowed : Bool) (c : Connection) where
       let r : receiving c ≡ true = ap (λ (b : Bool). b && not (c .«close_wanted»)) (sym e) ∙ q in
       rw (not-false allowed p, r)
 
-  pub judged-not : (online : Bool) → not allowed ≡ false → online ≡ isOnline (c .mode) → (online && not (c .«close_wanted»)) ≡ false → NotReceiving ≡ judgedOf allowed c
+  pub judged-not : (online : Bool) → not allowed ≡ false → online ≡ isOnline (c .mode)
+      → (online && not (c .«close_wanted»)) ≡ false → NotReceiving ≡ judgedOf allowed c
   unfolding judgedOf
   judged-not online p e q =
       let r : receiving c ≡ false = ap (λ (b : Bool). b && not (c .«close_wanted»)) (sym e) ∙ q in

@@ -56,7 +56,8 @@ take-apart image s rx k segment bytes takes =
     }
 
 -- THE SEGMENT ENTRY, whatever it answers
-pub segment-apart : (l : Loan) (k : ℕ) (segment : List ℕ) → ((i : ℕ) → getD segment i 0 < 256) → Apart k (l .state) (segmentOf l k segment .state) (l .rx) (memoryOf l k segment)
+pub segment-apart : (l : Loan) (k : ℕ) (segment : List ℕ) → ((i : ℕ) → getD segment i 0 < 256)
+    → Apart k (l .state) (segmentOf l k segment .state) (l .rx) (memoryOf l k segment)
 unfolding segmentOf memoryOf
 segment-apart l k segment bytes = go (isDone (segmentAnswer (sizes l) k)) refl
   where
@@ -73,6 +74,7 @@ pub walk-apart : (l : Lent) (k : ℕ) (datagram : List ℕ) (place : ℕ) → wa
 unfolding walkOf walkOn
 walk-apart l k datagram place = go (isDone (walkAnswer l k datagram place))
   where
-    go : (b : Bool) → cond b (walkOn (l .image) (l .state) k datagram place) (noneWalked (l .state) place (walkAnswer l k datagram place)) .state .«tcp_drops» ≡ l .state .«tcp_drops»
+    go : (b : Bool) → cond b (walkOn (l .image) (l .state) k datagram place) (noneWalked (l .state) place (walkAnswer l k datagram place)) .state .«tcp_drops»
+        ≡ l .state .«tcp_drops»
     go true = count-tcp (walkedAt (l .image) (l .state) k datagram place .outcome) (l .state)
     go false = refl

@@ -147,7 +147,8 @@ pub walk-records : (l : Lent) (k : ℕ) (datagram : List ℕ) (place : ℕ) → 
 unfolding walkOf walkOn
 walk-records l k datagram place = go (isDone (walkAnswer l k datagram place))
   where
-    go : (b : Bool) → cond b (walkOn (l .image) (l .state) k datagram place) (noneWalked (l .state) place (walkAnswer l k datagram place)) .state .connections ≡ l .state .connections
+    go : (b : Bool) → cond b (walkOn (l .image) (l .state) k datagram place) (noneWalked (l .state) place (walkAnswer l k datagram place)) .state .connections
+        ≡ l .state .connections
     go true = walk-count-records (walkedAt (l .image) (l .state) k datagram place .outcome) (l .state)
     go false = refl
 

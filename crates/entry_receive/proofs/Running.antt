@@ -35,7 +35,8 @@ module _ (l : Loan) (k : ℕ) (segment : List ℕ) where
     where
       go : (b : Bool) → isDone (segmentAnswer (sizes l) k) ≡ b
           → transferring (recordAt (cond b (takeOn (l .image) (l .state) (l .rx) k segment) (noneTaken (l .state) (segmentAnswer (sizes l) k)) .state) k .part)
-          ≡ runsAfter (transferring (recordAt (l .state) k .part)) (cond b (takeOn (l .image) (l .state) (l .rx) k segment) (noneTaken (l .state) (segmentAnswer (sizes l) k)) .outcome)
+          ≡ runsAfter (transferring (recordAt (l .state) k .part))
+          (cond b (takeOn (l .image) (l .state) (l .rx) k segment) (noneTaken (l .state) (segmentAnswer (sizes l) k)) .outcome)
       go true e =
           let c : Clear (sizes l) k (configOf (l .image) k .tcp) = done-clear (sizes l) k (configOf (l .image) k .tcp) e in
           ap (λ (d : Connection). transferring (d .part)) (record-after l k segment bytes c)
@@ -50,11 +51,13 @@ module _ (l : Loan) (k : ℕ) (segment : List ℕ) where
     where
       go : (b : Bool) → cond b (takeOn (l .image) (l .state) (l .rx) k segment) (noneTaken (l .state) (segmentAnswer (sizes l) k)) .outcome ≡ Piece r i at n m
           → PieceStands segment (cond b (takeOn (l .image) (l .state) (l .rx) k segment) (noneTaken (l .state) (segmentAnswer (sizes l) k)) .read) at n
-      go true e = leaves-piece (bodyOf (l .image) Routes) k (recordAt (l .state) k .switches) (recordAt (l .state) k .part) (stretch 1464 k (l .rx)) segment r i at n m e
+      go true e = leaves-piece (bodyOf (l .image) Routes) k (recordAt (l .state) k .switches)
+          (recordAt (l .state) k .part) (stretch 1464 k (l .rx)) segment r i at n m e
       go false e = let z : _≡_ {A = ℕ} 0 1 = cc in absurd (omega arith)
 
 -- so what `segment_payload` returns of it are the segment's first bytes, and it returns them where they stand
-pub piece-bytes : (segment rx : List ℕ) (k r i read at n : ℕ) (m : Bool) → PieceStands segment read at n → payloadOf segment rx k (Piece r i at n m) ≡ take n segment
+pub piece-bytes : (segment rx : List ℕ) (k r i read at n : ℕ) (m : Bool)
+    → PieceStands segment read at n → payloadOf segment rx k (Piece r i at n m) ≡ take n segment
 unfolding payloadOf
 piece-bytes segment rx k r i read at n m s = part-fits segment at n (omega (arith, s .within, s .front)) ∙ ap (λ (a : ℕ). take n (drop a segment)) (s .front)
 

@@ -29,7 +29,8 @@ use Rattle.entry_receive.specs.declared.Answer.the-variants.{Done}
 use Rattle.entry_receive.specs.declared.SegmentTaken.{SegmentTaken}
 use Rattle.gate.specs.Lent.{Loan, sizes}
 use Rattle.entry_receive.specs.Answer.{isDone}
-use Rattle.entry_receive.specs.Segment.{dropsAfter, countTake, takenAt, stretchAt, takeOn, memoryOn, Takes, noneTaken, segmentAnswer, segmentOf, memoryOf, payloadOf, payloadStands}
+use Rattle.entry_receive.specs.Segment.{dropsAfter, countTake, takenAt, stretchAt, takeOn, memoryOn, Takes}
+use Rattle.entry_receive.specs.Segment.{noneTaken, segmentAnswer, segmentOf, memoryOf, payloadOf, payloadStands}
 use Rattle.entry_receive.proofs.Answers.{Clear, done-clear}
 use Rattle.entry_receive.proofs.Past.{passed-takes}
 
@@ -47,7 +48,8 @@ module _ (n : ℕ) (rx : List ℕ) where
   stretch-all = ap (λ (k : ℕ). take k (drop (n * 1464) rx)) (add-sub-cancel-left (n * 1464) 1464)
 
 -- a stretch put back in the middle of receive memory is laid there
-pub mid-laid : (n : ℕ) (rx m : List ℕ) → n < 16 → length rx ≡ 23424 → length m ≡ 1464 → putMid (n * 1464) (n * 1464 + 1464 - n * 1464) rx m ≡ lay rx (n * 1464) m
+pub mid-laid : (n : ℕ) (rx m : List ℕ) → n < 16 → length rx ≡ 23424 → length m ≡ 1464
+    → putMid (n * 1464) (n * 1464 + 1464 - n * 1464) rx m ≡ lay rx (n * 1464) m
 mid-laid n rx m small room l =
     ap (λ (z : List ℕ). take (n * 1464) rx ++ (m ++ z)) (post-is (n * 1464) (n * 1464 + 1464) rx (omega arith))
     ∙ sym (append-assoc (take (n * 1464) rx) m (drop (n * 1464 + 1464) rx))
@@ -62,15 +64,18 @@ payload-pdu segment rx n outcome route id inside at size eo own ew p ep =
     rw eo (ep ∙ ap (λ (l : List ℕ). payloadAt segment l inside at size) ew)
 
 -- and where it stands
-pub payload-there : (p : ℕ × ℕ) (segment : List ℕ) (q : ℕ × ℕ) (rx : List ℕ) (n : ℕ) (outcome : Outcome) (route id : ℕ) (inside : Bool) (at size : ℕ) → outcome ≡ Pdu route id inside at size
-    → (own : List ℕ) → own ≡ stretch 1464 n rx → (o : ℕ × ℕ) → o ≡ behind q (fromAt rx (n * 1464)) → (r : ℕ × ℕ) → r ≡ payloadPlace p segment o own inside at size
+pub payload-there : (p : ℕ × ℕ) (segment : List ℕ) (q : ℕ × ℕ) (rx : List ℕ) (n : ℕ) (outcome : Outcome) (route id : ℕ) (inside : Bool) (at size : ℕ)
+    → outcome ≡ Pdu route id inside at size
+    → (own : List ℕ) → own ≡ stretch 1464 n rx → (o : ℕ × ℕ) → o ≡ behind q (fromAt rx (n * 1464))
+    → (r : ℕ × ℕ) → r ≡ payloadPlace p segment o own inside at size
     → r ≡ payloadStands p segment q rx n outcome
 unfolding payloadStands
 payload-there p segment q rx n outcome route id inside at size eo own ew o ep r er =
     rw eo (er ∙ ap₂ (λ (x : ℕ × ℕ) (l : List ℕ). payloadPlace p segment x l inside at size) ep ew)
 
 -- PAST ALL REFUSALS: the take on the part part of receive memory
-module _ (image : List ℕ) (s : State) (rx : List ℕ) (n : ℕ) (segment : List ℕ) (takes : Takes image s rx n) (routes : List ℕ) (er : routes ≡ bodyOf image Routes) where
+module _ (image : List ℕ) (s : State) (rx : List ℕ) (n : ℕ) (segment : List ℕ)
+    (takes : Takes image s rx n) (routes : List ℕ) (er : routes ≡ bodyOf image Routes) where
   abbrev part : List ℕ
   part = take (n * 1464 + 1464 - n * 1464) (drop (n * 1464) rx)
 
@@ -84,7 +89,8 @@ module _ (image : List ℕ) (s : State) (rx : List ℕ) (n : ℕ) (segment : Lis
       → record { answer = Done; read = t .read; outcome = t .outcome; state = withCount true drops (withRecord n c s) } ≡ takeOn image s rx n segment
   unfolding takeOn
   take-is t c drops et ec ed =
-      let same : t ≡ takenAt image s rx n segment = et ∙ ap₂ (λ (l m : List ℕ). takenOf l n (recordAt s n .switches) (recordAt s n .part) m segment) er (stretch-all n rx) in
+      let same : t ≡ takenAt image s rx n segment =
+      et ∙ ap₂ (λ (l m : List ℕ). takenOf l n (recordAt s n .switches) (recordAt s n .part) m segment) er (stretch-all n rx) in
       ap₂ (λ (d : ℕ) (x : Connection). record { answer = Done; read = t .read; outcome = t .outcome; state = withCount true d (withRecord n x s) }) ed ec
       ∙ ap
       (λ (u : Taken).
@@ -95,7 +101,8 @@ module _ (image : List ℕ) (s : State) (rx : List ℕ) (n : ℕ) (segment : Lis
       → putMid (n * 1464) (n * 1464 + 1464 - n * 1464) rx m ≡ memoryOn image s rx n segment
   unfolding memoryOn
   memory-is bytes m em =
-      let same : m ≡ stretchAt image s rx n segment = em ∙ ap₂ (λ (l z : List ℕ). rxAfter l n (recordAt s n .switches) (recordAt s n .part) z segment) er (stretch-all n rx) in
+      let same : m ≡ stretchAt image s rx n segment =
+      em ∙ ap₂ (λ (l z : List ℕ). rxAfter l n (recordAt s n .switches) (recordAt s n .part) z segment) er (stretch-all n rx) in
       let l : length (stretchAt image s rx n segment) ≡ 1464 =
       leaves-length (bodyOf image Routes) n (recordAt s n .switches) (recordAt s n .part) (stretch 1464 n rx) segment (takes .fit) bytes ∙ takes .fit .room in
       ap (putMid (n * 1464) (n * 1464 + 1464 - n * 1464) rx) same ∙ mid-laid n rx (stretchAt image s rx n segment) (takes .small) (takes .room) l

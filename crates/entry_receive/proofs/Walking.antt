@@ -23,7 +23,8 @@ use Rattle.entry_receive.proofs.Answers.{Clear, done-clear}
 use Rattle.entry_receive.proofs.Past.{below-sixteen}
 
 -- PAST ALL REFUSALS
-pub walk-is : (image : List ℕ) (s : State) (n : ℕ) (datagram : List ℕ) (place : ℕ) (routes : List ℕ) → routes ≡ bodyOf image Routes → (w : Walked) (after : State)
+pub walk-is : (image : List ℕ) (s : State) (n : ℕ) (datagram : List ℕ) (place : ℕ) (routes : List ℕ)
+    → routes ≡ bodyOf image Routes → (w : Walked) (after : State)
     → w ≡ walkedOf datagram place routes n (recordAt s n .switches) → after ≡ countWalk (w .outcome) s
     → record { answer = Done; outcome = w .outcome; next = w .next; state = after } ≡ walkOn image s n datagram place
 unfolding walkOn

@@ -49,7 +49,8 @@ module _ (image : List ℕ) (s : State) (n room : ℕ) where
   abbrev from : Drained → Taken
   from d = record { answer = d .answer; state = withRecord n (d .connection) s }
 
-  pub taken-is : (config : Config) (d : Drained) → config ≡ configOf image n → d ≡ record { answer = takingOf room (recordAt s n); connection = takeOf config room (recordAt s n) }
+  pub taken-is : (config : Config) (d : Drained) → config ≡ configOf image n
+      → d ≡ record { answer = takingOf room (recordAt s n); connection = takeOf config room (recordAt s n) }
       → from d ≡ takePast image s n room
   taken-is config d p q =
       ap from q ∙ ap (λ (g : Config). from (record { answer = takingOf room (recordAt s n); connection = takeOf g room (recordAt s n) })) p

@@ -95,7 +95,8 @@ only-runs : (g : Config) (c : Connection) → turnsNext g c ≡ false → expire
 only-runs g c p x =
     let t = neither (c .«close_wanted» || startsNext g c) _ p in
     let u = neither (c .«close_wanted») _ (t .0) in
-    sym (tick-goes-on g c (u .0) x) ∙ ap (λ (d : Connection). runOf (reachOf g d)) (start-stays g (sunkOf c) (u .1)) ∙ ap runOf (reach-stays g (sunkOf c) (t .1))
+    sym (tick-goes-on g c (u .0) x) ∙ ap (λ (d : Connection). runOf (reachOf g d)) (start-stays g (sunkOf c) (u .1))
+    ∙ ap runOf (reach-stays g (sunkOf c) (t .1))
 
 -- the same record with other timers, and another due mark
 abbrev timed : Connection → ℕ → Bool → ℕ → Connection

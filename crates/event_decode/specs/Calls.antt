@@ -7,7 +7,8 @@ use lib.ListN.{length, drop}
 use Rattle.wire.specs.Be.{be}
 use Rattle.connection.specs.declared.Remote.{Remote}
 use Rattle.event_decode.specs.declared.Call.{Call}
-use Rattle.event_decode.specs.declared.Call.the-variants.{Unknown, Unfit, Ticks, Own, Lost, Segment, Walk, TakeWaiting, Datagram, Accept, Transmit, SwitchAll, ReadCount, ClearCount}
+use Rattle.event_decode.specs.declared.Call.the-variants.{Unknown, Unfit, Ticks, Own, Lost, Segment, Walk}
+use Rattle.event_decode.specs.declared.Call.the-variants.{TakeWaiting, Datagram, Accept, Transmit, SwitchAll, ReadCount, ClearCount}
 use Rattle.connection.specs.declared.Event.the-variants.{Open, Close, Connected, SetRemote, Switch, Cancel}
 
 -- "a body that does not fit is refused"

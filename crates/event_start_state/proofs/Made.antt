@@ -14,7 +14,8 @@ use Rattle.event_start_state.specs.Given.{fitsAt, recordsIn, givenOf}
 abbrev made : List ℕ → Bool → State → ℕ → ℕ → Given
 made bytes f s udp tcp = record { fits = eqb (length bytes) 47720 && f; state = record { connections = s .connections; «udp_drops» = udp; «tcp_drops» = tcp } }
 
-pub given-is : (bytes : List ℕ) {f : Bool} {s : State} {udp tcp : ℕ} → f ≡ every (fitsAt bytes) 16 → s ≡ recordsIn bytes → udp ≡ be 4 bytes 736 → tcp ≡ be 4 bytes 740
+pub given-is : (bytes : List ℕ) {f : Bool} {s : State} {udp tcp : ℕ}
+    → f ≡ every (fitsAt bytes) 16 → s ≡ recordsIn bytes → udp ≡ be 4 bytes 736 → tcp ≡ be 4 bytes 740
     → made bytes f s udp tcp ≡ givenOf bytes
 unfolding givenOf
 given-is bytes {f} {s} {udp} {tcp} p q r t =

@@ -49,7 +49,13 @@ use Rattle.example_edges.specs.Table.{image}
 use Rattle.example_changes.specs.Changes.{Change, changes, idleChange, isWas, isBecomes, changeHolds, EveryChange, Changes}
 
 pub changes-hold : EveryChange changes
-unfolding image be badFrom every foldFrom rowsOf bodyBytes startOf endOf rowAt partOf bodyOf rowIn groupRow connectionRow routeRow destinationRow groupGood connectionGood routeGood destinationGood sizeIn groupTcp tcpIn routesShare destinationsShare share clearIn goodIn headGood entryGood rule thenCheck entriesPlace headPlace allRowsPlace checkTable pieceDone feed takeB headOf walkAt worth switchOf aliveAfter startsOf reachOf runOf tickOf stepOf soundOf zeroOf counted configOf freshState isOn rowsIn counts rowFor reasonIn reasonOf decisionOf lookupOf tookOf takeFrom walkedOf soundAt recordsSound soundState gateOf gateAt toldOf changeOf eventOf lossOf switchedAll switchAllOf ofProtocol clearPast clearOf tickedTo ticksTo tickEvent ticksEvent better chosenOf rankOf scoreOf scoreAt chosenIn deniedOf arriveOf arrivalOf judgedOf judgedAnswer takeOn segmentOf walkOn walkOf refusalOf lookOf timerOf verdictOf appendOf lookAt checkOf wantedAt storeOf storeAll transmitOf takeOf sendOf takenWaiting
+unfolding image be badFrom every foldFrom rowsOf bodyBytes startOf endOf rowAt partOf bodyOf rowIn groupRow connectionRow routeRow destinationRow groupGood
+    connectionGood routeGood destinationGood sizeIn groupTcp tcpIn routesShare destinationsShare share clearIn goodIn headGood entryGood rule
+    thenCheck entriesPlace headPlace allRowsPlace checkTable pieceDone feed takeB headOf walkAt worth switchOf aliveAfter startsOf reachOf runOf
+    tickOf stepOf soundOf zeroOf counted configOf freshState isOn rowsIn counts rowFor reasonIn reasonOf decisionOf lookupOf tookOf takeFrom walkedOf
+    soundAt recordsSound soundState gateOf gateAt toldOf changeOf eventOf lossOf switchedAll switchAllOf ofProtocol clearPast clearOf tickedTo ticksTo
+    tickEvent ticksEvent better chosenOf rankOf scoreOf scoreAt chosenIn deniedOf arriveOf arrivalOf judgedOf judgedAnswer takeOn segmentOf walkOn
+    walkOf refusalOf lookOf timerOf verdictOf appendOf lookAt checkOf wantedAt storeOf storeAll transmitOf takeOf sendOf takenWaiting
 changes-hold = refl
 
 -- a row that holds: its state is sound, and its event leaves another

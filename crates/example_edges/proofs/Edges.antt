@@ -40,7 +40,12 @@ use Rattle.example_edges.specs.Table.{image}
 use Rattle.example_edges.specs.Edges.{Edge, edge, edges, sameNumbers, Hold}
 
 pub edges-hold : Hold edges
-unfolding image be badFrom every foldFrom rowsOf bodyBytes startOf endOf rowAt partOf bodyOf rowIn groupRow connectionRow routeRow destinationRow groupGood connectionGood routeGood destinationGood sizeIn routesShare destinationsShare share clearIn goodIn headGood entryGood rule thenCheck entriesPlace headPlace allRowsPlace checkTable configOf freshState pieceDone feed takeB takes segmentRan segments headOf walkAt isOn rowsIn counts rowFor reasonIn reasonOf decisionOf lookupOf better chosenOf rankOf scoreOf scoreAt chosenIn deniedOf arriveOf refusalOf lookOf timerOf verdictOf lookAt checkOf groupTcp tcpIn stepOf soundOf zeroOf soundAt recordsSound soundState gateOf gateAt toldOf changeOf eventOf lossOf aliveAfter startsOf reachOf runOf tickOf tickedTo ticksTo ticksEvent walkedOf judgedOf judgedAnswer walkOn walkOf
+unfolding image be badFrom every foldFrom rowsOf bodyBytes startOf endOf rowAt partOf bodyOf rowIn groupRow connectionRow routeRow destinationRow groupGood
+    connectionGood routeGood destinationGood sizeIn routesShare destinationsShare share clearIn goodIn headGood entryGood rule thenCheck entriesPlace
+    headPlace allRowsPlace checkTable configOf freshState pieceDone feed takeB takes segmentRan segments headOf walkAt isOn rowsIn counts rowFor
+    reasonIn reasonOf decisionOf lookupOf better chosenOf rankOf scoreOf scoreAt chosenIn deniedOf arriveOf refusalOf lookOf timerOf verdictOf lookAt
+    checkOf groupTcp tcpIn stepOf soundOf zeroOf soundAt recordsSound soundState gateOf gateAt toldOf changeOf eventOf lossOf aliveAfter startsOf
+    reachOf runOf tickOf tickedTo ticksTo ticksEvent walkedOf judgedOf judgedAnswer walkOn walkOf
 edges-hold = refl
 
 -- a table that holds: each of its rows does

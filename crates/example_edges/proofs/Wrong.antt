@@ -48,11 +48,15 @@ use Rattle.entry_receive.specs.declared.DatagramWalked.{DatagramWalked}
 use Rattle.entry_receive.specs.Answer.{judgedOf, judgedAnswer}
 use Rattle.entry_receive.specs.Walk.{walkOn, walkOf}
 use Rattle.example_edges.specs.Table.{image, limitedExact, fresh, used, moving, exact, watching, lastTick, sendMemory, lends, loans}
-use Rattle.example_edges.specs.Wrong.{Happen, IsHappen, LeavesState, CancelEnds, Send, IsSend, StoresNothing, Ticking, IsTicking, KeepsBytes, StaysUp, Hearing, IsHearing, AnyStarts, ClearsMark, Walking, IsWalking, WalkStarts}
+use Rattle.example_edges.specs.Wrong.{Happen, IsHappen, LeavesState, CancelEnds, Send, IsSend, StoresNothing, Ticking, IsTicking}
+use Rattle.example_edges.specs.Wrong.{KeepsBytes, StaysUp, Hearing, IsHearing, AnyStarts, ClearsMark, Walking, IsWalking, WalkStarts}
 
 -- an open of a fresh connection sets open wanted
 opens : recordAt (eventOf (lends fresh) 0 Open .state) 0 .«open_wanted» ≡ true
-unfolding image be badFrom every rowsOf bodyBytes startOf endOf rowAt partOf bodyOf rowIn groupRow connectionRow routeRow destinationRow groupGood connectionGood routeGood destinationGood sizeIn groupTcp tcpIn routesShare destinationsShare share clearIn goodIn headGood entryGood rule thenCheck entriesPlace headPlace allRowsPlace checkTable configOf freshState soundOf zeroOf soundAt recordsSound soundState gateOf gateAt stepOf toldOf changeOf eventOf
+unfolding image be badFrom every rowsOf bodyBytes startOf endOf rowAt partOf bodyOf rowIn groupRow connectionRow routeRow destinationRow groupGood
+    connectionGood routeGood destinationGood sizeIn groupTcp tcpIn routesShare destinationsShare share clearIn goodIn headGood entryGood rule
+    thenCheck entriesPlace headPlace allRowsPlace checkTable configOf freshState soundOf zeroOf soundAt recordsSound soundState gateOf gateAt stepOf
+    toldOf changeOf eventOf
 opens = refl
 
 not-open : recordAt fresh 0 .«open_wanted» ≡ false
@@ -61,20 +65,28 @@ not-open = refl
 
 pub no-still-events : (f : Happen) → IsHappen f → LeavesState f → ⊥
 no-still-events f is still =
-    true≢false (sym opens ∙ ap (λ (s : State). recordAt s 0 .«open_wanted») (ap (λ (t : Told). t .state) (sym (is (lends fresh) 0 Open)) ∙ still (lends fresh) 0 Open) ∙ not-open)
+    true≢false (sym opens ∙ ap (λ (s : State). recordAt s 0 .«open_wanted»)
+    (ap (λ (t : Told). t .state) (sym (is (lends fresh) 0 Open)) ∙ still (lends fresh) 0 Open) ∙ not-open)
 
 -- a cancel leaves the transfer to the tick
 still-moves : transferring (recordAt (eventOf (lends (moving 5)) 2 Cancel .state) 2 .part) ≡ true
-unfolding image be badFrom every rowsOf bodyBytes startOf endOf rowAt partOf bodyOf rowIn groupRow connectionRow routeRow destinationRow groupGood connectionGood routeGood destinationGood sizeIn groupTcp tcpIn routesShare destinationsShare share clearIn goodIn headGood entryGood rule thenCheck entriesPlace headPlace allRowsPlace checkTable configOf freshState soundOf zeroOf soundAt recordsSound soundState gateOf gateAt stepOf toldOf changeOf eventOf
+unfolding image be badFrom every rowsOf bodyBytes startOf endOf rowAt partOf bodyOf rowIn groupRow connectionRow routeRow destinationRow groupGood
+    connectionGood routeGood destinationGood sizeIn groupTcp tcpIn routesShare destinationsShare share clearIn goodIn headGood entryGood rule
+    thenCheck entriesPlace headPlace allRowsPlace checkTable configOf freshState soundOf zeroOf soundAt recordsSound soundState gateOf gateAt stepOf
+    toldOf changeOf eventOf
 still-moves = refl
 
 pub no-ending-cancel : (f : Happen) → IsHappen f → CancelEnds f → ⊥
 no-ending-cancel f is wrong =
-    true≢false (sym still-moves ∙ ap (λ (t : Told). transferring (recordAt (t .state) 2 .part)) (sym (is (lends (moving 5)) 2 Cancel)) ∙ wrong (lends (moving 5)) 2)
+    true≢false (sym still-moves ∙ ap (λ (t : Told). transferring (recordAt (t .state) 2 .part)) (sym (is (lends (moving 5)) 2 Cancel))
+    ∙ wrong (lends (moving 5)) 2)
 
 -- a transmit to an online destination with room writes the header's id behind the bytes that wait
 stores : getD (sentMemory (loans (used 10)) 9 (1 ∷ 2 ∷ [])) 2956 0 ≡ 2
-unfolding image be spell lay badFrom every foldFrom rowsOf bodyBytes startOf endOf rowAt partOf bodyOf rowIn groupRow connectionRow routeRow destinationRow groupGood connectionGood routeGood destinationGood sizeIn groupTcp tcpIn routesShare destinationsShare share clearIn goodIn headGood entryGood rule thenCheck entriesPlace headPlace allRowsPlace checkTable configOf freshState soundOf zeroOf soundAt recordsSound soundState gateOf frame isOn refusalOf lookOf timerOf verdictOf appendOf lookAt checkOf wantedAt storeOf storeAll transmitOf sentMemory
+unfolding image be spell lay badFrom every foldFrom rowsOf bodyBytes startOf endOf rowAt partOf bodyOf rowIn groupRow connectionRow routeRow destinationRow
+    groupGood connectionGood routeGood destinationGood sizeIn groupTcp tcpIn routesShare destinationsShare share clearIn goodIn headGood entryGood
+    rule thenCheck entriesPlace headPlace allRowsPlace checkTable configOf freshState soundOf zeroOf soundAt recordsSound soundState gateOf frame isOn
+    refusalOf lookOf timerOf verdictOf appendOf lookAt checkOf wantedAt storeOf storeAll transmitOf sentMemory
 stores = refl
 
 pub no-empty-transmit : (f : Send) → IsSend f → StoresNothing f → ⊥
@@ -87,18 +99,34 @@ no-empty-transmit f is nothing-stored =
 
 -- what the right ones do: the bytes of a peer that is let go are dropped, and its connection is not online after that tick, whatever its
 -- configured remote
-lets-go : (recordAt (tickEvent (lends (watching 1 false)) .state) 0 .used ≡ 0) × (isOnline (recordAt (tickEvent (lent limitedExact lastTick 23424 23552) .state) 1 .mode) ≡ false)
-unfolding image be badFrom every foldFrom rowsOf bodyBytes startOf endOf rowAt partOf bodyOf rowIn groupRow connectionRow routeRow destinationRow groupGood connectionGood routeGood destinationGood sizeIn groupTcp tcpIn routesShare destinationsShare share clearIn goodIn headGood entryGood rule thenCheck entriesPlace headPlace allRowsPlace checkTable configOf freshState soundOf zeroOf soundAt recordsSound soundState gateOf gateAt aliveAfter startsOf reachOf runOf tickOf tickedTo tickEvent better chosenOf rankOf scoreOf scoreAt chosenIn deniedOf arriveOf arrivalOf headOf walkAt isOn rowsIn counts rowFor reasonIn reasonOf decisionOf lookupOf walkedOf judgedOf judgedAnswer walkOn walkOf
+lets-go : (recordAt (tickEvent (lends (watching 1 false)) .state) 0 .used ≡ 0)
+    × (isOnline (recordAt (tickEvent (lent limitedExact lastTick 23424 23552) .state) 1 .mode) ≡ false)
+unfolding image be badFrom every foldFrom rowsOf bodyBytes startOf endOf rowAt partOf bodyOf rowIn groupRow connectionRow routeRow destinationRow groupGood
+    connectionGood routeGood destinationGood sizeIn groupTcp tcpIn routesShare destinationsShare share clearIn goodIn headGood entryGood rule
+    thenCheck entriesPlace headPlace allRowsPlace checkTable configOf freshState soundOf zeroOf soundAt recordsSound soundState gateOf gateAt
+    aliveAfter startsOf reachOf runOf tickOf tickedTo tickEvent better chosenOf rankOf scoreOf scoreAt chosenIn deniedOf arriveOf arrivalOf headOf
+    walkAt isOn rowsIn counts rowFor reasonIn reasonOf decisionOf lookupOf walkedOf judgedOf judgedAnswer walkOn walkOf
 lets-go = (refl, refl)
 
 -- of the table and the states before
-before-tick : (recordAt (watching 1 false) 0 .«close_wanted» ≡ false) × (recordAt lastTick 1 .«close_wanted» ≡ false) × (wildcard (configOf limitedExact 1 .remote) ≡ false) × (configOf image 0 .alive ≡ 2)
-unfolding image be badFrom every foldFrom rowsOf bodyBytes startOf endOf rowAt partOf bodyOf rowIn groupRow connectionRow routeRow destinationRow groupGood connectionGood routeGood destinationGood sizeIn groupTcp tcpIn routesShare destinationsShare share clearIn goodIn headGood entryGood rule thenCheck entriesPlace headPlace allRowsPlace checkTable configOf freshState soundOf zeroOf soundAt recordsSound soundState gateOf gateAt aliveAfter startsOf reachOf runOf tickOf tickedTo tickEvent better chosenOf rankOf scoreOf scoreAt chosenIn deniedOf arriveOf arrivalOf headOf walkAt isOn rowsIn counts rowFor reasonIn reasonOf decisionOf lookupOf walkedOf judgedOf judgedAnswer walkOn walkOf
+before-tick : (recordAt (watching 1 false) 0 .«close_wanted» ≡ false) × (recordAt lastTick 1 .«close_wanted» ≡ false)
+    × (wildcard (configOf limitedExact 1 .remote) ≡ false) × (configOf image 0 .alive ≡ 2)
+unfolding image be badFrom every foldFrom rowsOf bodyBytes startOf endOf rowAt partOf bodyOf rowIn groupRow connectionRow routeRow destinationRow groupGood
+    connectionGood routeGood destinationGood sizeIn groupTcp tcpIn routesShare destinationsShare share clearIn goodIn headGood entryGood rule
+    thenCheck entriesPlace headPlace allRowsPlace checkTable configOf freshState soundOf zeroOf soundAt recordsSound soundState gateOf gateAt
+    aliveAfter startsOf reachOf runOf tickOf tickedTo tickEvent better chosenOf rankOf scoreOf scoreAt chosenIn deniedOf arriveOf arrivalOf headOf
+    walkAt isOn rowsIn counts rowFor reasonIn reasonOf decisionOf lookupOf walkedOf judgedOf judgedAnswer walkOn walkOf
 before-tick = (refl, refl, refl, refl)
 
 -- a stopped alive timer stays so at a datagram, and the mark stays; a step of a walk leaves a running one
-hears : (datagramOf (lends (watching 0 true)) 0 exact .answer ≡ Met 0) × (recordAt (datagramOf (lends (watching 0 true)) 0 exact .state) 0 .watch .alive ≡ 0) × (recordAt (datagramOf (lends (watching 0 true)) 0 exact .state) 0 .watch .«remote_set» ≡ true) × (recordAt (walkOf (lends (watching 1 false)) 0 [] 0 .state) 0 .watch .alive ≡ 1)
-unfolding image be badFrom every foldFrom rowsOf bodyBytes startOf endOf rowAt partOf bodyOf rowIn groupRow connectionRow routeRow destinationRow groupGood connectionGood routeGood destinationGood sizeIn groupTcp tcpIn routesShare destinationsShare share clearIn goodIn headGood entryGood rule thenCheck entriesPlace headPlace allRowsPlace checkTable configOf freshState soundOf zeroOf soundAt recordsSound soundState gateOf gateAt aliveAfter startsOf reachOf runOf tickOf tickedTo tickEvent better chosenOf rankOf scoreOf scoreAt chosenIn deniedOf arriveOf arrivalOf headOf walkAt isOn rowsIn counts rowFor reasonIn reasonOf decisionOf lookupOf walkedOf judgedOf judgedAnswer walkOn walkOf
+hears : (datagramOf (lends (watching 0 true)) 0 exact .answer ≡ Met 0) × (recordAt (datagramOf (lends (watching 0 true)) 0 exact .state) 0 .watch .alive ≡ 0)
+    × (recordAt (datagramOf (lends (watching 0 true)) 0 exact .state) 0 .watch .«remote_set» ≡ true)
+    × (recordAt (walkOf (lends (watching 1 false)) 0 [] 0 .state) 0 .watch .alive ≡ 1)
+unfolding image be badFrom every foldFrom rowsOf bodyBytes startOf endOf rowAt partOf bodyOf rowIn groupRow connectionRow routeRow destinationRow groupGood
+    connectionGood routeGood destinationGood sizeIn groupTcp tcpIn routesShare destinationsShare share clearIn goodIn headGood entryGood rule
+    thenCheck entriesPlace headPlace allRowsPlace checkTable configOf freshState soundOf zeroOf soundAt recordsSound soundState gateOf gateAt
+    aliveAfter startsOf reachOf runOf tickOf tickedTo tickEvent better chosenOf rankOf scoreOf scoreAt chosenIn deniedOf arriveOf arrivalOf headOf
+    walkAt isOn rowsIn counts rowFor reasonIn reasonOf decisionOf lookupOf walkedOf judgedOf judgedAnswer walkOn walkOf
 hears = (refl, refl, refl, refl)
 
 pub no-kept-bytes : (f : Ticking) → IsTicking f → KeepsBytes f → ⊥
@@ -127,12 +155,14 @@ module _ (f : Hearing) (is : IsHearing f) where
   pub no-any-start : AnyStarts f → ⊥
   no-any-start starts =
       let z : _≡_ {A = ℕ} 0 2 =
-      sym (hears .1) ∙ ap (λ (a : Arrived). recordAt (a .state) 0 .watch .alive) (sym right) ∙ starts (lends (watching 0 true)) 0 exact 0 its ∙ before-tick .3 in
+      sym (hears .1) ∙ ap (λ (a : Arrived). recordAt (a .state) 0 .watch .alive) (sym right)
+      ∙ starts (lends (watching 0 true)) 0 exact 0 its ∙ before-tick .3 in
       omega arith
 
   pub no-cleared-mark : ClearsMark f → ⊥
   no-cleared-mark clears =
-      true≢false (sym (hears .2) ∙ ap (λ (a : Arrived). recordAt (a .state) 0 .watch .«remote_set») (sym right) ∙ clears (lends (watching 0 true)) 0 exact 0 its)
+      true≢false (sym (hears .2) ∙ ap (λ (a : Arrived). recordAt (a .state) 0 .watch .«remote_set») (sym right)
+      ∙ clears (lends (watching 0 true)) 0 exact 0 its)
 
 pub no-walk-start : (f : Walking) → IsWalking f → WalkStarts f → ⊥
 unfolding freshState

@@ -55,11 +55,16 @@ use Rattle.example_entries.proofs.Given.{reader-given, walker-given}
 
 -- the states are sound
 sound-tcp : (w : ℕ) → soundState image (tcpUp w) ≡ true
-unfolding image be badFrom every rowsOf bodyBytes startOf endOf rowAt partOf bodyOf rowIn groupRow connectionRow routeRow destinationRow groupGood connectionGood routeGood destinationGood sizeIn groupTcp tcpIn routesShare destinationsShare share clearIn goodIn headGood entryGood rule thenCheck entriesPlace headPlace allRowsPlace checkTable configOf freshState soundOf zeroOf soundAt recordsSound soundState
+unfolding image be badFrom every rowsOf bodyBytes startOf endOf rowAt partOf bodyOf rowIn groupRow connectionRow routeRow destinationRow groupGood
+    connectionGood routeGood destinationGood sizeIn groupTcp tcpIn routesShare destinationsShare share clearIn goodIn headGood entryGood rule
+    thenCheck entriesPlace headPlace allRowsPlace checkTable configOf freshState soundOf zeroOf soundAt recordsSound soundState
 sound-tcp w = refl
 
-sound-others : (soundState image udpUp ≡ true) × (soundState image waitingFor ≡ true) × (soundState image fresh ≡ true) × (soundState image (used 1462) ≡ true) × (soundState image (used 1463) ≡ true)
-unfolding image be badFrom every rowsOf bodyBytes startOf endOf rowAt partOf bodyOf rowIn groupRow connectionRow routeRow destinationRow groupGood connectionGood routeGood destinationGood sizeIn groupTcp tcpIn routesShare destinationsShare share clearIn goodIn headGood entryGood rule thenCheck entriesPlace headPlace allRowsPlace checkTable configOf freshState soundOf zeroOf soundAt recordsSound soundState
+sound-others : (soundState image udpUp ≡ true) × (soundState image waitingFor ≡ true)
+    × (soundState image fresh ≡ true) × (soundState image (used 1462) ≡ true) × (soundState image (used 1463) ≡ true)
+unfolding image be badFrom every rowsOf bodyBytes startOf endOf rowAt partOf bodyOf rowIn groupRow connectionRow routeRow destinationRow groupGood
+    connectionGood routeGood destinationGood sizeIn groupTcp tcpIn routesShare destinationsShare share clearIn goodIn headGood entryGood rule
+    thenCheck entriesPlace headPlace allRowsPlace checkTable configOf freshState soundOf zeroOf soundAt recordsSound soundState
 sound-others = (refl, refl, refl, refl, refl)
 
 -- bytes that are bytes, by a test
@@ -85,8 +90,10 @@ protocols = (refl, refl)
 abbrev Plain : ℕ → List ℕ → Type 0
 Plain w bs = fine (segmentRan (routes 2 w) ready bs .list) ≡ segmentRan (routes 2 w) ready bs .list
 
-no-pieces : Plain 1 bar × Plain 1 (framed 2 2 (0x46 ∷ 0x50 ∷ [])) × Plain 1 (framed 1 0 []) × Plain 1 (framed 1 2 (7 ∷ 8 ∷ [])) × Plain 1 (framed 1 3 (7 ∷ 8 ∷ 9 ∷ [])) × Plain 0 (framed 2 1 (5 ∷ [])) × Plain 0 bar
-unfolding image be badFrom every rowsOf bodyBytes startOf partOf bodyOf rowIn routeRow pieceDone feed takeB takes segmentRan isOn rowsIn counts rowFor reasonIn reasonOf decisionOf lookupOf fine
+no-pieces : Plain 1 bar × Plain 1 (framed 2 2 (0x46 ∷ 0x50 ∷ [])) × Plain 1 (framed 1 0 [])
+    × Plain 1 (framed 1 2 (7 ∷ 8 ∷ [])) × Plain 1 (framed 1 3 (7 ∷ 8 ∷ 9 ∷ [])) × Plain 0 (framed 2 1 (5 ∷ [])) × Plain 0 bar
+unfolding image be badFrom every rowsOf bodyBytes startOf partOf bodyOf rowIn routeRow pieceDone
+    feed takeB takes segmentRan isOn rowsIn counts rowFor reasonIn reasonOf decisionOf lookupOf fine
 no-pieces = (refl, refl, refl, refl, refl, refl, refl)
 
 module _ (rx tx : List ℕ) (long : length rx ≡ 23424) (wide : length tx ≡ 23552) where
@@ -127,10 +134,12 @@ module _ (rx tx : List ℕ) (long : length rx ≡ 23424) (wide : length tx ≡ 2
   walker = record { there = subst (λ (n : ℕ). 0 < n) (sym three-rows) (omega arith); udp = protocols .0; receives = udp-up }
 
   -- WHAT ONE SEGMENT GIVES
-  one-segment : (w : ℕ) (bs : List ℕ) → small bs ≡ true → segmentsGive rx tx w (on 2 (segment bs) ∷ []) ≡ numbers (fine (segmentRan (routes 2 w) ready bs .list))
+  one-segment : (w : ℕ) (bs : List ℕ) → small bs ≡ true
+      → segmentsGive rx tx w (on 2 (segment bs) ∷ []) ≡ numbers (fine (segmentRan (routes 2 w) ready bs .list))
   unfolding givenIn freshState
   one-segment w bs e =
-      ap numbers (ap fine (append-nil (given image 2 (on 2 (segment bs)) (over rx tx (tcpUp w)))) ∙ reader-given image (over rx tx (tcpUp w)) (tcp-good w) 2 (reader w) bs (small-bytes bs e))
+      ap numbers (ap fine (append-nil (given image 2 (on 2 (segment bs)) (over rx tx (tcpUp w))))
+      ∙ reader-given image (over rx tx (tcpUp w)) (tcp-good w) 2 (reader w) bs (small-bytes bs e))
 
   -- cut in two, the same
   two-segments : (w : ℕ) (x y : List ℕ) → small (x ++ y) ≡ true
@@ -141,14 +150,16 @@ module _ (rx tx : List ℕ) (long : length rx ≡ 23424) (wide : length tx ≡ 2
   one-walk : (d : List ℕ) → walkGives rx tx d ≡ numbers (outsTold d (walkAt (routes 0 0) d 0 .found) [])
   unfolding givenIn freshState image be rowsOf bodyBytes startOf partOf bodyOf rowIn groupRow connectionRow configOf
   one-walk d =
-      ap numbers (ap fine (append-nil (given image 0 (on 0 (walk d 0)) (over rx tx udpUp))) ∙ walker-given image (over rx tx udpUp) udp-good 0 walker d 0 (omega arith))
+      ap numbers (ap fine (append-nil (given image 0 (on 0 (walk d 0)) (over rx tx udpUp)))
+      ∙ walker-given image (over rx tx udpUp) udp-good 0 walker d 0 (omega arith))
 
   -- WHAT A DATAGRAM AND A TRANSMIT ARE ANSWERED, past the gate
   datagram-past : (s : State) → Good image (over rx tx s) → datagramGives rx tx s ≡ arrivedNumbers (arriveOf image s false 0 exact .answer)
   unfolding arrivalOf
   datagram-past s g = rw (passed-gate (lentTo image (over rx tx s)) (g .passed))
 
-  transmit-past : (s : State) → Good image (over rx tx s) → (payload : List ℕ) → transmitGives rx tx s payload ≡ transmissionNumber (checkOf image s 9 (length payload)) ∷ []
+  transmit-past : (s : State) → Good image (over rx tx s) → (payload : List ℕ)
+      → transmitGives rx tx s payload ≡ transmissionNumber (checkOf image s 9 (length payload)) ∷ []
   unfolding sendOf
   transmit-past s g payload = rw (passed-gate (lentTo image (over rx tx s)) (g .passed))
 
@@ -171,10 +182,12 @@ module _ (rx tx : List ℕ) (long : length rx ≡ 23424) (wide : length tx ≡ 2
 
   -- what is stored
   stored : sentTo image (used 1462) 9 (0 ∷ 180 ∷ []) 2 ≡ record { id = 0x202; body = 0 ∷ 180 ∷ [] } ∷ []
-  unfolding image be rowsOf bodyBytes startOf partOf bodyOf rowIn groupRow connectionRow destinationRow configOf freshState isOn badFrom every refusalOf lookOf verdictOf lookAt checkOf wantedAt sentFrom sentTo
+  unfolding image be rowsOf bodyBytes startOf partOf bodyOf rowIn groupRow connectionRow destinationRow
+      configOf freshState isOn badFrom every refusalOf lookOf verdictOf lookAt checkOf wantedAt sentFrom sentTo
   stored = refl
 
-  waits-then : waits (afterEvent image (onWhole (transmit 9 (0 ∷ 180 ∷ []))) (over rx tx (used 1462)) .state) (afterEvent image (onWhole (transmit 9 (0 ∷ 180 ∷ []))) (over rx tx (used 1462)) .tx) 2
+  waits-then : waits (afterEvent image (onWhole (transmit 9 (0 ∷ 180 ∷ []))) (over rx tx (used 1462)) .state)
+      (afterEvent image (onWhole (transmit 9 (0 ∷ 180 ∷ []))) (over rx tx (used 1462)) .tx) 2
       ≡ waits (used 1462) tx 2 ++ frame 0x202 (0 ∷ 180 ∷ [])
   unfolding frames
   waits-then =

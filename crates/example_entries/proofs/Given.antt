@@ -33,13 +33,15 @@ module _ (image : List ℕ) (m : Machine) (good : Good image m) (k : ℕ) where
   seen-is = view-record (m .state) (m .rx) (m .tx) k
 
   -- a segment on a ready reader
-  segment-hands : Reader image m k → (bs : List ℕ) → hands (tableOf image) (wholeOf image) k (seen m) (on k (segment bs)) ≡ fine (segmentRan (routesIn image (m .state) k) ready bs .list)
+  segment-hands : Reader image m k → (bs : List ℕ)
+      → hands (tableOf image) (wholeOf image) k (seen m) (on k (segment bs)) ≡ fine (segmentRan (routesIn image (m .state) k) ready bs .list)
   unfolding hands acts does
   segment-hands r bs =
       rw (eq-eqb k k refl, lt-ltb k (rowsOf image Connections) (r .there), r .tcp, ap receiving seen-is ∙ r .receives, r .at-header)
       (ap (λ (c : Connection). fine (segmentRan (lookupOf (bodyOf image Route) k (c .switches)) ready bs .list)) seen-is)
 
-  pub reader-given : Reader image m k → (bs : List ℕ) → Bytes bs → fine (given image k (on k (segment bs)) m) ≡ fine (segmentRan (routesIn image (m .state) k) ready bs .list)
+  pub reader-given : Reader image m k → (bs : List ℕ) → Bytes bs
+      → fine (given image k (on k (segment bs)) m) ≡ fine (segmentRan (routesIn image (m .state) k) ready bs .list)
   reader-given r bs bytes = event-given image m good k (on k (segment bs)) bytes ∙ segment-hands r bs
 
   -- a walk
@@ -50,5 +52,6 @@ module _ (image : List ℕ) (m : Machine) (good : Good image m) (k : ℕ) where
       rw (eq-eqb k k refl, lt-ltb k (rowsOf image Connections) (w .there), w .udp, le-leb p (length d) le, ap receiving seen-is ∙ w .receives)
       (ap (λ (c : Connection). outsTold d (walkAt (lookupOf (bodyOf image Route) k (c .switches)) d p .found) []) seen-is)
 
-  pub walker-given : Walker image m k → (d : List ℕ) (p : ℕ) → p ≤ length d → fine (given image k (on k (walk d p)) m) ≡ outsTold d (walkAt (routesIn image (m .state) k) d p .found) []
+  pub walker-given : Walker image m k → (d : List ℕ) (p : ℕ) → p ≤ length d
+      → fine (given image k (on k (walk d p)) m) ≡ outsTold d (walkAt (routesIn image (m .state) k) d p .found) []
   walker-given w d p le = event-given image m good k (on k (walk d p)) tt ∙ walk-hands w d p le

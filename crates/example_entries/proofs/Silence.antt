@@ -55,7 +55,9 @@ calm : (m : Machine) (e : Event) → breaking e ≡ false → Breaks image 0 m e
 calm m e quiet b = false≢true (sym quiet ∙ breaks-only m e b)
 
 sound-anybody : soundState image anybody ≡ true
-unfolding image be badFrom every rowsOf bodyBytes startOf endOf rowAt partOf bodyOf rowIn groupRow connectionRow routeRow destinationRow groupGood connectionGood routeGood destinationGood sizeIn groupTcp tcpIn routesShare destinationsShare share clearIn goodIn headGood entryGood rule thenCheck entriesPlace headPlace allRowsPlace checkTable configOf freshState soundOf zeroOf soundAt recordsSound soundState
+unfolding image be badFrom every rowsOf bodyBytes startOf endOf rowAt partOf bodyOf rowIn groupRow connectionRow routeRow destinationRow groupGood
+    connectionGood routeGood destinationGood sizeIn groupTcp tcpIn routesShare destinationsShare share clearIn goodIn headGood entryGood rule
+    thenCheck entriesPlace headPlace allRowsPlace checkTable configOf freshState soundOf zeroOf soundAt recordsSound soundState
 sound-anybody = refl
 
 sixteen : length (anybody .connections) ≡ 16
@@ -67,7 +69,8 @@ unfolding image be rowsOf
 there = omega arith
 
 meets : arriveOf image anybody false 0 exact .answer ≡ Met 0
-unfolding image be foldFrom rowsOf bodyBytes startOf partOf bodyOf rowIn groupRow connectionRow configOf freshState better chosenOf rankOf scoreOf scoreAt chosenIn deniedOf arriveOf
+unfolding image be foldFrom rowsOf bodyBytes startOf partOf bodyOf rowIn groupRow connectionRow
+    configOf freshState better chosenOf rankOf scoreOf scoreAt chosenIn deniedOf arriveOf
 meets = refl
 
 -- the limit, and the record before the datagram

@@ -47,7 +47,12 @@ use Rattle.theorems.proofs.Refused.{event-refused}
 use Rattle.example_numbers.specs.Reached.{kindOf, Reached, Example, example, examples, exampleHolds, examplesHold}
 
 examples-hold : examplesHold examples ≡ true
-unfolding image be badFrom every foldFrom rowsOf bodyBytes startOf endOf rowAt partOf bodyOf rowIn groupRow connectionRow routeRow destinationRow groupGood connectionGood routeGood destinationGood sizeIn groupTcp tcpIn routesShare destinationsShare share clearIn goodIn headGood entryGood rule thenCheck entriesPlace headPlace allRowsPlace checkTable stepOf soundOf zeroOf configOf freshState isOn soundAt recordsSound soundState gateOf gateAt toldOf changeOf eventOf switchAllOf ofProtocol readPast readOf clearPast clearOf tickEvent better chosenOf rankOf scoreOf scoreAt chosenIn deniedOf arriveOf arrivalOf judgedOf judgedAnswer takeOn segmentOf walkOn walkOf refusalOf lookOf verdictOf lookAt checkOf takingOf sendOf takenWaiting
+unfolding image be badFrom every foldFrom rowsOf bodyBytes startOf endOf rowAt partOf bodyOf rowIn groupRow connectionRow routeRow destinationRow groupGood
+    connectionGood routeGood destinationGood sizeIn groupTcp tcpIn routesShare destinationsShare share clearIn goodIn headGood entryGood rule
+    thenCheck entriesPlace headPlace allRowsPlace checkTable stepOf soundOf zeroOf configOf freshState isOn soundAt recordsSound soundState gateOf
+    gateAt toldOf changeOf eventOf switchAllOf ofProtocol readPast readOf clearPast clearOf tickEvent better chosenOf rankOf scoreOf scoreAt chosenIn
+    deniedOf arriveOf arrivalOf judgedOf judgedAnswer takeOn segmentOf walkOn walkOf refusalOf lookOf verdictOf lookAt checkOf takingOf sendOf
+    takenWaiting
 examples-hold = refl
 
 -- a table that holds: each of its rows does; past the last one stands the first

@@ -25,14 +25,17 @@ came (piece r p m) = 1
 pub no-always-more : (t : TakeReading) → IsTake t → AlwaysMore t → ⊥
 unfolding takeB feed pieceDone isOn rows
 no-always-more t is wrong =
-    let e : came (takeB (readingTable 1) ready frameBar .out) ≡ came nothing = ap came (ap (λ (x : Took). x .out) (sym (is (readingTable 1) ready frameBar)) ∙ wrong (readingTable 1) ready frameBar) in
+    let e : came (takeB (readingTable 1) ready frameBar .out) ≡ came nothing =
+    ap came (ap (λ (x : Took). x .out) (sym (is (readingTable 1) ready frameBar)) ∙ wrong (readingTable 1) ready frameBar) in
     let z : _≡_ {A = ℕ} 1 0 = e in absurd (omega arith)
 
 -- at PDU 0x102, whose route is the second row
 pub no-first-route : (t : TakeReading) → IsTake t → FirstRoute t → ⊥
 unfolding takeB feed pieceDone isOn rows
 no-first-route t is wrong =
-    let z : _≡_ {A = ℕ} 1 0 = wrong (readingTable 1) ready (headerTwo ++ 0x46 ∷ 0x50 ∷ []) 1 (0x46 ∷ 0x50 ∷ []) (ap (λ (x : Took). x .out) (is (readingTable 1) ready (headerTwo ++ 0x46 ∷ 0x50 ∷ []))) in
+    let z : _≡_ {A = ℕ} 1 0 =
+    wrong (readingTable 1) ready (headerTwo ++ 0x46 ∷ 0x50 ∷ []) 1 (0x46 ∷ 0x50 ∷ [])
+    (ap (λ (x : Took). x .out) (is (readingTable 1) ready (headerTwo ++ 0x46 ∷ 0x50 ∷ []))) in
     absurd (omega arith)
 
 -- at the ten bytes cut after byte 3: the seven that follow are no header
@@ -40,7 +43,8 @@ pub no-fresh-header : (t : TakeReading) → IsTake t → FreshHeader t → ⊥
 unfolding takeB feed pieceDone isOn rows
 no-fresh-header t is wrong =
     let c : Cell = cell 5 (header 1) in
-    let e : takeB (readingTable 1) c (drop 3 frameBar) ≡ takeB (readingTable 1) ready (drop 3 frameBar) = sym (is (readingTable 1) c (drop 3 frameBar)) ∙ wrong (readingTable 1) c (drop 3 frameBar) ∙ is (readingTable 1) ready (drop 3 frameBar) in
+    let e : takeB (readingTable 1) c (drop 3 frameBar) ≡ takeB (readingTable 1) ready (drop 3 frameBar) =
+    sym (is (readingTable 1) c (drop 3 frameBar)) ∙ wrong (readingTable 1) c (drop 3 frameBar) ∙ is (readingTable 1) ready (drop 3 frameBar) in
     let z : _≡_ {A = ℕ} 1 0 = ap (λ (x : Took). came (x .out)) e in
     absurd (omega arith)
 
@@ -48,11 +52,13 @@ no-fresh-header t is wrong =
 pub no-reading-all : (t : TakeReading) → IsTake t → ReadsAll t → ⊥
 unfolding takeB feed pieceDone isOn rows
 no-reading-all t is wrong =
-    let z : _≡_ {A = ℕ} 10 18 = ap (bytesRead (frameBar ++ frameEmpty)) (sym (is (readingTable 1) ready (frameBar ++ frameEmpty))) ∙ wrong (readingTable 1) ready (frameBar ++ frameEmpty) in
+    let z : _≡_ {A = ℕ} 10 18 = ap (bytesRead (frameBar ++ frameEmpty)) (sym (is (readingTable 1) ready (frameBar ++ frameEmpty)))
+    ∙ wrong (readingTable 1) ready (frameBar ++ frameEmpty) in
     absurd (omega arith)
 
 -- and at every input: a take that leaves what stands behind n bytes is not the take, unless n is the take's count
-pub no-other-count : (R : Routes) (c : Cell) (bs : List ℕ) (t : Took) (n : ℕ) → n ≤ length bs → t .rest ≡ drop n bs → t ≡ takeB R c bs → n ≡ bytesRead bs (takeB R c bs)
+pub no-other-count : (R : Routes) (c : Cell) (bs : List ℕ) (t : Took) (n : ℕ)
+    → n ≤ length bs → t .rest ≡ drop n bs → t ≡ takeB R c bs → n ≡ bytesRead bs (takeB R c bs)
 no-other-count R c bs t n le e is =
     let long : length (takeB R c bs .rest) ≡ length bs - n = ap (λ (x : Took). length (x .rest)) (sym is) ∙ ap length e ∙ length-drop n bs in
     omega (arith, long)
@@ -91,14 +97,17 @@ no-longest-applied t is wrong =
 pub no-first-only : (s : SegmentReading) → IsSegment s → FirstOnly s → ⊥
 unfolding segmentRan takes takeB feed pieceDone isOn rows compared
 no-first-only s is wrong =
-    let e : length (compared (s (readingTable 1) ready (frameBar ++ frameBar) .list)) ≡ 2 = ap (λ (x : Ran). length (compared (x .list))) (is (readingTable 1) ready (frameBar ++ frameBar)) in
+    let e : length (compared (s (readingTable 1) ready (frameBar ++ frameBar) .list)) ≡ 2 =
+    ap (λ (x : Ran). length (compared (x .list))) (is (readingTable 1) ready (frameBar ++ frameBar)) in
     absurd (omega (arith, e, wrong (readingTable 1) ready (frameBar ++ frameBar)))
 
 -- at an unknown id with a PDU behind it
 pub no-closing : (s : SegmentReading) → IsSegment s → Closing s → ⊥
 unfolding segmentRan takes takeB feed pieceDone isOn rows
 no-closing s is wrong =
-    let e : pdu 0 (0 ∷ 180 ∷ []) ∷ [] ≡ [] = wrong (readingTable 1) ready (frameUnknown ++ frameBar) 0x103 2 (pdu 0 (0 ∷ 180 ∷ []) ∷ []) (ap (λ (x : Ran). x .list) (is (readingTable 1) ready (frameUnknown ++ frameBar))) in
+    let e : pdu 0 (0 ∷ 180 ∷ []) ∷ [] ≡ [] =
+    wrong (readingTable 1) ready (frameUnknown ++ frameBar) 0x103 2 (pdu 0 (0 ∷ 180 ∷ []) ∷ [])
+    (ap (λ (x : Ran). x .list) (is (readingTable 1) ready (frameUnknown ++ frameBar))) in
     let z : _≡_ {A = ℕ} 1 0 = ap length e in
     absurd (omega arith)
 
@@ -109,5 +118,6 @@ no-tested-late f is wrong =
     let h : List ℕ = take 8 frameBar in
     let p : List ℕ = drop 8 frameBar in
     let z : _≡_ {A = ℕ} 1 0 =
-    ap length (sym (is readingTable (map (mark 1) h ++ map (mark 0) p)) ∙ wrong readingTable 1 0 h p refl (omega arith) ∙ is readingTable (map (mark 0) (h ++ p))) in
+    ap length (sym (is readingTable (map (mark 1) h ++ map (mark 0) p))
+    ∙ wrong readingTable 1 0 h p refl (omega arith) ∙ is readingTable (map (mark 0) (h ++ p))) in
     absurd (omega arith)

@@ -46,7 +46,8 @@ port-before-any true = refl
 port-before-any false = refl
 
 -- close wanted does not count, nor does offline
-pub closing-left-out : among false (recordOf Online true (remote 7 9) 0 ∷ recordOf Offline false (remote 7 9) 0 ∷ recordOf Reconnect false (remote 0 0) 0 ∷ []) ≡ At 2
+pub closing-left-out : among false (recordOf Online true (remote 7 9) 0 ∷ recordOf Offline false (remote 7 9) 0 ∷ recordOf Reconnect false (remote 0 0) 0 ∷ [])
+    ≡ At 2
 unfolding chosenOf foldFrom better scoreOf rankOf
 closing-left-out = refl
 

@@ -44,7 +44,8 @@ use Rattle.example_sending.specs.Setpoint.{valvesWith, TwoValves, Room, 
 use Rattle.example_sending.proofs.Transmits.{nothing-stored}
 
 -- ---- what a destination that is on says to a payload that it allows: 0 with room, 8 without
-module _ (len : ℕ) (d : DestinationRow) (c : Connection) (on : isOn (d .groups) (c .switches) ≡ true) (online : c .mode ≡ Online) (stays : c .«close_wanted» ≡ false)
+module _ (len : ℕ) (d : DestinationRow) (c : Connection) (on : isOn (d .groups) (c .switches) ≡ true)
+    (online : c .mode ≡ Online) (stays : c .«close_wanted» ≡ false)
     (short : len ≤ d .longest) where
   looks : (b : Bool) → ltb 1472 (c .used + 8 + len) ≡ b → lookOf len 1472 d c ≡ cond b 8 0
   unfolding lookOf refusalOf
@@ -101,14 +102,16 @@ module _ (s : State) (rx tx payload : List ℕ) (v : TwoValves s rx tx payload) 
 
   -- where it is stored, each connection gets its frames
   grows : checkOf valves s 9 (length payload) ≡ Stored → (k : ℕ)
-      → waits (sendOf (valvesWith s rx tx) 9 payload .state) (sentMemory (valvesWith s rx tx) 9 payload) k ≡ waits s tx k ++ framesFrom valves s 9 payload k (destinations valves) 0
+      → waits (sendOf (valvesWith s rx tx) 9 payload .state) (sentMemory (valvesWith s rx tx) 9 payload) k
+      ≡ waits s tx k ++ framesFrom valves s 9 payload k (destinations valves) 0
   unfolding addedTo
   grows e k =
       transmit-turn (valvesWith s rx tx) 9 payload (v .sixteen) (v .passed .sound) k
       ∙ ap (λ (g : Gate). waits s tx k ++ through g (λ r. []) (addedTo valves s 9 payload k)) gate
       ∙ ap (λ (t : Transmission). waits s tx k ++ cond (isStored t) (framesFrom valves s 9 payload k (destinations valves) 0) []) e
 
-  frames : (framesFrom valves s 9 payload 0 (destinations valves) 0 ≡ frame 0x101 payload) × (framesFrom valves s 9 payload 1 (destinations valves) 0 ≡ frame 0x102 payload)
+  frames : (framesFrom valves s 9 payload 0 (destinations valves) 0 ≡ frame 0x101 payload)
+      × (framesFrom valves s 9 payload 1 (destinations valves) 0 ≡ frame 0x102 payload)
   unfolding valves partOf bodyOf rowIn startOf bodyBytes rowsOf destinationRow be framesFrom wantedAt isOn
   frames = (append-nil (frame 0x101 payload), append-nil (frame 0x102 payload))
 
@@ -148,10 +151,13 @@ module _ (s : State) (rx tx payload : List ℕ) (v : TwoValves s rx tx payload) 
 
 -- SUCH STATES THERE ARE: the last byte that fits at the second valve; one more; and one more at the first
 passes : (soundState valves (bothValves 0 1462) ≡ true) × (soundState valves (bothValves 0 1463) ≡ true) × (soundState valves (bothValves 1463 0) ≡ true)
-unfolding valves be badFrom every rowsOf bodyBytes startOf endOf rowAt partOf bodyOf rowIn groupRow connectionRow destinationRow groupGood connectionGood routeGood destinationGood sizeIn routesShare destinationsShare share clearIn goodIn headGood entryGood rule thenCheck entriesPlace headPlace allRowsPlace checkTable configOf soundOf zeroOf soundAt recordsSound soundState
+unfolding valves be badFrom every rowsOf bodyBytes startOf endOf rowAt partOf bodyOf rowIn groupRow connectionRow destinationRow groupGood connectionGood
+    routeGood destinationGood sizeIn routesShare destinationsShare share clearIn goodIn headGood entryGood rule thenCheck entriesPlace headPlace
+    allRowsPlace checkTable configOf soundOf zeroOf soundAt recordsSound soundState
 passes = (refl, refl, refl)
 
-stands : (a b : ℕ) → soundState valves (bothValves a b) ≡ true → (rx tx : List ℕ) → length rx ≡ 23424 → length tx ≡ 23552 → TwoValves (bothValves a b) rx tx setpoint
+stands : (a b : ℕ) → soundState valves (bothValves a b) ≡ true → (rx tx : List ℕ)
+    → length rx ≡ 23424 → length tx ≡ 23552 → TwoValves (bothValves a b) rx tx setpoint
 stands a b e rx tx received long =
     record {
       passed = sound-passed (sizes (valvesWith (bothValves a b) rx tx)) received long e;
@@ -173,4 +179,5 @@ stands a b e rx tx received long =
 
 pub a-case : (rx tx : List ℕ) → length rx ≡ 23424 → length tx ≡ 23552
     → TwoValves (bothValves 0 1462) rx tx setpoint × TwoValves (bothValves 0 1463) rx tx setpoint × TwoValves (bothValves 1463 0) rx tx setpoint
-a-case rx tx received long = (stands 0 1462 (passes .0) rx tx received long, stands 0 1463 (passes .1) rx tx received long, stands 1463 0 (passes .2) rx tx received long)
+a-case rx tx received long =
+    (stands 0 1462 (passes .0) rx tx received long, stands 0 1463 (passes .1) rx tx received long, stands 1463 0 (passes .2) rx tx received long)

@@ -65,7 +65,8 @@ unfolding lookOf refusalOf isOn
 off-first = refl
 
 -- the timer: stopped, sooner, later; trigger; due; timeout 0
-pub timers : (timerOf false 5 0 false ≡ 5) × (timerOf false 3 5 false ≡ 3) × (timerOf false 5 3 false ≡ 3) × (timerOf true 5 3 false ≡ 0) × (timerOf false 5 0 true ≡ 0) × (timerOf false 0 7 false ≡ 7)
+pub timers : (timerOf false 5 0 false ≡ 5) × (timerOf false 3 5 false ≡ 3) × (timerOf false 5 3 false ≡ 3)
+    × (timerOf true 5 3 false ≡ 0) × (timerOf false 5 0 true ≡ 0) × (timerOf false 0 7 false ≡ 7)
 unfolding timerOf
 timers = (refl, refl, refl, refl, refl, refl)
 
@@ -86,7 +87,8 @@ verdicts = (refl, refl, refl, refl, refl, refl)
 -- ---- a table of two valves
 
 -- any refusal stores nothing anywhere
-pub nothing-stored : (image : List ℕ) (s : State) (pdu : ℕ) (payload tx : List ℕ) → isStored (checkOf image s pdu (length payload)) ≡ false → transmitOf image s pdu payload tx ≡ sending s tx
+pub nothing-stored : (image : List ℕ) (s : State) (pdu : ℕ) (payload tx : List ℕ)
+    → isStored (checkOf image s pdu (length payload)) ≡ false → transmitOf image s pdu payload tx ≡ sending s tx
 unfolding transmitOf
 nothing-stored image s pdu payload tx e = rw e
 
@@ -95,12 +97,15 @@ unfolding valves checkOf lookAt lookOf refusalOf isOn verdictOf every badFrom ro
 other-pdu = refl
 
 -- what is stored: the header with its length, then the payload
-pub stored-bytes : transmitOf valves (bothValves 0 0) 9 setpoint (0 ∷ 0 ∷ 0 ∷ 0 ∷ 0 ∷ 0 ∷ 0 ∷ 0 ∷ 0 ∷ 0 ∷ []) .memory ≡ 0 ∷ 0 ∷ 1 ∷ 1 ∷ 0 ∷ 0 ∷ 0 ∷ 2 ∷ 0 ∷ 180 ∷ []
-unfolding valves transmitOf storeAll storeOf appendOf foldFrom wantedAt checkOf lookAt lookOf refusalOf timerOf isOn verdictOf every badFrom rowsOf bodyBytes startOf partOf bodyOf rowIn connectionRow destinationRow be lay frame spell
+pub stored-bytes : transmitOf valves (bothValves 0 0) 9 setpoint (0 ∷ 0 ∷ 0 ∷ 0 ∷ 0 ∷ 0 ∷ 0 ∷ 0 ∷ 0 ∷ 0 ∷ []) .memory
+    ≡ 0 ∷ 0 ∷ 1 ∷ 1 ∷ 0 ∷ 0 ∷ 0 ∷ 2 ∷ 0 ∷ 180 ∷ []
+unfolding valves transmitOf storeAll storeOf appendOf foldFrom wantedAt checkOf lookAt lookOf refusalOf timerOf isOn
+    verdictOf every badFrom rowsOf bodyBytes startOf partOf bodyOf rowIn connectionRow destinationRow be lay frame spell
 stored-bytes = refl
 
 -- so no transmit that stores nothing meets the definition
 pub stores-something : ((image : List ℕ) (s : State) (pdu : ℕ) (payload tx : List ℕ) → transmitOf image s pdu payload tx .memory ≡ tx) → ⊥
 stores-something idle =
-    let z : _≡_ {A = ℕ} 180 0 = ap (λ (l : List ℕ). getD l 9 0) (sym stored-bytes ∙ idle valves (bothValves 0 0) 9 setpoint (0 ∷ 0 ∷ 0 ∷ 0 ∷ 0 ∷ 0 ∷ 0 ∷ 0 ∷ 0 ∷ 0 ∷ [])) in
+    let z : _≡_ {A = ℕ} 180 0 =
+    ap (λ (l : List ℕ). getD l 9 0) (sym stored-bytes ∙ idle valves (bothValves 0 0) 9 setpoint (0 ∷ 0 ∷ 0 ∷ 0 ∷ 0 ∷ 0 ∷ 0 ∷ 0 ∷ 0 ∷ 0 ∷ [])) in
     omega arith

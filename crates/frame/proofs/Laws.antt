@@ -27,7 +27,8 @@ unfolding framingOf
 framing-fits n room h g = simp (le-ltb 1464 n h, le-ltb room (8 + n) g)
 
 -- the buffer at an answer
-pub out-at : (id : ℕ) (payload out : List ℕ) (answer : Framed) → answer ≡ framingOf (length payload) (length out) → outAfter answer id payload out ≡ framedOut id payload out
+pub out-at : (id : ℕ) (payload out : List ℕ) (answer : Framed)
+    → answer ≡ framingOf (length payload) (length out) → outAfter answer id payload out ≡ framedOut id payload out
 unfolding framedOut
 out-at id payload out answer e = ap (λ (a : Framed). outAfter a id payload out) e
 

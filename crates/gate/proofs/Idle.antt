@@ -52,7 +52,8 @@ module _ (g : Config) (routes : List ℕ) (n : ℕ) (c : Connection) where
 -- without send bytes, and with some
 module _ (size used timer : ℕ) (due online reached : Bool) where
   none : used ≡ 0
-      → (eqb timer 0 && not due && reached) ≡ (leb used size && (eqb used 0 || online) && ((eqb timer 0 && not due) || ltb 0 used) && (eqb timer 0 || not due) && reached)
+      → (eqb timer 0 && not due && reached)
+      ≡ (leb used size && (eqb used 0 || online) && ((eqb timer 0 && not due) || ltb 0 used) && (eqb timer 0 || not due) && reached)
   none e = rw (e, le-leb 0 size (omega arith)) (go (eqb timer 0) (not due))
     where
       go : (t d : Bool) → (t && d && reached) ≡ (true && (true || online) && ((t && d) || false) && (t || d) && reached)

@@ -38,14 +38,16 @@ accepts-is Table.Accepted p = refl
 accepts-is (Table.Refused q) p = absurd (let z : _≡_ {A = ℕ} 0 1 = cc in omega arith)
 
 -- PASSED IS BUILT HERE, and nowhere else: out of its parts; with records that are sound; by memories as long as before
-pub passed-by : (l : Lent) → l .rx ≡ 23424 → l .tx ≡ 23552 → checkTable (l .image) ≡ Accepted → recordsSound (l .image) (l .state .connections) ≡ true → Passed l
+pub passed-by : (l : Lent) → l .rx ≡ 23424 → l .tx ≡ 23552 → checkTable (l .image) ≡ Accepted
+    → recordsSound (l .image) (l .state .connections) ≡ true → Passed l
 passed-by l rx tx table sound = record { receive = rx; send = tx; table = table; sound = sound }
 
 -- out of the rules as one test
 pub sound-passed : (l : Lent) → l .rx ≡ 23424 → l .tx ≡ 23552 → soundState (l .image) (l .state) ≡ true → Passed l
 unfolding soundState
 sound-passed l rx tx s =
-    passed-by l rx tx (accepts-is (checkTable (l .image)) (and-left (isAccepted (checkTable (l .image))) _ s)) (and-right (isAccepted (checkTable (l .image))) _ s)
+    passed-by l rx tx (accepts-is (checkTable (l .image)) (and-left (isAccepted (checkTable (l .image))) _ s))
+    (and-right (isAccepted (checkTable (l .image))) _ s)
 
 pub passed-next : (l : Lent) (t : State) → Passed l → recordsSound (l .image) (t .connections) ≡ true → Passed (next l t)
 passed-next l t p h = passed-by (next l t) (p .receive) (p .send) (p .table) h

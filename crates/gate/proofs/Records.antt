@@ -59,18 +59,22 @@ record-at image cs n p h =
     let z : 0 + n ≡ n = omega arith in
     rw z at (all-at (soundAt image) 0 n cs zeroRecord p h)
 
-pub record-set : (image : List ℕ) (cs : List Connection) (n : ℕ) (c : Connection) → recordsSound image cs ≡ true → soundAt image n c ≡ true → recordsSound image (set cs n c) ≡ true
+pub record-set : (image : List ℕ) (cs : List Connection) (n : ℕ) (c : Connection)
+    → recordsSound image cs ≡ true → soundAt image n c ≡ true → recordsSound image (set cs n c) ≡ true
 unfolding recordsSound
 record-set image cs n c p q =
     let z : n ≡ 0 + n = omega arith in
     all-set (soundAt image) 0 n cs c p (ap (λ (k : ℕ). soundAt image k c) (let y : 0 + n ≡ n = omega arith in y) ∙ q)
 
 -- the records by the number of rows and the bodies, and by the image
-all-in : (image : List ℕ) (cs : List Connection) → allFrom (soundIn (rowsOf image Connections) (bodyOf image Connections) (bodyOf image Groups) (bodyOf image Routes)) 0 cs ≡ recordsSound image cs
+all-in : (image : List ℕ) (cs : List Connection)
+    → allFrom (soundIn (rowsOf image Connections) (bodyOf image Connections) (bodyOf image Groups) (bodyOf image Routes)) 0 cs ≡ recordsSound image cs
 unfolding recordsSound soundAt configOf
 all-in image cs = refl
 
-pub records-in : (image : List ℕ) (cs : List Connection) (rows : ℕ) (connections groups routes : List ℕ) → rows ≡ rowsOf image Connections → connections ≡ bodyOf image Connections → groups ≡ bodyOf image Groups → routes ≡ bodyOf image Routes → allFrom (soundIn rows connections groups routes) 0 cs ≡ recordsSound image cs
+pub records-in : (image : List ℕ) (cs : List Connection) (rows : ℕ) (connections groups routes : List ℕ) → rows ≡ rowsOf image Connections
+    → connections ≡ bodyOf image Connections → groups ≡ bodyOf image Groups → routes ≡ bodyOf image Routes
+    → allFrom (soundIn rows connections groups routes) 0 cs ≡ recordsSound image cs
 records-in image cs rows connections groups routes a b d e = rw (a, b, d, e) (all-in image cs)
 
 -- the rules ask no more than that

@@ -50,7 +50,8 @@ module _ (image : List ℕ) (a : Accepts image) (s : State) (accept : Bool) (gro
   chosen : (k : ℕ) → 0 < scoreAt image s accept group source k → (k < rowsOf image Connections) × (memberCounts accept (recordAt s k) ≡ true)
   unfolding scoreAt scoreOf
   chosen k l =
-      let p = scored (member image s accept group source k) (memberCounts accept (recordAt s k)) (matches (equalFields (recordAt s k .remote) source) (wildFields (recordAt s k .remote))) (rankOf (equalFields (recordAt s k .remote) source)) l in
+      let p = scored (member image s accept group source k) (memberCounts accept (recordAt s k))
+      (matches (equalFields (recordAt s k .remote) source) (wildFields (recordAt s k .remote))) (rankOf (equalFields (recordAt s k .remote) source)) l in
       (ltb-true _ _ (and-left (ltb k (rowsOf image Connections)) _ (p .0)), p .1)
 
   met-sound : (x : Chosen) → IsChosen (scoreAt image s accept group source) 16 x → recordsSound image (meet image s source x .state .connections) ≡ true
@@ -69,10 +70,12 @@ unfolding arriveOf deniedOf
 arrive-keeps image a s accept group source h = go (leb (rowsOf image Group) group) (deniedOf image accept group source) refl
   where
     go : (x y : Bool) → (not (eqb (groupOf image group .protocol) (protocolOf accept)) || wildcard source) ≡ y
-        → recordsSound image (cond x (arrivalRefused s Missing) (cond y (arrivalRefused s Denied) (meet image s source (chosenIn image s accept group source))) .state .connections) ≡ true
+        → recordsSound image (cond x (arrivalRefused s Missing)
+        (cond y (arrivalRefused s Denied) (meet image s source (chosenIn image s accept group source))) .state .connections) ≡ true
     go true y e = h
     go false true e = h
-    go false false e = chosen-keeps image a s accept group source h (neither (not (eqb (groupOf image group .protocol) (protocolOf accept))) (wildcard source) e .1)
+    go false false e = chosen-keeps image a s accept group source h
+        (neither (not (eqb (groupOf image group .protocol) (protocolOf accept))) (wildcard source) e .1)
 
 -- the entry points
 pub arrival-passed : (l : Lent) (accept : Bool) (group : ℕ) (source : Remote) → Passed l → Passed (next l (arrivalOf l accept group source .state))

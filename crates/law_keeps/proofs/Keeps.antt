@@ -37,15 +37,18 @@ use Rattle.law_keeps.proofs.Past.{past-or}
 use Rattle.law_keeps.proofs.Rows.{sound-row-at, step-sound, switch-sound, tick-sound}
 
 -- a tick of every row
-pub ticked-sound : (image : List ℕ) (s : State) → recordsSound image (s .connections) ≡ true → recordsSound image (tickedTo image (rowsOf image Connections) s .connections) ≡ true
+pub ticked-sound : (image : List ℕ) (s : State) → recordsSound image (s .connections) ≡ true
+    → recordsSound image (tickedTo image (rowsOf image Connections) s .connections) ≡ true
 unfolding tickedTo recordsSound
 ticked-sound image s p =
     all-each (soundAt image) (tickAt image) 0 (rowsOf image Connections) (s .connections) p (λ j c l q. tick-sound image j c q (omega arith))
 
-pub ticks-sound : (image : List ℕ) (s : State) (count : ℕ) → recordsSound image (s .connections) ≡ true → recordsSound image (ticksTo image (rowsOf image Connections) count s .connections) ≡ true
+pub ticks-sound : (image : List ℕ) (s : State) (count : ℕ) → recordsSound image (s .connections) ≡ true
+    → recordsSound image (ticksTo image (rowsOf image Connections) count s .connections) ≡ true
 unfolding ticksTo
 ticks-sound image s count p =
-    fold-keeps (tickOnce image (rowsOf image Connections)) (λ (t : State). recordsSound image (t .connections) ≡ true) count 0 s (λ i t l u q. ticked-sound image t q) p
+    fold-keeps (tickOnce image (rowsOf image Connections))
+    (λ (t : State). recordsSound image (t .connections) ≡ true) count 0 s (λ i t l u q. ticked-sound image t q) p
 
 module _ (l : Lent) (passed : Passed l) where
   abbrev image : List ℕ
@@ -84,7 +87,8 @@ module _ (l : Lent) (passed : Passed l) where
   switch-all-passed number on = go (gateOf l) (ltb number 32)
     where
       go : (g : Gate) (b : Bool)
-          → Passed (next l (through g (refusedTold s) (cond b (record { answer = Answers.Done; state = switchedAll (rowsOf image Connections) number on s }) (refusedTold s Missing)) .state))
+          → Passed (next l (through g (refusedTold s)
+          (cond b (record { answer = Answers.Done; state = switchedAll (rowsOf image Connections) number on s }) (refusedTold s Missing)) .state))
       go (Refused r) b = passed
       go Pass false = passed
       go Pass true = passed-next l _ passed (switched-sound number on)
@@ -105,11 +109,13 @@ module _ (l : Lent) (passed : Passed l) where
   pub tick-passed : Passed (next l (tickEvent l .state))
   unfolding tickEvent
   tick-passed =
-      past-or (λ (t : Ticked). Passed (next l (t .state))) (gateOf l) (unticked s) (tickedFrom (rowsOf image Connections) s (tickedTo image (rowsOf image Connections) s)) (λ r. passed)
+      past-or (λ (t : Ticked). Passed (next l (t .state))) (gateOf l) (unticked s)
+      (tickedFrom (rowsOf image Connections) s (tickedTo image (rowsOf image Connections) s)) (λ r. passed)
       (λ _. passed-next l _ passed (ticked-sound image s (passed .sound)))
 
   pub ticks-passed : (count : ℕ) → Passed (next l (ticksEvent l count .state))
   unfolding ticksEvent
   ticks-passed count =
-      past-or (λ (t : Ticked). Passed (next l (t .state))) (gateOf l) (unticked s) (tickedFrom (rowsOf image Connections) s (ticksTo image (rowsOf image Connections) count s)) (λ r. passed)
+      past-or (λ (t : Ticked). Passed (next l (t .state))) (gateOf l) (unticked s)
+      (tickedFrom (rowsOf image Connections) s (ticksTo image (rowsOf image Connections) count s)) (λ r. passed)
       (λ _. passed-next l _ passed (ticks-sound image s count (passed .sound)))

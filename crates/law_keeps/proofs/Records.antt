@@ -24,7 +24,8 @@ use Rattle.send_waiting.proofs.Taken.{after-either, take-either}
 pub counts-up : (accept : Bool) (c : Connection) → memberCounts accept c ≡ true → (not (isOffline (c .mode)) && not (c .«close_wanted»)) ≡ true
 counts-up accept c = go (c .mode) accept
   where
-    go : (m : Mode) (a : Bool) → ((isReconnect m || (not a && isOnline m)) && not (c .«close_wanted»)) ≡ true → (not (isOffline m) && not (c .«close_wanted»)) ≡ true
+    go : (m : Mode) (a : Bool) → ((isReconnect m || (not a && isOnline m)) && not (c .«close_wanted»)) ≡ true
+        → (not (isOffline m) && not (c .«close_wanted»)) ≡ true
     go Offline true e = impossible e
     go Offline false e = impossible e
     go Reconnect a e = e
@@ -32,7 +33,8 @@ counts-up accept c = go (c .mode) accept
     go Online false e = e
 
 -- due and a running timer never come together
-never-both : (trigger due : Bool) (timeout timer : ℕ) → (eqb timer 0 || not due) ≡ true → (eqb (timerOf trigger timeout timer due) 0 || not (trigger || due)) ≡ true
+never-both : (trigger due : Bool) (timeout timer : ℕ) → (eqb timer 0 || not due) ≡ true
+    → (eqb (timerOf trigger timeout timer due) 0 || not (trigger || due)) ≡ true
 unfolding timerOf
 never-both true due timeout timer h = refl
 never-both false true timeout timer h = h

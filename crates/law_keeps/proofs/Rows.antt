@@ -59,7 +59,8 @@ zero-sound : (g : Config) → Sound g zeroRecord
 zero-sound g = bare-sound g zeroConfig
 
 -- the record of a row, in a list of any length
-pub sound-row-at : (image : List ℕ) (cs : List Connection) (n : ℕ) → recordsSound image cs ≡ true → n < rowsOf image Connections → soundAt image n (getD cs n zeroRecord) ≡ true
+pub sound-row-at : (image : List ℕ) (cs : List Connection) (n : ℕ) → recordsSound image cs ≡ true
+    → n < rowsOf image Connections → soundAt image n (getD cs n zeroRecord) ≡ true
 sound-row-at image cs n p h = go (ltb n (length cs)) refl
   where
     go : (b : Bool) → ltb n (length cs) ≡ b → soundAt image n (getD cs n zeroRecord) ≡ true
@@ -67,13 +68,17 @@ sound-row-at image cs n p h = go (ltb n (length cs)) refl
     go false e = rw (List·getD-eq-default cs zeroRecord (ltb-false _ _ e)) (sound-row image n zeroRecord h (zero-sound (configOf image n)) refl)
 
 -- a row's record may be replaced by a sound one with the same receive part, or the ready one
-row-changed : (image : List ℕ) (n : ℕ) (c d : Connection) → soundAt image n c ≡ true → n < rowsOf image Connections → (Sound (configOf image n) c → Sound (configOf image n) d) → Stays (c .part) (d .part)
+row-changed : (image : List ℕ) (n : ℕ) (c d : Connection) → soundAt image n c ≡ true → n < rowsOf image Connections
+    → (Sound (configOf image n) c → Sound (configOf image n) d) → Stays (c .part) (d .part)
     → soundAt image n d ≡ true
-row-changed image n c d p h keeps part = sound-row image n d h (keeps (row-sound image n c p h)) (stays-routed (bodyOf image Routes) n part (row-routed image n c p h))
+row-changed image n c d p h keeps part =
+    sound-row image n d h (keeps (row-sound image n c p h)) (stays-routed (bodyOf image Routes) n part (row-routed image n c p h))
 
 pub row-set : (image : List ℕ) (s : State) (n : ℕ) (c : Connection) → recordsSound image (s .connections) ≡ true → n < rowsOf image Connections
-    → (Sound (configOf image n) (recordAt s n) → Sound (configOf image n) c) → Stays (recordAt s n .part) (c .part) → recordsSound image (withRecord n c s .connections) ≡ true
-row-set image s n c p h keeps part = record-set image (s .connections) n c p (row-changed image n (recordAt s n) c (sound-row-at image (s .connections) n p h) h keeps part)
+    → (Sound (configOf image n) (recordAt s n) → Sound (configOf image n) c)
+    → Stays (recordAt s n .part) (c .part) → recordsSound image (withRecord n c s .connections) ≡ true
+row-set image s n c p h keeps part =
+    record-set image (s .connections) n c p (row-changed image n (recordAt s n) c (sound-row-at image (s .connections) n p h) h keeps part)
 
 module _ (image : List ℕ) (n : ℕ) (c : Connection) (p : soundAt image n c ≡ true) (h : n < rowsOf image Connections) where
   pub step-sound : (e : Event) → soundAt image n (stepOf e (configOf image n) c .connection) ≡ true

@@ -35,5 +35,6 @@ many (suc n) l p =
 pub ticks-single : (l : Lent) (n : ℕ) → Passed l → ticksEvent l n ≡ tickedFrom (rowsOf (l .image) Connections) (l .state) (calls n l)
 unfolding ticksEvent
 ticks-single l n p =
-    ap (λ (g : Gate). through g (unticked (l .state)) (tickedFrom (rowsOf (l .image) Connections) (l .state) (ticksTo (l .image) (rowsOf (l .image) Connections) n (l .state)))) (passed-gate l p)
+    ap (λ (g : Gate). through g (unticked (l .state))
+    (tickedFrom (rowsOf (l .image) Connections) (l .state) (ticksTo (l .image) (rowsOf (l .image) Connections) n (l .state)))) (passed-gate l p)
     ∙ ap (tickedFrom (rowsOf (l .image) Connections) (l .state)) (many n l p)

@@ -18,7 +18,8 @@ use Rattle.law_keeps.proofs.Records.{take-keeps}
 pub taken-passed : (l : Loan) (n : ℕ) (out : List ℕ) → Passed (sizes l) → Passed (next (sizes l) (takenWaiting l n out .state))
 unfolding takenWaiting
 taken-passed l n out p =
-    past-or (λ (t : Taken). Passed (next (sizes l) (t .state))) (gateAt (sizes l) n) (notTaken (l .state)) (takePast (l .image) (l .state) n (length out)) (λ r. p)
+    past-or (λ (t : Taken). Passed (next (sizes l) (t .state))) (gateAt (sizes l) n)
+    (notTaken (l .state)) (takePast (l .image) (l .state) n (length out)) (λ r. p)
     (λ e.
     passed-next (sizes l) _ p
     (row-set (l .image) (l .state) n (takeOf (configOf (l .image) n) (length out) (recordAt (l .state) n)) (p .sound) (gate-at-passed (sizes l) n e .1)

@@ -54,30 +54,40 @@ module _ (image : List ℕ) (ready : Ready image) (there : (i : ℕ) → i < des
   abbrev Good : Sending → ℕ → Type 0
   Good x i = Fine image ready s pdu payload (clear-roomy image s pdu payload clear ready) x i
 
-  own-keeps : (x : Sending) (i : ℕ) → Good x i → i < destinations image → wantedAt image s pdu payload i ≡ true → recordsSound image (x .state .connections) ≡ true
+  own-keeps : (x : Sending) (i : ℕ) → Good x i → i < destinations image
+      → wantedAt image s pdu payload i ≡ true → recordsSound image (x .state .connections) ≡ true
       → recordsSound image (appendOf (destinationOf image i) payload x .state .connections) ≡ true
   unfolding appendOf configOf
   own-keeps x i f h w p =
       let k = destinationOf image i .connection in
-      let m : Meets (length payload) (connectionOf image (destinationOf image i .connection) .size) (destinationOf image i) (recordAt (x .state) (destinationOf image i .connection)) =
-      subst (Meets (length payload) (connectionOf image (destinationOf image i .connection) .size) (destinationOf image i)) (sym (f .same i (omega arith) h w)) (clear-meets image s pdu payload clear i h w) in
+      let m : Meets (length payload) (connectionOf image (destinationOf image i .connection) .size)
+      (destinationOf image i) (recordAt (x .state) (destinationOf image i .connection)) =
+      subst (Meets (length payload) (connectionOf image (destinationOf image i .connection) .size) (destinationOf image i))
+      (sym (f .same i (omega arith) h w)) (clear-meets image s pdu payload clear i h w) in
       row-set image (x .state) (destinationOf image i .connection) _ p (there i h)
       (λ q. sent-keeps (configOf image (destinationOf image i .connection)) (destinationOf image i) (length payload) _ q m) unchanged
 
-  keep-step : (x : Sending) (i : ℕ) → Good x i → i < destinations image → recordsSound image (x .state .connections) ≡ true → recordsSound image (storeOf image s pdu payload x i .state .connections) ≡ true
+  keep-step : (x : Sending) (i : ℕ) → Good x i → i < destinations image → recordsSound image (x .state .connections) ≡ true
+      → recordsSound image (storeOf image s pdu payload x i .state .connections) ≡ true
   unfolding storeOf
   keep-step x i f h p = go (wantedAt image s pdu payload i) refl
     where
-      go : (b : Bool) → wantedAt image s pdu payload i ≡ b → recordsSound image (cond b (appendOf (destinationOf image i) payload x) x .state .connections) ≡ true
+      go : (b : Bool) → wantedAt image s pdu payload i ≡ b
+          → recordsSound image (cond b (appendOf (destinationOf image i) payload x) x .state .connections) ≡ true
       go false w = p
       go true w = own-keeps x i f h w p
 
-  store-keeps : (tx : List ℕ) → length (s .connections) ≡ 16 → length tx ≡ 23552 → ((k : ℕ) → recordAt s k .used ≤ 1472) → recordsSound image (s .connections) ≡ true
+  store-keeps : (tx : List ℕ) → length (s .connections) ≡ 16 → length tx ≡ 23552
+      → ((k : ℕ) → recordAt s k .used ≤ 1472) → recordsSound image (s .connections) ≡ true
       → recordsSound image (storeAll image s pdu payload tx .state .connections) ≡ true
   unfolding storeAll
   store-keeps tx sixteen long fits p =
-      fold-goes (storeOf image s pdu payload) (λ (i : ℕ) (x : Sending). Good x i × (recordsSound image (x .state .connections) ≡ true)) (destinations image) 0 (sending s tx)
-      (λ i x l u r. (fine-step image ready s pdu payload (clear-roomy image s pdu payload clear ready) x i (r .0) (omega arith), keep-step x i (r .0) (omega arith) (r .1)))
+      fold-goes (storeOf image s pdu payload)
+      (λ (i : ℕ) (x : Sending). Good x i × (recordsSound image (x .state .connections) ≡ true)) (destinations image) 0 (sending s tx)
+      (λ i x l u r. (
+        fine-step image ready s pdu payload (clear-roomy image s pdu payload clear ready) x i (r .0) (omega arith),
+        keep-step x i (r .0) (omega arith) (r .1),
+      ))
       (begin-fine image ready s pdu payload tx sixteen long fits clear, p) .1
 
 -- the entry point
@@ -89,9 +99,11 @@ transmit-keeps l pdu payload sixteen h = go (gateOf (sizes l)) refl
     inner : Accepts (l .image) → length (l .tx) ≡ 23552 → (b : Bool) → isStored (checkOf (l .image) (l .state) pdu (length payload)) ≡ b
         → recordsSound (l .image) (cond b (storeAll (l .image) (l .state) pdu payload (l .tx)) (sending (l .state) (l .tx)) .state .connections) ≡ true
     inner a long false e = h
-    inner a long true e = store-keeps (l .image) (ready-from (l .image) a) (connection-there (l .image) a) (l .state) pdu payload e (l .tx) sixteen long (all-fit (l .image) a (l .state) h) h
+    inner a long true e = store-keeps (l .image) (ready-from (l .image) a) (connection-there (l .image) a)
+        (l .state) pdu payload e (l .tx) sixteen long (all-fit (l .image) a (l .state) h) h
 
-    go : (q : Gate) → gateOf (sizes l) ≡ q → recordsSound (l .image) (through q (notSent (l .state)) (transmittedOf (l .image) (l .state) pdu payload (l .tx)) .state .connections) ≡ true
+    go : (q : Gate) → gateOf (sizes l) ≡ q
+        → recordsSound (l .image) (through q (notSent (l .state)) (transmittedOf (l .image) (l .state) pdu payload (l .tx)) .state .connections) ≡ true
     go (Refused r) e = h
     go Pass e =
         let p = gate-passed (sizes l) e in

@@ -12,13 +12,15 @@ use Rattle.connection.specs.declared.Refusal.the-variants.{Denied}
 use Rattle.connection.specs.declared.Answer.the-variants.{Done}
 use Rattle.connection.specs.declared.Event.{Event}
 use Rattle.connection.specs.declared.Event.the-variants.{Open, Close, Connected, Lost, SetRemote, Switch, Cancel}
-use Rattle.connection.specs.Connection.{isOffline, isReconnect, isOnline, wildcard, withMode, withSend, become, closedOf, startedOf, reachOf, runOf, expires as ends, letGoOf, sunkOf, onward, tickOf}
+use Rattle.connection.specs.Connection.{isOffline, isReconnect, isOnline, wildcard, withMode, withSend, become, closedOf}
+use Rattle.connection.specs.Connection.{startedOf, reachOf, runOf, expires as ends, letGoOf, sunkOf, onward, tickOf}
 use Rattle.connection.specs.Event.{allowed, recordAfter, refusedBy, stepOf}
 use Rattle.connection.specs.Sound.{Sound}
 use Rattle.connection.proofs.Keeps.{moves-online, let-go-watched}
 use Rattle.connection.proofs.Ticks.{step-either}
 use Rattle.lists.proofs.Both.{impossible, and-left, and-right, and-both}
-use Rattle.law_transitions.specs.Table.{Place, at, placeOf, Happening, opens, closes, connects, loses, stays, cancels, ticks, expires, happeningOf, tickHappening, modeNumber, table, firstIn, move}
+use Rattle.law_transitions.specs.Table.{Place, at, placeOf, Happening, opens, closes, connects, loses, stays}
+use Rattle.law_transitions.specs.Table.{cancels, ticks, expires, happeningOf, tickHappening, modeNumber, table, firstIn, move}
 
 -- the two steps of a tick that goes on
 abbrev startP : Bool → Place → Place
@@ -147,7 +149,8 @@ same-is (at m o k) (at n p q) e =
     rw (a, b, c)
 
 -- of places that meet these rules
-moved : (h : Happening) (t a w x : Bool) (m : Mode) (o k : Bool) → ruled t a x m o k ≡ true → ending h t m ≡ true → effect h t a w x m o k ≡ move h t a w x (at m o k)
+moved : (h : Happening) (t a w x : Bool) (m : Mode) (o k : Bool) → ruled t a x m o k ≡ true
+    → ending h t m ≡ true → effect h t a w x m o k ≡ move h t a w x (at m o k)
 unfolding whole agrees
 moved h t a w x m o k r n =
     let p1 = of-happening (λ h. bools (λ t. bools (λ a. bools (λ w. bools (λ x. modes (λ m. bools (λ o. bools (λ k. agrees h t a w x m o k)))))))) checked h in
@@ -174,7 +177,8 @@ unfolding ruled
 rules g c s = and-both (and-both (s .wishes .opening) (s .wishes .closing)) (moving-online g c s)
 
 -- an event that is allowed or not
-decided : (b : Bool) (c d : Connection) → placeOf (cond (not b) (refusedBy Denied c) (record { answer = Done; connection = d }) .connection) ≡ cond b (placeOf d) (placeOf c)
+decided : (b : Bool) (c d : Connection)
+    → placeOf (cond (not b) (refusedBy Denied c) (record { answer = Done; connection = d }) .connection) ≡ cond b (placeOf d) (placeOf c)
 decided true c d = refl
 decided false c d = refl
 
@@ -240,7 +244,8 @@ tick-effect g c = go (ends g c)
         ∙ ap (λ r. reachP (g .tcp) (wildcard r) (placeOf (startedOf g d))) (start-remote g d)
         ∙ ap (reachP (g .tcp) (wildcard (c .remote))) (start-place g d)
 
-    going : (b : Bool) → placeOf (cond b (closedOf g c) (onward g c)) ≡ cond b (at Offline false false) (reachP (g .tcp) (wildcard (c .remote)) (startP (g .automatic) (placeOf c)))
+    going : (b : Bool) → placeOf (cond b (closedOf g c) (onward g c))
+        ≡ cond b (at Offline false false) (reachP (g .tcp) (wildcard (c .remote)) (startP (g .automatic) (placeOf c)))
     going true = refl
     going false = on
 

@@ -31,7 +31,8 @@ use Rattle.law_waits.proofs.Held.{waits-after}
 use Rattle.law_keeps.proofs.Transmitted.{all-fit}
 
 -- a transmit, seen from connection k
-pub transmit-turn : (l : Loan) (pdu : ℕ) (payload : List ℕ) → length (l .state .connections) ≡ 16 → recordsSound (l .image) (l .state .connections) ≡ true → (k : ℕ)
+pub transmit-turn : (l : Loan) (pdu : ℕ) (payload : List ℕ) → length (l .state .connections) ≡ 16
+    → recordsSound (l .image) (l .state .connections) ≡ true → (k : ℕ)
     → waits (sendOf l pdu payload .state) (sentMemory l pdu payload) k
     ≡ turned (adds (through (gateOf (sizes l)) (λ r. []) (addedTo (l .image) (l .state) pdu payload k))) (waits (l .state) (l .tx) k)
 unfolding sendOf sentMemory transmitOf addedTo
@@ -70,7 +71,8 @@ taken-bytes l n out h e room = rw (e, le-ltb _ _ room) fronted
     m : length (waits (l .state) (l .tx) n) ≡ recordAt (l .state) n .used
     m =
         let p = gate-at-passed (sizes l) n e .0 in
-        waits-length (l .tx) n (recordAt (l .state) n .used) (in-sixteen (sizes l) n e) (p .send) (all-fit (l .image) (accepted-facts (l .image) (p .table)) (l .state) h n)
+        waits-length (l .tx) n (recordAt (l .state) n .used) (in-sixteen (sizes l) n e)
+        (p .send) (all-fit (l .image) (accepted-facts (l .image) (p .table)) (l .state) h n)
 
     fronted : lay out 0 (waits (l .state) (l .tx) n) ≡ waits (l .state) (l .tx) n ++ drop (recordAt (l .state) n .used) out
     fronted =

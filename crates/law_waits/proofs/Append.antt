@@ -41,7 +41,8 @@ module _ (d : DestinationRow) (payload : List ℕ) (x : Sending) where
   append-long = lay-length (x .memory) _ (frame (d .id) payload)
 
   module _ (r : RoomThere d payload x) where
-    pub append-own : recordAt (appendOf d payload x .state) (d .connection) ≡ sentOf d (recordAt (x .state) (d .connection) .used + 8 + length payload) (recordAt (x .state) (d .connection))
+    pub append-own : recordAt (appendOf d payload x .state) (d .connection)
+        ≡ sentOf d (recordAt (x .state) (d .connection) .used + 8 + length payload) (recordAt (x .state) (d .connection))
     unfolding appendOf
     append-own = getD-set-same (x .state .connections) (d .connection) _ zeroRecord (omega (arith, r .sixteen, r .small))
 
@@ -50,22 +51,28 @@ module _ (d : DestinationRow) (payload : List ℕ) (x : Sending) where
         ≡ take (recordAt (x .state) (d .connection) .used) (drop (d .connection * 1472) (x .memory)) ++ frame (d .id) payload
     unfolding appendOf
     held-own =
-        let e : recordAt (x .state) (d .connection) .used + 8 + length payload ≡ recordAt (x .state) (d .connection) .used + length (frame (d .id) payload) = omega (arith, frame-length (d .id) payload) in
-        ap (λ (n : ℕ). take n (drop (d .connection * 1472) (lay (x .memory) (d .connection * 1472 + recordAt (x .state) (d .connection) .used) (frame (d .id) payload)))) e
-        ∙ lay-held (x .memory) (d .connection * 1472) (recordAt (x .state) (d .connection) .used) (frame (d .id) payload) (omega (arith, r .long, r .small, r .fits, frame-length (d .id) payload))
+        let e : recordAt (x .state) (d .connection) .used + 8 + length payload ≡ recordAt (x .state) (d .connection) .used + length (frame (d .id) payload) =
+        omega (arith, frame-length (d .id) payload) in
+        ap (λ (n : ℕ). take n (drop (d .connection * 1472)
+        (lay (x .memory) (d .connection * 1472 + recordAt (x .state) (d .connection) .used) (frame (d .id) payload)))) e
+        ∙ lay-held (x .memory) (d .connection * 1472) (recordAt (x .state) (d .connection) .used)
+        (frame (d .id) payload) (omega (arith, r .long, r .small, r .fits, frame-length (d .id) payload))
 
-    pub waits-own : waits (appendOf d payload x .state) (appendOf d payload x .memory) (d .connection) ≡ waits (x .state) (x .memory) (d .connection) ++ frame (d .id) payload
+    pub waits-own : waits (appendOf d payload x .state) (appendOf d payload x .memory) (d .connection)
+        ≡ waits (x .state) (x .memory) (d .connection) ++ frame (d .id) payload
     unfolding waitingOf
     waits-own = ap (λ (c : Connection). take (c .used) (drop (d .connection * 1472) (appendOf d payload x .memory))) append-own ∙ held-own
 
     -- another's stretch, and any part of it
     pub stretch-other : (k : ℕ) → (k ≡ d .connection → ⊥) → stretch 1472 k (appendOf d payload x .memory) ≡ stretch 1472 k (x .memory)
     unfolding appendOf
-    stretch-other k ne = stretch-apart 1472 (d .connection) (x .memory) _ (frame (d .id) payload) (omega arith) (omega (arith, r .fits, frame-length (d .id) payload)) k ne
+    stretch-other k ne = stretch-apart 1472 (d .connection) (x .memory) _ (frame (d .id) payload)
+        (omega arith) (omega (arith, r .fits, frame-length (d .id) payload)) k ne
 
     part-other : (k b : ℕ) → b ≤ 1472 → (k ≡ d .connection → ⊥) → take b (drop (k * 1472) (appendOf d payload x .memory)) ≡ take b (drop (k * 1472) (x .memory))
     part-other k b h ne =
-        sym (take-take b 1472 (drop (k * 1472) (appendOf d payload x .memory)) h) ∙ ap (take b) (stretch-other k ne) ∙ take-take b 1472 (drop (k * 1472) (x .memory)) h
+        sym (take-take b 1472 (drop (k * 1472) (appendOf d payload x .memory)) h)
+        ∙ ap (take b) (stretch-other k ne) ∙ take-take b 1472 (drop (k * 1472) (x .memory)) h
 
     pub waits-other : (k : ℕ) → recordAt (x .state) k .used ≤ 1472 → (d .connection ≡ k → ⊥)
         → waits (appendOf d payload x .state) (appendOf d payload x .memory) k ≡ waits (x .state) (x .memory) k

@@ -34,9 +34,11 @@ module _ (image : List ℕ) (ready : Ready image) (s : State) (pdu : ℕ) (paylo
     pub sixteen : length (x .state .connections) ≡ 16
     pub long : length (x .memory) ≡ 23552
     pub fits : (k : ℕ) → recordAt (x .state) k .used ≤ 1472
-    pub same : (j : ℕ) → i ≤ j → j < destinations image → wantedAt image s pdu payload j ≡ true → recordAt (x .state) (destinationOf image j .connection) ≡ recordAt s (destinationOf image j .connection)
+    pub same : (j : ℕ) → i ≤ j → j < destinations image → wantedAt image s pdu payload j ≡ true
+        → recordAt (x .state) (destinationOf image j .connection) ≡ recordAt s (destinationOf image j .connection)
 
-  pub room-held : (x : Sending) (i : ℕ) → Fine x i → i < destinations image → wantedAt image s pdu payload i ≡ true → RoomThere (destinationOf image i) payload x
+  pub room-held : (x : Sending) (i : ℕ) → Fine x i → i < destinations image
+      → wantedAt image s pdu payload i ≡ true → RoomThere (destinationOf image i) payload x
   room-held x i f h w = record { sixteen = f .sixteen; long = f .long; small = ready .there i h; fits = rw (f .same i (omega arith) h w) (roomy i h w) }
 
   pub fine-step : (x : Sending) (i : ℕ) → Fine x i → i < destinations image → Fine (storeOf image s pdu payload x i) (suc i)
@@ -50,18 +52,21 @@ module _ (image : List ℕ) (ready : Ready image) (s : State) (pdu : ℕ) (paylo
             sixteen = append-sixteen (destinationOf image i) payload x (f .sixteen);
             long = append-long (destinationOf image i) payload x ∙ f .long;
             fits = λ k. append-fits (destinationOf image i) payload x (room-held x i f h w) k (f .fits k) (ℕ-discrete (dest i) k);
-            same = λ j l u q. append-other (destinationOf image i) payload x (dest j) (λ z. wanted-apart image s pdu payload ready i j (omega arith) u w q (sym z)) ∙ f .same j (omega arith) u q;
+            same = λ j l u q. append-other (destinationOf image i) payload x (dest j)
+                (λ z. wanted-apart image s pdu payload ready i j (omega arith) u w q (sym z)) ∙ f .same j (omega arith) u q;
           }
 
   module _ (k : ℕ) where
     -- a row in its three ways: it appends to connection k, to another, or nothing
-    row-cases : (x : Sending) (i : ℕ) (P : Bool → Sending → Type 0) → (wantedAt image s pdu payload i ≡ true → dest i ≡ k → P true (appendOf (destinationOf image i) payload x))
+    row-cases : (x : Sending) (i : ℕ) (P : Bool → Sending → Type 0)
+        → (wantedAt image s pdu payload i ≡ true → dest i ≡ k → P true (appendOf (destinationOf image i) payload x))
         → (wantedAt image s pdu payload i ≡ true → (dest i ≡ k → ⊥) → P false (appendOf (destinationOf image i) payload x)) → P false x
         → P (goesTo image s pdu payload k i) (storeOf image s pdu payload x i)
     unfolding storeOf
     row-cases x i P own other none = go (wantedAt image s pdu payload i) refl (eqb (dest i) k) refl
       where
-        go : (b : Bool) → wantedAt image s pdu payload i ≡ b → (o : Bool) → eqb (dest i) k ≡ o → P (b && o) (cond b (appendOf (destinationOf image i) payload x) x)
+        go : (b : Bool) → wantedAt image s pdu payload i ≡ b → (o : Bool) → eqb (dest i) k ≡ o
+            → P (b && o) (cond b (appendOf (destinationOf image i) payload x) x)
         go false w o e = none
         go true w true e = own w (eqb-true _ _ e)
         go true w false e = other w (eqb-false _ _ e)
@@ -70,9 +75,11 @@ module _ (image : List ℕ) (ready : Ready image) (s : State) (pdu : ℕ) (paylo
         → waits (storeOf image s pdu payload x i .state) (storeOf image s pdu payload x i .memory) k
         ≡ waits (x .state) (x .memory) k ++ cond (goesTo image s pdu payload k i) (frame (destinationOf image i .id) payload) []
     waits-step x i f h =
-        row-cases x i (λ (b : Bool) (y : Sending). waits (y .state) (y .memory) k ≡ waits (x .state) (x .memory) k ++ cond b (frame (destinationOf image i .id) payload) [])
+        row-cases x i (λ (b : Bool) (y : Sending). waits (y .state) (y .memory) k
+        ≡ waits (x .state) (x .memory) k ++ cond b (frame (destinationOf image i .id) payload) [])
         (λ w e.
-        subst (λ (m : ℕ). waits (appendOf (destinationOf image i) payload x .state) (appendOf (destinationOf image i) payload x .memory) m ≡ waits (x .state) (x .memory) m ++ frame (destinationOf image i .id) payload)
+        subst (λ (m : ℕ). waits (appendOf (destinationOf image i) payload x .state) (appendOf (destinationOf image i) payload x .memory) m
+        ≡ waits (x .state) (x .memory) m ++ frame (destinationOf image i .id) payload)
         e (waits-own (destinationOf image i) payload x (room-held x i f h w)))
         (λ w ne. waits-other (destinationOf image i) payload x (room-held x i f h w) k (f .fits k) ne ∙ sym (append-nil (waits (x .state) (x .memory) k)))
         (sym (append-nil (waits (x .state) (x .memory) k)))
@@ -84,7 +91,10 @@ module _ (image : List ℕ) (ready : Ready image) (s : State) (pdu : ℕ) (paylo
     keeps-step : (x : Sending) (i : ℕ) → Fine x i → i < destinations image → goesTo image s pdu payload k i ≡ false → Keeps x (storeOf image s pdu payload x i)
     keeps-step x i f h =
         row-cases x i (λ (b : Bool) (y : Sending). b ≡ false → Keeps x y) (λ w e g. impossible (sym g))
-        (λ w ne g. (stretch-other (destinationOf image i) payload x (room-held x i f h w) k (λ z. ne (sym z)), append-other (destinationOf image i) payload x k ne)) (λ g. (refl, refl))
+        (λ w ne g. (
+          stretch-other (destinationOf image i) payload x (room-held x i f h w) k (λ z. ne (sym z)),
+          append-other (destinationOf image i) payload x k ne,
+        )) (λ g. (refl, refl))
 
     -- all rows from i on
     waits-fold : (n i : ℕ) (x : Sending) → i + n ≤ destinations image → Fine x i
@@ -114,12 +124,15 @@ module _ (image : List ℕ) (ready : Ready image) (s : State) (pdu : ℕ) (paylo
 
   module _ (k : ℕ) where
     -- what waits: the old bytes, and a frame for each of the connection's destinations
-    pub waits-after : waits (storeAll image s pdu payload tx .state) (storeAll image s pdu payload tx .memory) k ≡ waits s tx k ++ framesFrom image s pdu payload k (destinations image) 0
+    pub waits-after : waits (storeAll image s pdu payload tx .state) (storeAll image s pdu payload tx .memory) k
+        ≡ waits s tx k ++ framesFrom image s pdu payload k (destinations image) 0
     unfolding storeAll
-    waits-after = waits-fold image ready s pdu payload (clear-roomy image s pdu payload clear ready) k (destinations image) 0 (sending s tx) (omega arith) begin-fine
+    waits-after = waits-fold image ready s pdu payload (clear-roomy image s pdu payload clear ready) k
+        (destinations image) 0 (sending s tx) (omega arith) begin-fine
 
     -- a connection with none of them keeps its whole stretch and its record
     pub others-stay : ((i : ℕ) → i < destinations image → goesTo image s pdu payload k i ≡ false)
         → (stretch 1472 k (storeAll image s pdu payload tx .memory) ≡ stretch 1472 k tx) × (recordAt (storeAll image s pdu payload tx .state) k ≡ recordAt s k)
     unfolding storeAll
-    others-stay none = keeps-fold image ready s pdu payload (clear-roomy image s pdu payload clear ready) k (destinations image) (sending s tx) (omega arith) begin-fine none
+    others-stay none = keeps-fold image ready s pdu payload (clear-roomy image s pdu payload clear ready) k
+        (destinations image) (sending s tx) (omega arith) begin-fine none

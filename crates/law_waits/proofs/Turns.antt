@@ -30,7 +30,8 @@ step-used e g c =
     refused true y q = rw q
     refused false y q = refl
 
-    made : (x : Bool) → drops e ≡ x → allowed e g c ≡ true → recordAfter e g c .used ≡ cond x 0 (c .used) → recordAfter e g c .used ≡ cond (x && (known e && allowed e g c)) 0 (c .used)
+    made : (x : Bool) → drops e ≡ x → allowed e g c ≡ true → recordAfter e g c .used ≡ cond x 0 (c .used)
+        → recordAfter e g c .used ≡ cond (x && (known e && allowed e g c)) 0 (c .used)
     made true n a u = rw (after-leaves e g c .there n, a) u
     made false n a u = u
 

@@ -77,7 +77,8 @@ module _ {A : Type 0} (f : ℕ → A → Bool) where
 
 -- the first i elements changed, or every one, each into one that meets its test
 module _ {A : Type 0} (test : ℕ → A → Bool) (f : ℕ → A → A) where
-  pub all-each : (k i : ℕ) (xs : List A) → allFrom test k xs ≡ true → ((j : ℕ) (x : A) → j < k + i → test j x ≡ true → test j (f j x) ≡ true) → allFrom test k (eachTo f k i xs) ≡ true
+  pub all-each : (k i : ℕ) (xs : List A) → allFrom test k xs ≡ true
+      → ((j : ℕ) (x : A) → j < k + i → test j x ≡ true → test j (f j x) ≡ true) → allFrom test k (eachTo f k i xs) ≡ true
   all-each k zero xs p q = p
   all-each k (suc i) [] p q = refl
   all-each k (suc i) (x ∷ xs) p q =
@@ -94,7 +95,8 @@ all-turn f xs d i b ok one h p q =
     let z : i ≡ 0 + i = omega arith in
     ap (λ (o : Bool). o && one) p
     ∙ and-assoc b (allTo f 0 i xs) one
-    ∙ ap (λ (o : Bool). b && o) (ap (λ (o : Bool). allTo f 0 i xs && o) (q ∙ ap (λ (k : ℕ). f k (getD xs i d)) z) ∙ all-more f 0 i xs d h ∙ ap (λ (k : ℕ). allTo f 0 k xs) (sym (add-one i)))
+    ∙ ap (λ (o : Bool). b && o) (ap (λ (o : Bool). allTo f 0 i xs && o) (q ∙ ap (λ (k : ℕ). f k (getD xs i d)) z)
+    ∙ all-more f 0 i xs d h ∙ ap (λ (k : ℕ). allTo f 0 k xs) (sym (add-one i)))
 
 -- what stands at a place of a list after a change
 module _ {A : Type 0} (d : A) where
@@ -112,7 +114,8 @@ module _ {A : Type 0} (d : A) where
   part-kept f xs i j y e = one-at xs i j y (λ (x : A). f x ≡ f (getD xs j d)) (λ q. e ∙ ap (λ (k : ℕ). f (getD xs k d)) q) refl
 
   -- some changed by what their number says: each is changed, or as it was
-  pub each-at : (f : ℕ → A → A) (P : A → Type 0) (b n : ℕ) (xs : List A) (k : ℕ) → P (f (b + k) (getD xs k d)) → P (getD xs k d) → P (getD (eachTo f b n xs) k d)
+  pub each-at : (f : ℕ → A → A) (P : A → Type 0) (b n : ℕ) (xs : List A) (k : ℕ)
+      → P (f (b + k) (getD xs k d)) → P (getD xs k d) → P (getD (eachTo f b n xs) k d)
   each-at f P b zero xs k p q = q
   each-at f P b (suc n) [] k p q = q
   each-at f P b (suc n) (x ∷ xs) zero p q = let e : b + 0 ≡ b = omega arith in subst (λ (m : ℕ). P (f m x)) e p

@@ -28,7 +28,8 @@ module _ {B : Type 0} (f : B → ℕ → B) where
       rw e at (inv .1)
 
   -- what each row hands on to the next, all rows hand on
-  pub fold-goes : (P : ℕ → B → Type 0) (n k : ℕ) (b : B) → ((i : ℕ) (c : B) → k ≤ i → i < k + n → P i c → P (suc i) (f c i)) → P k b → P (k + n) (foldFrom f n k b)
+  pub fold-goes : (P : ℕ → B → Type 0) (n k : ℕ) (b : B)
+      → ((i : ℕ) (c : B) → k ≤ i → i < k + n → P i c → P (suc i) (f c i)) → P k b → P (k + n) (foldFrom f n k b)
   unfolding foldFrom
   fold-goes P zero k b step p = let e : k ≡ k + 0 = omega arith in subst (λ (i : ℕ). P i b) e p
   fold-goes P (suc n) k b step p =
@@ -47,5 +48,6 @@ pub fold-alike : {B C : Type 0} (f : B → ℕ → B) (g : C → ℕ → C) (loo
 unfolding foldFrom
 fold-alike f g look P zero k b step alike p = refl
 fold-alike f g look P (suc n) k b step alike p =
-    fold-alike f g look P n (suc k) (f b k) (λ i c l u q. step i c (omega arith) (omega arith) q) (λ i c l u q. alike i c (omega arith) (omega arith) q) (step k b (omega arith) (omega arith) p)
+    fold-alike f g look P n (suc k) (f b k) (λ i c l u q. step i c (omega arith) (omega arith) q)
+    (λ i c l u q. alike i c (omega arith) (omega arith) q) (step k b (omega arith) (omega arith) p)
     ∙ ap (foldFrom g n (suc k)) (alike k b (omega arith) (omega arith) p)

@@ -66,7 +66,8 @@ module _ (good : ℕ → Bool) where
   unfolding every
   every-at zero i e h = absurd (not-suc-le-zero h)
   every-at (suc n) i e h =
-      ⊎-elim (λ q. ap good q ∙ and-right (every good n) (good n) e) (λ l. every-at n i (and-left (every good n) (good n) e) l) (eq-or-lt-of-le (le-of-suc-le-suc h))
+      ⊎-elim (λ q. ap good q ∙ and-right (every good n) (good n) e)
+      (λ l. every-at n i (and-left (every good n) (good n) e) l) (eq-or-lt-of-le (le-of-suc-le-suc h))
 
   pub every-all : (n : ℕ) → ((i : ℕ) → i < n → good i ≡ true) → every good n ≡ true
   unfolding every

@@ -11,7 +11,8 @@ use Rattle.receive_part.specs.declared.Part.{Part}
 use Rattle.receive_part.specs.declared.Part.the-variants.{Header, Payload, Skip, Transfer}
 use Rattle.reading.specs.declared.Decision.{Decision}
 use Rattle.reading.specs.declared.Decision.the-variants.{Accept, Refuse, Transfer as Move}
-use Rattle.reading.specs.Feed.{Routes, PieceKind, header, payload, skip, Cell, cell, transfer, Fed, decided, withByte, pieceDone, feed, after, ready, stops, took, pieceBy, takeB, segmentRan}
+use Rattle.reading.specs.Feed.{Routes, PieceKind, header, payload, skip, Cell, cell, transfer, Fed, decided}
+use Rattle.reading.specs.Feed.{withByte, pieceDone, feed, after, ready, stops, took, pieceBy, takeB, segmentRan}
 use Rattle.reading.proofs.Cut.{segment-to}
 use Rattle.receive_stream.specs.Stream.{cellOf, partFrom, heldIn}
 
@@ -72,7 +73,8 @@ unfolding takeB
 snug-take R c [] s = s
 snug-take R (transfer zero r) (b ∷ bs) s = snug-take R ready bs (omega arith)
 snug-take R (transfer (suc n) r) (b ∷ bs) s = snug-piece (suc n) r (b ∷ bs) (ltb (length (b ∷ bs)) (suc n))
-snug-take R (cell n k) (b ∷ bs) s = go (stops (feed R (cell n k) b .out)) (snug-feed R (cell n k) b s) (snug-take R (feed R (cell n k) b .to) bs (snug-feed R (cell n k) b s))
+snug-take R (cell n k) (b ∷ bs) s =
+    go (stops (feed R (cell n k) b .out)) (snug-feed R (cell n k) b s) (snug-take R (feed R (cell n k) b .to) bs (snug-feed R (cell n k) b s))
   where
     f : Fed
     f = feed R (cell n k) b

@@ -20,7 +20,8 @@ records rx tx k [] = refl
 records rx tx k (c ∷ cs) = ap (λ (l : List Connection). c ∷ l) (records rx tx (suc k) cs)
 
 pub state-view : (s : State) (rx tx : List ℕ) → stateOf (viewOf s rx tx) ≡ s
-state-view s rx tx = ap (λ (l : List Connection). record { connections = l; «udp_drops» = s .«udp_drops»; «tcp_drops» = s .«tcp_drops» }) (records rx tx 0 (s .connections))
+state-view s rx tx = ap (λ (l : List Connection). record { connections = l; «udp_drops» = s .«udp_drops»; «tcp_drops» = s .«tcp_drops» })
+    (records rx tx 0 (s .connections))
 
 pub view-length : (rx tx : List ℕ) (k : ℕ) (cs : List Connection) → length (viewFrom rx tx k cs) ≡ length cs
 view-length rx tx k [] = refl
@@ -43,7 +44,8 @@ pub view-record : (s : State) (rx tx : List ℕ) (i : ℕ) → heldAt (viewOf s 
 view-record s rx tx i = ap (λ (h : Held). h .connection) (view-at s rx tx i)
 
 -- ONE CONNECTION: another record there, and memories that differ in its stretches alone
-module _ (rx tx rx′ tx′ : List ℕ) (i : ℕ) (same-rx : (j : ℕ) → (j ≡ i → ⊥) → stretch 1464 j rx′ ≡ stretch 1464 j rx) (same-tx : (j : ℕ) → (j ≡ i → ⊥) → stretch 1472 j tx′ ≡ stretch 1472 j tx) where
+module _ (rx tx rx′ tx′ : List ℕ) (i : ℕ) (same-rx : (j : ℕ) → (j ≡ i → ⊥) → stretch 1464 j rx′ ≡ stretch 1464 j rx)
+    (same-tx : (j : ℕ) → (j ≡ i → ⊥) → stretch 1472 j tx′ ≡ stretch 1472 j tx) where
   held-same : (j : ℕ) (c : Connection) → (j ≡ i → ⊥) → heldOf rx′ tx′ j c ≡ heldOf rx tx j c
   held-same j c ne =
       ap₂ (λ (x y : List ℕ). record { connection = c; received = take (heldBy (c .part)) x; waiting = take (c .used) y }) (same-rx j ne) (same-tx j ne)
@@ -52,7 +54,8 @@ module _ (rx tx rx′ tx′ : List ℕ) (i : ℕ) (same-rx : (j : ℕ) → (j �
   view-apart k [] h = refl
   view-apart k (c ∷ cs) h = ap₂ (λ (x : Held) (l : List Held). x ∷ l) (held-same k c (λ e. omega arith)) (view-apart (suc k) cs (omega arith))
 
-  view-write : (k : ℕ) (cs : List Connection) (n : ℕ) (c : Connection) → k + n ≡ i → viewFrom rx′ tx′ k (set cs n c) ≡ set (viewFrom rx tx k cs) n (heldOf rx′ tx′ i c)
+  view-write : (k : ℕ) (cs : List Connection) (n : ℕ) (c : Connection) → k + n ≡ i
+      → viewFrom rx′ tx′ k (set cs n c) ≡ set (viewFrom rx tx k cs) n (heldOf rx′ tx′ i c)
   view-write k [] n c e = refl
   view-write k (x ∷ cs) zero c e =
       let q : k ≡ i = omega arith in

@@ -24,7 +24,8 @@ unfolding judgedAnswer judgedOf gateAt
 done-is l k allowed p =
     ap
     (λ (g : Gate).
-    isDone (through (thenThere (ltb k (rowsOf (l .image) Connections)) g) Refused (cond allowed (cond (receiving (recordAt (l .state) k)) Done NotReceiving) (Refused Denied))))
+    isDone (through (thenThere (ltb k (rowsOf (l .image) Connections)) g) Refused
+    (cond allowed (cond (receiving (recordAt (l .state) k)) Done NotReceiving) (Refused Denied))))
     (passed-gate l p)
     ∙ go (ltb k (rowsOf (l .image) Connections)) allowed (receiving (recordAt (l .state) k))
   where

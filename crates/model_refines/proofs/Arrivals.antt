@@ -30,11 +30,13 @@ meets : (image : List ℕ) (s : State) (source : Remote) (c : Chosen) → Meetin
 meets image s source Nobody = nobody
 meets image s source (At j) = meeting-one j
 
-pub arrive-is : (image : List ℕ) (s : State) (accept : Bool) (group : ℕ) (source : Remote) → Meeting image s source (arriveOf image s accept group source .state)
+pub arrive-is : (image : List ℕ) (s : State) (accept : Bool) (group : ℕ) (source : Remote)
+    → Meeting image s source (arriveOf image s accept group source .state)
 unfolding arriveOf
 arrive-is image s accept group source = go (leb (rowsOf image Group) group) (deniedOf image accept group source)
   where
-    go : (m d : Bool) → Meeting image s source (cond m (arrivalRefused s Missing) (cond d (arrivalRefused s Denied) (meet image s source (chosenIn image s accept group source))) .state)
+    go : (m d : Bool) → Meeting image s source
+        (cond m (arrivalRefused s Missing) (cond d (arrivalRefused s Denied) (meet image s source (chosenIn image s accept group source))) .state)
     go true d = nobody
     go false true = nobody
     go false false = meets image s source (chosenIn image s accept group source)
@@ -51,7 +53,8 @@ module _ (image : List ℕ) (s : State) (source : Remote) where
   meeting-length t (meeting-one j) = length-set (s .connections) j (metOf (configOf image j) source (recordAt s j))
 
   -- each record is met, or as it was
-  pub meeting-at : (t : State) (P : Connection → Type 0) (k : ℕ) → Meeting image s source t → P (metOf (configOf image k) source (recordAt s k)) → P (recordAt s k) → P (recordAt t k)
+  pub meeting-at : (t : State) (P : Connection → Type 0) (k : ℕ) → Meeting image s source t
+      → P (metOf (configOf image k) source (recordAt s k)) → P (recordAt s k) → P (recordAt t k)
   meeting-at t P k nobody p q = q
   meeting-at t P k (meeting-one j) p q =
       one-at zeroRecord (s .connections) j k (metOf (configOf image j) source (recordAt s j)) P

@@ -54,12 +54,14 @@ unfolding does
 does-is T k (change e) h = acts-changed e
 does-is T k (segment bytes) h = go (T .config k .tcp && receiving (h .connection))
   where
-    go : (b : Bool) → Acts (T .config k) (h .connection) (segment bytes) (cond b (streamed h (finely (segmentOf (routesAt T k h) (cellAt h) bytes))) (acted h []) .to .connection)
+    go : (b : Bool) → Acts (T .config k) (h .connection) (segment bytes)
+        (cond b (streamed h (finely (segmentOf (routesAt T k h) (cellAt h) bytes))) (acted h []) .to .connection)
     go true = acts-fed bytes (partFrom (segmentOf (routesAt T k h) (cellAt h) bytes .to))
     go false = acts-idle (segment bytes)
 does-is T k (walk d p) h = go (not (T .config k .tcp) && leb p (length d) && receiving (h .connection))
   where
-    go : (b : Bool) → Acts (T .config k) (h .connection) (walk d p) (cond b (acted h (outsTold d (walkAt (routesAt T k h) d p .found) [])) (acted h []) .to .connection)
+    go : (b : Bool) → Acts (T .config k) (h .connection) (walk d p)
+        (cond b (acted h (outsTold d (walkAt (routesAt T k h) d p .found) [])) (acted h []) .to .connection)
     go true = acts-idle (walk d p)
     go false = acts-idle (walk d p)
 does-is T k (takeWaiting room) h = acts-took room
@@ -109,7 +111,8 @@ alike-transmit image pdu payload w k = go (isStored (checkOf image (stateOf w) p
     go false = same
 
 -- the record at its place, among as many
-pub follow-at : (cs : List Connection) (hs : List Held) (k : ℕ) → length cs ≡ length hs → getD (followAll cs hs) k blank ≡ follow (getD cs k zeroRecord) (getD hs k blank)
+pub follow-at : (cs : List Connection) (hs : List Held) (k : ℕ) → length cs ≡ length hs
+    → getD (followAll cs hs) k blank ≡ follow (getD cs k zeroRecord) (getD hs k blank)
 follow-at [] hs k e = refl
 follow-at (c ∷ cs) [] k e = absurd (omega arith)
 follow-at (c ∷ cs) (h ∷ hs) zero e = refl
@@ -177,7 +180,8 @@ module _ (image : List ℕ) (k : ℕ) (w : World) where
     where
       go : (x : Bool) → Becomes image k h (switchAll n b) (heldAt (cond x (leaves (switchedAll (rowsOf image Connections) n b (stateOf w)) w) w) k)
       go true =
-          left (switchAll n b) (switchedAll (rowsOf image Connections) n b (stateOf w)) (each-length (switchAt n b) 0 (rowsOf image Connections) (stateOf w .connections))
+          left (switchAll n b) (switchedAll (rowsOf image Connections) n b (stateOf w))
+          (each-length (switchAt n b) 0 (rowsOf image Connections) (stateOf w .connections))
           (each (switchAll n b) (switchAt n b) (rowsOf image Connections) (becomes-switched (switchAll n b) n b))
       go false = becomes-itself (switchAll n b)
   becomes (readCount p) = becomes-itself (readCount p)

@@ -37,11 +37,13 @@ use Rattle.model_refines.proofs.Less.{step-less, taking-less}
 use Rattle.model_refines.proofs.Left.{view-follow, left-nothing}
 
 -- done or refused, the record is the one that the event leaves
-told-state : (image : List ℕ) (s : State) (n : ℕ) (e : Change) → changeOf image s n e .state ≡ withRecord n (stepOf e (configOf image n) (recordAt s n) .connection) s
+told-state : (image : List ℕ) (s : State) (n : ℕ) (e : Change)
+    → changeOf image s n e .state ≡ withRecord n (stepOf e (configOf image n) (recordAt s n) .connection) s
 unfolding changeOf toldOf stepOf
 told-state image s n e = go (known e) (allowed e (configOf image n) (recordAt s n)) refl refl
   where
-    go : (k a : Bool) → known e ≡ k → allowed e (configOf image n) (recordAt s n) ≡ a → changeOf image s n e .state ≡ withRecord n (stepOf e (configOf image n) (recordAt s n) .connection) s
+    go : (k a : Bool) → known e ≡ k → allowed e (configOf image n) (recordAt s n) ≡ a
+        → changeOf image s n e .state ≡ withRecord n (stepOf e (configOf image n) (recordAt s n) .connection) s
     go false a p q = rw p (sym (put-back s n))
     go true false p q = rw (p, q) (sym (put-back s n))
     go true true p q = rw (p, q)
@@ -63,7 +65,8 @@ module _ (l : Loan) (whole : Whole → World → World) (passed : Passed (sizes 
   w = viewOf s rx tx
 
   -- past the gate, or not there
-  passes : {A : Type 0} (refused : Refusal → A) (event : A) (k : ℕ) → ltb k (rowsOf image Connections) ≡ true → through (gateAt (sizes l) k) refused event ≡ event
+  passes : {A : Type 0} (refused : Refusal → A) (event : A) (k : ℕ)
+      → ltb k (rowsOf image Connections) ≡ true → through (gateAt (sizes l) k) refused event ≡ event
   passes refused event k h =
       ap (λ (g : Gate). through g refused event) (passed-gate-at (sizes l) k passed (ltb-true k (rowsOf image Connections) h))
 
@@ -71,7 +74,8 @@ module _ (l : Loan) (whole : Whole → World → World) (passed : Passed (sizes 
   unfolding gateAt
   missing k h = rw (passed-gate (sizes l) passed, h)
 
-  misses : {A : Type 0} (refused : Refusal → A) (event : A) (k : ℕ) → ltb k (rowsOf image Connections) ≡ false → through (gateAt (sizes l) k) refused event ≡ refused Missing
+  misses : {A : Type 0} (refused : Refusal → A) (event : A) (k : ℕ)
+      → ltb k (rowsOf image Connections) ≡ false → through (gateAt (sizes l) k) refused event ≡ refused Missing
   misses refused event k h = ap (λ (g : Gate). through g refused event) (missing k h)
 
   -- the world's side
@@ -101,7 +105,8 @@ module _ (l : Loan) (whole : Whole → World → World) (passed : Passed (sizes 
       go false h =
           ap (λ (u : State). viewOf u rx tx) (away h) ∙ sym (left-nothing (tableOf image) w k) ∙ ap (left (tableOf image) w k) (sym (acts-missing k e h))
 
-  does-change : (k : ℕ) (e : Change) (h : Held) → does (tableOf image) k (change e) h ≡ acted (follow (stepOf e (configOf image k) (h .connection) .connection) h) []
+  does-change : (k : ℕ) (e : Change) (h : Held)
+      → does (tableOf image) k (change e) h ≡ acted (follow (stepOf e (configOf image k) (h .connection) .connection) h) []
   unfolding does
   does-change k e h = refl
 

@@ -41,7 +41,8 @@ use Rattle.law_waits.proofs.Append.{append-sixteen, append-long}
 use Rattle.send.specs.declared.Transmitted.{Transmitted}
 use Rattle.model_refines.proofs.Arrivals.{arrive-is, meeting-length}
 use Rattle.model.specs.World.{World}
-use Rattle.model.specs.Events.{Own, change, segment, walk, takeWaiting, Whole, datagram, accept, tick, transmit, switchAll, readCount, clearCount, Event, on, onWhole}
+use Rattle.model.specs.Events.{Own, change, segment, walk, takeWaiting, Whole, datagram, accept}
+use Rattle.model.specs.Events.{tick, transmit, switchAll, readCount, clearCount, Event, on, onWhole}
 use Rattle.model.specs.Step.{actsAt, step}
 use Rattle.model.proofs.View.{view-length}
 use Rattle.model_runs.specs.Streams.{EventBytes}
@@ -53,7 +54,8 @@ use Rattle.model_refines.proofs.Segments.{segment-event-passed}
 use Rattle.model_refines.proofs.Steps.{own-view}
 
 -- SIXTEEN RECORDS: an event of a connection replaces one
-records-left : (image : List ℕ) (m m′ : Machine) (k : ℕ) (e : Own) → seen m′ ≡ step (tableOf image) (wholeOf image) (seen m) (on k e) → length (m′ .state .connections) ≡ length (m .state .connections)
+records-left : (image : List ℕ) (m m′ : Machine) (k : ℕ) (e : Own)
+    → seen m′ ≡ step (tableOf image) (wholeOf image) (seen m) (on k e) → length (m′ .state .connections) ≡ length (m .state .connections)
 unfolding step
 records-left image m m′ k e h =
     sym (view-length (m′ .rx) (m′ .tx) 0 (m′ .state .connections))
@@ -97,7 +99,8 @@ module _ (image : List ℕ) (m : Machine) (g : Good image m) where
   unfolding tickEvent tickedTo
   tick-good =
       with-state (tickEvent (lentTo image m) .state) (tick-passed (lentTo image m) (g .passed))
-      (past-or (λ (t : Ticked). Sixteen (t .state)) (gateOf (lentTo image m)) (unticked s) (tickedFrom (rowsOf image Connections) s (tickedTo image (rowsOf image Connections) s)) (λ r. g .sixteen)
+      (past-or (λ (t : Ticked). Sixteen (t .state)) (gateOf (lentTo image m)) (unticked s)
+      (tickedFrom (rowsOf image Connections) s (tickedTo image (rowsOf image Connections) s)) (λ r. g .sixteen)
       (λ _. each-length (tickAt image) 0 (rowsOf image Connections) (s .connections) ∙ g .sixteen))
 
   switches-good : (n : ℕ) (b : Bool) → Good image (machine (switchAllOf (lentTo image m) n b .state) (m .rx) (m .tx))
@@ -105,7 +108,8 @@ module _ (image : List ℕ) (m : Machine) (g : Good image m) where
   switches-good n b =
       with-state (switchAllOf (lentTo image m) n b .state) (switch-all-passed (lentTo image m) (g .passed) n b)
       (past-or (λ (t : Told). Sixteen (t .state)) (gateOf (lentTo image m)) (notTold s)
-      (cond (ltb n 32) (record { answer = Done; state = switchedAll (rowsOf image Connections) n b s }) (notTold s Missing)) (λ r. g .sixteen) (λ _. go (ltb n 32)))
+      (cond (ltb n 32) (record { answer = Done; state = switchedAll (rowsOf image Connections) n b s }) (notTold s Missing))
+      (λ r. g .sixteen) (λ _. go (ltb n 32)))
     where
       go : (x : Bool) → Sixteen (cond x (record { answer = Done; state = switchedAll (rowsOf image Connections) n b s }) (notTold s Missing) .state)
       go true = each-length (switchAt n b) 0 (rowsOf image Connections) (s .connections) ∙ g .sixteen
@@ -115,13 +119,15 @@ module _ (image : List ℕ) (m : Machine) (g : Good image m) where
   unfolding readOf
   read-good p =
       with-state (readOf (lentTo image m) p .state) (read-passed (lentTo image m) (g .passed) p)
-      (past-or (λ (t : Counted). Sixteen (t .state)) (gateOf (lentTo image m)) (uncounted s) (readPast s p) (λ r. g .sixteen) (λ _. ap (λ (t : State). length (t .connections)) (read-state s p) ∙ g .sixteen))
+      (past-or (λ (t : Counted). Sixteen (t .state)) (gateOf (lentTo image m)) (uncounted s) (readPast s p)
+      (λ r. g .sixteen) (λ _. ap (λ (t : State). length (t .connections)) (read-state s p) ∙ g .sixteen))
 
   clear-good : (p : ℕ) → Good image (machine (clearOf (lentTo image m) p .state) (m .rx) (m .tx))
   unfolding clearOf
   clear-good p =
       with-state (clearOf (lentTo image m) p .state) (clear-passed (lentTo image m) (g .passed) p)
-      (past-or (λ (t : Counted). Sixteen (t .state)) (gateOf (lentTo image m)) (uncounted s) (clearPast s p) (λ r. g .sixteen) (λ _. ap length (clear-records s p) ∙ g .sixteen))
+      (past-or (λ (t : Counted). Sixteen (t .state)) (gateOf (lentTo image m)) (uncounted s)
+      (clearPast s p) (λ r. g .sixteen) (λ _. ap length (clear-records s p) ∙ g .sixteen))
 
   -- a transmit: as many records, and send memory as long as it was
   abbrev Sized : Sending → Type 0
@@ -141,21 +147,27 @@ module _ (image : List ℕ) (m : Machine) (g : Good image m) where
     where
       go : (b : Bool) → Sized (cond b (storeAll image s pdu payload (m .tx)) (sending s (m .tx)))
       go true =
-          fold-keeps (storeOf image s pdu payload) Sized (destinations image) 0 (sending s (m .tx)) (λ i x low high p. store-sized pdu payload i x p) (g .sixteen, refl)
+          fold-keeps (storeOf image s pdu payload) Sized (destinations image) 0
+          (sending s (m .tx)) (λ i x low high p. store-sized pdu payload i x p) (g .sixteen, refl)
       go false = (g .sixteen, refl)
 
-  send-sized : (pdu : ℕ) (payload : List ℕ) → Sixteen (sendOf (loanTo image m) pdu payload .state) × (length (sentMemory (loanTo image m) pdu payload) ≡ length (m .tx))
+  send-sized : (pdu : ℕ) (payload : List ℕ) → Sixteen (sendOf (loanTo image m) pdu payload .state)
+      × (length (sentMemory (loanTo image m) pdu payload) ≡ length (m .tx))
   unfolding sendOf sentMemory
   send-sized pdu payload = (
-    past-or (λ (t : Transmitted). Sixteen (t .state)) (gateOf (lentTo image m)) (notSent s) (transmittedOf image s pdu payload (m .tx)) (λ r. g .sixteen) (λ _. sent-sized pdu payload .0),
-    past-or (λ (l : List ℕ). length l ≡ length (m .tx)) (gateOf (lentTo image m)) (λ r. m .tx) (transmitOf image s pdu payload (m .tx) .memory) (λ r. refl) (λ _. sent-sized pdu payload .1),
+    past-or (λ (t : Transmitted). Sixteen (t .state)) (gateOf (lentTo image m)) (notSent s)
+        (transmittedOf image s pdu payload (m .tx)) (λ r. g .sixteen) (λ _. sent-sized pdu payload .0),
+    past-or (λ (l : List ℕ). length l ≡ length (m .tx)) (gateOf (lentTo image m)) (λ r. m .tx)
+        (transmitOf image s pdu payload (m .tx) .memory) (λ r. refl) (λ _. sent-sized pdu payload .1),
   )
 
-  transmit-good : (pdu : ℕ) (payload : List ℕ) → Good image (machine (sendOf (loanTo image m) pdu payload .state) (m .rx) (sentMemory (loanTo image m) pdu payload))
+  transmit-good : (pdu : ℕ) (payload : List ℕ)
+      → Good image (machine (sendOf (loanTo image m) pdu payload .state) (m .rx) (sentMemory (loanTo image m) pdu payload))
   transmit-good pdu payload =
       record {
         passed =
-            passed-sent (loanTo image m) (sendOf (loanTo image m) pdu payload .state) (g .passed) (transmit-keeps (loanTo image m) pdu payload (g .sixteen) (g .passed .sound))
+            passed-sent (loanTo image m) (sendOf (loanTo image m) pdu payload .state) (g .passed)
+            (transmit-keeps (loanTo image m) pdu payload (g .sixteen) (g .passed .sound))
             (sentMemory (loanTo image m) pdu payload) (send-sized pdu payload .1);
         sixteen = send-sized pdu payload .0;
       }

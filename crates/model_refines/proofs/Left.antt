@@ -17,7 +17,8 @@ use Rattle.model.proofs.View.{view-at, view-one, Less, follow-held}
 
 -- a state with so many drops of a protocol more
 abbrev pub dropsOf : Bool → ℕ → State → State
-dropsOf tcp n s = record { connections = s .connections; «udp_drops» = countAfterIf (not tcp) n (s .«udp_drops»); «tcp_drops» = countAfterIf tcp n (s .«tcp_drops») }
+dropsOf tcp n s = record
+    { connections = s .connections; «udp_drops» = countAfterIf (not tcp) n (s .«udp_drops»); «tcp_drops» = countAfterIf tcp n (s .«tcp_drops») }
 
 no-drop : (tcp : Bool) (s : State) → dropsOf tcp 0 s ≡ s
 unfolding countAfter

@@ -37,7 +37,8 @@ use Rattle.model_refines.proofs.Less.{switch-less, tick-less}
 use Rattle.model_refines.proofs.Arrivals.{arrive-is, meeting-fewer}
 
 -- an event by what it makes of the state
-leaves-view : (f : State → State) (s : State) (rx tx : List ℕ) → Fewer (f s .connections) (s .connections) → viewOf (f s) rx tx ≡ leaves (f (stateOf (viewOf s rx tx))) (viewOf s rx tx)
+leaves-view : (f : State → State) (s : State) (rx tx : List ℕ) → Fewer (f s .connections) (s .connections)
+    → viewOf (f s) rx tx ≡ leaves (f (stateOf (viewOf s rx tx))) (viewOf s rx tx)
 leaves-view f s rx tx h = view-leaves s (f s) rx tx h ∙ ap (λ (t : State). leaves (f t) (viewOf s rx tx)) (sym (state-view s rx tx))
 
 module _ (l : Loan) where
@@ -57,7 +58,8 @@ module _ (l : Loan) where
   w = viewOf s rx tx
 
   -- a datagram, an accept
-  pub arrive-view : (a : Bool) (group : ℕ) (source : Remote) → viewOf (arriveOf image s a group source .state) rx tx ≡ leaves (arriveOf image (stateOf w) a group source .state) w
+  pub arrive-view : (a : Bool) (group : ℕ) (source : Remote)
+      → viewOf (arriveOf image s a group source .state) rx tx ≡ leaves (arriveOf image (stateOf w) a group source .state) w
   arrive-view a group source =
       leaves-view (λ (t : State). arriveOf image t a group source .state) s rx tx
       (meeting-fewer image s source (arriveOf image s a group source .state) (arrive-is image s a group source))
@@ -102,4 +104,5 @@ module _ (l : Loan) where
   unfolding clearOf step
   clear-view n p =
       ap (λ (t : Counted). viewOf (t .state) rx tx) (past (uncounted s) (clearPast s n) p)
-      ∙ leaves-view (λ (t : State). clearPast t n .state) s rx tx (subst (λ (l : List Connection). Fewer l (s .connections)) (sym (clear-records s n)) (fewer-same (s .connections)))
+      ∙ leaves-view (λ (t : State). clearPast t n .state) s rx tx
+      (subst (λ (l : List Connection). Fewer l (s .connections)) (sym (clear-records s n)) (fewer-same (s .connections)))

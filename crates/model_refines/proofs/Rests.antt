@@ -45,5 +45,6 @@ pub sound-rests : (g : Config) (h : Held) → Sound g (h .connection) → Rests 
 sound-rests g h s =
     record {
       shape = shape-cell (h .connection .part) (h .received) (s .receive .shape);
-      quiet = λ off. empty-cell (h .connection .part) (h .received) (empty-part (emptyPart (h .connection .part)) (isOnline (h .connection .mode)) (g .tcp) (s .receive .receiving) off);
+      quiet = λ off. empty-cell (h .connection .part) (h .received)
+          (empty-part (emptyPart (h .connection .part)) (isOnline (h .connection .mode)) (g .tcp) (s .receive .receiving) off);
     }

@@ -29,7 +29,8 @@ use Rattle.model.specs.Step.{Acted, acted, streamed, acts, actsAt, left, step}
 use Rattle.model.proofs.View.{view-record}
 use Rattle.model_runs.proofs.Same.{does-read, does-refused}
 use Rattle.model_refines.specs.Table.{tableOf}
-use Rattle.model_refines.specs.Machine.{Machine, loanTo, lentTo, seen, taken, afterOne, restOf, pduTold, toldBy, goesOn, afterTakes, toldTakes, afterSegment, toldSegment}
+use Rattle.model_refines.specs.Machine.{Machine, loanTo, lentTo, seen, taken, afterOne, restOf}
+use Rattle.model_refines.specs.Machine.{pduTold, toldBy, goesOn, afterTakes, toldTakes, afterSegment, toldSegment}
 use Rattle.model_refines.proofs.Left.{left-nothing, left-fine}
 use Rattle.model_refines.proofs.Answered.{done-is}
 use Rattle.model_refines.proofs.Take.{Open, open-after}
@@ -55,13 +56,15 @@ module _ (image : List ℕ) (m : Machine) (k : ℕ) (bs : List ℕ) (not-done : 
   pub no-segment : afterSegment image k m bs ≡ m
   unfolding afterTakes
   no-segment =
-      ap (λ (b : Bool). cond b (afterTakes image k (length bs) (afterOne image k m bs) (restOf image k m bs)) (afterOne image k m bs)) (stops-here (restOf image k m bs))
+      ap (λ (b : Bool). cond b (afterTakes image k (length bs) (afterOne image k m bs) (restOf image k m bs)) (afterOne image k m bs))
+      (stops-here (restOf image k m bs))
       ∙ ap₂ (λ (t : SegmentTaken) (r : List ℕ). record { state = t .state; rx = r; tx = m .tx }) none-taken same-memory
 
   none-told : toldSegment image k m bs ≡ []
   unfolding toldTakes
   none-told =
-      ap (λ (b : Bool). toldBy image k m bs ++ cond b (toldTakes image k (length bs) (afterOne image k m bs) (restOf image k m bs)) []) (stops-here (restOf image k m bs))
+      ap (λ (b : Bool). toldBy image k m bs ++ cond b (toldTakes image k (length bs) (afterOne image k m bs) (restOf image k m bs)) [])
+      (stops-here (restOf image k m bs))
       ∙ append-nil (toldBy image k m bs)
       ∙ ap (λ (t : SegmentTaken). pduTold image k (payloadOf bs (afterOne image k m bs .rx) k (t .outcome)) (t .outcome)) none-taken
 
@@ -74,7 +77,8 @@ module _ (image : List ℕ) (k : ℕ) where
       go (goesOn image k (isDone (taken image k m bs .answer)) (restOf image k m bs))
       (takes-open f (afterOne image k m bs) (restOf image k m bs) (open-after image k m bs o b) (bytes-drop (taken image k m bs .read) bs b))
     where
-      go : (x : Bool) → Open image k (afterTakes image k f (afterOne image k m bs) (restOf image k m bs)) → Open image k (cond x (afterTakes image k f (afterOne image k m bs) (restOf image k m bs)) (afterOne image k m bs))
+      go : (x : Bool) → Open image k (afterTakes image k f (afterOne image k m bs) (restOf image k m bs))
+          → Open image k (cond x (afterTakes image k f (afterOne image k m bs) (restOf image k m bs)) (afterOne image k m bs))
       go true p = p
       go false p = open-after image k m bs o b
 
@@ -106,13 +110,16 @@ module _ (image : List ℕ) (k : ℕ) where
     seen-c : heldAt (seen m) k .connection ≡ c
     seen-c = view-record (m .state) (m .rx) (m .tx) k
 
-    at-open : readable ≡ true → actsAt (tableOf image) (seen m) k (segment bs) ≡ streamed (heldAt (seen m) k) (finely (segmentOf (R image k m) (C image k m) bs))
+    at-open : readable ≡ true
+        → actsAt (tableOf image) (seen m) k (segment bs) ≡ streamed (heldAt (seen m) k) (finely (segmentOf (R image k m) (C image k m) bs))
     unfolding acts
     at-open e =
         rw (and-left (ltb k (rowsOf image Connections)) _ e)
-        (does-read (tableOf image) k (heldAt (seen m) k) bs (ap (λ (d : Connection). configOf image k .tcp && receiving d) seen-c ∙ and-right (ltb k (rowsOf image Connections)) _ e))
+        (does-read (tableOf image) k (heldAt (seen m) k) bs
+        (ap (λ (d : Connection). configOf image k .tcp && receiving d) seen-c ∙ and-right (ltb k (rowsOf image Connections)) _ e))
 
-    at-refused : (t : Bool) → ltb k (rowsOf image Connections) ≡ t → (t && (configOf image k .tcp && receiving c)) ≡ false → actsAt (tableOf image) (seen m) k (segment bs) ≡ acted (heldAt (seen m) k) []
+    at-refused : (t : Bool) → ltb k (rowsOf image Connections) ≡ t → (t && (configOf image k .tcp && receiving c)) ≡ false
+        → actsAt (tableOf image) (seen m) k (segment bs) ≡ acted (heldAt (seen m) k) []
     unfolding acts
     at-refused true p e =
         rw p (does-refused (tableOf image) k (heldAt (seen m) k) bs (ap (λ (d : Connection). configOf image k .tcp && receiving d) seen-c ∙ e))
@@ -148,7 +155,8 @@ module _ (image : List ℕ) (k : ℕ) where
     segment-told = go readable refl
       where
         go : (b : Bool) → readable ≡ b → fine (toldSegment image k m bs) ≡ actsAt (tableOf image) (seen m) k (segment bs) .list
-        go true e = ap fine (segment-list ∙ ap (λ (b : Bool). cond b (segmentOf (R image k m) (C image k m) bs .list) []) e) ∙ ap (λ (a : Acted). a .list) (sym (at-open e))
+        go true e = ap fine (segment-list ∙ ap (λ (b : Bool). cond b (segmentOf (R image k m) (C image k m) bs .list) []) e)
+            ∙ ap (λ (a : Acted). a .list) (sym (at-open e))
         go false e =
             ap fine (segment-list ∙ ap (λ (b : Bool). cond b (segmentOf (R image k m) (C image k m) bs .list) []) e)
             ∙ ap (λ (a : Acted). a .list) (sym (at-refused (ltb k (rowsOf image Connections)) refl e))

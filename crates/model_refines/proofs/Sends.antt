@@ -67,7 +67,8 @@ module _ (rx payload : List ℕ) (d : DestinationRow) (x : Sending) (r : RoomThe
       ∙ ap (λ (h : Held). set (seen rx x .held) j h) (held-sent ∙ ap (withFrame d payload) (sym (view-at (x .state) rx tx j))))
 
 -- ALL OF THEM, where the check refuses nothing
-module _ (image rx tx payload : List ℕ) (s : State) (pdu : ℕ) (long : length tx ≡ 23552) (sixteen : length (s .connections) ≡ 16) (a : Accepts image) (sound : recordsSound image (s .connections) ≡ true) where
+module _ (image rx tx payload : List ℕ) (s : State) (pdu : ℕ) (long : length tx ≡ 23552)
+    (sixteen : length (s .connections) ≡ 16) (a : Accepts image) (sound : recordsSound image (s .connections) ≡ true) where
   module _ (clear : isStored (checkOf image s pdu (length payload)) ≡ true) where
     abbrev ready : Ready image
     ready = ready-from image a
@@ -81,7 +82,8 @@ module _ (image rx tx payload : List ℕ) (s : State) (pdu : ℕ) (long : length
       where
         go : (b : Bool) → wantedAt image s pdu payload i ≡ b
             → seen rx (cond b (appendOf (destinationOf image i) payload x) x) ≡ cond b (appendTo (destinationOf image i) payload (seen rx x)) (seen rx x)
-        go true w = append-view rx payload (destinationOf image i) x (room-held image ready s pdu payload (clear-roomy image s pdu payload clear ready) x i f h w)
+        go true w = append-view rx payload (destinationOf image i) x
+            (room-held image ready s pdu payload (clear-roomy image s pdu payload clear ready) x i f h w)
         go false w = refl
 
     store-view : seen rx (storeAll image s pdu payload tx) ≡ foldFrom (storeIn image s pdu payload) (destinations image) 0 (viewOf s rx tx)
@@ -93,11 +95,13 @@ module _ (image rx tx payload : List ℕ) (s : State) (pdu : ℕ) (long : length
         (begin-fine image ready s pdu payload tx sixteen long (all-fit image a s sound) clear)
 
   -- THE WHOLE TRANSMIT
-  pub transmit-view : viewOf (transmitOf image s pdu payload tx .state) rx (transmitOf image s pdu payload tx .memory) ≡ transmitIn image pdu payload (viewOf s rx tx)
+  pub transmit-view : viewOf (transmitOf image s pdu payload tx .state) rx (transmitOf image s pdu payload tx .memory)
+      ≡ transmitIn image pdu payload (viewOf s rx tx)
   unfolding transmitIn transmitOf
   transmit-view =
       go (isStored (checkOf image s pdu (length payload))) refl
-      ∙ ap (λ (t : State). cond (isStored (checkOf image t pdu (length payload))) (foldFrom (storeIn image t pdu payload) (destinations image) 0 (viewOf s rx tx)) (viewOf s rx tx))
+      ∙ ap (λ (t : State). cond (isStored (checkOf image t pdu (length payload)))
+      (foldFrom (storeIn image t pdu payload) (destinations image) 0 (viewOf s rx tx)) (viewOf s rx tx))
       (sym (state-view s rx tx))
     where
       go : (b : Bool) → isStored (checkOf image s pdu (length payload)) ≡ b

@@ -18,7 +18,8 @@ use Rattle.send.specs.declared.Transmitted.{Transmitted}
 use Rattle.send.specs.Send.{transmitOf, transmittedOf}
 use Rattle.entry_send.specs.Sending.{notSent, sendOf, sentMemory}
 use Rattle.model.specs.World.{Held, World, heldAt, viewOf, stateOf, leaves}
-use Rattle.model.specs.Events.{Own, change, segment, walk, takeWaiting, Whole, datagram, accept, tick, transmit, switchAll, readCount, clearCount, Event, on, onWhole}
+use Rattle.model.specs.Events.{Own, change, segment, walk, takeWaiting, Whole, datagram, accept}
+use Rattle.model.specs.Events.{tick, transmit, switchAll, readCount, clearCount, Event, on, onWhole}
 use Rattle.model.specs.Step.{acted, does, acts, step, hands}
 use Rattle.model_runs.specs.Streams.{EventBytes}
 use Rattle.model_refines.specs.Table.{tableOf}
@@ -45,14 +46,19 @@ module _ (image : List ℕ) (m : Machine) (good : Good image m) where
   abbrev W : Whole → World → World
   W = wholeOf image
 
-  arrival-view : (a : Bool) (group : ℕ) (source : Remote) → viewOf (arrivalOf (lentTo image m) a group source .state) rx tx ≡ leaves (arriveOf image (stateOf (seen m)) a group source .state) (seen m)
+  arrival-view : (a : Bool) (group : ℕ) (source : Remote)
+      → viewOf (arrivalOf (lentTo image m) a group source .state) rx tx ≡ leaves (arriveOf image (stateOf (seen m)) a group source .state) (seen m)
   unfolding arrivalOf
-  arrival-view a group source = ap (λ (t : Arrived). viewOf (t .state) rx tx) (past (loanTo image m) (arrivalRefused s) (arriveOf image s a group source) (good .passed)) ∙ arrive-view (loanTo image m) a group source
+  arrival-view a group source =
+      ap (λ (t : Arrived). viewOf (t .state) rx tx) (past (loanTo image m) (arrivalRefused s) (arriveOf image s a group source) (good .passed))
+      ∙ arrive-view (loanTo image m) a group source
 
-  send-view : (pdu : ℕ) (payload : List ℕ) → viewOf (sendOf (loanTo image m) pdu payload .state) rx (sentMemory (loanTo image m) pdu payload) ≡ transmitIn image pdu payload (seen m)
+  send-view : (pdu : ℕ) (payload : List ℕ)
+      → viewOf (sendOf (loanTo image m) pdu payload .state) rx (sentMemory (loanTo image m) pdu payload) ≡ transmitIn image pdu payload (seen m)
   unfolding sendOf sentMemory
   send-view pdu payload =
-      ap₂ (λ (t : Transmitted) (z : List ℕ). viewOf (t .state) rx z) (past (loanTo image m) (notSent s) (transmittedOf image s pdu payload tx) (good .passed)) (past (loanTo image m) (λ r. tx) (transmitOf image s pdu payload tx .memory) (good .passed))
+      ap₂ (λ (t : Transmitted) (z : List ℕ). viewOf (t .state) rx z) (past (loanTo image m) (notSent s) (transmittedOf image s pdu payload tx) (good .passed))
+      (past (loanTo image m) (λ r. tx) (transmitOf image s pdu payload tx .memory) (good .passed))
       ∙ transmit-view image rx tx payload s pdu (good .passed .send) (good .sixteen) (accepted-facts image (good .passed .table)) (good .passed .sound)
 
   -- ONE EVENT OF A CONNECTION
@@ -62,7 +68,8 @@ module _ (image : List ℕ) (m : Machine) (good : Good image m) where
   own-view k (segment bytes) b = segment-view image k m bytes (good .passed) b W
   own-view k (walk d p) b = walk-view (loanTo image m) k d p (good .passed) W
   own-view k (takeWaiting room) b =
-      take-view (loanTo image m) W (good .passed) k (replicate room 0) ∙ ap (λ (n : ℕ). step (tableOf image) W (seen m) (on k (takeWaiting n))) (length-replicate room 0)
+      take-view (loanTo image m) W (good .passed) k (replicate room 0)
+      ∙ ap (λ (n : ℕ). step (tableOf image) W (seen m) (on k (takeWaiting n))) (length-replicate room 0)
 
   -- ONE OF A GROUP OR THE MODULE
   whole-view : (e : Whole) → seen (afterWhole image e m) ≡ step (tableOf image) W (seen m) (onWhole e)

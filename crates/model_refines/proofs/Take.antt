@@ -155,7 +155,8 @@ module _ (image : List ℕ) (k : ℕ) (m : Machine) (segment : List ℕ) (o : Op
 
   -- WHAT IT HANDS OUT
   told-is : (out : Out) → tookAt .out ≡ out
-      → pduTold image k (payloadOf segment (memoryOn image s rx k segment) k (takenAt image s rx k segment .outcome)) (takenAt image s rx k segment .outcome) ≡ emit out []
+      → pduTold image k (payloadOf segment (memoryOn image s rx k segment) k (takenAt image s rx k segment .outcome)) (takenAt image s rx k segment .outcome)
+      ≡ emit out []
   unfolding takenOf tookOf payloadOf
   told-is nothing e = rw e
   told-is (pdu r p) e =
@@ -163,7 +164,8 @@ module _ (image : List ℕ) (k : ℕ) (m : Machine) (segment : List ℕ) (o : Op
       (ap (λ (l : List ℕ). pdu r l ∷ [])
       (ap
       (λ (z : List ℕ).
-      payloadAt segment z (inSegment (cellOf (c .part) st)) (cond (inSegment (cellOf (c .part) st)) (length segment - length (tookAt .rest) - length p) 0) (length p))
+      payloadAt segment z (inSegment (cellOf (c .part) st))
+      (cond (inSegment (cellOf (c .part) st)) (length segment - length (tookAt .rest) - length p) 0) (length p))
       own
       ∙ hands-out routes k (c .switches) (c .part) st segment (takes .fit) bytes r p e))
   told-is (dropped q i n) e = rw e
@@ -178,9 +180,12 @@ module _ (image : List ℕ) (k : ℕ) (m : Machine) (segment : List ℕ) (o : Op
   -- and nothing refuses the next one
   pub open-after : Open image k (afterOne image k m segment)
   open-after =
-      subst (λ (x : SegmentTaken). Clear (sizes (received (loanTo image m) (x .state) (memoryOf (loanTo image m) k segment))) k (configOf image k .tcp)) (sym taken-is)
+      subst (λ (x : SegmentTaken). Clear (sizes (received (loanTo image m) (x .state) (memoryOf (loanTo image m) k segment))) k (configOf image k .tcp))
+      (sym taken-is)
       (subst (λ (r : List ℕ). Clear (sizes (received (loanTo image m) (takeOn image s rx k segment .state) r)) k (configOf image k .tcp)) (sym memory-is)
       (take-clear (loanTo image m) k segment bytes o))
 
-  pub held-after : heldAt (left (tableOf image) (seen m) k (acted (withCell (tookAt .to) (heldAt (seen m) k)) (emit (tookAt .out) []))) k ≡ withCell (tookAt .to) (heldAt (seen m) k)
-  held-after = getD-set-same (seen m .held) k (withCell (tookAt .to) (heldAt (seen m) k)) blank (omega (arith, in-range s k (o .receives), view-length rx tx 0 (s .connections)))
+  pub held-after : heldAt (left (tableOf image) (seen m) k (acted (withCell (tookAt .to) (heldAt (seen m) k)) (emit (tookAt .out) []))) k
+      ≡ withCell (tookAt .to) (heldAt (seen m) k)
+  held-after = getD-set-same (seen m .held) k (withCell (tookAt .to) (heldAt (seen m) k)) blank
+      (omega (arith, in-range s k (o .receives), view-length rx tx 0 (s .connections)))

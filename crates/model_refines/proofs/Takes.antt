@@ -31,7 +31,8 @@ module _ (image : List ℕ) (k : ℕ) where
 
   took-is : (m : Machine) (segment : List ℕ) (o : Open image k m) (bytes : Bytes segment) → takeB (R m) (C m) segment ≡ tookAt image k m segment o bytes
   took-is m segment o bytes =
-      ap₂ (λ (w : ℕ) (c : Cell). takeB (lookupOf (bodyOf image RouteBody) k w) c segment) (switches-is image k m segment o bytes) (cell-is image k m segment o bytes)
+      ap₂ (λ (w : ℕ) (c : Cell). takeB (lookupOf (bodyOf image RouteBody) k w) c segment)
+      (switches-is image k m segment o bytes) (cell-is image k m segment o bytes)
 
   -- what comes after a take, in one
   module _ (m : Machine) (segment : List ℕ) (o : Open image k m) (bytes : Bytes segment) where
@@ -71,7 +72,8 @@ module _ (image : List ℕ) (k : ℕ) where
         (streamed (heldAt (seen (afterOne image k m segment)) k) (takes (R (afterOne image k m segment)) f (C (afterOne image k m segment)) rest))
         ≡ left (tableOf image) (seen m) k (acted (withCell (r .to) h) (emit (t .out) (r .list)))
     joined-left f rest r e =
-        ap₂ (λ (w : World) (x : Held). left (tableOf image) w k (streamed x (takes (R (afterOne image k m segment)) f (C (afterOne image k m segment)) rest))) one held-one
+        ap₂ (λ (w : World) (x : Held). left (tableOf image) w k
+        (streamed x (takes (R (afterOne image k m segment)) f (C (afterOne image k m segment)) rest))) one held-one
         ∙ ap (λ (q : Ran). left (tableOf image) (left (tableOf image) (seen m) k first) k (streamed (withCell (t .to) h) q)) (later-takes f rest ∙ e)
         ∙ sym (left-following (tableOf image) (seen m) k first (acted (withCell (r .to) h) (r .list)))
         ∙ ap (λ (l : List Out). left (tableOf image) (seen m) k (acted (withCell (r .to) h) l)) (emit-append (t .out) [] (r .list))
@@ -82,7 +84,8 @@ module _ (image : List ℕ) (k : ℕ) where
   unfolding afterTakes takes
   takes-view zero m segment o bytes lt = absurd (omega arith)
   takes-view (suc f) m segment o bytes lt =
-      ap₂ (λ (b : Bool) (rest : List ℕ). seen (cond (goesOn image k b rest) (afterTakes image k f m′ rest) m′)) (answer-done image k m segment o bytes) (rest-same m segment o bytes)
+      ap₂ (λ (b : Bool) (rest : List ℕ). seen (cond (goesOn image k b rest) (afterTakes image k f m′ rest) m′))
+      (answer-done image k m segment o bytes) (rest-same m segment o bytes)
       ∙ go (λ rest lt′ b. takes-view f m′ rest (open-after image k m segment o bytes) b lt′) (t .rest) (omega (arith, take-less (R m) (C m) segment))
       (subst Bytes (rest-same m segment o bytes) (bytes-drop (taken image k m segment .read) segment bytes))
     where
@@ -92,7 +95,8 @@ module _ (image : List ℕ) (k : ℕ) where
       t : Took
       t = takeB (R m) (C m) segment
 
-      go : ((rest : List ℕ) → length rest < f → Bytes rest → seen (afterTakes image k f m′ rest) ≡ left (tableOf image) (seen m′) k (streamed (heldAt (seen m′) k) (takes (R m′) f (C m′) rest)))
+      go : ((rest : List ℕ) → length rest < f → Bytes rest
+          → seen (afterTakes image k f m′ rest) ≡ left (tableOf image) (seen m′) k (streamed (heldAt (seen m′) k) (takes (R m′) f (C m′) rest)))
           → (rest : List ℕ) → length rest ≤ length segment - 1 → Bytes rest
           → seen (cond (goesOn image k true rest) (afterTakes image k f m′ rest) m′)
           ≡ left (tableOf image) (seen m) k (streamed (heldAt (seen m) k) (joined (t .to) (t .out) rest (takes (R m) f (t .to) rest)))
@@ -105,7 +109,8 @@ module _ (image : List ℕ) (k : ℕ) where
   unfolding toldTakes takes
   takes-told zero m segment o bytes lt = absurd (omega arith)
   takes-told (suc f) m segment o bytes lt =
-      ap₂ (λ (b : Bool) (rest : List ℕ). toldBy image k m segment ++ cond (goesOn image k b rest) (toldTakes image k f m′ rest) []) (answer-done image k m segment o bytes) (rest-same m segment o bytes)
+      ap₂ (λ (b : Bool) (rest : List ℕ). toldBy image k m segment ++ cond (goesOn image k b rest) (toldTakes image k f m′ rest) [])
+      (answer-done image k m segment o bytes) (rest-same m segment o bytes)
       ∙ ap (λ (os : List Out). os ++ cond (goesOn image k true (t .rest)) (toldTakes image k f m′ (t .rest)) [])
       (one-told image k m segment o bytes ∙ ap (λ (u : Took). emit (u .out) []) (sym (took-is m segment o bytes)))
       ∙ go (λ rest lt′ b. takes-told f m′ rest (open-after image k m segment o bytes) b lt′) (t .rest) (omega (arith, take-less (R m) (C m) segment))
@@ -119,7 +124,8 @@ module _ (image : List ℕ) (k : ℕ) where
 
       go : ((rest : List ℕ) → length rest < f → Bytes rest → toldTakes image k f m′ rest ≡ takes (R m′) f (C m′) rest .list)
           → (rest : List ℕ) → length rest ≤ length segment - 1 → Bytes rest
-          → emit (t .out) [] ++ cond (goesOn image k true rest) (toldTakes image k f m′ rest) [] ≡ joined (t .to) (t .out) rest (takes (R m) f (t .to) rest) .list
+          → emit (t .out) [] ++ cond (goesOn image k true rest) (toldTakes image k f m′ rest) []
+          ≡ joined (t .to) (t .out) rest (takes (R m) f (t .to) rest) .list
       go more [] le b = append-nil (emit (t .out) [])
       go more (x ∷ xs) le b =
           ap (λ (os : List Out). emit (t .out) [] ++ os) (more (x ∷ xs) (omega arith) b ∙ ap (λ (q : Ran). q .list) (later-takes m segment o bytes f (x ∷ xs)))

@@ -85,16 +85,20 @@ module _ (l : Loan) (k : ℕ) (d : List ℕ) (place : ℕ) (passed : Passed (siz
   acts-made e =
       rw (and-left (ltb k (rowsOf image Connections)) _ e, seen-c, and-right (ltb k (rowsOf image Connections)) _ e)
 
-  acts-refused : (t : Bool) → ltb k (rowsOf image Connections) ≡ t → (t && (allowed && receiving (recordAt s k))) ≡ false → acts (tableOf image) k (walk d place) (heldAt w k) ≡ acted (heldAt w k) []
+  acts-refused : (t : Bool) → ltb k (rowsOf image Connections) ≡ t → (t && (allowed && receiving (recordAt s k))) ≡ false
+      → acts (tableOf image) k (walk d place) (heldAt w k) ≡ acted (heldAt w k) []
   unfolding acts does
   acts-refused true p e = rw (p, seen-c, e)
   acts-refused false p e = rw p
 
   -- a drop more, and the records as they were
-  dropped-view : configOf image k .tcp ≡ false → viewOf (dropsOf false (drops (outsTold d found [])) s) rx tx ≡ left (tableOf image) w k (acted (heldAt w k) (outsTold d found []))
+  dropped-view : configOf image k .tcp ≡ false
+      → viewOf (dropsOf false (drops (outsTold d found [])) s) rx tx ≡ left (tableOf image) w k (acted (heldAt w k) (outsTold d found []))
   dropped-view udp =
       let n : ℕ = drops (outsTold d found []) in
-      ap (λ (l : List Connection). viewOf (record { connections = l; «udp_drops» = dropsOf false n s .«udp_drops»; «tcp_drops» = dropsOf false n s .«tcp_drops» }) rx tx) (sym (set-getD (s .connections) k zeroRecord))
+      ap (λ (l : List Connection). viewOf
+      (record { connections = l; «udp_drops» = dropsOf false n s .«udp_drops»; «tcp_drops» = dropsOf false n s .«tcp_drops» }) rx tx)
+      (sym (set-getD (s .connections) k zeroRecord))
       ∙ ap (λ (b : Bool). viewOf (withRecord k (recordAt s k) (dropsOf b n s)) rx tx) (sym udp)
       ∙ view-left (tableOf image) s rx tx rx tx k (λ j ne. refl) (λ j ne. refl) (recordAt s k) (outsTold d found [])
       ∙ ap (λ (h : Held). left (tableOf image) w k (acted h (outsTold d found []))) (sym (view-at s rx tx k))
@@ -103,7 +107,8 @@ module _ (l : Loan) (k : ℕ) (d : List ℕ) (place : ℕ) (passed : Passed (siz
   unfolding step
   walk-view = go readable refl
     where
-      go : (b : Bool) → readable ≡ b → viewOf (walkOf (sizes l) k d place .state) rx tx ≡ left (tableOf image) w k (acts (tableOf image) k (walk d place) (heldAt w k))
+      go : (b : Bool) → readable ≡ b
+          → viewOf (walkOf (sizes l) k d place .state) rx tx ≡ left (tableOf image) w k (acts (tableOf image) k (walk d place) (heldAt w k))
       go true e =
           let a : allowed ≡ true = and-left allowed _ (and-right (ltb k (rowsOf image Connections)) _ e) in
           ap (λ (t : State). viewOf t rx tx) (walk-state true e)
@@ -132,4 +137,5 @@ module _ (l : Loan) (k : ℕ) (d : List ℕ) (place : ℕ) (passed : Passed (siz
     where
       go : (b : Bool) → readable ≡ b → fine (toldWalk d (walkOf (sizes l) k d place .outcome)) ≡ actsAt (tableOf image) w k (walk d place) .list
       go true e = ap (λ (o : Step). fine (toldWalk d o)) (walk-out true e) ∙ told-found found ∙ ap (λ (a : Acted). a .list) (sym (acts-made e))
-      go false e = ap (λ (o : Step). fine (toldWalk d o)) (walk-out false e) ∙ ap (λ (a : Acted). a .list) (sym (acts-refused (ltb k (rowsOf image Connections)) refl e))
+      go false e = ap (λ (o : Step). fine (toldWalk d o)) (walk-out false e)
+          ∙ ap (λ (a : Acted). a .list) (sym (acts-refused (ltb k (rowsOf image Connections)) refl e))

@@ -79,10 +79,12 @@ module _ (T : Table) (k : ℕ) (tcp : T .config k .tcp ≡ true) where
   kept-does : (e : Own) → Other e → (h : Held) → Quiet h → Kept h (does T k e h .to)
   unfolding does
   kept-does _ (a-change e) h q =
-      step-either e (T .config k) (h .connection) (λ (c : Connection). Kept h (follow c h)) (λ _. kept-follow (h .connection) h refl refl q) (λ _. kept-after e (T .config k) h q)
+      step-either e (T .config k) (h .connection) (λ (c : Connection). Kept h (follow c h))
+      (λ _. kept-follow (h .connection) h refl refl q) (λ _. kept-after e (T .config k) h q)
   kept-does _ (a-walk d p) h q = rw tcp (kept-same h q)
   kept-does _ (a-take room) h q =
-      kept-follow (takeOf (T .config k) room (h .connection)) h (take-part (T .config k) room (h .connection)) (take-mode (T .config k) room (h .connection) tcp) q
+      kept-follow (takeOf (T .config k) room (h .connection)) h
+      (take-part (T .config k) room (h .connection)) (take-mode (T .config k) room (h .connection) tcp) q
 
   pub kept-acts : (e : Own) → Other e → (h : Held) (there : Bool) → ltb k (T .rows) ≡ there → Quiet h → Kept h (acts T k e h .to)
   unfolding acts

@@ -33,7 +33,8 @@ module _ (T : Table) where
   at-other w i j a b ne = ap (acts T j b) (getD-set-other (w .held) i j (a .to) blank (λ e. ne (sym e)))
 
   swap-left : (w : World) (i j : ℕ) (a b : Own) → (i ≡ j → ⊥)
-      → left T (left T w i (actsAt T w i a)) j (actsAt T (left T w i (actsAt T w i a)) j b) ≡ left T (left T w j (actsAt T w j b)) i (actsAt T (left T w j (actsAt T w j b)) i a)
+      → left T (left T w i (actsAt T w i a)) j (actsAt T (left T w i (actsAt T w i a)) j b)
+      ≡ left T (left T w j (actsAt T w j b)) i (actsAt T (left T w j (actsAt T w j b)) i a)
   swap-left w i j a b ne =
       ap (left T (left T w i (actsAt T w i a)) j) (at-other w i j (actsAt T w i a) b ne)
       ∙ left-comm w i j (actsAt T w i a) (actsAt T w j b) ne
@@ -55,14 +56,16 @@ module _ (T : Table) where
   -- a segment that is read, in two pieces: the first leaves mode, wishes and switches
   streamed-cut : (R : Routes) (h : Held) (x y : List ℕ)
       → streamed h (finely (segmentOf R (cellAt h) (x ++ y)))
-      ≡ following (streamed h (finely (segmentOf R (cellAt h) x))) (streamed (withCell (segmentOf R (cellAt h) x .to) h) (finely (segmentOf R (cellAt (withCell (segmentOf R (cellAt h) x .to) h)) y)))
+      ≡ following (streamed h (finely (segmentOf R (cellAt h) x)))
+      (streamed (withCell (segmentOf R (cellAt h) x .to) h) (finely (segmentOf R (cellAt (withCell (segmentOf R (cellAt h) x .to) h)) y)))
   streamed-cut R h x y =
       ap (streamed h) (cut-segment R (cellAt h) x y)
       ∙ ap (λ (c : Cell). following (streamed h (finely (segmentOf R (cellAt h) x))) (streamed h (finely (segmentOf R c y))))
       (sym (cell-back (segmentOf R (cellAt h) x .to) (snug-segment R (cellAt h) x (snug-in (h .connection .part) (h .received)))))
 
   -- .. and one that is refused: so are both pieces
-  pub does-read : (k : ℕ) (h : Held) (x : List ℕ) → (T .config k .tcp && receiving (h .connection)) ≡ true → does T k (segment x) h ≡ streamed h (finely (segmentOf (routesAt T k h) (cellAt h) x))
+  pub does-read : (k : ℕ) (h : Held) (x : List ℕ) → (T .config k .tcp && receiving (h .connection)) ≡ true
+      → does T k (segment x) h ≡ streamed h (finely (segmentOf (routesAt T k h) (cellAt h) x))
   unfolding does
   does-read k h x e = rw e
 
@@ -97,7 +100,8 @@ module _ (T : Table) where
   acts-blank k x false t e p = rw e
 
   -- so the second piece meets what the first one left
-  pub held-stays : (w : World) (i : ℕ) (x : List ℕ) → Dec (i < length (w .held)) → getD (set (w .held) i (actsAt T w i (segment x) .to)) i blank ≡ actsAt T w i (segment x) .to
+  pub held-stays : (w : World) (i : ℕ) (x : List ℕ) → Dec (i < length (w .held))
+      → getD (set (w .held) i (actsAt T w i (segment x) .to)) i blank ≡ actsAt T w i (segment x) .to
   held-stays w i x (yes lt) = getD-set-same (w .held) i (actsAt T w i (segment x) .to) blank lt
   held-stays w i x (no ge) =
       let out : length (w .held) ≤ i = omega arith in
@@ -107,13 +111,15 @@ module _ (T : Table) where
       (ap (λ (h : Held). acts T i (segment x) h .to) (List·getD-eq-default (w .held) blank out)
       ∙ ap (λ (a : Acted). a .to) (acts-blank i x (ltb i (T .rows)) (T .config i .tcp) refl refl))
 
-  at-cut : (w : World) (i : ℕ) (x y : List ℕ) → actsAt T w i (segment (x ++ y)) ≡ following (actsAt T w i (segment x)) (actsAt T (left T w i (actsAt T w i (segment x))) i (segment y))
+  at-cut : (w : World) (i : ℕ) (x y : List ℕ)
+      → actsAt T w i (segment (x ++ y)) ≡ following (actsAt T w i (segment x)) (actsAt T (left T w i (actsAt T w i (segment x))) i (segment y))
   at-cut w i x y =
       acts-cut i (getD (w .held) i blank) x y (ltb i (T .rows)) refl
       ∙ ap (λ (h : Held). following (actsAt T w i (segment x)) (acts T i (segment y) h)) (sym (held-stays w i x (decLt i (length (w .held)))))
 
   cut-left : (w : World) (i : ℕ) (x y : List ℕ)
-      → left T w i (actsAt T w i (segment (x ++ y))) ≡ left T (left T w i (actsAt T w i (segment x))) i (actsAt T (left T w i (actsAt T w i (segment x))) i (segment y))
+      → left T w i (actsAt T w i (segment (x ++ y)))
+      ≡ left T (left T w i (actsAt T w i (segment x))) i (actsAt T (left T w i (actsAt T w i (segment x))) i (segment y))
   cut-left w i x y =
       ap (left T w i) (at-cut w i x y) ∙ left-following w i (actsAt T w i (segment x)) (actsAt T (left T w i (actsAt T w i (segment x))) i (segment y))
 
@@ -132,7 +138,8 @@ both-of true X Y Z = append-assoc X Y Z
 both-of false X Y Z = refl
 
 module _ (T : Table) (whole : Whole → World → World) where
-  swap-step : (w : World) (i j : ℕ) (a b : Own) → (i ≡ j → ⊥) → step T whole (step T whole w (on i a)) (on j b) ≡ step T whole (step T whole w (on j b)) (on i a)
+  swap-step : (w : World) (i j : ℕ) (a b : Own) → (i ≡ j → ⊥)
+      → step T whole (step T whole w (on i a)) (on j b) ≡ step T whole (step T whole w (on j b)) (on i a)
   unfolding step
   swap-step w i j a b ne = swap-left T w i j a b ne
 
@@ -140,7 +147,8 @@ module _ (T : Table) (whole : Whole → World → World) where
   unfolding step
   cut-step w i x y = cut-left T w i x y
 
-  swap-heard : (k : ℕ) (w : World) (i j : ℕ) (a b : Own) (es : List Event) → (i ≡ j → ⊥) → heard T whole k w (on i a ∷ on j b ∷ es) ≡ heard T whole k w (on j b ∷ on i a ∷ es)
+  swap-heard : (k : ℕ) (w : World) (i j : ℕ) (a b : Own) (es : List Event) → (i ≡ j → ⊥)
+      → heard T whole k w (on i a ∷ on j b ∷ es) ≡ heard T whole k w (on j b ∷ on i a ∷ es)
   unfolding heard hands step
   swap-heard k w i j a b es ne =
       let A : Acted = actsAt T w i a in
@@ -151,7 +159,8 @@ module _ (T : Table) (whole : Whole → World → World) where
       ∙ one-of i j k (A .list) (B .list) (heard T whole k v es) ne
       ∙ ap (λ (q : Acted). cond (eqb j k) (B .list) [] ++ (cond (eqb i k) (q .list) [] ++ heard T whole k v es)) (sym (at-other T w j i B a (λ e. ne (sym e))))
 
-  cut-heard : (k : ℕ) (w : World) (i : ℕ) (x y : List ℕ) (es : List Event) → heard T whole k w (on i (segment (x ++ y)) ∷ es) ≡ heard T whole k w (on i (segment x) ∷ on i (segment y) ∷ es)
+  cut-heard : (k : ℕ) (w : World) (i : ℕ) (x y : List ℕ) (es : List Event)
+      → heard T whole k w (on i (segment (x ++ y)) ∷ es) ≡ heard T whole k w (on i (segment x) ∷ on i (segment y) ∷ es)
   unfolding heard hands step
   cut-heard k w i x y es =
       let A : Acted = actsAt T w i (segment x) in

@@ -24,7 +24,8 @@ use Rattle.reading_lengths.proofs.Bytes.{bytes-append, bytes-mark}
 use Rattle.reading_lengths.proofs.Marks.{out-append, segment-reads}
 use Rattle.reading_lengths.proofs.Ready.{ready-list, free-read}
 use Rattle.reading_lengths.proofs.Reading.{reading}
-use Rattle.model_runs.specs.Streams.{online, Streams, streams, longer, accepts, reads, ends, streamsOf, listedLater, listedIn, EventBytes, RunBytes, Quiet, Rests, Kept}
+use Rattle.model_runs.specs.Streams.{online, Streams, streams, longer, accepts, reads, ends, streamsOf}
+use Rattle.model_runs.specs.Streams.{listedLater, listedIn, EventBytes, RunBytes, Quiet, Rests, Kept}
 use Rattle.model_runs.proofs.Keeps.{kept-same, Other, a-change, a-walk, a-take, kept-acts, acts-nothing, kept-set}
 use Rattle.model_runs.proofs.Same.{does-read, does-refused, held-stays}
 

@@ -33,7 +33,8 @@ module _ (T : Table) (whole : Whole → World → World) (w : World) (k : ℕ) (
   unfolding acts
   at-read bs =
       rw (r .there)
-      (ap (λ (a : Acted). a .list) (does-read T k (heldAt w k) bs (rw (r .tcp) (r .receives))) ∙ ap (λ (c : Cell). fine (segmentOf R c bs .list)) (r .at-header))
+      (ap (λ (a : Acted). a .list) (does-read T k (heldAt w k) bs (rw (r .tcp) (r .receives)))
+      ∙ ap (λ (c : Cell). fine (segmentOf R c bs .list)) (r .at-header))
 
   one-segment : {ss : List Sent} {os : List Out} (bs : List ℕ) → Carried R ss os → bs ≡ frames ss → heard T whole k w (on k (segment bs) ∷ []) ≡ fine os
   unfolding heard hands segments flatten

@@ -6,7 +6,8 @@ use mathlib.Core.Bool.{Bool, true, false, cond, false≢true}
 use mathlib.Core.List.{List, [], _∷_, _++_, flatten}
 use borrow.Author.Tests.{eq-eqb}
 use lib.Dec.{eqb}
-use Rattle.reading.specs.Feed.{Routes, Cell, Out, nothing, pdu, dropped, start, piece, Ran, segmentRan, segments, singles, single, fine, Handed, complete, began, middle, finished, push, pushAll, marked, compared, middleOf, drops}
+use Rattle.reading.specs.Feed.{Routes, Cell, Out, nothing, pdu, dropped, start, piece, Ran, segmentRan, segments, singles, single}
+use Rattle.reading.specs.Feed.{fine, Handed, complete, began, middle, finished, push, pushAll, marked, compared, middleOf, drops}
 use Rattle.reading.proofs.Cut.{fine-append, cut, same-bytes}
 
 -- byte by byte
@@ -65,7 +66,8 @@ cut-compared R c a b x y =
     compared-between x (segmentRan R c (a ++ b) .list) (segmentRan R c a .list ++ segmentRan R (segmentRan R c a .to) b .list) y
     (ap (λ (q : Ran). q .list) (cut R c a b) ∙ sym (fine-append (segmentRan R c a .list) (segmentRan R (segmentRan R c a .to) b .list)))
 
-pub bytes-compared : (R : Routes) (c : Cell) (ss ts : List (List ℕ)) → flatten ss ≡ flatten ts → compared (segments R c ss .list) ≡ compared (segments R c ts .list)
+pub bytes-compared : (R : Routes) (c : Cell) (ss ts : List (List ℕ))
+    → flatten ss ≡ flatten ts → compared (segments R c ss .list) ≡ compared (segments R c ts .list)
 bytes-compared R c ss ts e = compared-same (segments R c ss .list) (segments R c ts .list) (ap (λ (q : Ran). q .list) (same-bytes R c ss ts e))
 
 -- JOINED BYTES in front of what begins with no byte of a transfer
@@ -87,7 +89,8 @@ pub push-body : (r : ℕ) (bs : List ℕ) (hs : List Handed) → free hs ≡ tru
 push-body r [] hs e = refl
 push-body r (b ∷ []) hs e = push-free r b hs e
 push-body r (b ∷ c ∷ bs) hs e =
-    ap (push r b) (push-body r (c ∷ bs) hs e) ∙ ap (λ (t : Bool). cond t (middle r (b ∷ c ∷ bs) ∷ hs) (middle r (b ∷ []) ∷ middle r (c ∷ bs) ∷ hs)) (eq-eqb r r refl)
+    ap (push r b) (push-body r (c ∷ bs) hs e)
+    ∙ ap (λ (t : Bool). cond t (middle r (b ∷ c ∷ bs) ∷ hs) (middle r (b ∷ []) ∷ middle r (c ∷ bs) ∷ hs)) (eq-eqb r r refl)
 
 -- two lists one after the other, where the second begins with no byte of a transfer
 push-append : (r b : ℕ) (xs ys : List Handed) → free ys ≡ true → push r b (xs ++ ys) ≡ push r b xs ++ ys
@@ -96,7 +99,8 @@ push-append r b (complete s p ∷ xs) ys e = refl
 push-append r b (began s i n ∷ xs) ys e = refl
 push-append r b (middle s p ∷ xs) ys e = go (eqb r s)
   where
-    go : (t : Bool) → cond t (middle r (b ∷ p) ∷ (xs ++ ys)) (middle r (b ∷ []) ∷ middle s p ∷ (xs ++ ys)) ≡ cond t (middle r (b ∷ p) ∷ xs) (middle r (b ∷ []) ∷ middle s p ∷ xs) ++ ys
+    go : (t : Bool) → cond t (middle r (b ∷ p) ∷ (xs ++ ys)) (middle r (b ∷ []) ∷ middle s p ∷ (xs ++ ys))
+        ≡ cond t (middle r (b ∷ p) ∷ xs) (middle r (b ∷ []) ∷ middle s p ∷ xs) ++ ys
     go true = refl
     go false = refl
 push-append r b (finished s ∷ xs) ys e = refl
@@ -118,7 +122,8 @@ compared-append (dropped k i n ∷ a) b e = compared-append a b e
 compared-append (start r i n m ∷ a) b e =
     ap (λ (hs : List Handed). began r i n ∷ hs) (ap (marked r m) (compared-append a b e) ∙ marked-append r m (compared a) (compared b))
 compared-append (piece r p m ∷ a) b e =
-    ap (pushAll r p) (ap (marked r m) (compared-append a b e) ∙ marked-append r m (compared a) (compared b)) ∙ pushAll-append r p (marked r m (compared a)) (compared b) e
+    ap (pushAll r p) (ap (marked r m) (compared-append a b e) ∙ marked-append r m (compared a) (compared b))
+    ∙ pushAll-append r p (marked r m (compared a)) (compared b) e
 
 pub free-append : (xs ys : List Handed) → free xs ≡ true → free ys ≡ true → free (xs ++ ys) ≡ true
 free-append [] ys e f = f

@@ -11,7 +11,9 @@ use lib.ListN.{length, take, drop, length-append, length-drop, take-append-drop}
 use lib.Seq.{drop-append-seam, append-snoc, length-take-le, take-at, drop-at}
 use Rattle.reading.specs.declared.Decision.{Decision}
 use Rattle.reading.specs.declared.Decision.the-variants.{Accept, Refuse, Transfer}
-use Rattle.reading.specs.Feed.{Routes, PieceKind, header, payload, skip, Cell, cell, transfer, Out, nothing, pdu, dropped, start, piece, ready, Fed, fed, decided, withByte, pieceDone, feed, after, emit, outs, stops, Took, took, bytesRead, pieceBy, takeB, Ends, at-end, at-byte, at-seam, at-mark, Ran, ran, joined, takes, segmentRan, segments, singles, single, fine, finely, Pdu, handed, pdus, drops}
+use Rattle.reading.specs.Feed.{Routes, PieceKind, header, payload, skip, Cell, cell, transfer, Out, nothing, pdu, dropped, start, piece, ready, Fed, fed}
+use Rattle.reading.specs.Feed.{decided, withByte, pieceDone, feed, after, emit, outs, stops, Took, took, bytesRead, pieceBy, takeB, Ends, at-end, at-byte}
+use Rattle.reading.specs.Feed.{at-seam, at-mark, Ran, ran, joined, takes, segmentRan, segments, singles, single, fine, finely, Pdu, handed, pdus, drops}
 use Rattle.reading.proofs.Laws.{piece-short, piece-whole}
 
 -- the stream's bytes one by one, in two pieces
@@ -78,7 +80,8 @@ last-after R n r [] h = absurd (omega arith)
 last-after R zero r (b ∷ bs) h = refl
 last-after R (suc n) r (b ∷ bs) h = last-after R n r bs (omega arith)
 
-pub last-outs : (R : Routes) (n r b : ℕ) (bs : List ℕ) → n ≤ length bs → outs R (transfer (suc n) r) (b ∷ bs) ≡ singles r b (take n bs) true (outs R ready (drop n bs))
+pub last-outs : (R : Routes) (n r b : ℕ) (bs : List ℕ) → n ≤ length bs
+    → outs R (transfer (suc n) r) (b ∷ bs) ≡ singles r b (take n bs) true (outs R ready (drop n bs))
 unfolding outs feed
 last-outs R zero r b bs h = refl
 last-outs R (suc n) r b [] h = absurd (omega arith)
@@ -92,7 +95,8 @@ piece-after R n r bs true e = part-after R n r bs (omega (arith, ltb-true (lengt
 piece-after R n r bs false e = last-after R n r bs (omega (arith, ltb-false (length bs) (suc n) e))
 
 piece-outs : (R : Routes) (n r b : ℕ) (bs : List ℕ) (t : Bool) → ltb (length (b ∷ bs)) (suc n) ≡ t
-    → outs R (transfer (suc n) r) (b ∷ bs) ≡ single (pieceBy t (suc n) r (b ∷ bs) .out) (outs R (pieceBy t (suc n) r (b ∷ bs) .to) (pieceBy t (suc n) r (b ∷ bs) .rest))
+    → outs R (transfer (suc n) r) (b ∷ bs)
+    ≡ single (pieceBy t (suc n) r (b ∷ bs) .out) (outs R (pieceBy t (suc n) r (b ∷ bs) .to) (pieceBy t (suc n) r (b ∷ bs) .rest))
 unfolding outs
 piece-outs R n r b bs true e = part-outs R n r b bs (omega (arith, ltb-true (length (b ∷ bs)) (suc n) e))
 piece-outs R n r b bs false e = last-outs R n r b bs (omega (arith, ltb-false (length (b ∷ bs)) (suc n) e))
@@ -164,7 +168,8 @@ take-after R (cell n k) (b ∷ bs) = go (stops (feed R (cell n k) b .out)) (take
     f = feed R (cell n k) b
 
     go : (s : Bool) → after R (f .to) bs ≡ after R (takeB R (f .to) bs .to) (takeB R (f .to) bs .rest)
-        → after R (f .to) bs ≡ after R (cond s (took (f .to) (f .out) bs) (takeB R (f .to) bs) .to) (cond s (took (f .to) (f .out) bs) (takeB R (f .to) bs) .rest)
+        → after R (f .to) bs ≡ after R (cond s (took (f .to) (f .out) bs) (takeB R (f .to) bs) .to)
+        (cond s (took (f .to) (f .out) bs) (takeB R (f .to) bs) .rest)
     go true e = refl
     go false e = e
 
@@ -180,7 +185,8 @@ take-outs R (cell n k) (b ∷ bs) = go (stops (feed R (cell n k) b .out)) refl (
 
     go : (s : Bool) → stops (f .out) ≡ s → outs R (f .to) bs ≡ single (takeB R (f .to) bs .out) (outs R (takeB R (f .to) bs .to) (takeB R (f .to) bs .rest))
         → emit (f .out) (outs R (f .to) bs)
-        ≡ single (cond s (took (f .to) (f .out) bs) (takeB R (f .to) bs) .out) (outs R (cond s (took (f .to) (f .out) bs) (takeB R (f .to) bs) .to) (cond s (took (f .to) (f .out) bs) (takeB R (f .to) bs) .rest))
+        ≡ single (cond s (took (f .to) (f .out) bs) (takeB R (f .to) bs) .out)
+        (outs R (cond s (took (f .to) (f .out) bs) (takeB R (f .to) bs) .to) (cond s (took (f .to) (f .out) bs) (takeB R (f .to) bs) .rest))
     go true s e = stopped (f .out) (outs R (f .to) bs) s
     go false s e = ap (λ (o : Out). emit o (outs R (f .to) bs)) (calm (f .to) (f .out) (outside R n k b) s .0) ∙ e
 
@@ -230,7 +236,8 @@ segment-list R c bs = ap (λ (q : Ran). q .list) (segment-feeds R c bs)
 
 -- CUT: a segment is its two pieces, one after the other (read from right to left: joined)
 pub cut : (R : Routes) (c : Cell) (a b : List ℕ)
-    → finely (segmentRan R c (a ++ b)) ≡ ran (segmentRan R (segmentRan R c a .to) b .to) (fine (segmentRan R c a .list) ++ fine (segmentRan R (segmentRan R c a .to) b .list))
+    → finely (segmentRan R c (a ++ b))
+    ≡ ran (segmentRan R (segmentRan R c a .to) b .to) (fine (segmentRan R c a .list) ++ fine (segmentRan R (segmentRan R c a .to) b .list))
 cut R c a b =
     segment-feeds R c (a ++ b)
     ∙ ap₂ ran (after-append R c a b) (outs-append R c a b)
@@ -278,16 +285,20 @@ drops-append (piece r p m ∷ a) b = drops-append a b
 
 -- WHERE A TAKE ENDS: a byte without an outcome comes before what ends the take
 later : (R : Routes) (c c′ : Cell) (b : ℕ) {bs : List ℕ} {t : Took} → feed R c b ≡ fed c′ nothing → moves c′ ≡ false → Ends R c′ bs t → Ends R c (b ∷ bs) t
-later R c c′ b f q (at-end _ bs e) = subst (λ (d : Cell). Ends R c (b ∷ bs) (took d nothing [])) (after-quiet R c c′ b bs f) (at-end c (b ∷ bs) (outs-quiet R c c′ b bs f ∙ e))
-later R c c′ b f q (at-byte _ a x rest g e is s) = at-byte c (b ∷ a) x rest g (outs-quiet R c c′ b a f ∙ e) (ap (λ (d : Cell). feed R d x) (after-quiet R c c′ b a f) ∙ is) s
+later R c c′ b f q (at-end _ bs e) =
+    subst (λ (d : Cell). Ends R c (b ∷ bs) (took d nothing [])) (after-quiet R c c′ b bs f) (at-end c (b ∷ bs) (outs-quiet R c c′ b bs f ∙ e))
+later R c c′ b f q (at-byte _ a x rest g e is s) =
+    at-byte c (b ∷ a) x rest g (outs-quiet R c c′ b a f ∙ e) (ap (λ (d : Cell). feed R d x) (after-quiet R c c′ b a f) ∙ is) s
 later R c c′ b f q (at-seam n r a p lt) = absurd (true≢false q)
 later R c c′ b f q (at-mark n r a rest p e) = absurd (true≢false q)
 
-ends-piece : (R : Routes) (n r b : ℕ) (bs : List ℕ) (t : Bool) → ltb (length (b ∷ bs)) (suc n) ≡ t → Ends R (transfer (suc n) r) (b ∷ bs) (pieceBy t (suc n) r (b ∷ bs))
+ends-piece : (R : Routes) (n r b : ℕ) (bs : List ℕ) (t : Bool) → ltb (length (b ∷ bs)) (suc n) ≡ t
+    → Ends R (transfer (suc n) r) (b ∷ bs) (pieceBy t (suc n) r (b ∷ bs))
 ends-piece R n r b bs true e = at-seam (suc n) r (b ∷ bs) (omega arith) (ltb-true (length (b ∷ bs)) (suc n) e)
 ends-piece R n r b bs false e =
     let le : n ≤ length bs = omega (arith, ltb-false (length (b ∷ bs)) (suc n) e) in
-    subst (λ (l : List ℕ). Ends R (transfer (suc n) r) l (took ready (piece r (b ∷ take n bs) true) (drop n bs))) (ap (λ (l : List ℕ). b ∷ l) (take-append-drop n bs))
+    subst (λ (l : List ℕ). Ends R (transfer (suc n) r) l (took ready (piece r (b ∷ take n bs) true) (drop n bs)))
+    (ap (λ (l : List ℕ). b ∷ l) (take-append-drop n bs))
     (at-mark (suc n) r (b ∷ take n bs) (drop n bs) (omega arith) (omega (arith, length-take-le n bs le)))
 
 -- no further and no less: the take ends so ..
@@ -301,7 +312,8 @@ take-ends R (cell n k) (b ∷ bs) = go (stops (feed R (cell n k) b .out)) refl (
     f : Fed
     f = feed R (cell n k) b
 
-    go : (s : Bool) → stops (f .out) ≡ s → Ends R (f .to) bs (takeB R (f .to) bs) → Ends R (cell n k) (b ∷ bs) (cond s (took (f .to) (f .out) bs) (takeB R (f .to) bs))
+    go : (s : Bool) → stops (f .out) ≡ s → Ends R (f .to) bs (takeB R (f .to) bs)
+        → Ends R (cell n k) (b ∷ bs) (cond s (took (f .to) (f .out) bs) (takeB R (f .to) bs))
     go true e h = at-byte (cell n k) [] b bs f refl refl e
     go false e h = let q = calm (f .to) (f .out) (outside R n k b) e in later R (cell n k) (f .to) b (ap (fed (f .to)) (q .0)) (q .1) h
 

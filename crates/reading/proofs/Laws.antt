@@ -14,7 +14,8 @@ use lib.Seq.{take-suc}
 use Rattle.wire.specs.Be.{be}
 use Rattle.reading.specs.declared.Decision.{Decision}
 use Rattle.reading.specs.declared.Decision.the-variants.{Accept, Refuse, Transfer}
-use Rattle.reading.specs.Feed.{Routes, PieceKind, header, payload, skip, Cell, cell, transfer, nothing, pdu, dropped, start, piece, ready, decided, withByte, pieceDone, spelt, feed, took, pieceBy, takeB, resume}
+use Rattle.reading.specs.Feed.{Routes, PieceKind, header, payload, skip, Cell, cell, transfer, nothing, pdu, dropped, start}
+use Rattle.reading.specs.Feed.{piece, ready, decided, withByte, pieceDone, spelt, feed, took, pieceBy, takeB, resume}
 
 -- A STRETCH WITH MANY BYTES MORE
 abbrev pub addAll : PieceKind → List ℕ → PieceKind
@@ -22,7 +23,8 @@ addAll k [] = k
 addAll k (b ∷ bs) = addAll (withByte k b) bs
 
 -- fewer bytes than it wants: all are read, and more is wanted
-pub take-short : (R : Routes) (n : ℕ) (k : PieceKind) (bs : List ℕ) → length bs < n → takeB R (cell n k) bs ≡ took (cell (n - length bs) (addAll k bs)) nothing []
+pub take-short : (R : Routes) (n : ℕ) (k : PieceKind) (bs : List ℕ) → length bs < n
+    → takeB R (cell n k) bs ≡ took (cell (n - length bs) (addAll k bs)) nothing []
 unfolding takeB feed
 take-short R zero k bs h = absurd (omega arith)
 take-short R (suc n) k [] h = ap (λ (m : ℕ). took (cell m k) nothing []) (omega arith)
@@ -31,7 +33,8 @@ take-short R (suc (suc n)) k (b ∷ bs) h =
     take-short R (suc n) (withByte k b) bs (omega arith) ∙ ap (λ (m : ℕ). took (cell m (addAll (withByte k b) bs)) nothing []) (omega arith)
 
 -- all that it wants: the stretch is done, and the take goes on from there
-pub take-whole : (R : Routes) (n : ℕ) (k : PieceKind) (bs : List ℕ) → 0 < n → n ≤ length bs → takeB R (cell n k) bs ≡ resume R (pieceDone R (addAll k (take n bs))) (drop n bs)
+pub take-whole : (R : Routes) (n : ℕ) (k : PieceKind) (bs : List ℕ) → 0 < n → n ≤ length bs
+    → takeB R (cell n k) bs ≡ resume R (pieceDone R (addAll k (take n bs))) (drop n bs)
 unfolding takeB feed
 take-whole R zero k bs p h = absurd (omega arith)
 take-whole R (suc n) k [] p h = absurd (omega arith)
@@ -52,12 +55,14 @@ addAll-header v [] = refl
 addAll-header v (b ∷ bs) = addAll-header (v * 256 + b) bs
 
 -- A PAYLOAD of which h has come: it ends in this segment, or does not
-pub rest-whole : (R : Routes) (r n : ℕ) (h bs : List ℕ) → 0 < n → n ≤ length bs → takeB R (cell n (payload r h)) bs ≡ took ready (pdu r (h ++ take n bs)) (drop n bs)
+pub rest-whole : (R : Routes) (r n : ℕ) (h bs : List ℕ) → 0 < n → n ≤ length bs
+    → takeB R (cell n (payload r h)) bs ≡ took ready (pdu r (h ++ take n bs)) (drop n bs)
 unfolding pieceDone
 rest-whole R r n h bs p le =
     take-whole R n (payload r h) bs p le ∙ ap (λ (k : PieceKind). resume R (pieceDone R k) (drop n bs)) (addAll-payload r h (take n bs))
 
-pub rest-short : (R : Routes) (r n : ℕ) (h bs : List ℕ) → length bs < n → takeB R (cell n (payload r h)) bs ≡ took (cell (n - length bs) (payload r (h ++ bs))) nothing []
+pub rest-short : (R : Routes) (r n : ℕ) (h bs : List ℕ) → length bs < n
+    → takeB R (cell n (payload r h)) bs ≡ took (cell (n - length bs) (payload r (h ++ bs))) nothing []
 rest-short R r n h bs lt = take-short R n (payload r h) bs lt ∙ ap (λ (k : PieceKind). took (cell (n - length bs) k) nothing []) (addAll-payload r h bs)
 
 -- the payload that follows an accepted header, of no byte too
@@ -65,7 +70,8 @@ pub body-whole : (R : Routes) (i r n : ℕ) (bs : List ℕ) → n ≤ length bs 
 body-whole R i r zero bs le = refl
 body-whole R i r (suc n) bs le = rest-whole R r (suc n) [] bs (omega arith) le
 
-pub body-short : (R : Routes) (i r n : ℕ) (bs : List ℕ) → length bs < n → resume R (decided (Accept r) i n) bs ≡ took (cell (n - length bs) (payload r bs)) nothing []
+pub body-short : (R : Routes) (i r n : ℕ) (bs : List ℕ) → length bs < n
+    → resume R (decided (Accept r) i n) bs ≡ took (cell (n - length bs) (payload r bs)) nothing []
 body-short R i r zero bs lt = absurd (omega arith)
 body-short R i r (suc n) bs lt = rest-short R r (suc n) [] bs lt
 
@@ -82,7 +88,8 @@ pub header-whole : (R : Routes) (v n : ℕ) (bs : List ℕ) → 0 < n → n ≤ 
     → takeB R (cell n (header v)) bs ≡ resume R (pieceDone R (header (spelt v (take n bs)))) (drop n bs)
 header-whole R v n bs p le = take-whole R n (header v) bs p le ∙ ap (λ (k : PieceKind). resume R (pieceDone R k) (drop n bs)) (addAll-header v (take n bs))
 
-pub header-short : (R : Routes) (v n : ℕ) (bs : List ℕ) → length bs < n → takeB R (cell n (header v)) bs ≡ took (cell (n - length bs) (header (spelt v bs))) nothing []
+pub header-short : (R : Routes) (v n : ℕ) (bs : List ℕ) → length bs < n
+    → takeB R (cell n (header v)) bs ≡ took (cell (n - length bs) (header (spelt v bs))) nothing []
 header-short R v n bs lt = take-short R n (header v) bs lt ∙ ap (λ (k : PieceKind). took (cell (n - length bs) k) nothing []) (addAll-header v bs)
 
 -- the number w of a whole header, and what the routes say to it
@@ -121,7 +128,8 @@ pub started : (R : Routes) (i r n : ℕ) (bs : List ℕ) → resume R (decided (
 started R i r zero bs = refl
 started R i r (suc n) bs = refl
 
-pub piece-short : (R : Routes) (n r : ℕ) (bs : List ℕ) → 0 < length bs → length bs < n → takeB R (transfer n r) bs ≡ took (transfer (n - length bs) r) (piece r bs false) []
+pub piece-short : (R : Routes) (n r : ℕ) (bs : List ℕ) → 0 < length bs → length bs < n
+    → takeB R (transfer n r) bs ≡ took (transfer (n - length bs) r) (piece r bs false) []
 unfolding takeB
 piece-short R n r [] p lt = absurd (omega arith)
 piece-short R zero r (b ∷ bs) p lt = absurd (omega arith)

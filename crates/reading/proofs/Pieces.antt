@@ -8,7 +8,9 @@ use native.Mathlib.Omega.{arith}
 use lib.Dec.{eqb, ltb}
 use lib.ListN.{length, take, drop, drop-of-length-le}
 use lib.Seq.{take-all}
-use Rattle.reading.specs.Feed.{Routes, Cell, cell, transfer, Out, nothing, pdu, dropped, start, piece, Fed, ready, feed, after, emit, outs, stops, took, pieceBy, takeB, Ran, joined, takes, segmentRan, segments, FullPiece, FullPieces, finished, compared, middleOf, Handed, complete, began, middle, push, pushAll, marked, pieceBytes, movedBytes}
+use Rattle.reading.specs.Feed.{Routes, Cell, cell, transfer, Out, nothing, pdu, dropped, start, piece, Fed, ready, feed}
+use Rattle.reading.specs.Feed.{after, emit, outs, stops, took, pieceBy, takeB, Ran, joined, takes, segmentRan, segments, FullPiece}
+use Rattle.reading.specs.Feed.{FullPieces, finished, compared, middleOf, Handed, complete, began, middle, push, pushAll, marked, pieceBytes, movedBytes}
 use Rattle.reading.proofs.Cut.{part-after, part-outs, last-after, last-outs, segments-feed}
 use Rattle.reading.proofs.Compared.{compared-singles, compared-fine, push-body}
 
@@ -95,8 +97,11 @@ by-end R c ss = ap (λ (q : Ran). q .to) (segments-feed R c ss)
 pub move-some : (R : Routes) (n r : ℕ) (ss : List (List ℕ)) → length (flatten ss) < n
     → (segments R (transfer n r) ss .to ≡ transfer (n - length (flatten ss)) r) × (compared (segments R (transfer n r) ss .list) ≡ middleOf r (flatten ss) [])
 move-some R zero r ss h = absurd (omega arith)
-move-some R (suc n) r ss h =
-    (by-end R (transfer (suc n) r) ss ∙ part-after R n r (flatten ss) (omega arith), by-bytes R (transfer (suc n) r) ss ∙ some-outs R n r (flatten ss) (omega arith))
+move-some R (suc n) r ss h = (
+  by-end R (transfer (suc n) r) ss ∙ part-after R n r (flatten ss) (omega arith),
+  by-bytes R (transfer (suc n) r) ss
+      ∙ some-outs R n r (flatten ss) (omega arith),
+)
 
 pub move-all : (R : Routes) (n r : ℕ) (ss : List (List ℕ)) → 0 < n → n ≤ length (flatten ss)
     → (segments R (transfer n r) ss .to ≡ after R ready (drop n (flatten ss)))
@@ -132,7 +137,8 @@ compared-bytes (nothing ∷ os) = compared-bytes os
 compared-bytes (pdu r p ∷ os) = compared-bytes os
 compared-bytes (dropped k i n ∷ os) = compared-bytes os
 compared-bytes (start r i n m ∷ os) = marked-bytes r m (compared os) ∙ compared-bytes os
-compared-bytes (piece r p m ∷ os) = pushAll-bytes r p (marked r m (compared os)) ∙ ap (λ (l : List ℕ). p ++ l) (marked-bytes r m (compared os) ∙ compared-bytes os)
+compared-bytes (piece r p m ∷ os) =
+    pushAll-bytes r p (marked r m (compared os)) ∙ ap (λ (l : List ℕ). p ++ l) (marked-bytes r m (compared os) ∙ compared-bytes os)
 
 -- .. so the pieces of a whole transfer, joined, are its payload
 middle-bytes : (r : ℕ) (p : List ℕ) (hs : List Handed) → movedBytes (middleOf r p hs) ≡ p ++ movedBytes hs

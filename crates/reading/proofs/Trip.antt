@@ -12,7 +12,8 @@ use Rattle.wire.specs.Lay.{spell}
 use Rattle.wire.proofs.Spell.{length-spell}
 use Rattle.reading.specs.declared.Decision.{Decision}
 use Rattle.reading.specs.declared.Decision.the-variants.{Accept, Transfer}
-use Rattle.reading.specs.Feed.{Routes, header, transfer, Out, nothing, pdu, dropped, start, piece, Fed, ready, decided, pieceDone, spelt, after, outs, Took, took, takeB, resume, ran}
+use Rattle.reading.specs.Feed.{Routes, header, transfer, Out, nothing, pdu, dropped, start, piece, Fed, ready}
+use Rattle.reading.specs.Feed.{decided, pieceDone, spelt, after, outs, Took, took, takeB, resume, ran}
 use Rattle.reading.specs.Feed.{emit, segments, singles, single, fine, finely, Handed, began, finished, compared, middleOf, Pdu, asOut, pdus}
 use Rattle.frame.specs.Frame.{frame, Sent, frames}
 use Rattle.reading.specs.Routed.{Routed, routed-none, routed-one, asTransfer, Carried, carried-none, carried-pdu, carried-transfer}

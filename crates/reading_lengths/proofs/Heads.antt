@@ -25,7 +25,8 @@ view l = none (eqb (length l) 0) refl
     eight true h e = at-beyond h (omega (arith, ltb-true (length l - 8) (be 4 l 4) e))
     eight false h e = at-whole (omega (arith, ltb-false (length l - 8) (be 4 l 4) e))
 
-    some : (b : Bool) → 0 < length l → ltb (length l) 8 ≡ b → View l (cond b short (cond (ltb (length l - 8) (be 4 l 4)) (beyond (be 4 l 0) (be 4 l 4)) (whole (be 4 l 0) (be 4 l 4))))
+    some : (b : Bool) → 0 < length l → ltb (length l) 8 ≡ b
+        → View l (cond b short (cond (ltb (length l - 8) (be 4 l 4)) (beyond (be 4 l 0) (be 4 l 4)) (whole (be 4 l 0) (be 4 l 4))))
     some true h e = at-short h (ltb-true _ _ e)
     some false h e = eight (ltb (length l - 8) (be 4 l 4)) (ltb-false _ _ e) refl
 
@@ -33,7 +34,9 @@ view l = none (eqb (length l) 0) refl
     positive zero h = absurd (h refl)
     positive (suc n) h = omega arith
 
-    none : (b : Bool) → eqb (length l) 0 ≡ b → View l (cond b ended (cond (ltb (length l) 8) short (cond (ltb (length l - 8) (be 4 l 4)) (beyond (be 4 l 0) (be 4 l 4)) (whole (be 4 l 0) (be 4 l 4)))))
+    none : (b : Bool) → eqb (length l) 0 ≡ b
+        → View l (cond b ended (cond (ltb (length l) 8) short
+        (cond (ltb (length l - 8) (be 4 l 4)) (beyond (be 4 l 0) (be 4 l 4)) (whole (be 4 l 0) (be 4 l 4)))))
     none true e = none-left (eqb-true _ _ e)
     none false e = some (ltb (length l) 8) (positive (length l) (eqb-false _ _ e)) refl
 

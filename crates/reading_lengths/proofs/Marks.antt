@@ -5,7 +5,8 @@ use mathlib.Core.Path.{_≡_, refl, sym, ap, ap₂, _∙_}
 use mathlib.Core.List.{List, [], _∷_, _++_, map, map-append}
 use native.Mathlib.Omega.{arith}
 use lib.ListN.{length, take, drop, getD}
-use Rattle.reading.specs.Feed.{Routes, PieceKind, Cell, cell, transfer, Fed, ready, withByte, pieceDone, feed, after, emit, outs, Ran, ran, segmentRan, fine, finely, finished, push, pushAll, compared}
+use Rattle.reading.specs.Feed.{Routes, PieceKind, Cell, cell, transfer, Fed, ready, withByte, pieceDone, feed, after}
+use Rattle.reading.specs.Feed.{emit, outs, Ran, ran, segmentRan, fine, finely, finished, push, pushAll, compared}
 use Rattle.reading.proofs.Laws.{addAll}
 use Rattle.reading.proofs.Cut.{emit-append, segment-feeds, fine-append}
 use Rattle.reading_lengths.specs.Listed.{Marked, mark, bytesOf, wordsOf, readTo, readOut, Bytes, GivenSegment, segmentsGiven, stream, AllBytes}
@@ -19,7 +20,8 @@ out-short Q (suc n) k [] h = refl
 out-short Q (suc zero) k (m ∷ ms) h = absurd (omega arith)
 out-short Q (suc (suc n)) k (m ∷ ms) h = out-short Q (suc n) (withByte k (m .byte)) ms (omega arith)
 
-pub to-short : (Q : ℕ → Routes) (n : ℕ) (k : PieceKind) (ms : List Marked) → length ms < n → readTo Q (cell n k) ms ≡ cell (n - length ms) (addAll k (bytesOf ms))
+pub to-short : (Q : ℕ → Routes) (n : ℕ) (k : PieceKind) (ms : List Marked)
+    → length ms < n → readTo Q (cell n k) ms ≡ cell (n - length ms) (addAll k (bytesOf ms))
 unfolding readTo feed
 to-short Q zero k ms h = absurd (omega arith)
 to-short Q (suc n) k [] h = ap (λ (m : ℕ). cell m k) (omega arith)
@@ -73,7 +75,8 @@ unfolding outs readOut
 segment-out Q w c [] = refl
 segment-out Q w c (b ∷ bs) = ap (emit (feed (Q w) c b .out)) (segment-out Q w (feed (Q w) c b .to) bs)
 
-pub segment-reads : (Q : ℕ → Routes) (w : ℕ) (c : Cell) (bs : List ℕ) → finely (segmentRan (Q w) c bs) ≡ ran (readTo Q c (map (mark w) bs)) (readOut Q c (map (mark w) bs))
+pub segment-reads : (Q : ℕ → Routes) (w : ℕ) (c : Cell) (bs : List ℕ)
+    → finely (segmentRan (Q w) c bs) ≡ ran (readTo Q c (map (mark w) bs)) (readOut Q c (map (mark w) bs))
 segment-reads Q w c bs = segment-feeds (Q w) c bs ∙ ap₂ ran (segment-to Q w c bs) (segment-out Q w c bs)
 
 pub given-reads : (Q : ℕ → Routes) (c : Cell) (gs : List GivenSegment) → finely (segmentsGiven Q c gs) ≡ ran (readTo Q c (stream gs)) (readOut Q c (stream gs))

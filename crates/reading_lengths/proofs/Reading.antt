@@ -13,17 +13,20 @@ use Rattle.wire.specs.Lay.{spell}
 use Rattle.wire.proofs.Spell.{length-spell}
 use Rattle.reading.specs.declared.Decision.{Decision}
 use Rattle.reading.specs.declared.Decision.the-variants.{Accept, Refuse, Transfer}
-use Rattle.reading.specs.Feed.{Routes, header, payload, skip, Cell, cell, transfer, Out, ready, decided, pieceDone, feed, Ran, Handed, complete, finished, compared, middleOf}
+use Rattle.reading.specs.Feed.{Routes, header, payload, skip, Cell, cell, transfer, Out, ready}
+use Rattle.reading.specs.Feed.{decided, pieceDone, feed, Ran, Handed, complete, finished, compared, middleOf}
 use Rattle.reading.proofs.Laws.{addAll, addAll-payload, addAll-skip, addAll-header, grow}
 use Rattle.reading.proofs.Compared.{compared-fine, push-body}
 use Rattle.reading.proofs.Trip.{spelt-spell}
-use Rattle.reading_lengths.specs.Listed.{Marked, mark, bytesOf, readTo, readOut, listed, listedFrom, Shaped, Bytes, GivenSegment, segmentsGiven, stream, AllBytes}
+use Rattle.reading_lengths.specs.Listed.{Marked, mark, bytesOf, readTo, readOut, listed, listedFrom}
+use Rattle.reading_lengths.specs.Listed.{Shaped, Bytes, GivenSegment, segmentsGiven, stream, AllBytes}
 use Rattle.reading_lengths.proofs.Bytes.{map-drop, bytes-drop, bytes-append, bytes-spell, bytes-mark}
 use Rattle.reading_lengths.proofs.Marks.{out-short, to-short, out-whole, move-short, move-whole, out-append, given-reads, stream-bytes}
 use Rattle.reading_lengths.proofs.Ready.{ready-list}
 
 -- header bytes that are held are the first of the stream
-held-first : (Q : ℕ → Routes) (n v : ℕ) (ms : List Marked) → Shaped (cell n (header v)) → readOut Q (cell n (header v)) ms ≡ readOut Q ready (map (mark 0) (spell (8 - n) v) ++ ms)
+held-first : (Q : ℕ → Routes) (n v : ℕ) (ms : List Marked) → Shaped (cell n (header v))
+    → readOut Q (cell n (header v)) ms ≡ readOut Q ready (map (mark 0) (spell (8 - n) v) ++ ms)
 held-first Q n v ms (p, le, s) =
     let hs : List Marked = map (mark 0) (spell (8 - n) v) in
     let long : length hs ≡ 8 - n = length-map (spell (8 - n) v) (mark 0) ∙ length-spell (8 - n) v in
@@ -45,7 +48,8 @@ reading Q (cell n (header v)) ms h b =
 reading Q (cell zero (payload r h)) ms p b = absurd (omega arith)
 reading Q (cell (suc n) (payload r h)) ms p b = go (leb (suc n) (length ms)) refl
   where
-    go : (t : Bool) → leb (suc n) (length ms) ≡ t → compared (readOut Q (cell (suc n) (payload r h)) ms) ≡ cond t (complete r (h ++ bytesOf (take (suc n) ms)) ∷ listed Q (drop (suc n) ms)) []
+    go : (t : Bool) → leb (suc n) (length ms) ≡ t
+        → compared (readOut Q (cell (suc n) (payload r h)) ms) ≡ cond t (complete r (h ++ bytesOf (take (suc n) ms)) ∷ listed Q (drop (suc n) ms)) []
     go true e =
         ap compared (out-whole Q n (payload r h) ms (leb-true (suc n) (length ms) e) _ (ap (pieceDone _) (addAll-payload r h (bytesOf (take (suc n) ms)))))
         ∙ ap (λ (ps : List Handed). complete r (h ++ bytesOf (take (suc n) ms)) ∷ ps)
@@ -60,7 +64,8 @@ reading Q (cell (suc n) skip) ms p b =
     go true e = ap compared (out-whole Q n skip ms (leb-true (suc n) (length ms) e) _ (ap (pieceDone _) (addAll-skip (bytesOf (take (suc n) ms)))))
     go false e =
         ap compared (out-short Q (suc n) skip ms (leb-false (suc n) (length ms) e))
-        ∙ sym (ap (λ (x : List Marked). compared (readOut Q ready x)) (drop-of-length-le ms {i = suc n} (omega (arith, leb-false (suc n) (length ms) e))) ∙ ap compared (out-short Q 8 (header 0) [] (omega arith)))
+        ∙ sym (ap (λ (x : List Marked). compared (readOut Q ready x)) (drop-of-length-le ms {i = suc n} (omega (arith, leb-false (suc n) (length ms) e)))
+        ∙ ap compared (out-short Q 8 (header 0) [] (omega arith)))
 reading Q (transfer zero r) ms p b = absurd (omega arith)
 reading Q (transfer (suc n) r) ms p b = go (leb (suc n) (length ms)) refl
   where
@@ -77,7 +82,8 @@ reading Q (transfer (suc n) r) ms p b = go (leb (suc n) (length ms)) refl
         ∙ ap (λ (l : List Marked). middleOf r (bytesOf l) []) (sym (take-all (suc n) ms (omega (arith, leb-false (suc n) (length ms) e))))
 
 -- THE LIST OF SEGMENT EVENTS
-pub segments-list : (Q : ℕ → Routes) (c : Cell) (gs : List GivenSegment) → Shaped c → AllBytes gs → compared (segmentsGiven Q c gs .list) ≡ listedFrom Q c (stream gs)
+pub segments-list : (Q : ℕ → Routes) (c : Cell) (gs : List GivenSegment) → Shaped c
+    → AllBytes gs → compared (segmentsGiven Q c gs .list) ≡ listedFrom Q c (stream gs)
 segments-list Q c gs h b =
     sym (compared-fine (segmentsGiven Q c gs .list)) ∙ ap (λ (q : Ran). compared (q .list)) (given-reads Q c gs) ∙ reading Q c (stream gs) h (stream-bytes gs b)
 
@@ -96,7 +102,8 @@ shaped-begin (Transfer r) i (suc n) = omega arith
 pub feed-shaped : (R : Routes) (c : Cell) (b : ℕ) → Shaped c → b < 256 → Shaped (feed R c b .to)
 unfolding feed pieceDone
 feed-shaped R (cell zero k) b h lt = shaped-ready
-feed-shaped R (cell (suc zero) (header v)) b h lt = shaped-begin (R ((v * 256 + b) / 2 ^ 32) ((v * 256 + b) % 2 ^ 32)) ((v * 256 + b) / 2 ^ 32) ((v * 256 + b) % 2 ^ 32)
+feed-shaped R (cell (suc zero) (header v)) b h lt =
+    shaped-begin (R ((v * 256 + b) / 2 ^ 32) ((v * 256 + b) % 2 ^ 32)) ((v * 256 + b) / 2 ^ 32) ((v * 256 + b) % 2 ^ 32)
 feed-shaped R (cell (suc zero) (payload r p)) b h lt = shaped-ready
 feed-shaped R (cell (suc zero) skip) b h lt = shaped-ready
 feed-shaped R (cell (suc (suc n)) (header v)) b (p, le, s) lt =

@@ -10,7 +10,8 @@ use Rattle.wire.specs.Be.{be}
 use Rattle.wire.proofs.Join.{be-add}
 use Rattle.reading.specs.declared.Decision.{Decision}
 use Rattle.reading.specs.declared.Decision.the-variants.{Accept, Refuse, Transfer}
-use Rattle.reading.specs.Feed.{Routes, header, payload, skip, Cell, cell, transfer, Out, nothing, pdu, dropped, start, piece, Fed, ready, decided, pieceDone, feed, emit, Handed, began, finished, compared}
+use Rattle.reading.specs.Feed.{Routes, header, payload, skip, Cell, cell, transfer, Out, nothing, pdu, dropped, start}
+use Rattle.reading.specs.Feed.{piece, Fed, ready, decided, pieceDone, feed, emit, Handed, began, finished, compared}
 use Rattle.reading.proofs.Laws.{addAll, addAll-payload, addAll-skip, addAll-header, done-header, spelt-be}
 use Rattle.reading.proofs.Cut.{moves, Outside, outside}
 use Rattle.reading.proofs.Compared.{free, push-body}
@@ -44,7 +45,8 @@ unfolding compared pieceDone
 out-fits Q (Accept r) i zero ms h = refl
 out-fits Q (Refuse k) i zero ms h = refl
 out-fits Q (Transfer r) i zero ms h = refl
-out-fits Q (Accept r) i (suc n) ms h = ap compared (out-whole Q n (payload r []) ms (omega arith) _ (ap (pieceDone _) (addAll-payload r [] (bytesOf (take (suc n) ms)))))
+out-fits Q (Accept r) i (suc n) ms h =
+    ap compared (out-whole Q n (payload r []) ms (omega arith) _ (ap (pieceDone _) (addAll-payload r [] (bytesOf (take (suc n) ms)))))
 out-fits Q (Refuse k) i (suc n) ms h = ap compared (out-whole Q n skip ms (omega arith) _ (ap (pieceDone _) (addAll-skip (bytesOf (take (suc n) ms)))))
 out-fits Q (Transfer r) i (suc n) ms h =
     ap (λ (hs : List Handed). began r i (suc n) ∷ hs)
@@ -62,7 +64,8 @@ out-head Q ms b h i n ei en =
     ∙ sym (ap₂ (λ (x y : ℕ). decided (R x y) x y) ei en))
 
 -- FROM A HEADER'S FIRST BYTE
-from-ready : (Q : ℕ → Routes) (f : ℕ) (ms : List Marked) → length ms ≤ f → Bytes (bytesOf ms) → compared (readOut Q ready ms) ≡ acceptedOf Q (wordsOf ms) (splits f (bytesOf ms))
+from-ready : (Q : ℕ → Routes) (f : ℕ) (ms : List Marked) → length ms ≤ f → Bytes (bytesOf ms)
+    → compared (readOut Q ready ms) ≡ acceptedOf Q (wordsOf ms) (splits f (bytesOf ms))
 unfolding splits accepted compared
 from-ready Q zero ms h b =
     ap compared (out-short Q 8 (header 0) ms (omega arith))
@@ -93,11 +96,13 @@ from-ready Q (suc f) ms h b = go (λ n. from-ready Q f (drop (8 + n) ms)) (headO
         let later : compared (readOut Q ready (drop n (drop 8 ms))) ≡ acceptedOf Q (drop (8 + n) (wordsOf ms)) (splits f (drop (8 + n) l)) =
         ap (λ (x : List Marked). compared (readOut Q ready x)) (drop-drop n 8 ms)
         ∙ more n (omega (arith, length-drop (8 + n) ms)) (rw (map-drop (λ (m : Marked). m .byte) (8 + n) ms) (bytes-drop (8 + n) l b))
-        ∙ ap₂ (λ (x y : List ℕ). acceptedOf Q x (splits f y)) (map-drop (λ (m : Marked). m .switches) (8 + n) ms) (map-drop (λ (m : Marked). m .byte) (8 + n) ms) in
+        ∙ ap₂ (λ (x y : List ℕ). acceptedOf Q x (splits f y))
+        (map-drop (λ (m : Marked). m .switches) (8 + n) ms) (map-drop (λ (m : Marked). m .byte) (8 + n) ms) in
         ap compared (out-head Q ms b (omega (arith, long)) i n refl refl)
         ∙ out-fits Q d i n (drop 8 ms) (omega (arith, long, length-drop 8 ms))
         ∙ ap₂ (keep d i n) body later
-        ∙ sym (ap (λ (k : ℕ). keep (Q (getD (wordsOf ms) 7 0) i k) i k (take n (drop 8 l)) (acceptedOf Q (drop (8 + k) (wordsOf ms)) (splits f (drop (8 + n) l)))) size)
+        ∙ sym (ap (λ (k : ℕ). keep (Q (getD (wordsOf ms) 7 0) i k) i k (take n (drop 8 l))
+        (acceptedOf Q (drop (8 + k) (wordsOf ms)) (splits f (drop (8 + n) l)))) size)
 
 pub ready-list : (Q : ℕ → Routes) (ms : List Marked) → Bytes (bytesOf ms) → compared (readOut Q ready ms) ≡ listed Q ms
 unfolding listed split

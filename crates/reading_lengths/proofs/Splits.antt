@@ -79,7 +79,13 @@ pub frame-long : (s : Sent) (r : List ℕ) → length (frame (s .id) (s .body) +
 frame-long s r =
     ap length (parts s r)
     ∙ length-append (spell 4 (s .id)) (spell 4 (length (s .body)) ++ (s .body ++ r))
-    ∙ omega (arith, length-spell 4 (s .id), length-spell 4 (length (s .body)), length-append (spell 4 (length (s .body))) (s .body ++ r), length-append (s .body) r)
+    ∙ omega (
+      arith,
+      length-spell 4 (s .id),
+      length-spell 4 (length (s .body)),
+      length-append (spell 4 (length (s .body))) (s .body ++ r),
+      length-append (s .body) r,
+    )
 
 pub frame-body : (s : Sent) (r : List ℕ) → drop 8 (frame (s .id) (s .body) ++ r) ≡ s .body ++ r
 frame-body s r =

@@ -10,7 +10,8 @@ use Rattle.wire.specs.Be.{byteAt}
 use Rattle.wire.specs.Lay.{spell}
 use Rattle.reading.specs.declared.Decision.{Decision}
 use Rattle.reading.specs.declared.Decision.the-variants.{Accept, Refuse, Transfer}
-use Rattle.reading.specs.Feed.{Routes, header, payload, skip, Cell, cell, transfer, Out, feed, emit, Ran, ran, segmentRan, Handed, complete, began, finished, middleOf}
+use Rattle.reading.specs.Feed.{Routes, header, payload, skip, Cell, cell, transfer, Out, feed}
+use Rattle.reading.specs.Feed.{emit, Ran, ran, segmentRan, Handed, complete, began, finished, middleOf}
 use Rattle.frame.specs.Frame.{Sent}
 use Rattle.reading_lengths.specs.Head.{Head, ended, short, beyond, whole, headOf}
 use Rattle.reading_lengths.specs.Split.{Split, split}

@@ -17,7 +17,8 @@ use Rattle.reading_lengths.specs.Split.{sent, Split, splitBy, splits}
 use Rattle.reading_lengths.proofs.Heads.{View, none-left, at-short, at-beyond, at-whole, view, head-end, whole-fits}
 use Rattle.reading_lengths.proofs.Splits.{split-enough}
 use Rattle.wire.proofs.Part.{part-to-end}
-use Rattle.reading_walk.specs.Walk.{the-end, Walked, walked, wholeAt, walkStep, walkAt, Forward, outsTold, walks, placeAfterSteps, judge, leftOver, listOf}
+use Rattle.reading_walk.specs.Walk.{the-end, Walked, walked, wholeAt, walkStep, walkAt, Forward}
+use Rattle.reading_walk.specs.Walk.{outsTold, walks, placeAfterSteps, judge, leftOver, listOf}
 
 -- a whole PDU stands within the datagram
 pub whole-place : (d : List ℕ) (p i n : ℕ) → p ≤ length d → headOf (take (length d - p) (drop p d)) ≡ whole i n → p + 8 + n ≤ length d
@@ -88,13 +89,15 @@ walks-splits R (suc f) d p le h = go (λ q a b. walks-splits R f d q a b) (headO
     l : List ℕ
     l = drop p d
 
-    both : ((q : ℕ) → q ≤ length d → length d ≤ q + f → walks R f d q ≡ listBy R (splits f (drop q d))) → (q : Decision) (i n : ℕ) → p + 8 + n ≤ length d → R i n ≡ q
+    both : ((q : ℕ) → q ≤ length d → length d ≤ q + f → walks R f d q ≡ listBy R (splits f (drop q d)))
+        → (q : Decision) (i n : ℕ) → p + 8 + n ≤ length d → R i n ≡ q
         → outsTold d (wholeAt q p i n .found) (walks R f d (wholeAt q p i n .next))
         ≡ judge (R i (length (take n (drop 8 l)))) (sent i (take n (drop 8 l))) ∷ listBy R (splits f (drop (8 + n) l))
     both more q i n w e =
         let size : length (take n (drop 8 l)) ≡ n = length-take-le n (drop 8 l) (omega (arith, length-drop 8 l, length-drop p d)) in
         let later : walks R f d (p + 8 + n) ≡ listBy R (splits f (drop (8 + n) l)) =
-        more (p + 8 + n) w (omega arith) ∙ ap (λ (x : List ℕ). listBy R (splits f x)) (ap (λ (x : ℕ). drop x d) (add-assoc p 8 n) ∙ sym (drop-drop (8 + n) p d)) in
+        more (p + 8 + n) w (omega arith)
+        ∙ ap (λ (x : List ℕ). listBy R (splits f x)) (ap (λ (x : ℕ). drop x d) (add-assoc p 8 n) ∙ sym (drop-drop (8 + n) p d)) in
         by q e size later
       where
         by : (q : Decision) → R i n ≡ q → length (take n (drop 8 l)) ≡ n → walks R f d (p + 8 + n) ≡ listBy R (splits f (drop (8 + n) l))

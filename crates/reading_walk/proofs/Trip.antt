@@ -17,11 +17,13 @@ use Rattle.reading_walk.specs.Walk.{the-end, a-pdu, Walked, walked, whol
 use Rattle.reading_walk.proofs.Steps.{at-last}
 
 -- ONE STEP at a frame that stands behind the bytes `before`
-step-frame : (R : Routes) (d before more : List ℕ) (s : Sent) (r : ℕ) → d ≡ before ++ (frame (s .id) (s .body) ++ more) → Fits s → R (s .id) (length (s .body)) ≡ Accept r
+step-frame : (R : Routes) (d before more : List ℕ) (s : Sent) (r : ℕ)
+    → d ≡ before ++ (frame (s .id) (s .body) ++ more) → Fits s → R (s .id) (length (s .body)) ≡ Accept r
     → walkAt R d (length before) ≡ walked (a-pdu r (length before + 8) (length (s .body)) (s .id)) (length before + 8 + length (s .body))
 unfolding walkAt
 step-frame R d before more s r e fits ac =
-    ap (λ (l : List ℕ). walkStep R (length d) (length before) (headOf l)) (ap (drop (length before)) e ∙ drop-append-seam before (frame (s .id) (s .body) ++ more))
+    ap (λ (l : List ℕ). walkStep R (length d) (length before) (headOf l))
+    (ap (drop (length before)) e ∙ drop-append-seam before (frame (s .id) (s .body) ++ more))
     ∙ ap (walkStep R (length d) (length before)) (sym (head-frame s more fits))
     ∙ ap (λ (q : Decision). wholeAt q (length before) (s .id) (length (s .body))) ac
 
@@ -43,7 +45,8 @@ later-frames : (before more : List ℕ) (s : Sent) → before ++ (frame (s .id) 
 later-frames before more s =
     sym (append-assoc before (frame (s .id) (s .body)) more) ∙ ap (λ (l : List ℕ). (before ++ l) ++ more) (sym (append-nil (frame (s .id) (s .body))))
 
-trip : (R : Routes) (d before : List ℕ) {ss : List Sent} {ps : List Pdu} → Routed R ss ps → d ≡ before ++ frames ss → walks R (length ss) d (length before) ≡ map asOut ps
+trip : (R : Routes) (d before : List ℕ) {ss : List Sent} {ps : List Pdu} → Routed R ss ps
+    → d ≡ before ++ frames ss → walks R (length ss) d (length before) ≡ map asOut ps
 unfolding walks frames
 trip R d before routed-none e = refl
 trip R d before (routed-one {s} {r} {ss} {ps} fits ac h) e =
@@ -52,7 +55,8 @@ trip R d before (routed-one {s} {r} {ss} {ps} fits ac h) e =
     (ap (walks R (length ss) d) (place-behind before s)
     ∙ trip R d (before ++ (frame (s .id) (s .body) ++ [])) h (e ∙ later-frames before (frames ss) s))
 
-trip-place : (R : Routes) (d before : List ℕ) {ss : List Sent} {ps : List Pdu} → Routed R ss ps → d ≡ before ++ frames ss → placeAfterSteps R (length ss) d (length before) ≡ length d
+trip-place : (R : Routes) (d before : List ℕ) {ss : List Sent} {ps : List Pdu} → Routed R ss ps
+    → d ≡ before ++ frames ss → placeAfterSteps R (length ss) d (length before) ≡ length d
 unfolding placeAfterSteps frames
 trip-place R d before routed-none e = ap length (sym (e ∙ append-nil before))
 trip-place R d before (routed-one {s} {r} {ss} {ps} fits ac h) e =

@@ -36,7 +36,8 @@ walk-at-end datagram place routes connection switches h =
 
 -- the part that starts in the middle is the rest of the datagram
 pub in-the-middle : (datagram : List ℕ) (place : ℕ) (routes : List ℕ) (connection switches : ℕ) (w : Walked) → place ≤ length datagram
-    → w ≡ stepped (walkStep (lookupOf routes connection switches) (place + length (take (length datagram - place) (drop place datagram))) place (headOf (take (length datagram - place) (drop place datagram))))
+    → w ≡ stepped (walkStep (lookupOf routes connection switches) (place + length (take (length datagram - place) (drop place datagram))) place
+    (headOf (take (length datagram - place) (drop place datagram))))
     → w ≡ walkedOf datagram place routes connection switches
 unfolding walkedOf walkAt
 in-the-middle datagram place routes connection switches w h e =

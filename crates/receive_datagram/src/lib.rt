@@ -72,7 +72,8 @@ fn whole_at(decision: Decision, place: usize, id: u32, size: u32) -> Walked
 // The bytes from the place on, one at least: 23 is tested before the routes are asked.
 fn walk_rest(rest: &[u8], place: usize, routes: &[u8], connection: u8, switches: u32) -> Walked
     requires { ⌜ (0 < length (now rest)) × (place + length (now rest) < 2 ^ 64) ⌝ }
-    ensures { λ r. ⌜ r ≡ stepped (walkStep (lookupOf (now (routes .entry)) connection switches) (place + length (now (rest .entry))) place (headOf (now (rest .entry)))) ⌝ }
+    ensures { λ r. ⌜ r ≡ stepped
+        (walkStep (lookupOf (now (routes .entry)) connection switches) (place + length (now (rest .entry))) place (headOf (now (rest .entry)))) ⌝ }
 {
     let n = rest.len();
     if n < 8 {

@@ -19,7 +19,8 @@ use Rattle.receive_route.specs.Route.{rowsIn, counts, passed, rowFor, re
 use Rattle.receive_route.specs.Decided.{Bears, Allows, Carries, Decided, allowing, carrying, no-route, off, too-long, Alone, MarkedTcp}
 
 -- the row that the search finds, where it finds one, counts
-row-counts : (routes : List ℕ) (connection id : ℕ) → rowFor routes connection id < rowsIn routes → counts (routeIn routes (rowFor routes connection id)) connection id ≡ true
+row-counts : (routes : List ℕ) (connection id : ℕ) → rowFor routes connection id < rowsIn routes
+    → counts (routeIn routes (rowFor routes connection id)) connection id ≡ true
 unfolding rowFor
 row-counts routes connection id h = not-false _ (found-bad (passed routes connection id) (rowsIn routes) h)
 
@@ -111,10 +112,12 @@ module _ (routes : List ℕ) (connection id : ℕ) (alone : Alone routes) where
         → isOn (routeIn routes i .groups) switches ≡ true → isOn (routeIn routes j .groups) switches ≡ false → P
     both-ways i j a b lit dark = impossible (sym dark ∙ ap (λ (r : ℕ). isOn (routeIn routes r .groups) switches) (sym (one-bears i j a b)) ∙ lit)
 
-    marked-not : {P : Type 0} (i j : ℕ) → Bears routes connection id i → Bears routes connection id j → routeIn routes i .transfer ≡ true → routeIn routes j .transfer ≡ false → P
+    marked-not : {P : Type 0} (i j : ℕ) → Bears routes connection id i → Bears routes connection id j
+        → routeIn routes i .transfer ≡ true → routeIn routes j .transfer ≡ false → P
     marked-not i j a b t f = impossible (sym f ∙ ap (λ (r : ℕ). routeIn routes r .transfer) (sym (one-bears i j a b)) ∙ t)
 
-    fits-not : {P : Type 0} (i j : ℕ) → Bears routes connection id i → Bears routes connection id j → n ≤ routeIn routes i .longest → routeIn routes j .longest < n → P
+    fits-not : {P : Type 0} (i j : ℕ) → Bears routes connection id i → Bears routes connection id j
+        → n ≤ routeIn routes i .longest → routeIn routes j .longest < n → P
     fits-not i j a b fits long = absurd (omega (arith, fits, long, ap (λ (r : ℕ). routeIn routes r .longest) (one-bears i j a b)))
 
     pub decided-once : {d e : Decision} → Says d → Says e → d ≡ e

@@ -107,7 +107,8 @@ refusal (suc zero) i h g = absurd (g refl)
 refusal (suc (suc k)) i h g = refl
 
 -- the decision at a reason
-module _ (routes : List ℕ) (connection switches id length row k : ℕ) (er : row ≡ rowFor routes connection id) (ek : k ≡ reasonOf routes row switches length) where
+module _ (routes : List ℕ) (connection switches id length row k : ℕ)
+    (er : row ≡ rowFor routes connection id) (ek : k ≡ reasonOf routes row switches length) where
   decides : decisionOf k row ≡ lookupOf routes connection switches id length
   unfolding lookupOf
   decides = ap (λ (j : ℕ). decisionOf j row) ek ∙ ap (λ (r : ℕ). decisionOf (reasonOf routes r switches length) r) er
@@ -131,4 +132,5 @@ refused-known routes connection switches id length k e = go (reasonOf routes (ro
     go : (j : ℕ) → j ≡ reasonOf routes (rowFor routes connection id) switches length → decisionOf j (rowFor routes connection id) ≡ Refuse k → Known k
     go zero p q = let z : _≡_ {A = ℕ} 0 1 = cc in absurd (omega arith)
     go (suc zero) p q = let z : _≡_ {A = ℕ} 0 1 = cc in absurd (omega arith)
-    go (suc (suc j)) p q = subst Known (cc) (reason-known routes (rowFor routes connection id) switches length (suc (suc j)) p (λ n. omega arith) (λ n. omega arith))
+    go (suc (suc j)) p q = subst Known (cc)
+        (reason-known routes (rowFor routes connection id) switches length (suc (suc j)) p (λ n. omega arith) (λ n. omega arith))

@@ -11,7 +11,8 @@ use lib.ListN.{length, getD, take, drop, length-append, take-append-drop}
 use lib.Seq.{take-append-seam, drop-append-seam, length-take-le}
 use Rattle.reading.specs.declared.Decision.{Decision}
 use Rattle.reading.specs.declared.Decision.the-variants.{Accept, Refuse, Transfer as Move}
-use Rattle.reading.specs.Feed.{Routes, header, payload, skip, Cell, cell, transfer, Out, nothing, pdu, dropped, start, piece, Fed, fed, stops, Took, goes, ready, pieceBy, takeB, Ends, at-end, at-byte, at-seam, at-mark, decided, pieceDone, feed}
+use Rattle.reading.specs.Feed.{Routes, header, payload, skip, Cell, cell, transfer, Out, nothing, pdu, dropped, start, piece, Fed, fed}
+use Rattle.reading.specs.Feed.{stops, Took, goes, ready, pieceBy, takeB, Ends, at-end, at-byte, at-seam, at-mark, decided, pieceDone, feed}
 use Rattle.reading.proofs.Laws.{skipCell, moveCell, grow}
 use Rattle.reading.proofs.Cut.{Outside, outside, take-ends}
 use Rattle.table_layout.proofs.Parts.{part-fits}
@@ -31,19 +32,24 @@ use Rattle.receive_stream.specs.Stream.{cellOf, partFrom, heldIn, noneHe
 use Rattle.receive_stream.proofs.Takes.{header-fit, payload-fit, skip-fit, transfer-fit, accepted-short}
 
 -- a law of every byte, and of a piece that its segment cuts off, is a law of a take
-stepwise : (R : Routes) (Q : Cell → Type 0) (S : Out → Cell → Type 0) → ((c : Cell) (b : ℕ) → b < 256 → Q c → (Q (feed R c b .to)) × (S (feed R c b .out) (feed R c b .to)))
-    → ((n r : ℕ) (bs : List ℕ) (t : Bool) → ltb (length bs) (suc n) ≡ t → Q (transfer (suc n) r) → (Q (pieceBy t (suc n) r bs .to)) × (S (pieceBy t (suc n) r bs .out) (pieceBy t (suc n) r bs .to)))
-    → ((c : Cell) → Q c → S nothing c) → (c : Cell) (bs : List ℕ) → ((i : ℕ) → getD bs i 0 < 256) → Q c → (Q (takeB R c bs .to)) × (S (takeB R c bs .out) (takeB R c bs .to))
+stepwise : (R : Routes) (Q : Cell → Type 0) (S : Out → Cell → Type 0)
+    → ((c : Cell) (b : ℕ) → b < 256 → Q c → (Q (feed R c b .to)) × (S (feed R c b .out) (feed R c b .to)))
+    → ((n r : ℕ) (bs : List ℕ) (t : Bool) → ltb (length bs) (suc n) ≡ t → Q (transfer (suc n) r)
+    → (Q (pieceBy t (suc n) r bs .to)) × (S (pieceBy t (suc n) r bs .out) (pieceBy t (suc n) r bs .to)))
+    → ((c : Cell) → Q c → S nothing c) → (c : Cell) (bs : List ℕ) → ((i : ℕ) → getD bs i 0 < 256)
+    → Q c → (Q (takeB R c bs .to)) × (S (takeB R c bs .out) (takeB R c bs .to))
 unfolding takeB feed
 stepwise R Q S step pieces calm c [] hs q = (q, calm c q)
-stepwise R Q S step pieces calm (transfer zero r) (b ∷ bs) hs q = stepwise R Q S step pieces calm ready bs (λ i. hs (suc i)) (step (transfer zero r) b (hs 0) q .0)
+stepwise R Q S step pieces calm (transfer zero r) (b ∷ bs) hs q =
+    stepwise R Q S step pieces calm ready bs (λ i. hs (suc i)) (step (transfer zero r) b (hs 0) q .0)
 stepwise R Q S step pieces calm (transfer (suc n) r) (b ∷ bs) hs q = pieces n r (b ∷ bs) (ltb (length (b ∷ bs)) (suc n)) refl q
 stepwise R Q S step pieces calm (cell n k) (b ∷ bs) hs q =
     let f : Fed = feed R (cell n k) b in
     let h : (Q (f .to)) × (S (f .out) (f .to)) = step (cell n k) b (hs 0) q in
     go (f .to) (f .out) (takeB R (f .to) bs) (outside R n k b) h (stepwise R Q S step pieces calm (f .to) bs (λ i. hs (suc i)) (h .0))
   where
-    go : (d : Cell) (o : Out) (t : Took) → Outside d o → (Q d) × (S o d) → (Q (t .to)) × (S (t .out) (t .to)) → (Q (goes (fed d o) bs t .to)) × (S (goes (fed d o) bs t .out) (goes (fed d o) bs t .to))
+    go : (d : Cell) (o : Out) (t : Took) → Outside d o → (Q d) × (S o d) → (Q (t .to)) × (S (t .out) (t .to))
+        → (Q (goes (fed d o) bs t .to)) × (S (goes (fed d o) bs t .out) (goes (fed d o) bs t .to))
     go d nothing t x h later = later
     go d (pdu r p) t x h later = h
     go d (dropped k i n) t x h later = h
@@ -67,7 +73,8 @@ module _ (P : ℕ → ℕ → Type 0) (M : ℕ → Type 0) where
   Told (piece r p true) c = (c ≡ ready) × (M r)
   Told (piece r p false) c = (n : ℕ) × (c ≡ transfer n r) × (M r)
 
-  decided-sane : (d : Decision) (i n : ℕ) → ((r : ℕ) → d ≡ Accept r → P r n) → ((r : ℕ) → d ≡ Move r → M r) → (Sane (decided d i n .to)) × (Told (decided d i n .out) (decided d i n .to))
+  decided-sane : (d : Decision) (i n : ℕ) → ((r : ℕ) → d ≡ Accept r → P r n) → ((r : ℕ) → d ≡ Move r → M r)
+      → (Sane (decided d i n .to)) × (Told (decided d i n .out) (decided d i n .to))
   decided-sane (Accept r) i zero ok go = ((omega arith, omega arith, omega arith), (refl, ok r refl))
   decided-sane (Accept r) i (suc n) ok go = let e : suc n ≡ suc n + 0 = omega arith in ((omega arith, subst (P r) e (ok r refl)), tt)
   decided-sane (Refuse k) i zero ok go = ((omega arith, omega arith, omega arith), refl)
@@ -104,7 +111,8 @@ module _ (P : ℕ → ℕ → Type 0) (M : ℕ → Type 0) where
     piece-sane n r bs true e s = ((omega (arith, ltb-true (length bs) (suc n) e), s .1), (suc n - length bs, refl, s .1))
     piece-sane n r bs false e s = ((omega arith, omega arith, omega arith), (refl, s .1))
 
-    pub take-sane : (c : Cell) (bs : List ℕ) → ((i : ℕ) → getD bs i 0 < 256) → Sane c → (Sane (takeB R c bs .to)) × (Told (takeB R c bs .out) (takeB R c bs .to))
+    pub take-sane : (c : Cell) (bs : List ℕ) → ((i : ℕ) → getD bs i 0 < 256) → Sane c
+        → (Sane (takeB R c bs .to)) × (Told (takeB R c bs .out) (takeB R c bs .to))
     take-sane = stepwise R Sane Told feed-sane piece-sane (λ c s. tt)
 
 -- P holds of route and length where the part is a payload, and M of the route where it is a transfer
@@ -218,7 +226,8 @@ take-last R c [] r p e = let z : _≡_ {A = ℕ} 0 1 = cc in absurd (omega arith
 take-last R (transfer zero q) (b ∷ bs) r p e = let g = take-last R ready bs r p e in (b ∷ g .0, ap (λ (l : List ℕ). b ∷ l) (g .1))
 take-last R (transfer (suc n) q) (b ∷ bs) r p e = no-pdu n q b bs (ltb (length (b ∷ bs)) (suc n)) r p e
 take-last R (cell m k) (b ∷ bs) r p e =
-    go (feed R (cell m k) b .to) (feed R (cell m k) b .out) (takeB R (feed R (cell m k) b .to) bs) (outside R m k b) (feed-tail R (cell m k) b) (take-last R (feed R (cell m k) b .to) bs) e
+    go (feed R (cell m k) b .to) (feed R (cell m k) b .out) (takeB R (feed R (cell m k) b .to) bs)
+    (outside R m k b) (feed-tail R (cell m k) b) (take-last R (feed R (cell m k) b .to) bs) e
   where
     c : Cell
     c = cell m k
@@ -248,7 +257,8 @@ take-last R (cell m k) (b ∷ bs) r p e =
 -- the part of a list that ends before its rest
 middle : (l pre p rest : List ℕ) → l ≡ pre ++ (p ++ rest) → partOf l (length l - length rest - length p) (length p) ≡ p
 middle l pre p rest e =
-    let n : length l ≡ length pre + (length p + length rest) = ap length e ∙ length-append pre (p ++ rest) ∙ ap (λ (k : ℕ). length pre + k) (length-append p rest) in
+    let n : length l ≡ length pre + (length p + length rest) =
+    ap length e ∙ length-append pre (p ++ rest) ∙ ap (λ (k : ℕ). length pre + k) (length-append p rest) in
     let at : length l - length rest - length p ≡ length pre = omega arith in
     ap (λ (k : ℕ). partOf l k (length p)) at
     ∙ part-fits l (length pre) (length p) (omega arith)
@@ -279,7 +289,8 @@ marks routes connection switches i n r e =
     record { there = a .bears .there; owned = a .bears .owned; marked = a .marked }
 
 -- THE WHOLE TAKE, from a part and a stretch that fit, of a segment of bytes
-module _ (routes : List ℕ) (connection switches : ℕ) (part : Part) (rx segment : List ℕ) (fit : Fit routes part rx) (bytes : (i : ℕ) → getD segment i 0 < 256) where
+module _ (routes : List ℕ) (connection switches : ℕ) (part : Part) (rx segment : List ℕ)
+    (fit : Fit routes part rx) (bytes : (i : ℕ) → getD segment i 0 < 256) where
   within : (i n r : ℕ) → lookupOf routes connection switches i n ≡ Accept r → n ≤ 1464
   within i n r e = accepted-short routes connection switches i n r e (fit .limits)
 
@@ -312,14 +323,16 @@ module _ (routes : List ℕ) (connection switches : ℕ) (part : Part) (rx segme
 
   pub leaves-length : length (rxAfter routes connection switches part rx segment) ≡ length rx
   unfolding rxAfter
-  leaves-length = wrote-length (inSegment (cellOf part rx)) (tookOf routes connection switches part rx segment .out) (tookOf routes connection switches part rx segment .to) rx
+  leaves-length = wrote-length (inSegment (cellOf part rx))
+      (tookOf routes connection switches part rx segment .out) (tookOf routes connection switches part rx segment .to) rx
 
   pub leaves-fit : Fit routes (takenOf routes connection switches part rx segment .part) (rxAfter routes connection switches part rx segment)
   unfolding takenOf
   leaves-fit =
       record {
         shape = sane-shape Short Any (tookOf routes connection switches part rx segment .to) (taken-sane .0);
-        fits = short-part (partFrom (tookOf routes connection switches part rx segment .to)) (sane-part Short Any (tookOf routes connection switches part rx segment .to) (taken-sane .0));
+        fits = short-part (partFrom (tookOf routes connection switches part rx segment .to))
+            (sane-part Short Any (tookOf routes connection switches part rx segment .to) (taken-sane .0));
         room = leaves-length ∙ fit .room;
         limits = fit .limits;
       }
@@ -356,7 +369,8 @@ module _ (routes : List ℕ) (connection switches : ℕ) (part : Part) (rx segme
       t = takeB (lookupOf routes connection switches) (cellOf part rx) segment
 
       go : (h : List ℕ) → ((pre : List ℕ) × (h ++ segment ≡ pre ++ (p ++ t .rest))) → length p ≤ 1464
-          → payloadAt segment (wrote (noneHeld h) (t .out) (t .to) rx) (noneHeld h) (cond (noneHeld h) (length segment - length (t .rest) - length p) 0) (length p) ≡ p
+          → payloadAt segment (wrote (noneHeld h) (t .out) (t .to) rx) (noneHeld h)
+          (cond (noneHeld h) (length segment - length (t .rest) - length p) 0) (length p) ≡ p
       go [] f l = middle segment (f .0) p (t .rest) (f .1)
       go (x ∷ h) f l =
           ap (λ (o : Out). partOf (wrote false o (t .to) rx) 0 (length p)) e
@@ -371,11 +385,13 @@ bytesIn (dropped k i n) = []
 bytesIn (start r i n m) = []
 bytesIn (piece r p m) = p
 
-pub piece-front : (R : Routes) (c : Cell) (bs : List ℕ) (t : Took) → Ends R c bs t → (r : ℕ) (p : List ℕ) (m : Bool) → t .out ≡ piece r p m → (0 < length p) × (bs ≡ p ++ t .rest)
+pub piece-front : (R : Routes) (c : Cell) (bs : List ℕ) (t : Took) → Ends R c bs t
+    → (r : ℕ) (p : List ℕ) (m : Bool) → t .out ≡ piece r p m → (0 < length p) × (bs ≡ p ++ t .rest)
 piece-front R c bs t (at-end _ _ _) r p m e = let z : _≡_ {A = ℕ} 0 1 = cc in absurd (omega arith)
 piece-front R c bs t (at-byte _ a b rest f _ _ s) r p m e = absurd (true≢false (sym s ∙ ap stops e))
 piece-front R c bs t (at-seam n q a some _) r p m e = (subst (λ (l : List ℕ). 0 < length l) (ap bytesIn e) some, ap bytesIn e ∙ sym (append-nil p))
-piece-front R c bs t (at-mark n q a rest some _) r p m e = (subst (λ (l : List ℕ). 0 < length l) (ap bytesIn e) some, ap (λ (l : List ℕ). l ++ rest) (ap bytesIn e))
+piece-front R c bs t (at-mark n q a rest some _) r p m e =
+    (subst (λ (l : List ℕ). 0 < length l) (ap bytesIn e) some, ap (λ (l : List ℕ). l ++ rest) (ap bytesIn e))
 
 pub handed-piece : (routes : List ℕ) (connection switches : ℕ) (part : Part) (rx segment : List ℕ) (r : ℕ) (p : List ℕ) (m : Bool)
     → tookOf routes connection switches part rx segment .out ≡ piece r p m

@@ -9,7 +9,8 @@ use lib.Dec.{ltb}
 use lib.ListN.{length, length-append}
 use Rattle.reading.specs.declared.Decision.{Decision}
 use Rattle.reading.specs.declared.Decision.the-variants.{Accept, Refuse, Transfer as Move}
-use Rattle.reading.specs.Feed.{Routes, PieceKind, header, payload, skip, Cell, cell, transfer, Out, nothing, pdu, dropped, start, piece, Fed, fed, Took, goes, pieceBy, takeB, withByte, decided, pieceDone, feed}
+use Rattle.reading.specs.Feed.{Routes, PieceKind, header, payload, skip, Cell, cell, transfer, Out, nothing, pdu, dropped}
+use Rattle.reading.specs.Feed.{start, piece, Fed, fed, Took, goes, pieceBy, takeB, withByte, decided, pieceDone, feed}
 use Rattle.reading.proofs.Cut.{moves, Outside, outside, take-ends}
 use Rattle.receive_part.specs.declared.Part.{Part}
 use Rattle.receive_part.specs.declared.Part.the-variants.{Header, Payload, Skip, Transfer}
@@ -106,7 +107,8 @@ module _ (routes : List ℕ) (connection switches : ℕ) (part : Part) (rx segme
   read = length segment - length (t .rest)
 
   pub leaves-running : Fit routes part rx
-      → transferring (takenOf routes connection switches part rx segment .part) ≡ runsAfter (transferring part) (takenOf routes connection switches part rx segment .outcome)
+      → transferring (takenOf routes connection switches part rx segment .part)
+      ≡ runsAfter (transferring part) (takenOf routes connection switches part rx segment .outcome)
   unfolding takenOf tookOf
   leaves-running fit =
       part-moves (t .to)

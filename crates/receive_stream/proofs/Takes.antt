@@ -10,7 +10,8 @@ use lib.ListN.{length, take, drop, length-append, length-drop}
 use lib.Seq.{take-length, length-take-le}
 use Rattle.reading.specs.declared.Decision.the-variants.{Accept, Refuse, Transfer as Move}
 use Rattle.reading.specs.Feed.{Routes, cell, transfer, header, payload, skip, Took, spelt, takeB, decided, resume}
-use Rattle.reading.proofs.Laws.{spelt-be, rest-whole, rest-short, body-whole, body-short, header-short, header-on, refused-skips, skipCell, skip-whole, skip-short, moveCell, empty, started, piece-short, piece-whole}
+use Rattle.reading.proofs.Laws.{spelt-be, rest-whole, rest-short, body-whole, body-short, header-short, header-on, refused-skips}
+use Rattle.reading.proofs.Laws.{skipCell, skip-whole, skip-short, moveCell, empty, started, piece-short, piece-whole}
 use Rattle.receive_part.specs.declared.Part.{Part}
 use Rattle.receive_part.specs.declared.Part.the-variants.{Header, Payload, Skip, Transfer}
 use Rattle.receive_part.specs.Part.{shaped}
@@ -25,7 +26,8 @@ use Rattle.wire.proofs.Part.{part-to-end}
 use Rattle.receive_stream.specs.declared.Outcome.{Outcome}
 use Rattle.receive_stream.specs.declared.Outcome.the-variants.{More, Pdu, Drop, Start, Piece}
 use Rattle.receive_stream.specs.declared.Taken.{Taken}
-use Rattle.receive_stream.specs.Stream.{cellOf, partFrom, noneHeld, inSegment, idOf, Answers, tookOf, takenOf, rxAfter, lengthOf, Limits, Fit, skipPart, movePart, startTaken, pieceTaken}
+use Rattle.receive_stream.specs.Stream.{cellOf, partFrom, noneHeld, inSegment, idOf, Answers, tookOf, takenOf}
+use Rattle.receive_stream.specs.Stream.{rxAfter, lengthOf, Limits, Fit, skipPart, movePart, startTaken, pieceTaken}
 
 abbrev pub takenAs : ℕ → Outcome → Part → Taken
 takenAs n o p = record { read = n; outcome = o; part = p }
@@ -51,12 +53,14 @@ at-once value held n a b bs small fits there e x y =
     )
 
 module _ (ids : ℕ → ℕ) where
-  pub move-answer : {s : Bool} {n : ℕ} {t t′ : Took} {rx : List ℕ} {r : Taken} {rx′ : List ℕ} → t ≡ t′ → Answers ids s n t′ rx r rx′ → Answers ids s n t rx r rx′
+  pub move-answer : {s : Bool} {n : ℕ} {t t′ : Took} {rx : List ℕ} {r : Taken} {rx′ : List ℕ}
+      → t ≡ t′ → Answers ids s n t′ rx r rx′ → Answers ids s n t rx r rx′
   move-answer {s} {n} {t} {t′} {rx} {r} {rx′} e a = subst (λ (u : Took). Answers ids s n u rx r rx′) (sym e) a
 
   -- A PAYLOAD THAT BEGINS HERE: all of it stands here, or not
   pub body-here : (R : Routes) (i r id n total : ℕ) (rx seg : List ℕ) → ids r ≡ id → n ≤ length seg → length seg ≤ total
-      → Answers ids true total (resume R (decided (Accept r) i n) seg) rx (takenAs (total - length seg + n) (Pdu r id true (total - length seg) n) (Header 0 0)) rx
+      → Answers ids true total (resume R (decided (Accept r) i n) seg) rx
+      (takenAs (total - length seg + n) (Pdu r id true (total - length seg) n) (Header 0 0)) rx
   body-here R i r id n total rx seg e le lt =
       let l : n ≡ length (take n seg) = sym (length-take-le n seg le) in
       let p : total - length seg + n ≡ total - length (drop n seg) = omega (arith, length-drop n seg) in
@@ -72,7 +76,8 @@ module _ (ids : ℕ → ℕ) where
       move-answer (body-short R i r n seg lt) (record { answer = λ j. takenAs (p j) More (Payload r (q j) (length seg)); memory = e })
 
   -- A PAYLOAD OF WHICH SOME IS HELD: it ends here, or not
-  pub rest-here : (R : Routes) (r id n h : ℕ) (rx seg rx′ : List ℕ) → ids r ≡ id → h < n → n ≤ length rx → n - h ≤ length seg → rx′ ≡ lay rx h (take (n - h) seg)
+  pub rest-here : (R : Routes) (r id n h : ℕ) (rx seg rx′ : List ℕ) → ids r ≡ id
+      → h < n → n ≤ length rx → n - h ≤ length seg → rx′ ≡ lay rx h (take (n - h) seg)
       → Answers ids false (length seg) (takeB R (cell (n - h) (payload r (take h rx))) seg) rx (takenAs (n - h) (Pdu r id false 0 n) (Header 0 0)) rx′
   rest-here R r id n h rx seg rx′ ei lt le fits e =
       let p : n - h ≡ length seg - length (drop (n - h) seg) = omega (arith, length-drop (n - h) seg) in
@@ -127,16 +132,19 @@ module _ (ids : ℕ → ℕ) where
   skip-part-of zero = refl
   skip-part-of (suc n) = refl
 
-  pub header-dropped : (R : Routes) (v n w k i m total : ℕ) (rx seg : List ℕ) (p : Part) → 0 < n → n ≤ length seg → w ≡ spelt v (take n seg) → i ≡ w / 2 ^ 32 → m ≡ w % 2 ^ 32
+  pub header-dropped : (R : Routes) (v n w k i m total : ℕ) (rx seg : List ℕ) (p : Part)
+      → 0 < n → n ≤ length seg → w ≡ spelt v (take n seg) → i ≡ w / 2 ^ 32 → m ≡ w % 2 ^ 32
       → R i m ≡ Refuse k → p ≡ skipPart m
       → Answers ids true total (takeB R (cell n (header v)) seg) rx (takenAs (total - (length seg - n)) (Drop k i m) p) rx
   header-dropped R v n w k i m total rx seg p pos le e ei em is ep =
       let q : total - (length seg - n) ≡ total - length (drop n seg) = omega (arith, length-drop n seg) in
       let u : p ≡ partFrom (skipCell m) = ep ∙ skip-part-of m in
-      move-answer (header-on R v n w (Refuse k) seg pos le e (ap₂ R (sym ei) (sym em) ∙ is) ∙ ap₂ (λ (a b : ℕ). resume R (decided (Refuse k) a b) (drop n seg)) (sym ei) (sym em) ∙ refused-skips R k i m (drop n seg))
+      move-answer (header-on R v n w (Refuse k) seg pos le e (ap₂ R (sym ei) (sym em) ∙ is)
+      ∙ ap₂ (λ (a b : ℕ). resume R (decided (Refuse k) a b) (drop n seg)) (sym ei) (sym em) ∙ refused-skips R k i m (drop n seg))
       (record { answer = λ j. takenAs (q j) (Drop k i m) (u j); memory = refl })
 
-  pub header-accepted : (R : Routes) (v n w r i m total : ℕ) (rx seg rx′ : List ℕ) (t : Taken) → 0 < n → n ≤ length seg → w ≡ spelt v (take n seg) → i ≡ w / 2 ^ 32 → m ≡ w % 2 ^ 32
+  pub header-accepted : (R : Routes) (v n w r i m total : ℕ) (rx seg rx′ : List ℕ) (t : Taken)
+      → 0 < n → n ≤ length seg → w ≡ spelt v (take n seg) → i ≡ w / 2 ^ 32 → m ≡ w % 2 ^ 32
       → R i m ≡ Accept r
       → Answers ids true total (resume R (decided (Accept r) i m) (take (length seg - n) (drop n seg))) rx t rx′
       → Answers ids true total (takeB R (cell n (header v)) seg) rx t rx′
@@ -167,12 +175,14 @@ module _ (ids : ℕ → ℕ) where
   mark-of zero = refl
   mark-of (suc n) = ne-eqb (suc n) 0 (λ e. omega (arith, e))
 
-  pub header-started : (R : Routes) (v n w r i m total : ℕ) (rx seg : List ℕ) (t : Taken) → 0 < n → n ≤ length seg → w ≡ spelt v (take n seg) → i ≡ w / 2 ^ 32 → m ≡ w % 2 ^ 32
+  pub header-started : (R : Routes) (v n w r i m total : ℕ) (rx seg : List ℕ) (t : Taken)
+      → 0 < n → n ≤ length seg → w ≡ spelt v (take n seg) → i ≡ w / 2 ^ 32 → m ≡ w % 2 ^ 32
       → R i m ≡ Move r → t ≡ startTaken (total - (length seg - n)) r i m
       → Answers ids true total (takeB R (cell n (header v)) seg) rx t rx
   header-started R v n w r i m total rx seg t pos le e ei em is et =
       let q : total - (length seg - n) ≡ total - length (drop n seg) = omega (arith, length-drop n seg) in
-      move-answer (header-on R v n w (Move r) seg pos le e (ap₂ R (sym ei) (sym em) ∙ is) ∙ ap₂ (λ (a b : ℕ). resume R (decided (Move r) a b) (drop n seg)) (sym ei) (sym em) ∙ started R i r m (drop n seg))
+      move-answer (header-on R v n w (Move r) seg pos le e (ap₂ R (sym ei) (sym em) ∙ is)
+      ∙ ap₂ (λ (a b : ℕ). resume R (decided (Move r) a b) (drop n seg)) (sym ei) (sym em) ∙ started R i r m (drop n seg))
       (record { answer = et ∙ (λ j. takenAs (q j) (Start r i m (mark-of m j)) (move-part-of m r j)); memory = refl })
 
   pub piece-none : (R : Routes) (n r : ℕ) (rx seg : List ℕ) → length seg ≡ 0
@@ -181,14 +191,19 @@ module _ (ids : ℕ → ℕ) where
   piece-none R n r rx [] e = record { answer = refl; memory = sym (lay-fits rx 0 [] (omega arith)) }
   piece-none R n r rx (b ∷ seg) e = absurd (omega arith)
 
-  pub piece-part : (R : Routes) (n r id : ℕ) (rx seg : List ℕ) (t : Taken) → ids r ≡ id → 0 < length seg → length seg < n → t ≡ pieceTaken (length seg) r id (n - length seg)
+  pub piece-part : (R : Routes) (n r id : ℕ) (rx seg : List ℕ) (t : Taken) → ids r ≡ id
+      → 0 < length seg → length seg < n → t ≡ pieceTaken (length seg) r id (n - length seg)
       → Answers ids true (length seg) (takeB R (transfer n r) seg) rx t rx
   piece-part R n r id rx seg t ei pos few et =
       let p : length seg ≡ length seg - 0 = omega arith in
       let q : 0 ≡ length seg - 0 - length seg = omega arith in
       let some : 0 < n - length seg = omega arith in
       move-answer (piece-short R n r seg pos few)
-      (record { answer = et ∙ still (n - length seg) some ∙ (λ j. takenAs (p j) (Piece r (sym ei j) (q j) (length seg) false) (Transfer r (n - length seg))); memory = refl })
+      (record {
+        answer = et ∙ still (n - length seg) some
+            ∙ (λ j. takenAs (p j) (Piece r (sym ei j) (q j) (length seg) false) (Transfer r (n - length seg)));
+        memory = refl;
+      })
     where
       still : (left : ℕ) → 0 < left → pieceTaken (length seg) r id left ≡ takenAs (length seg) (Piece r id 0 (length seg) false) (Transfer r left)
       still zero h = absurd (omega arith)
@@ -200,7 +215,8 @@ module _ (ids : ℕ → ℕ) where
       let l : n ≡ length (take n seg) = sym (length-take-le n seg le) in
       let p : n ≡ length seg - length (drop n seg) = omega (arith, length-drop n seg) in
       let q : 0 ≡ length seg - length (drop n seg) - length (take n seg) = omega (arith, length-drop n seg) in
-      move-answer (piece-whole R n r seg pos le) (record { answer = et ∙ (λ j. takenAs (p j) (Piece r (sym ei j) (q j) (l j) true) (Header 0 0)); memory = refl })
+      move-answer (piece-whole R n r seg pos le)
+      (record { answer = et ∙ (λ j. takenAs (p j) (Piece r (sym ei j) (q j) (l j) true) (Header 0 0)); memory = refl })
 
 pub skip-left : (n : ℕ) → (n ≡ 0 → ⊥) → Skip n ≡ skipPart n
 skip-left zero h = absurd (h refl)
@@ -245,4 +261,5 @@ pub at-part : (routes : List ℕ) (connection switches : ℕ) (rx segment rx′ 
     → (t ≡ takenOf routes connection switches part rx segment) × (rx′ ≡ rxAfter routes connection switches part rx segment)
 unfolding takenOf rxAfter tookOf
 at-part routes connection switches rx segment rx′ t {part} {p} e a =
-    subst (λ (q : Part). (t ≡ takenOf routes connection switches q rx segment) × (rx′ ≡ rxAfter routes connection switches q rx segment)) (sym e) (a .answer, a .memory)
+    subst (λ (q : Part). (t ≡ takenOf routes connection switches q rx segment) × (rx′ ≡ rxAfter routes connection switches q rx segment))
+    (sym e) (a .answer, a .memory)

@@ -11,7 +11,8 @@ ghost use Rattle.reading.specs.Feed.{Routes, takeB, cell, transfer, header, pay
 ghost use Rattle.reading.specs.declared.Decision.the-variants.{Accept};
 ghost use Rattle.receive_route.specs.Route.{lookupOf};
 ghost use Rattle.table_rows.specs.Rows.{routeIn};
-ghost use Rattle.receive_stream.specs.Stream.{Fit, Limits, idOf, cellOf, inSegment, Answers, skipPart, movePart, startTaken, pieceTaken, takenOf, rxAfter, payloadAt, payloadPlace};
+ghost use Rattle.receive_stream.specs.Stream.{Fit, Limits, idOf, cellOf, inSegment, Answers, skipPart};
+ghost use Rattle.receive_stream.specs.Stream.{movePart, startTaken, pieceTaken, takenOf, rxAfter, payloadAt, payloadPlace};
 use reading::Decision;
 use receive_part::Part;
 use receive_route::lookup;
@@ -88,7 +89,8 @@ fn header_number(value: u64, held: usize, bytes: &[u8], n: usize) -> u64
 // A payload that begins at the front of `rest`, the last bytes of a segment of `total`.
 fn take_body(route: u8, id: u32, size: u16, rx: &mut [u8], rest: &[u8], total: usize) -> Taken
     requires { ⌜ (size ≤ length (now rx)) × (length (now rest) ≤ total) ⌝ }
-    ensures { λ r. ⌜ ((R : Routes) (i : ℕ) (ids : ℕ → ℕ) → ids route ≡ id → Answers ids true total (resume R (decided (Accept route) i size) (now (rest .entry))) (now (rx .entry)) r (now (rx .exit))) ⌝ }
+    ensures { λ r. ⌜ ((R : Routes) (i : ℕ) (ids : ℕ → ℕ) → ids route ≡ id
+        → Answers ids true total (resume R (decided (Accept route) i size) (now (rest .entry))) (now (rx .entry)) r (now (rx .exit))) ⌝ }
 {
     let here = rest.len();
     let at = total - here;
@@ -121,7 +123,8 @@ fn take_body(route: u8, id: u32, size: u16, rx: &mut [u8], rest: &[u8], total: u
 // The rest of a payload of which some bytes stand in receive memory.
 fn take_rest(route: u8, id: u32, size: u16, held: u16, rx: &mut [u8], segment: &[u8]) -> Taken
     requires { ⌜ (held < size) × (size ≤ length (now rx)) ⌝ }
-    ensures { λ r. ⌜ ((R : Routes) (ids : ℕ → ℕ) → ids route ≡ id → Answers ids false (length (now (segment .entry))) (takeB R (cell (size - held) (payload route (take held (now (rx .entry))))) (now (segment .entry))) (now (rx .entry)) r (now (rx .exit))) ⌝ }
+    ensures { λ r. ⌜ ((R : Routes) (ids : ℕ → ℕ) → ids route ≡ id → Answers ids false (length (now (segment .entry)))
+        (takeB R (cell (size - held) (payload route (take held (now (rx .entry))))) (now (segment .entry))) (now (rx .entry)) r (now (rx .exit))) ⌝ }
 {
     let here = segment.len();
     let at = held as usize;
@@ -162,7 +165,9 @@ fn take_payload(
     segment: &[u8],
 ) -> Taken
     requires { ⌜ (held < size) × (size ≤ length (now rx)) ⌝ }
-    ensures { λ r. ⌜ ((R : Routes) → Answers (idOf (now (routes .entry))) (inSegment (cell (size - held) (payload route (take held (now (rx .entry)))))) (length (now (segment .entry))) (takeB R (cell (size - held) (payload route (take held (now (rx .entry))))) (now (segment .entry))) (now (rx .entry)) r (now (rx .exit))) ⌝ }
+    ensures { λ r. ⌜ ((R : Routes)
+        → Answers (idOf (now (routes .entry))) (inSegment (cell (size - held) (payload route (take held (now (rx .entry)))))) (length (now (segment .entry)))
+        (takeB R (cell (size - held) (payload route (take held (now (rx .entry))))) (now (segment .entry))) (now (rx .entry)) r (now (rx .exit))) ⌝ }
 {
     let row = route_in(routes, route as usize);
     if held == 0 {
@@ -229,7 +234,8 @@ fn piece_before(route: u8, id: u32, n: usize, left: u32) -> Taken
 // A running transfer: all of its bytes that stand in the segment, where they stand. An empty segment wants more.
 fn take_piece(routes: &[u8], route: u8, left: u32, segment: &[u8]) -> Taken
     requires { ⌜ 0 < left ⌝ }
-    ensures { λ r. ⌜ ((R : Routes) (rx : List ℕ) → Answers (idOf (now (routes .entry))) true (length (now (segment .entry))) (takeB R (transfer left route) (now (segment .entry))) rx r rx) ⌝ }
+    ensures { λ r. ⌜ ((R : Routes) (rx : List ℕ)
+        → Answers (idOf (now (routes .entry))) true (length (now (segment .entry))) (takeB R (transfer left route) (now (segment .entry))) rx r rx) ⌝ }
 {
     let here = segment.len();
     let n = left as usize;
@@ -259,7 +265,9 @@ fn take_header(
     total: usize,
 ) -> Taken
     requires { ⌜ Limits (now routes) × (length (now rx) ≡ 1464) × (held < 8) × (value < 256 ^ held) × (length (now rest) ≤ total) ⌝ }
-    ensures { λ r. ⌜ Answers (idOf (now (routes .entry))) true total (takeB (lookupOf (now (routes .entry)) connection switches) (cell (8 - held) (header value)) (now (rest .entry))) (now (rx .entry)) r (now (rx .exit)) ⌝ }
+    ensures { λ r. ⌜ Answers (idOf (now (routes .entry))) true total
+        (takeB (lookupOf (now (routes .entry)) connection switches) (cell (8 - held) (header value)) (now (rest .entry)))
+        (now (rx .entry)) r (now (rx .exit)) ⌝ }
 {
     let here = rest.len();
     let had = held as usize;
@@ -303,7 +311,8 @@ fn take_skip(
     segment: &[u8],
 ) -> Taken
     requires { ⌜ Limits (now routes) × (length (now rx) ≡ 1464) × (0 < n) ⌝ }
-    ensures { λ r. ⌜ Answers (idOf (now (routes .entry))) true (length (now (segment .entry))) (takeB (lookupOf (now (routes .entry)) connection switches) (cell n skip) (now (segment .entry))) (now (rx .entry)) r (now (rx .exit)) ⌝ }
+    ensures { λ r. ⌜ Answers (idOf (now (routes .entry))) true (length (now (segment .entry)))
+        (takeB (lookupOf (now (routes .entry)) connection switches) (cell n skip) (now (segment .entry))) (now (rx .entry)) r (now (rx .exit)) ⌝ }
 {
     let here = segment.len();
     let left = n as usize;

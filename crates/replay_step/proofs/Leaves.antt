@@ -68,9 +68,11 @@ module _ (l : Loan) (out : List ℕ) (before : ℕ) (row rest : List ℕ) where
   step-entered long stamp distance number body fault roomy n there b s d f k =
       let db : distance ≡ distanceIn stamps before (stampIn row) = d ∙ ap (distanceIn stamps before) s in
       let bb : body ≡ take (bodyLong row) rest = b ∙ ap (λ (x : ℕ). take x rest) n in
-      let fb : fault ≡ faultOf (distanceIn stamps before (stampIn row)) row (take (bodyLong row) rest) = f ∙ ap₂ (λ (x : ℕ) (y : List ℕ). faultOf x row y) db bb in
+      let fb : fault ≡ faultOf (distanceIn stamps before (stampIn row)) row (take (bodyLong row) rest) =
+      f ∙ ap₂ (λ (x : ℕ) (y : List ℕ). faultOf x row y) db bb in
       ap₂ (λ (x : Fault) (y : ℕ). unlessFault l out x y number body) fb db
-      ∙ ap₂ (λ (x : ℕ) (y : List ℕ). unlessFault l out (faultOf (distanceIn stamps before (stampIn row)) row (take (bodyLong row) rest)) (distanceIn stamps before (stampIn row)) x y) k bb
+      ∙ ap₂ (λ (x : ℕ) (y : List ℕ). unlessFault l out (faultOf (distanceIn stamps before (stampIn row)) row (take (bodyLong row) rest))
+      (distanceIn stamps before (stampIn row)) x y) k bb
       ∙ sym
       (ap
       (λ (t : Bool).

@@ -70,7 +70,8 @@ module _ (a b : List ℕ) (long : length a ≡ length b) where
       sym (ap₂ sameBytes (ap (λ (k : ℕ). drop k a) e ∙ drop-length a) (ap (λ (k : ℕ). drop k b) f ∙ drop-length b)) ∙ s .rest
 
 -- today's answer beside the recorded one, as the code finds it
-module _ (out answer : List ℕ) {v : Verdict} {n : ℕ} {part : List ℕ} {t : Bool} (done : v ≡ Done n) (p : part ≡ take n out) (s : t ≡ sameBytes part answer) where
+module _ (out answer : List ℕ) {v : Verdict} {n : ℕ} {part : List ℕ} {t : Bool}
+    (done : v ≡ Done n) (p : part ≡ take n out) (s : t ≡ sameBytes part answer) where
   told : playedBy v out answer ≡ cond t (Same n) (Differs n)
   unfolding playedBy
   told =

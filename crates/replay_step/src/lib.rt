@@ -76,10 +76,14 @@ fn happen(
     body: &[u8],
     out: &mut [u8],
 ) -> Step
-    ensures { λ r. ⌜ r ≡ Is.stepGiven (Is.thenHappens (loan (now (image .entry)) state (now (rx .entry)) (now (tx .entry))) (now (out .entry)) count number (now (body .entry))) ⌝ }
-    ensures { λ _. ⌜ now (rx .exit) ≡ Is.thenHappens (loan (now (image .entry)) state (now (rx .entry)) (now (tx .entry))) (now (out .entry)) count number (now (body .entry)) .rx ⌝ }
-    ensures { λ _. ⌜ now (tx .exit) ≡ Is.thenHappens (loan (now (image .entry)) state (now (rx .entry)) (now (tx .entry))) (now (out .entry)) count number (now (body .entry)) .tx ⌝ }
-    ensures { λ _. ⌜ now (out .exit) ≡ Is.thenHappens (loan (now (image .entry)) state (now (rx .entry)) (now (tx .entry))) (now (out .entry)) count number (now (body .entry)) .out ⌝ }
+    ensures { λ r. ⌜ r ≡ Is.stepGiven
+        (Is.thenHappens (loan (now (image .entry)) state (now (rx .entry)) (now (tx .entry))) (now (out .entry)) count number (now (body .entry))) ⌝ }
+    ensures { λ _. ⌜ now (rx .exit)
+        ≡ Is.thenHappens (loan (now (image .entry)) state (now (rx .entry)) (now (tx .entry))) (now (out .entry)) count number (now (body .entry)) .rx ⌝ }
+    ensures { λ _. ⌜ now (tx .exit)
+        ≡ Is.thenHappens (loan (now (image .entry)) state (now (rx .entry)) (now (tx .entry))) (now (out .entry)) count number (now (body .entry)) .tx ⌝ }
+    ensures { λ _. ⌜ now (out .exit)
+        ≡ Is.thenHappens (loan (now (image .entry)) state (now (rx .entry)) (now (tx .entry))) (now (out .entry)) count number (now (body .entry)) .out ⌝ }
 {
     let later = ticks(image, state, rx, tx, count);
     let before = later.state;
@@ -112,10 +116,14 @@ fn unless_fault(
     body: &[u8],
     out: &mut [u8],
 ) -> Step
-    ensures { λ r. ⌜ r ≡ Is.stepGiven (Is.unlessFault (loan (now (image .entry)) state (now (rx .entry)) (now (tx .entry))) (now (out .entry)) fault count number (now (body .entry))) ⌝ }
-    ensures { λ _. ⌜ now (rx .exit) ≡ Is.unlessFault (loan (now (image .entry)) state (now (rx .entry)) (now (tx .entry))) (now (out .entry)) fault count number (now (body .entry)) .rx ⌝ }
-    ensures { λ _. ⌜ now (tx .exit) ≡ Is.unlessFault (loan (now (image .entry)) state (now (rx .entry)) (now (tx .entry))) (now (out .entry)) fault count number (now (body .entry)) .tx ⌝ }
-    ensures { λ _. ⌜ now (out .exit) ≡ Is.unlessFault (loan (now (image .entry)) state (now (rx .entry)) (now (tx .entry))) (now (out .entry)) fault count number (now (body .entry)) .out ⌝ }
+    ensures { λ r. ⌜ r ≡ Is.stepGiven
+        (Is.unlessFault (loan (now (image .entry)) state (now (rx .entry)) (now (tx .entry))) (now (out .entry)) fault count number (now (body .entry))) ⌝ }
+    ensures { λ _. ⌜ now (rx .exit)
+        ≡ Is.unlessFault (loan (now (image .entry)) state (now (rx .entry)) (now (tx .entry))) (now (out .entry)) fault count number (now (body .entry)) .rx ⌝ }
+    ensures { λ _. ⌜ now (tx .exit)
+        ≡ Is.unlessFault (loan (now (image .entry)) state (now (rx .entry)) (now (tx .entry))) (now (out .entry)) fault count number (now (body .entry)) .tx ⌝ }
+    ensures { λ _. ⌜ now (out .exit) ≡ Is.unlessFault (loan (now (image .entry)) state (now (rx .entry)) (now (tx .entry)))
+        (now (out .entry)) fault count number (now (body .entry)) .out ⌝ }
 {
     match fault {
         Fault::Nothing => happen(image, state, rx, tx, count, number, body, out),
@@ -146,10 +154,15 @@ pub fn replay_step(
     rest: &[u8],
     out: &mut [u8],
 ) -> Step
-    ensures { λ r. ⌜ r ≡ Is.stepGiven (Is.entryStep (loan (now (image .entry)) state (now (rx .entry)) (now (tx .entry))) (now (out .entry)) before (now (row .entry)) (now (rest .entry))) ⌝ }
-    ensures { λ _. ⌜ now (rx .exit) ≡ Is.entryStep (loan (now (image .entry)) state (now (rx .entry)) (now (tx .entry))) (now (out .entry)) before (now (row .entry)) (now (rest .entry)) .rx ⌝ }
-    ensures { λ _. ⌜ now (tx .exit) ≡ Is.entryStep (loan (now (image .entry)) state (now (rx .entry)) (now (tx .entry))) (now (out .entry)) before (now (row .entry)) (now (rest .entry)) .tx ⌝ }
-    ensures { λ _. ⌜ now (out .exit) ≡ Is.entryStep (loan (now (image .entry)) state (now (rx .entry)) (now (tx .entry))) (now (out .entry)) before (now (row .entry)) (now (rest .entry)) .out ⌝ }
+    ensures { λ r. ⌜ r ≡ Is.stepGiven
+        (Is.entryStep (loan (now (image .entry)) state (now (rx .entry)) (now (tx .entry)))
+        (now (out .entry)) before (now (row .entry)) (now (rest .entry))) ⌝ }
+    ensures { λ _. ⌜ now (rx .exit) ≡ Is.entryStep (loan (now (image .entry)) state (now (rx .entry)) (now (tx .entry)))
+        (now (out .entry)) before (now (row .entry)) (now (rest .entry)) .rx ⌝ }
+    ensures { λ _. ⌜ now (tx .exit) ≡ Is.entryStep (loan (now (image .entry)) state (now (rx .entry)) (now (tx .entry)))
+        (now (out .entry)) before (now (row .entry)) (now (rest .entry)) .tx ⌝ }
+    ensures { λ _. ⌜ now (out .exit) ≡ Is.entryStep (loan (now (image .entry)) state (now (rx .entry)) (now (tx .entry)))
+        (now (out .entry)) before (now (row .entry)) (now (rest .entry)) .out ⌝ }
 {
     if out.len() < 16384 {
         return unplayed(Played::Small, state);

@@ -24,7 +24,8 @@ use Rattle.replay_step.specs.Step.{Stepped, unplayed, entered, entryStep}
 use Rattle.replay_step.proofs.Leaves.{Leaves, leaves-by}
 use Rattle.replay_whole.specs.declared.End.{End}
 use Rattle.replay_whole.specs.declared.Replayed.{Replayed}
-use Rattle.replay_whole.specs.Replay.{Going, Left, isRun, isOther, firstOther, endAt, stepAt, ongoing, stopped, finished, replayFrom, beforeFirst, playedAll}
+use Rattle.replay_whole.specs.Replay.{Going, Left, isRun, isOther, firstOther, endAt, stepAt}
+use Rattle.replay_whole.specs.Replay.{ongoing, stopped, finished, replayFrom, beforeFirst, playedAll}
 
 -- an entry that was run is there whole
 pub run-there : (l : Loan) (out : List ℕ) (before : ℕ) (row rest : List ℕ) → isRun (entryStep l out before row rest .played) ≡ true → bodyLong row ≤ length rest
@@ -33,7 +34,8 @@ run-there l out before row rest e = go (ltb (length out) room) (ltb (length rest
   where
     go : (a b : Bool) → ltb (length rest) (bodyLong row) ≡ b
         → isRun
-        (cond a (unplayed l out Small) (cond b (unplayed l out Cut) (entered l out (distanceIn stamps before (stampIn row)) row (take (bodyLong row) rest))) .played)
+        (cond a (unplayed l out Small)
+        (cond b (unplayed l out Cut) (entered l out (distanceIn stamps before (stampIn row)) row (take (bodyLong row) rest))) .played)
         ≡ true
         → bodyLong row ≤ length rest
     go true b q r = impossible r
@@ -120,13 +122,15 @@ module _ (image recording rx₀ tx₀ out₀ : List ℕ) (start : State) where
     stops : isRun (now-at .played) ≡ false → stopped image recording i g now-at ≡ whole
     unfolding replayFrom
     stops e =
-        sym (ap (λ (t : Bool). cond t (replayFrom image recording (n - suc i) (suc i) (ongoing image recording i g now-at)) (stopped image recording i g now-at)) e)
+        sym (ap (λ (t : Bool). cond t (replayFrom image recording (n - suc i) (suc i) (ongoing image recording i g now-at))
+        (stopped image recording i g now-at)) e)
         ∙ one-more
 
     goes-on : isRun (now-at .played) ≡ true → replayFrom image recording (n - suc i) (suc i) (ongoing image recording i g now-at) ≡ whole
     unfolding replayFrom
     goes-on e =
-        sym (ap (λ (t : Bool). cond t (replayFrom image recording (n - suc i) (suc i) (ongoing image recording i g now-at)) (stopped image recording i g now-at)) e)
+        sym (ap (λ (t : Bool). cond t (replayFrom image recording (n - suc i) (suc i) (ongoing image recording i g now-at))
+        (stopped image recording i g now-at)) e)
         ∙ one-more
 
     -- it was not run: the replay ends
@@ -148,7 +152,8 @@ module _ (image recording rx₀ tx₀ out₀ : List ℕ) (start : State) where
         (sym (ap isRun played) ∙ sym q ∙ not-false ran t) in
         let v : long ≡ bodyLong (entryRow recording i) = b ∙ ap bodyLong r in
         ⊎-elim
-        (λ (p : g .at ≤ 786424). within-either (g .at) long (length recording) (length (drop (g .at) recording)) (length-drop (g .at) recording) (omega (arith, w, v)) p)
+        (λ (p : g .at ≤ 786424). within-either (g .at) long (length recording)
+        (length (drop (g .at) recording)) (length-drop (g .at) recording) (omega (arith, w, v)) p)
         (λ (p : g .at ≤ length recording). inr (omega (arith, w, v, p, length-drop (g .at) recording))) (a .placed)
 
     pub entry-on : (ran : Bool) (stamp later distance long : ℕ) (other : Bool) (differs : ℕ) → ran ≡ isRun (s .played) → not ran ≡ false → stamp ≡ stampIn row
@@ -167,12 +172,14 @@ module _ (image recording rx₀ tx₀ out₀ : List ℕ) (start : State) where
         same : goingOf (s .state) rx tx out (g .at + long) later (g .ticks + distance) differs ≡ ongoing image recording i g now-at
         same =
             ap₂ (λ (x : State) (y : List ℕ). goingOf x y tx out (g .at + long) later (g .ticks + distance) differs) state (leaves .1 .0)
-            ∙ ap₂ (λ (x y : List ℕ). goingOf (now-at .state) (now-at .rx) x y (g .at + long) later (g .ticks + distance) differs) (leaves .1 .1 .0) (leaves .1 .1 .1)
+            ∙ ap₂ (λ (x y : List ℕ). goingOf (now-at .state) (now-at .rx) x y (g .at + long) later (g .ticks + distance) differs)
+            (leaves .1 .1 .0) (leaves .1 .1 .1)
             ∙ ap₂ (λ (x y : ℕ). goingOf (now-at .state) (now-at .rx) (now-at .tx) (now-at .out) (g .at + x) y (g .ticks + distance) differs)
             (lo ∙ ap bodyLong r) (la ∙ ap stampIn r)
             ∙ ap₂
             (λ (x y : ℕ).
-            goingOf (now-at .state) (now-at .rx) (now-at .tx) (now-at .out) (g .at + bodyLong (entryRow recording i)) (stampIn (entryRow recording i)) (g .ticks + x) y)
+            goingOf (now-at .state) (now-at .rx) (now-at .tx) (now-at .out)
+            (g .at + bodyLong (entryRow recording i)) (stampIn (entryRow recording i)) (g .ticks + x) y)
             (di ∙ ap (distanceIn stamps (g .before)) (st ∙ ap stampIn r)) (df ∙ ap (firstOther (g .differs) i) (ot ∙ ap isOther played))
 
 -- nothing is run, from a state that is this one

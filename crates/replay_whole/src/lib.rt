@@ -97,9 +97,12 @@ fn play(
     out: &mut [u8],
 ) -> Replayed
     ensures { λ r. ⌜ r ≡ Is.playedAll (now (image .entry)) (now (recording .entry)) (now (rx .entry)) (now (tx .entry)) (now (out .entry)) start .replayed ⌝ }
-    ensures { λ _. ⌜ now (rx .exit) ≡ Is.playedAll (now (image .entry)) (now (recording .entry)) (now (rx .entry)) (now (tx .entry)) (now (out .entry)) start .rx ⌝ }
-    ensures { λ _. ⌜ now (tx .exit) ≡ Is.playedAll (now (image .entry)) (now (recording .entry)) (now (rx .entry)) (now (tx .entry)) (now (out .entry)) start .tx ⌝ }
-    ensures { λ _. ⌜ now (out .exit) ≡ Is.playedAll (now (image .entry)) (now (recording .entry)) (now (rx .entry)) (now (tx .entry)) (now (out .entry)) start .out ⌝ }
+    ensures { λ _. ⌜ now (rx .exit)
+        ≡ Is.playedAll (now (image .entry)) (now (recording .entry)) (now (rx .entry)) (now (tx .entry)) (now (out .entry)) start .rx ⌝ }
+    ensures { λ _. ⌜ now (tx .exit)
+        ≡ Is.playedAll (now (image .entry)) (now (recording .entry)) (now (rx .entry)) (now (tx .entry)) (now (out .entry)) start .tx ⌝ }
+    ensures { λ _. ⌜ now (out .exit)
+        ≡ Is.playedAll (now (image .entry)) (now (recording .entry)) (now (rx .entry)) (now (tx .entry)) (now (out .entry)) start .out ⌝ }
 {
     let entries = entries_in(recording);
     let mut state = start;
@@ -168,9 +171,12 @@ fn under_front(
     out: &mut [u8],
 ) -> Replayed
     ensures { λ r. ⌜ r ≡ Is.underFront (now (image .entry)) (now (recording .entry)) (now (rx .entry)) (now (tx .entry)) (now (out .entry)) shown .replayed ⌝ }
-    ensures { λ _. ⌜ now (rx .exit) ≡ Is.underFront (now (image .entry)) (now (recording .entry)) (now (rx .entry)) (now (tx .entry)) (now (out .entry)) shown .rx ⌝ }
-    ensures { λ _. ⌜ now (tx .exit) ≡ Is.underFront (now (image .entry)) (now (recording .entry)) (now (rx .entry)) (now (tx .entry)) (now (out .entry)) shown .tx ⌝ }
-    ensures { λ _. ⌜ now (out .exit) ≡ Is.underFront (now (image .entry)) (now (recording .entry)) (now (rx .entry)) (now (tx .entry)) (now (out .entry)) shown .out ⌝ }
+    ensures { λ _. ⌜ now (rx .exit)
+        ≡ Is.underFront (now (image .entry)) (now (recording .entry)) (now (rx .entry)) (now (tx .entry)) (now (out .entry)) shown .rx ⌝ }
+    ensures { λ _. ⌜ now (tx .exit)
+        ≡ Is.underFront (now (image .entry)) (now (recording .entry)) (now (rx .entry)) (now (tx .entry)) (now (out .entry)) shown .tx ⌝ }
+    ensures { λ _. ⌜ now (out .exit)
+        ≡ Is.underFront (now (image .entry)) (now (recording .entry)) (now (rx .entry)) (now (tx .entry)) (now (out .entry)) shown .out ⌝ }
 {
     let state = fresh_state(image);
     match shown {

@@ -45,7 +45,8 @@ pub drops-small : (d e : Drops) → dropsFit d e ≡ true → SmallDrops d e
 unfolding dropsFit
 drops-small d e h =
     let four : Bool = sumFits (d .unrouted) (e .unrouted) && sumFits (d .off) (e .off) && sumFits (d .long) (e .long) && sumFits (d .cut) (e .cut) in
-    let f = and4 (sumFits (d .unrouted) (e .unrouted)) (sumFits (d .off) (e .off)) (sumFits (d .long) (e .long)) (sumFits (d .cut) (e .cut)) (and-left four _ h) in
+    let f = and4 (sumFits (d .unrouted) (e .unrouted)) (sumFits (d .off) (e .off))
+    (sumFits (d .long) (e .long)) (sumFits (d .cut) (e .cut)) (and-left four _ h) in
     record {
       unrouted = ltb-true _ _ (f .0);
       off = ltb-true _ _ (f .1);

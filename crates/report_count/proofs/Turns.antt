@@ -60,13 +60,15 @@ route-small kind which n kept = one (eqb kind 1)
     three true = start-small which n
     three false = four (eqb kind 5)
 
-    two : (b : Bool) → cond b (addsDrop which kept) (cond (eqb kind 3) (addsStart which n) (cond (eqb kind 5) (addsPdu which kept kept) (addsNothing kept))) .route < 64
+    two : (b : Bool) → cond b (addsDrop which kept)
+        (cond (eqb kind 3) (addsStart which n) (cond (eqb kind 5) (addsPdu which kept kept) (addsNothing kept))) .route < 64
     two true = omega arith
     two false = three (eqb kind 3)
 
     one : (b : Bool)
         → cond b (addsPdu which n kept)
-        (cond (eqb kind 2) (addsDrop which kept) (cond (eqb kind 3) (addsStart which n) (cond (eqb kind 5) (addsPdu which kept kept) (addsNothing kept)))) .route < 64
+        (cond (eqb kind 2) (addsDrop which kept)
+        (cond (eqb kind 3) (addsStart which n) (cond (eqb kind 5) (addsPdu which kept kept) (addsNothing kept)))) .route < 64
     one true = pdu-small which n kept
     one false = two (eqb kind 2)
 
@@ -88,7 +90,12 @@ module _ (k : ℕ) (s : List ℕ) (report : Report) (fits : Bool) (kept left at 
       → next ≡ plusFigures (figuresAt report (a .route)) (a .figures) → later ≡ plusDrops (dropsAt report k) (a .drops)
       → needs ≡ takeNeeds rest → on ≡ min (at + needs) (length s)
       → takesCounted k (left - 1) (drop on s)
-      (record { fits = fits && f && g; report = record { routes = set (report .routes) (a .route) next; connections = set (report .connections) k later }; kept = a .kept })
+      (record {
+        fits = fits && f && g;
+        report =
+            record { routes = set (report .routes) (a .route) next; connections = set (report .connections) k later };
+        kept = a .kept;
+      })
       ≡ end
   unfolding takesCounted oneCounted
   count-on rest f g next later needs on h inv r e f-is g-is n-is l-is needs-is on-is =

@@ -34,7 +34,13 @@ module _ (score : ℕ → ℕ) where
           record { most = one-more (λ j. score j ≤ b .score) i (v .most) h; inside = λ p. omega (arith, v .inside p); is = v .is; first = v .first }
       go false e =
           let h : b .score < score i = leb-false _ _ e in
-          record { most = one-more (λ j. score j ≤ score i) i (λ j l. omega (arith, v .most j l)) (omega arith); inside = λ p. omega arith; is = λ p. refl; first = λ p j l. omega (arith, v .most j l) }
+          record {
+            most = one-more (λ j. score j ≤ score i) i (λ j l. omega (arith, v .most j l)) (omega arith);
+            inside =
+                λ p. omega arith;
+            is = λ p. refl;
+            first = λ p j l. omega (arith, v .most j l);
+          }
 
   leads-fold : (n i : ℕ) (b : Pick) → Leads i b → Leads (i + n) (foldFrom (better score) n i b)
   unfolding foldFrom
@@ -56,7 +62,14 @@ module _ (score : ℕ → ℕ) where
   pub chosen-best : (n : ℕ) → IsChosen score n (chosenOf score n)
   unfolding chosenOf
   chosen-best n =
-      let start : Leads 0 (pick 0 0) = record { most = λ j l. absurd (omega arith); inside = λ p. absurd (omega arith); is = λ p. absurd (omega arith); first = λ p j l. absurd (omega arith) } in
+      let start : Leads 0 (pick 0 0) =
+      record {
+        most = λ j l. absurd (omega arith);
+        inside = λ p. absurd (omega arith);
+        is =
+            λ p. absurd (omega arith);
+        first = λ p j l. absurd (omega arith);
+      } in
       let e : 0 + n ≡ n = omega arith in
       found-is n _ (rw e at (leads-fold n 0 (pick 0 0) start))
 

@@ -67,6 +67,7 @@ module _ (image : List ℕ) (s : State) (accept : Bool) (group : ℕ) (source : 
       go : (x : Bool) → equalFields (recordAt s k .remote) source .address ≡ x → equalFields (recordAt s k .remote) source .address ≡ true
       go true q = q
       go false q =
-          let below = named-valve-first accept (member image s accept group source j) (member image s accept group source k) source (recordAt s j) (recordAt s k) h p q in
+          let below = named-valve-first accept (member image s accept group source j)
+          (member image s accept group source k) source (recordAt s j) (recordAt s k) h p q in
           let best = (rw e at (chosen-is-best image s accept group source)) .highest j l in
           absurd (omega (arith, below, best))

@@ -35,7 +35,8 @@ no-member accept source c = refl
 
 -- the score of record i, as the loop finds it
 pub score-at : (image : List ℕ) (s : State) (accept : Bool) (group : ℕ) (source : Remote) (rows : ℕ) (row : ConnectionBrief) (i found : ℕ)
-    → rows ≡ rowsOf image KConnection → row ≡ briefIn (bodyOf image KConnection) i → found ≡ scoreOf accept source (ltb i rows && eqb (row .group) group) (recordAt s i)
+    → rows ≡ rowsOf image KConnection → row ≡ briefIn (bodyOf image KConnection) i
+    → found ≡ scoreOf accept source (ltb i rows && eqb (row .group) group) (recordAt s i)
     → found ≡ scoreAt image s accept group source i
 unfolding scoreAt
 score-at image s accept group source rows row i found p q r =

@@ -22,14 +22,18 @@ module _ (image : List ℕ) (s : State) (pdu : ℕ) (payload tx : List ℕ) (ans
   unfolding transmitOf
   at-refused t = rw (← e, t)
 
-  answered : (next : State) → next ≡ transmitOf image s pdu payload tx .state → _≡_ {A = Transmitted} (record { answer = answer; state = next }) (transmittedOf image s pdu payload tx)
+  answered : (next : State) → next ≡ transmitOf image s pdu payload tx .state
+      → _≡_ {A = Transmitted} (record { answer = answer; state = next }) (transmittedOf image s pdu payload tx)
   answered next p = ap₂ (λ (a : Transmission) (m : State). record { answer = a; state = m }) e p
 
-  pub all-stored : (next : State) (tx′ : List ℕ) → isStored answer ≡ true → next ≡ storeAll image s pdu payload tx .state → tx′ ≡ storeAll image s pdu payload tx .memory
-      → (_≡_ {A = Transmitted} (record { answer = answer; state = next }) (transmittedOf image s pdu payload tx)) × (tx′ ≡ transmitOf image s pdu payload tx .memory)
+  pub all-stored : (next : State) (tx′ : List ℕ) → isStored answer ≡ true
+      → next ≡ storeAll image s pdu payload tx .state → tx′ ≡ storeAll image s pdu payload tx .memory
+      → (_≡_ {A = Transmitted} (record { answer = answer; state = next }) (transmittedOf image s pdu payload tx))
+      × (tx′ ≡ transmitOf image s pdu payload tx .memory)
   all-stored next tx′ t p q =
       (answered next (p ∙ ap (λ (x : Sending). x .state) (at-clear t)), q ∙ ap (λ (x : Sending). x .memory) (at-clear t))
 
   pub none-stored : isStored answer ≡ false
-      → (_≡_ {A = Transmitted} (record { answer = answer; state = s }) (transmittedOf image s pdu payload tx)) × (tx ≡ transmitOf image s pdu payload tx .memory)
+      → (_≡_ {A = Transmitted} (record { answer = answer; state = s }) (transmittedOf image s pdu payload tx))
+      × (tx ≡ transmitOf image s pdu payload tx .memory)
   none-stored t = (answered s (ap (λ (x : Sending). x .state) (at-refused t)), ap (λ (x : Sending). x .memory) (at-refused t))

@@ -35,7 +35,8 @@ stored-none look n a b k = go a b (decLt k n)
 
 pub clear-rows : (look : ℕ → ℕ) (n : ℕ) → isStored (verdictOf look n) ≡ true → (i : ℕ) → i < n → passes (look i) ≡ true
 unfolding verdictOf
-clear-rows look n e = none-bad (λ i. passes (look i)) n (stored-none look n (every (λ i. eqb (look i) 5) n) (every (λ i. isOut (look i)) n) (firstBad (λ i. passes (look i)) n) e)
+clear-rows look n e = none-bad (λ i. passes (look i)) n
+    (stored-none look n (every (λ i. eqb (look i) 5) n) (every (λ i. isOut (look i)) n) (firstBad (λ i. passes (look i)) n) e)
 
 -- a switched-on destination that does not refuse: online without close wanted, long enough, and with room
 pub record Meets (len size : ℕ) (d : DestinationRow) (c : Connection) : Type 0 where
@@ -44,12 +45,14 @@ pub record Meets (len size : ℕ) (d : DestinationRow) (c : Connection) : Type 0
   pub short : len ≤ d .longest
   pub room : c .used + 8 + len ≤ size
 
-pub look-meets : (len size : ℕ) (d : DestinationRow) (c : Connection) → isOn (d .groups) (c .switches) ≡ true → passes (lookOf len size d c) ≡ true → Meets len size d c
+pub look-meets : (len size : ℕ) (d : DestinationRow) (c : Connection)
+    → isOn (d .groups) (c .switches) ≡ true → passes (lookOf len size d c) ≡ true → Meets len size d c
 unfolding lookOf refusalOf
 look-meets len size d c w e =
     go (isOnline (c .mode)) refl (c .«close_wanted») refl (ltb (d .longest) len) refl (ltb size (c .used + 8 + len)) refl (rw w at e)
   where
-    go : (x : Bool) → isOnline (c .mode) ≡ x → (y : Bool) → c .«close_wanted» ≡ y → (z : Bool) → ltb (d .longest) len ≡ z → (u : Bool) → ltb size (c .used + 8 + len) ≡ u
+    go : (x : Bool) → isOnline (c .mode) ≡ x → (y : Bool) → c .«close_wanted» ≡ y
+        → (z : Bool) → ltb (d .longest) len ≡ z → (u : Bool) → ltb size (c .used + 8 + len) ≡ u
         → passes (cond (not x || y) 4 (cond z 7 (cond u 8 0))) ≡ true → Meets len size d c
     go false p y q z r u s h = absurd (let o : _≡_ {A = ℕ} 0 1 = cc in omega arith)
     go true p true q z r u s h = absurd (let o : _≡_ {A = ℕ} 0 1 = cc in omega arith)
@@ -60,11 +63,13 @@ look-meets len size d c w e =
 -- at the call
 module _ (image : List ℕ) (s : State) (pdu : ℕ) (payload : List ℕ) (clear : isStored (checkOf image s pdu (length payload)) ≡ true) where
   pub clear-meets : (i : ℕ) → i < destinations image → wantedAt image s pdu payload i ≡ true
-      → Meets (length payload) (connectionOf image (destinationOf image i .connection) .size) (destinationOf image i) (recordAt s (destinationOf image i .connection))
+      → Meets (length payload) (connectionOf image (destinationOf image i .connection) .size)
+      (destinationOf image i) (recordAt s (destinationOf image i .connection))
   unfolding checkOf lookAt wantedAt
   clear-meets i h w =
       let own : eqb (destinationOf image i .pdu) pdu ≡ true = and-left (eqb (destinationOf image i .pdu) pdu) _ w in
-      let on : isOn (destinationOf image i .groups) (recordAt s (destinationOf image i .connection) .switches) ≡ true = and-right (eqb (destinationOf image i .pdu) pdu) _ w in
+      let on : isOn (destinationOf image i .groups) (recordAt s (destinationOf image i .connection) .switches) ≡ true =
+      and-right (eqb (destinationOf image i .pdu) pdu) _ w in
       look-meets _ _ _ _ on (rw own at (clear-rows (lookAt image s pdu (length payload)) (destinations image) clear i h))
 
   pub clear-roomy : Ready image → Roomy image s pdu payload

@@ -48,7 +48,8 @@ module _ (image : List ℕ) (s : State) (pdu : ℕ) (payload : List ℕ) where
     unfolding wantedAt
     wanted-other ne = sym (ap wantedFrom e) ∙ rw (ne-eqb _ _ ne)
 
-    pub wanted-own : d .pdu ≡ pdu → (on : Bool) (w : ℕ) → on ≡ isOn (d .groups) w → w ≡ recordAt s (d .connection) .switches → wantedAt image s pdu payload i ≡ on
+    pub wanted-own : d .pdu ≡ pdu → (on : Bool) (w : ℕ) → on ≡ isOn (d .groups) w
+        → w ≡ recordAt s (d .connection) .switches → wantedAt image s pdu payload i ≡ on
     unfolding wantedAt
     wanted-own same on w p q = sym (ap wantedFrom e) ∙ rw (eq-eqb _ _ same) (sym (p ∙ ap (isOn (d .groups)) q))
 
@@ -66,7 +67,8 @@ module _ (image : List ℕ) (s : State) (pdu : ℕ) (payload : List ℕ) where
     pub record Storing (tx : List ℕ) (next : State) (i : ℕ) : Type 0 where
       pub folded : Folded (storeOf image s pdu payload) (destinations image) (sending s tx₀) i (sending next tx)
       pub long : length tx ≡ length tx₀
-      pub same : (j : ℕ) → i ≤ j → j < destinations image → wantedAt image s pdu payload j ≡ true → recordAt next (destinationOf image j .connection) ≡ recordAt s (destinationOf image j .connection)
+      pub same : (j : ℕ) → i ≤ j → j < destinations image → wantedAt image s pdu payload j ≡ true
+          → recordAt next (destinationOf image j .connection) ≡ recordAt s (destinationOf image j .connection)
       pub switched : (k : ℕ) → recordAt next k .switches ≡ recordAt s k .switches
 
     pub store-start : Storing tx₀ s 0
@@ -83,7 +85,8 @@ module _ (image : List ℕ) (s : State) (pdu : ℕ) (payload : List ℕ) where
             switched = v .switched;
           }
 
-      pub store-on : Ready image → (d : DestinationRow) (c : Connection) (tx′ : List ℕ) → i < destinations image → d ≡ destinationOf image i → wantedAt image s pdu payload i ≡ true
+      pub store-on : Ready image → (d : DestinationRow) (c : Connection) (tx′ : List ℕ)
+          → i < destinations image → d ≡ destinationOf image i → wantedAt image s pdu payload i ≡ true
           → length payload ≤ 1464
           → c ≡ sentOf d (recordAt next (d .connection) .used + 8 + length payload) (recordAt next (d .connection))
           → tx′ ≡ appendedOf tx (d .connection * 1472 + recordAt next (d .connection) .used) (d .id) payload
@@ -91,13 +94,15 @@ module _ (image : List ℕ) (s : State) (pdu : ℕ) (payload : List ℕ) where
           → Storing tx′ (withRecord (d .connection) c next) (i + 1)
       store-on r d c tx′ h e w short ec et el =
           record {
-            folded = fold-on _ _ _ i _ _ (v .folded) h (appended payload d next tx c tx′ short ec et ∙ ap (λ (x : DestinationRow). appendOf x payload (sending next tx)) e ∙ hit image s pdu payload (sending next tx) i w);
+            folded = fold-on _ _ _ i _ _ (v .folded) h (appended payload d next tx c tx′ short ec et
+                ∙ ap (λ (x : DestinationRow). appendOf x payload (sending next tx)) e ∙ hit image s pdu payload (sending next tx) i w);
             long = el ∙ v .long;
             same = λ j l u q.
                 getD-set-other (next .connections) (d .connection) (destinationOf image j .connection) c zeroRecord
                 (λ z. wanted-apart r i j (omega arith) u w q (z ∙ ap (λ (x : DestinationRow). x .connection) e))
                 ∙ v .same j (omega arith) u q;
-            switched = λ k. part-kept zeroRecord (λ (x : Connection). x .switches) (next .connections) (d .connection) k c (ap (λ (x : Connection). x .switches) ec) ∙ v .switched k;
+            switched = λ k. part-kept zeroRecord (λ (x : Connection). x .switches) (next .connections)
+                (d .connection) k c (ap (λ (x : Connection). x .switches) ec) ∙ v .switched k;
           }
 
       pub store-end : destinations image ≤ i → sending next tx ≡ storeAll image s pdu payload tx₀

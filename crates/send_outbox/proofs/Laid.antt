@@ -71,7 +71,8 @@ module _ (d : List ℕ) (at : ℕ) (h : at ≤ length d) where
           take-append-drop at d ∙ sym (lay-out d at (frame id payload) (omega (arith, length-drop at d, frame-length id payload)))
       go false false e = rest-laid (frame id payload)
 
-  pub part-framed : (id : ℕ) (payload y : List ℕ) → y ≡ framedOut id payload (midOf at (length d - at) d) → putMid at (length d - at) d y ≡ appendedOf d at id payload
+  pub part-framed : (id : ℕ) (payload y : List ℕ) → y ≡ framedOut id payload (midOf at (length d - at) d)
+      → putMid at (length d - at) d y ≡ appendedOf d at id payload
   part-framed id payload y e =
       ap₂ (λ (m n : List ℕ). take at d ++ (m ++ n)) (e ∙ ap (framedOut id payload) rest-is) none-after
       ∙ ap (λ (m : List ℕ). take at d ++ m) (append-nil (framedOut id payload (drop at d)))

@@ -71,16 +71,22 @@ module _ (g : Config) (c : Connection) (waiting out : List ℕ) where
     unfolding takingOf takeOf outOf
     take-nothing z = (rw (le-ltb _ _ h, eq-eqb _ _ z), rw (le-ltb _ _ h) e)
 
-    pub take-some : (c .used ≡ 0 → ⊥) → (d : Connection) → d ≡ afterTake g (withSend 0 0 false c) → Answers (record { answer = Bytes (c .used) (c .remote); connection = d }) o
+    pub take-some : (c .used ≡ 0 → ⊥) → (d : Connection) → d ≡ afterTake g (withSend 0 0 false c)
+        → Answers (record { answer = Bytes (c .used) (c .remote); connection = d }) o
     unfolding takingOf takeOf outOf
-    take-some z d p = (rw (le-ltb _ _ h, ne-eqb _ _ z) (ap (λ (x : Connection). record { answer = Bytes (c .used) (c .remote); connection = x }) p), rw (le-ltb _ _ h) e)
+    take-some z d p = (
+      rw (le-ltb _ _ h, ne-eqb _ _ z) (ap (λ (x : Connection). record { answer = Bytes (c .used) (c .remote); connection = x }) p),
+      rw (le-ltb _ _ h) e,
+    )
 
 -- what follows a take, in its three ways
-pub after-either : (g : Config) (d : Connection) (P : Connection → Type 0) → P d → (g .automatic ≡ true → g .tcp ≡ true → P (withMode (d .mode) (d .«open_wanted») true d))
+pub after-either : (g : Config) (d : Connection) (P : Connection → Type 0) → P d
+    → (g .automatic ≡ true → g .tcp ≡ true → P (withMode (d .mode) (d .«open_wanted») true d))
     → (g .automatic ≡ true → g .tcp ≡ false → P (become Reconnect (resetOf g d))) → P (afterTake g d)
 after-either g d P p q r = go (g .automatic) refl (wildcard (g .remote)) (g .tcp) refl
   where
-    go : (a : Bool) → g .automatic ≡ a → (w t : Bool) → g .tcp ≡ t → P (cond (a && w) (cond t (withMode (d .mode) (d .«open_wanted») true d) (become Reconnect (resetOf g d))) d)
+    go : (a : Bool) → g .automatic ≡ a → (w t : Bool) → g .tcp ≡ t
+        → P (cond (a && w) (cond t (withMode (d .mode) (d .«open_wanted») true d) (become Reconnect (resetOf g d))) d)
     go false e w t f = p
     go true e false t f = p
     go true e true true f = q e f
@@ -88,7 +94,8 @@ after-either g d P p q r = go (g .automatic) refl (wildcard (g .remote)) (g .tcp
 
 -- THE RECORD after a take: as it was (nothing waits, or it is refused), or emptied
 module _ (g : Config) (room : ℕ) (c : Connection) where
-  pub take-either : (P : Connection → Type 0) → ((eqb (c .used) 0 || ltb room (c .used)) ≡ true → P c) → ((eqb (c .used) 0 || ltb room (c .used)) ≡ false → P (afterTake g (withSend 0 0 false c)))
+  pub take-either : (P : Connection → Type 0) → ((eqb (c .used) 0 || ltb room (c .used)) ≡ true → P c)
+      → ((eqb (c .used) 0 || ltb room (c .used)) ≡ false → P (afterTake g (withSend 0 0 false c)))
       → P (takeOf g room c)
   unfolding takeOf
   take-either P p q = go (eqb (c .used) 0 || ltb room (c .used)) refl
@@ -112,7 +119,8 @@ module _ (g : Config) (room : ℕ) (c : Connection) where
   pub take-used : takeOf g room c .used ≡ cond (not (ltb room (c .used))) 0 (c .used)
   take-used =
       take-either (λ (d : Connection). d .used ≡ cond (not (ltb room (c .used))) 0 (c .used)) (kept (eqb (c .used) 0) (ltb room (c .used)) refl)
-      (λ e. after-either g (withSend 0 0 false c) (λ (d : Connection). d .used ≡ cond (not (ltb room (c .used))) 0 (c .used)) (taken e) (λ _ _. taken e) (λ _ _. taken e))
+      (λ e. after-either g (withSend 0 0 false c)
+      (λ (d : Connection). d .used ≡ cond (not (ltb room (c .used))) 0 (c .used)) (taken e) (λ _ _. taken e) (λ _ _. taken e))
     where
       kept : (z r : Bool) → eqb (c .used) 0 ≡ z → (z || r) ≡ true → c .used ≡ cond (not r) 0 (c .used)
       kept z true e h = refl

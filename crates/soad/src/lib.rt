@@ -59,11 +59,16 @@ pub extern "C" fn soad_walk(
 ) -> u32
     ensures { λ r. ⌜ r ≡ walkNumber (tableWalkOf (now (image .entry)) connection switches (now (datagram .entry)) place) ⌝ }
     ensures { λ _. ⌜ now (next .exit) ≡ nextAfter (tableWalkOf (now (image .entry)) connection switches (now (datagram .entry)) place) (now (next .entry)) ⌝ }
-    ensures { λ _. ⌜ now (kind .exit) ≡ valueAfter (λ (n : Numbers). n .kind) (tableWalkOf (now (image .entry)) connection switches (now (datagram .entry)) place) (now (kind .entry)) ⌝ }
-    ensures { λ _. ⌜ now (number .exit) ≡ valueAfter (λ (n : Numbers). n .number) (tableWalkOf (now (image .entry)) connection switches (now (datagram .entry)) place) (now (number .entry)) ⌝ }
-    ensures { λ _. ⌜ now (id .exit) ≡ valueAfter (λ (n : Numbers). n .id) (tableWalkOf (now (image .entry)) connection switches (now (datagram .entry)) place) (now (id .entry)) ⌝ }
-    ensures { λ _. ⌜ now (size .exit) ≡ valueAfter (λ (n : Numbers). n .length) (tableWalkOf (now (image .entry)) connection switches (now (datagram .entry)) place) (now (size .entry)) ⌝ }
-    ensures { λ _. ⌜ now (at .exit) ≡ valueAfter (λ (n : Numbers). n .at) (tableWalkOf (now (image .entry)) connection switches (now (datagram .entry)) place) (now (at .entry)) ⌝ }
+    ensures { λ _. ⌜ now (kind .exit)
+        ≡ valueAfter (λ (n : Numbers). n .kind) (tableWalkOf (now (image .entry)) connection switches (now (datagram .entry)) place) (now (kind .entry)) ⌝ }
+    ensures { λ _. ⌜ now (number .exit)
+        ≡ valueAfter (λ (n : Numbers). n .number) (tableWalkOf (now (image .entry)) connection switches (now (datagram .entry)) place) (now (number .entry)) ⌝ }
+    ensures { λ _. ⌜ now (id .exit)
+        ≡ valueAfter (λ (n : Numbers). n .id) (tableWalkOf (now (image .entry)) connection switches (now (datagram .entry)) place) (now (id .entry)) ⌝ }
+    ensures { λ _. ⌜ now (size .exit)
+        ≡ valueAfter (λ (n : Numbers). n .length) (tableWalkOf (now (image .entry)) connection switches (now (datagram .entry)) place) (now (size .entry)) ⌝ }
+    ensures { λ _. ⌜ now (at .exit)
+        ≡ valueAfter (λ (n : Numbers). n .at) (tableWalkOf (now (image .entry)) connection switches (now (datagram .entry)) place) (now (at .entry)) ⌝ }
 {
     let answer = walk_table(image, connection, switches, datagram, place);
     match answer {

@@ -44,7 +44,8 @@ module _ (image : List ℕ) (connection switches : ℕ) (datagram : List ℕ) (p
     unfolding acceptedWalk
     past-the-end e h = simp (lt-leb (rowsOf image Connection) connection here, sym is ∙ e, lt-ltb (length datagram) place h)
 
-    pub a-step : tcp ≡ false → place ≤ length datagram → (routes : List ℕ) (w : Walked) → routes ≡ bodyOf image Route → w ≡ walkedOf datagram place routes connection switches
+    pub a-step : tcp ≡ false → place ≤ length datagram → (routes : List ℕ) (w : Walked)
+        → routes ≡ bodyOf image Route → w ≡ walkedOf datagram place routes connection switches
         → Step w ≡ acceptedWalk image connection switches datagram place
     unfolding acceptedWalk
     a-step e h routes w er ew =

@@ -11,7 +11,8 @@ config-in : (image : List ℕ) (i : ℕ) → configIn (bodyOf image Connection) 
 unfolding configOf
 config-in image i = refl
 
-pub config-bodies : (image connections groups : List ℕ) (i : ℕ) (g : Config) → connections ≡ bodyOf image Connection → groups ≡ bodyOf image Group → g ≡ configIn connections groups i → g ≡ configOf image i
+pub config-bodies : (image connections groups : List ℕ) (i : ℕ) (g : Config) → connections ≡ bodyOf image Connection
+    → groups ≡ bodyOf image Group → g ≡ configIn connections groups i → g ≡ configOf image i
 config-bodies image connections groups i g a b p =
     let q : configIn connections groups i ≡ configOf image i = rw (a, b) (config-in image i) in
     p ∙ q

@@ -26,7 +26,8 @@ use Rattle.table_rows.specs.Rows.{
 }
 use Rattle.table_rows.specs.Rules.{groupGood, connectionGood, routeGood, destinationGood, sizeIn, groupTcp, tcpIn, routesShare, destinationsShare}
 use Rattle.table_scan.specs.Scan.{share, clearIn, goodIn}
-use Rattle.table.specs.Table.{entryGood, groupTcpOf, tcpOf, sizeOf, rule, rowGood, badRow, demand, rowsPlace, entriesPlace, headPlace, allRowsPlace, checkTable}
+use Rattle.table.specs.Table.{entryGood, groupTcpOf, tcpOf, sizeOf, rule, rowGood, badRow}
+use Rattle.table.specs.Table.{demand, rowsPlace, entriesPlace, headPlace, allRowsPlace, checkTable}
 use Rattle.table.specs.Accepts.{Accepts}
 use Rattle.table.specs.declared.TableAnswer.the-variants.{Accepted}
 use Rattle.table.proofs.Answers.{then-first, then-second, demand-held}
@@ -46,7 +47,8 @@ module _ (s : List ℕ) (good : headPlace s ≡ Accepted) where
 
   pub contents-most : (k : Kind) → rowsOf s k ≤ mostRows k
   unfolding entryGood
-  contents-most k = leb-true _ _ (and3 (eqb (be 2 s (entryAt k)) (number k)) (leb (rowsOf s k) (mostRows k)) (eqb (be 4 s (entryAt k + 4)) (startOf s k)) (entry k) .1)
+  contents-most k = leb-true _ _
+      (and3 (eqb (be 2 s (entryAt k)) (number k)) (leb (rowsOf s k) (mostRows k)) (eqb (be 4 s (entryAt k + 4)) (startOf s k)) (entry k) .1)
 
 module _ (s : List ℕ) (e : checkTable s ≡ Accepted) where
   -- the four parts of the check
@@ -82,7 +84,8 @@ module _ (s : List ℕ) (e : checkTable s ≡ Accepted) where
   -- every row is good, by itself and among the earlier ones
   pub accepted-row : (k : Kind) (i : ℕ) → i < rowsOf s k → rowGood s k i ≡ true
   accepted-row k i h =
-      none-bad (rowGood s k) (rowsOf s k) (leb-true (rowsOf s k) (badRow s k) (demand-held (leb (rowsOf s k) (badRow s k)) (rowAt s k (badRow s k)) (placed k))) i h
+      none-bad (rowGood s k) (rowsOf s k)
+      (leb-true (rowsOf s k) (badRow s k) (demand-held (leb (rowsOf s k) (badRow s k)) (rowAt s k (badRow s k)) (placed k))) i h
 
   ruled : (k : Kind) (i : ℕ) → i < rowsOf s k → rule s k (rowOf s k i) ≡ true
   unfolding goodIn

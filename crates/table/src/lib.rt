@@ -124,7 +124,8 @@ fn after_connections(image: &[u8]) -> TableAnswer
 
 fn after_groups(image: &[u8]) -> TableAnswer
     requires { ⌜ Laid (now image) ⌝ }
-    ensures { λ r. ⌜ r ≡ thenCheck (rowsPlace (now (image .entry)) Kind.Connection) (thenCheck (rowsPlace (now (image .entry)) Kind.Route) (rowsPlace (now (image .entry)) Kind.Destination)) ⌝ }
+    ensures { λ r. ⌜ r ≡ thenCheck (rowsPlace (now (image .entry)) Kind.Connection)
+        (thenCheck (rowsPlace (now (image .entry)) Kind.Route) (rowsPlace (now (image .entry)) Kind.Destination)) ⌝ }
 {
     let bad = first_bad_connection(
         body_of(image, Kind::Connection),

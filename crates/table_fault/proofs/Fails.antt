@@ -211,7 +211,8 @@ module _ (s : List ℕ) where
   row-tells : (k : Kind) (i : ℕ) → Tells (rowGood s k i) (rowFault s k i)
   unfolding goodIn rule rowFault
   row-tells Group i = same _ (with-true _ _ (free Group (rowBytes s Group) (bodyOf s Group) i groups-free)) (group-tells (rowOf s Group i))
-  row-tells Connection i = same _ (with-true _ _ (free Connection (rowBytes s Connection) (bodyOf s Connection) i connections-free)) (connection-tells (rowOf s Connection i))
+  row-tells Connection i =
+      same _ (with-true _ _ (free Connection (rowBytes s Connection) (bodyOf s Connection) i connections-free)) (connection-tells (rowOf s Connection i))
   row-tells Route i = route-tells (rowsOf s Connection) (tcpOf s) (rowOf s Route i) _ _ (shared-tells Route i)
   row-tells Destination i = destination-tells (rowsOf s Connection) (sizeOf s) (rowOf s Destination i) _ _ (shared-tells Destination i)
 

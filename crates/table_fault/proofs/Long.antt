@@ -29,7 +29,8 @@ refused-long : (s : List ℕ) → 2356 < length s → checkTable s ≡ thenCheck
 unfolding checkTable thenCheck
 refused-long s h = rw (le-leb 36 (length s) (omega arith)) (go (headPlace s) refl)
   where
-    go : (a : TableAnswer) → headPlace s ≡ a → thenCheck (headPlace s) (thenCheck (demand (eqb (length s) (endOf s)) 2) (allRowsPlace s)) ≡ thenCheck (headPlace s) (Refused 2)
+    go : (a : TableAnswer) → headPlace s ≡ a
+        → thenCheck (headPlace s) (thenCheck (demand (eqb (length s) (endOf s)) 2) (allRowsPlace s)) ≡ thenCheck (headPlace s) (Refused 2)
     go Accepted e = rw (e, ne-eqb (length s) (endOf s) (λ q. omega (arith, ends-within s e)))
     go (Refused p) e = rw e
 

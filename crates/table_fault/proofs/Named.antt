@@ -63,11 +63,14 @@ module _ (s : List ℕ) where
 
   row-named : (k : Kind) (i : ℕ) → i < rowsOf s k → Row k i ≡ rowSpot s (rowAt s k i)
   row-named Group i h = in-groups s (rowAt s Group i) refl (groups-below i h) (row-steps Group i (omega arith))
-  row-named Connection i h = in-connections s (rowAt s Connection i) refl (above Connection i) refl (connections-below i h) (row-steps Connection i (omega arith))
+  row-named Connection i h =
+      in-connections s (rowAt s Connection i) refl (above Connection i) refl (connections-below i h) (row-steps Connection i (omega arith))
   row-named Route i h =
-      in-routes s (rowAt s Route i) refl (omega (arith, above Route i, starts .0)) refl (above Route i) refl (routes-below i h) (row-steps Route i (omega arith))
+      in-routes s (rowAt s Route i) refl (omega (arith, above Route i, starts .0)) refl
+      (above Route i) refl (routes-below i h) (row-steps Route i (omega arith))
   row-named Destination i h =
-      in-destinations s (rowAt s Destination i) refl (omega (arith, above Destination i, starts .0, starts .1)) refl (omega (arith, above Destination i, starts .1)) refl (above Destination i)
+      in-destinations s (rowAt s Destination i) refl (omega (arith, above Destination i, starts .0, starts .1)) refl
+      (omega (arith, above Destination i, starts .1)) refl (above Destination i)
       (row-steps Destination i (omega arith))
 
   first : (k : Kind) → 36 ≤ startOf s k
@@ -80,7 +83,14 @@ module _ (s : List ℕ) where
   spot-row : (p : ℕ) → 36 ≤ p → spotOf s p ≡ rowSpot s p
   unfolding spotOf
   spot-row p h =
-      rw (ne-eqb p 0 (λ e. omega arith), ne-eqb p 2 (λ e. omega arith), ne-eqb p 4 (λ e. omega arith), ne-eqb p 12 (λ e. omega arith), ne-eqb p 20 (λ e. omega arith), ne-eqb p 28 (λ e. omega arith))
+      rw (
+        ne-eqb p 0 (λ e. omega arith),
+        ne-eqb p 2 (λ e. omega arith),
+        ne-eqb p 4 (λ e. omega arith),
+        ne-eqb p 12 (λ e. omega arith),
+        ne-eqb p 20 (λ e. omega arith),
+        ne-eqb p 28 (λ e. omega arith),
+      )
 
   -- the spot of a spot's place
   row-back : (k : Kind) (i : ℕ) → i < rowsOf s k → spotOf s (rowAt s k i) ≡ Row k i

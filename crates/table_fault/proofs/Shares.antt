@@ -16,7 +16,8 @@ use Rattle.table_layout.specs.declared.Kind.the-variants.{Group, Connection, Ro
 use Rattle.table_rows.specs.Rows.{groupOf, connectionOf, routeOf, destinationOf}
 use Rattle.table_scan.specs.Scan.{clearIn}
 use Rattle.table.specs.Table.{tcpOf, sizeOf}
-use Rattle.table_fault.specs.Faults.{faultTold, noFault, passesTest, unless, groupFault, connectionFault, mostMark, routeFault, destinationFault, sharesNothing, sharedFault, rowFault}
+use Rattle.table_fault.specs.Faults.{faultTold, noFault, passesTest, unless, groupFault, connectionFault}
+use Rattle.table_fault.specs.Faults.{mostMark, routeFault, destinationFault, sharesNothing, sharedFault, rowFault}
 use Rattle.table_fault.specs.Good.{SharesWith}
 use Rattle.table_fault.specs.declared.Fault.{Fault}
 use Rattle.table_fault.specs.declared.Fault.the-variants.{
@@ -65,7 +66,8 @@ earlier-shares : (s : List ℕ) (k : Kind) (i : ℕ) → sharedFault s k i .faul
 unfolding sharedFault faultTold clearIn passesTest
 earlier-shares s k i = go (decLe i (firstBad (sharesNothing s k i) i))
   where
-    go : Dec (i ≤ firstBad (sharesNothing s k i) i) → cond (every (sharesNothing s k i) i) noFault (faultTold Shared (firstBad (sharesNothing s k i) i) 0) .fault ≡ Shared
+    go : Dec (i ≤ firstBad (sharesNothing s k i) i)
+        → cond (every (sharesNothing s k i) i) noFault (faultTold Shared (firstBad (sharesNothing s k i) i) 0) .fault ≡ Shared
         → SharesWith s k i (cond (every (sharesNothing s k i) i) noFault (faultTold Shared (firstBad (sharesNothing s k i) i) 0) .found)
     go (yes h) e = absurd (not-shared Nothing 0 0 refl (rw (all-good (sharesNothing s k i) i h) at e))
     go (no n) e =
@@ -73,7 +75,8 @@ earlier-shares s k i = go (decLe i (firstBad (sharesNothing s k i) i))
         rw (some-bad (sharesNothing s k i) i h) (h, not-false _ (found-bad (sharesNothing s k i) i h))
 
 -- where `Shared` is told, no test before it has failed
-through : (f : Fault) (x n a b : ℕ) (rest end : Told) → passesTest f a b ≡ true → (rest .fault ≡ Shared → rest ≡ end) → unless f x n rest .fault ≡ Shared → unless f x n rest ≡ end
+through : (f : Fault) (x n a b : ℕ) (rest end : Told) → passesTest f a b ≡ true
+    → (rest .fault ≡ Shared → rest ≡ end) → unless f x n rest .fault ≡ Shared → unless f x n rest ≡ end
 unfolding unless faultTold
 through f x n a b rest end d h = go (passesTest f x n)
   where
@@ -93,7 +96,8 @@ connection-through groups protocol row =
     (through SendSize _ _ 8 8 _ _ refl
     (through NotUdp _ _ 0 0 _ _ refl (λ e. refl))))
 
-route-through : (connections most : ℕ) (shared : Told) (row : List ℕ) → routeFault connections most shared row .fault ≡ Shared → routeFault connections most shared row ≡ shared
+route-through : (connections most : ℕ) (shared : Told) (row : List ℕ)
+    → routeFault connections most shared row .fault ≡ Shared → routeFault connections most shared row ≡ shared
 unfolding routeFault passesTest
 route-through connections most shared row =
     through NoConnection _ _ 0 1 _ _ refl
@@ -102,7 +106,8 @@ route-through connections most shared row =
     (through Longest _ _ 0 0 _ _ refl
     (through Zero _ _ 0 0 _ _ refl (λ e. refl)))))
 
-destination-through : (connections size : ℕ) (shared : Told) (row : List ℕ) → destinationFault connections size shared row .fault ≡ Shared → destinationFault connections size shared row ≡ shared
+destination-through : (connections size : ℕ) (shared : Told) (row : List ℕ)
+    → destinationFault connections size shared row .fault ≡ Shared → destinationFault connections size shared row ≡ shared
 unfolding destinationFault passesTest
 destination-through connections size shared row =
     through NoConnection _ _ 0 1 _ _ refl
@@ -123,7 +128,8 @@ module _ (s : List ℕ) where
   unfolding rowFault
   told-shares Group i e = never _ (group-through (rowOf s Group i) e) e
   told-shares Connection i e = never _ (connection-through (rowsOf s Group) (groupOf s (connectionOf s i .group) .protocol) (rowOf s Connection i) e) e
-  told-shares Route i e = shared Route i _ (route-through (rowsOf s Connection) (mostMark (tcpOf s (routeOf s i .connection))) (sharedFault s Route i) (rowOf s Route i) e) e
+  told-shares Route i e = shared Route i _
+      (route-through (rowsOf s Connection) (mostMark (tcpOf s (routeOf s i .connection))) (sharedFault s Route i) (rowOf s Route i) e) e
   told-shares Destination i e =
       shared Destination i _
       (destination-through (rowsOf s Connection) (sizeOf s (destinationOf s i .connection)) (sharedFault s Destination i) (rowOf s Destination i) e) e

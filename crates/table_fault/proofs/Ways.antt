@@ -31,10 +31,20 @@ module _ (s : List ℕ) (place : ℕ) where
       → n ≡ (place - startOf s Route) / rowBytes s Route → Row Route n ≡ rowSpot s place
   unfolding rowSpot
   in-routes ea h eb l ec m e =
-      rw (le-ltb place (startOf s Connection) (omega arith), le-ltb place (startOf s Route) (omega arith), lt-ltb place (startOf s Destination) (omega arith), e)
+      rw (
+        le-ltb place (startOf s Connection) (omega arith),
+        le-ltb place (startOf s Route) (omega arith),
+        lt-ltb place (startOf s Destination) (omega arith),
+        e,
+      )
 
   pub in-destinations : {a b c n : ℕ} → a ≡ startOf s Connection → a ≤ place → b ≡ startOf s Route → b ≤ place → c ≡ startOf s Destination → c ≤ place
       → n ≡ (place - startOf s Destination) / rowBytes s Destination → Row Destination n ≡ rowSpot s place
   unfolding rowSpot
   in-destinations ea h eb l ec m e =
-      rw (le-ltb place (startOf s Connection) (omega arith), le-ltb place (startOf s Route) (omega arith), le-ltb place (startOf s Destination) (omega arith), e)
+      rw (
+        le-ltb place (startOf s Connection) (omega arith),
+        le-ltb place (startOf s Route) (omega arith),
+        le-ltb place (startOf s Destination) (omega arith),
+        e,
+      )

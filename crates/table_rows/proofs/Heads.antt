@@ -85,12 +85,33 @@ pub trigger-and-longest : (b l : ℕ) → l < 65536
     → (leb (b * 65536 + l) 1464 || (leb 65536 (b * 65536 + l) && leb (b * 65536 + l) 67000)) ≡ (leb b 1 && leb l 1464)
 trigger-and-longest b l h = go (ℕ-discrete b 0) (ℕ-discrete b 1) (decLe l 1464)
   where
-    go : Dec (b ≡ 0) → Dec (b ≡ 1) → Dec (l ≤ 1464) → (leb (b * 65536 + l) 1464 || (leb 65536 (b * 65536 + l) && leb (b * 65536 + l) 67000)) ≡ (leb b 1 && leb l 1464)
+    go : Dec (b ≡ 0) → Dec (b ≡ 1) → Dec (l ≤ 1464)
+        → (leb (b * 65536 + l) 1464 || (leb 65536 (b * 65536 + l) && leb (b * 65536 + l) 67000)) ≡ (leb b 1 && leb l 1464)
     go (yes e) p (yes q) = rw (le-leb (b * 65536 + l) 1464 (omega arith), le-leb b 1 (omega arith), le-leb l 1464 q)
-    go (yes e) p (no q) = rw (lt-leb (b * 65536 + l) 1464 (omega arith), lt-leb 65536 (b * 65536 + l) (omega arith), le-leb b 1 (omega arith), lt-leb l 1464 (omega arith))
-    go (no n) (yes e) (yes q) = rw (lt-leb (b * 65536 + l) 1464 (omega arith), le-leb 65536 (b * 65536 + l) (omega arith), le-leb (b * 65536 + l) 67000 (omega arith), le-leb b 1 (omega arith), le-leb l 1464 q)
-    go (no n) (yes e) (no q) = rw (lt-leb (b * 65536 + l) 1464 (omega arith), lt-leb (b * 65536 + l) 67000 (omega arith), le-leb b 1 (omega arith), lt-leb l 1464 (omega arith), le-leb 65536 (b * 65536 + l) (omega arith))
-    go (no n) (no m) p = rw (lt-leb (b * 65536 + l) 1464 (omega arith), lt-leb (b * 65536 + l) 67000 (omega arith), lt-leb b 1 (omega arith), le-leb 65536 (b * 65536 + l) (omega arith))
+    go (yes e) p (no q) = rw
+        (lt-leb (b * 65536 + l) 1464 (omega arith), lt-leb 65536 (b * 65536 + l) (omega arith), le-leb b 1 (omega arith), lt-leb l 1464 (omega arith))
+    go (no n) (yes e) (yes q) =
+        rw (
+          lt-leb (b * 65536 + l) 1464 (omega arith),
+          le-leb 65536 (b * 65536 + l) (omega arith),
+          le-leb (b * 65536 + l) 67000 (omega arith),
+          le-leb b 1 (omega arith),
+          le-leb l 1464 q,
+        )
+    go (no n) (yes e) (no q) =
+        rw (
+          lt-leb (b * 65536 + l) 1464 (omega arith),
+          lt-leb (b * 65536 + l) 67000 (omega arith),
+          le-leb b 1 (omega arith),
+          lt-leb l 1464 (omega arith),
+          le-leb 65536 (b * 65536 + l) (omega arith),
+        )
+    go (no n) (no m) p = rw (
+      lt-leb (b * 65536 + l) 1464 (omega arith),
+      lt-leb (b * 65536 + l) 67000 (omega arith),
+      lt-leb b 1 (omega arith),
+      le-leb 65536 (b * 65536 + l) (omega arith),
+    )
 
 -- the rules by the numbers that the code reads
 module _ (s : List ℕ) (bytes : (i : ℕ) → byteAt s i < 256) (h : ℕ) (is : h ≡ be 4 s 0) where
@@ -112,7 +133,8 @@ module _ (s : List ℕ) (bytes : (i : ℕ) → byteAt s i < 256) (h : ℕ) (is :
 
     pub route-too-long : 1464 < h % 16777216 → h % 16777216 < 65536 → false ≡ routeGood n tcp s
     unfolding routeGood routeRow
-    route-too-long l k = too-long (be 1 s 1) (be 2 s 2) (ltb (be 1 s 0) n) (tcp (be 1 s 0)) (eqb (be 2 s 10) 0) (be-small s bytes 2 2) (rw low-is at l) (rw low-is at k)
+    route-too-long l k = too-long (be 1 s 1) (be 2 s 2) (ltb (be 1 s 0) n) (tcp (be 1 s 0))
+        (eqb (be 2 s 10) 0) (be-small s bytes 2 2) (rw low-is at l) (rw low-is at k)
 
     pub route-mark-above : 67000 < h % 16777216 → false ≡ routeGood n tcp s
     unfolding routeGood routeRow
@@ -136,7 +158,8 @@ module _ (s : List ℕ) (bytes : (i : ℕ) → byteAt s i < 256) (h : ℕ) (is :
         rw (le-ltb (be 1 s 0) n g)
 
     pub destination-by-head : (owner : List ℕ) (size : ℕ) → h / 16777216 < n → owner ≡ rowIn 16 connections (h / 16777216) → size ≡ be 2 owner 8
-        → (leb (h % 16777216) 1464 || (leb 65536 (h % 16777216) && leb (h % 16777216) 67000)) && leb (h % 65536 + 8) size ≡ destinationGood n (sizeIn 16 connections) s
+        → (leb (h % 16777216) 1464 || (leb 65536 (h % 16777216) && leb (h % 16777216) 67000))
+        && leb (h % 65536 + 8) size ≡ destinationGood n (sizeIn 16 connections) s
     unfolding destinationGood destinationRow sizeIn connectionRow
     destination-by-head owner size l o z =
         let g : be 1 s 0 < n = rw (is, first-byte s bytes 0) at l in

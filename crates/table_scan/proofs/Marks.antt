@@ -91,18 +91,27 @@ module _ (good : List ℕ → Bool) (k : Kind) (mark : List ℕ → ℕ) (tag : 
       pub come-on : ((a b : List ℕ) → share k a b ≡ true → mark a ≡ mark b) → Come good k mark tag body seen i → i < length body / rowWidth k
           → {ok : Bool} → ok ≡ good row → ok ≡ true → m < 2048 → (getD seen m 0 ≡ tag → ⊥) → Come good k mark tag body (set seen m tag) (i + 1)
       come-on law c h e t l new =
-          let a = good-row good (share k) (rowWidth k) body i row (c .low, c .rest) h is e t (sym (noted-new (rowWidth k) (share k) mark tag body law seen i m row is em (c .noted) new)) refl in
-          record { low = a .0; rest = a .1; size = length-set seen m tag ∙ c .size; noted = noted-more (rowWidth k) (share k) mark tag body seen i m row is em (rw (c .size) l) (c .noted) }
+          let a = good-row good (share k) (rowWidth k) body i row (c .low, c .rest) h is e t
+          (sym (noted-new (rowWidth k) (share k) mark tag body law seen i m row is em (c .noted) new)) refl in
+          record {
+            low = a .0;
+            rest = a .1;
+            size = length-set seen m tag ∙ c .size;
+            noted =
+                noted-more (rowWidth k) (share k) mark tag body seen i m row is em (rw (c .size) l) (c .noted);
+          }
 
     -- the loop around it, at a row that was struck
     module _ (s : Struck good k mark tag body seen i) (h : i < length body / rowWidth k) where
       pub found-bad : {ok : Bool} → ok ≡ good row → ok ≡ false → i ≡ firstBad (goodIn good (share k) (rowWidth k) body) (length body / rowWidth k)
       found-bad e f = bad-row good (share k) (rowWidth k) body i row (s .come .low, s .come .rest) h is e f
 
-      pub found-shared : {ok : Bool} → ok ≡ every (clearIn (share k) (rowWidth k) body i) i → ok ≡ false → i ≡ firstBad (goodIn good (share k) (rowWidth k) body) (length body / rowWidth k)
+      pub found-shared : {ok : Bool} → ok ≡ every (clearIn (share k) (rowWidth k) body i) i
+          → ok ≡ false → i ≡ firstBad (goodIn good (share k) (rowWidth k) body) (length body / rowWidth k)
       found-shared e f = shared-row good (share k) (rowWidth k) body i row (s .come .low, s .come .rest) h is e f
 
-      pub come-past : {ok new : Bool} → ok ≡ good row → ok ≡ true → new ≡ every (clearIn (share k) (rowWidth k) body i) i → new ≡ true → Come good k mark tag body seen (i + 1)
+      pub come-past : {ok new : Bool} → ok ≡ good row → ok ≡ true
+          → new ≡ every (clearIn (share k) (rowWidth k) body i) i → new ≡ true → Come good k mark tag body seen (i + 1)
       come-past e t f u =
           let a = good-row good (share k) (rowWidth k) body i row (s .come .low, s .come .rest) h is e t f u in
           record { low = a .0; rest = a .1; size = s .come .size; noted = λ j l. go j l (ℕ-discrete j i) }
@@ -111,5 +120,6 @@ module _ (good : List ℕ → Bool) (k : Kind) (mark : List ℕ → ℕ) (tag : 
           go j l (yes p) = ap (λ (x : ℕ). getD seen (mark (rowIn (rowWidth k) body x)) 0) p ∙ s .met h (ap good (sym is) ∙ sym e ∙ t)
           go j l (no p) = s .come .noted j (omega arith)
 
-  pub found-none : (seen : List ℕ) (i : ℕ) → Struck good k mark tag body seen i → length body / rowWidth k ≤ i → i ≡ firstBad (goodIn good (share k) (rowWidth k) body) (length body / rowWidth k)
+  pub found-none : (seen : List ℕ) (i : ℕ) → Struck good k mark tag body seen i → length body / rowWidth k ≤ i
+      → i ≡ firstBad (goodIn good (share k) (rowWidth k) body) (length body / rowWidth k)
   found-none seen i s h = search-ended (goodIn good (share k) (rowWidth k) body) (length body / rowWidth k) i (s .come .low, s .come .rest) h

@@ -119,7 +119,8 @@ fn next_route<'a>(
     from: usize,
 ) -> usize
     requires { ⌜ Come (routeRule (now connections) (now groups)) Kind.Route routeMark 1 (now body) (now seen) from ⌝ }
-    ensures { λ r. ⌜ (from ≤ r) × Struck (routeRule (now (connections .entry)) (now (groups .entry))) Kind.Route routeMark 1 (now (body .entry)) (now (seen .exit)) r ⌝ }
+    ensures { λ r. ⌜ (from ≤ r)
+        × Struck (routeRule (now (connections .entry)) (now (groups .entry))) Kind.Route routeMark 1 (now (body .entry)) (now (seen .exit)) r ⌝ }
 {
     let n = body.len() / 16;
     let mut i = from;
@@ -177,7 +178,8 @@ fn next_destination<'a>(
     from: usize,
 ) -> usize
     requires { ⌜ Come (destinationRule (now connections)) Kind.Destination destinationMark 2 (now body) (now seen) from ⌝ }
-    ensures { λ r. ⌜ (from ≤ r) × Struck (destinationRule (now (connections .entry))) Kind.Destination destinationMark 2 (now (body .entry)) (now (seen .exit)) r ⌝ }
+    ensures { λ r. ⌜ (from ≤ r)
+        × Struck (destinationRule (now (connections .entry))) Kind.Destination destinationMark 2 (now (body .entry)) (now (seen .exit)) r ⌝ }
 {
     let n = body.len() / 16;
     let mut i = from;

@@ -38,7 +38,8 @@ use Rattle.model_refines.specs.Table.{tableOf}
 use Rattle.model_refines.specs.Whole.{wholeOf}
 use Rattle.model_refines.specs.Machine.{Machine, lentTo, seen}
 use Rattle.model_refines.specs.Run.{afterWhole, afterEvent, Good}
-use Rattle.model_refines.proofs.Becomes.{Acts, acts-idle, acts-fed, acts-changed, acts-took, acts-is, Becomes, becomes-itself, as-it-was, becomes-met, becomes-ticked, becomes-switched, becomes-sent, becomes, arrives}
+use Rattle.model_refines.proofs.Becomes.{Acts, acts-idle, acts-fed, acts-changed, acts-took, acts-is, Becomes, becomes-itself}
+use Rattle.model_refines.proofs.Becomes.{as-it-was, becomes-met, becomes-ticked, becomes-switched, becomes-sent, becomes, arrives}
 use Rattle.model_refines.proofs.Steps.{event-view}
 use Rattle.theorem_match.specs.Match.{Arrives, shut, no-group, not-welcome, none-matches, meets, Welcome, BestMatch}
 use Rattle.theorem_match.proofs.Match.{arrival-answer}

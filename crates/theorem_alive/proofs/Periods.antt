@@ -35,7 +35,8 @@ use Rattle.theorems.specs.Streams.{onlineAt, endsAt}
 use Rattle.theorem_records.specs.Records.{TakeLeaves, nothing-taken, back-to-reconnect, to-be-closed, stays-as-it-is}
 use Rattle.theorem_records.proofs.Records.{take-leaves}
 use Rattle.theorem_alive.specs.Periods.{UdpEnds, by-closing-tick, by-expiry, by-take}
-use Rattle.theorem_alive.proofs.Events.{whom, whom-is, whom-met, ticked, given, not-given, accepted, not-accepted, after-record, own-keeps, plain, plain-keeps, inside}
+use Rattle.theorem_alive.proofs.Events.{whom, whom-is, whom-met, ticked, given, not-given, accepted}
+use Rattle.theorem_alive.proofs.Events.{not-accepted, after-record, own-keeps, plain, plain-keeps, inside}
 
 module _ (image : List ℕ) (k : ℕ) (m : Machine) (good : Good image m) (there : k < rowsOf image Connections) (udp : configOf image k .tcp ≡ false)
     (online : isOnline (recordAt (m .state) k .mode) ≡ true) where

@@ -26,7 +26,8 @@ use Rattle.model_refines.proofs.Good.{event-good}
 use Rattle.theorems.proofs.Three.{fresh-good}
 use Rattle.theorem_alive.specs.Alive.{itsRecord, aliveOf, Starts, wildcard-replaced, RunsThrough, StartedIn, started-here, started-later}
 use Rattle.theorem_alive.proofs.Record.{ended-by, tick-none, met-none, runs-udp}
-use Rattle.theorem_alive.proofs.Events.{whom, whom-is, whom-met, accept-tcp, sound, ticked, given, not-given, accepted, not-accepted, own-event-none, whole-event-none}
+use Rattle.theorem_alive.proofs.Events.{whom, whom-is, whom-met, accept-tcp, sound, ticked}
+use Rattle.theorem_alive.proofs.Events.{given, not-given, accepted, not-accepted, own-event-none, whole-event-none}
 
 module _ (image : List ℕ) (k : ℕ) (there : k < rowsOf image Connections) where
   -- ONE EVENT: a stopped timer that runs after it was started by it

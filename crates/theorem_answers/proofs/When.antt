@@ -58,7 +58,8 @@ use Rattle.entry_send.specs.Sending.{notSent, sendOf, notTaken, takePast, taken
 use Rattle.model.specs.Events.{change, segment, walk, takeWaiting, datagram, accept, tick, transmit, switchAll, readCount, clearCount, Event, on, onWhole}
 use Rattle.model_refines.specs.Machine.{Machine, lentTo, loanTo}
 use Rattle.theorems.specs.Numbers.{numberOf}
-use Rattle.theorem_answers.specs.When.{Check, check, firstFailing, rowHere, here, first, firstOf, noSwitch, notOnline, noProtocol, matching, arrives, has, switchedOn, payloadTooLong, noRoom, asked, askedFrom, transmits, checksFor}
+use Rattle.theorem_answers.specs.When.{Check, check, firstFailing, rowHere, here, first, firstOf, noSwitch, notOnline, noProtocol}
+use Rattle.theorem_answers.specs.When.{matching, arrives, has, switchedOn, payloadTooLong, noRoom, asked, askedFrom, transmits, checksFor}
 
 -- a test and its other side
 not-below : (a b : ℕ) → not (ltb a b) ≡ leb b a
@@ -106,17 +107,20 @@ module _ (image : List ℕ) (m : Machine) where
     unfolding gateOf firstFailing
     gate-first = go (not (eqb rx 23424) || not (eqb tx 23552)) (soundState image s)
       where
-        go : (a b : Bool) → number (through (cond a (Refused Memory) (cond b Pass (Refused Unsound))) refused event) ≡ cond a 11 (cond (not b) 12 (firstFailing own))
+        go : (a b : Bool) → number (through (cond a (Refused Memory) (cond b Pass (Refused Unsound))) refused event)
+            ≡ cond a 11 (cond (not b) 12 (firstFailing own))
         go true b = by Memory
         go false true = is
         go false false = by Unsound
 
     gate-firstOf : (k : ℕ) → number (through (gateAt (lentTo image m) k) refused event) ≡ firstFailing (firstOf image m k own)
     unfolding gateOf gateAt firstFailing
-    gate-firstOf k = go (not (eqb rx 23424) || not (eqb tx 23552)) (soundState image s) (ltb k (rowsOf image Connections)) (leb (rowsOf image Connections) k) (not-below k (rowsOf image Connections))
+    gate-firstOf k = go (not (eqb rx 23424) || not (eqb tx 23552)) (soundState image s)
+        (ltb k (rowsOf image Connections)) (leb (rowsOf image Connections) k) (not-below k (rowsOf image Connections))
       where
         go : (a b t f : Bool) → not t ≡ f
-            → number (through (thenThere t (cond a (Refused Memory) (cond b Pass (Refused Unsound)))) refused event) ≡ cond a 11 (cond (not b) 12 (cond f 2 (firstFailing own)))
+            → number (through (thenThere t (cond a (Refused Memory) (cond b Pass (Refused Unsound)))) refused event)
+            ≡ cond a 11 (cond (not b) 12 (cond f 2 (firstFailing own)))
         go true b t f e = by Memory
         go false false t f e = by Unsound
         go false true true true e = impossible e
@@ -125,7 +129,8 @@ module _ (image : List ℕ) (m : Machine) where
         go false true false false e = impossible (sym e)
 
   -- an event of the record alone: 2 a switch number, 3
-  step-number : (k : ℕ) (e : Change) → answerNumber (changeOf image s k e .answer) ≡ cond (not (known e)) 2 (cond (not (allowed e (rowHere image m k) (here image m k))) 3 0)
+  step-number : (k : ℕ) (e : Change)
+      → answerNumber (changeOf image s k e .answer) ≡ cond (not (known e)) 2 (cond (not (allowed e (rowHere image m k) (here image m k))) 3 0)
   unfolding changeOf toldOf stepOf
   step-number k e = go (known e) (allowed e (rowHere image m k) c)
     where
@@ -133,7 +138,8 @@ module _ (image : List ℕ) (m : Machine) where
       c = here image m k
 
       step : Bool → Bool → Stepped
-      step x y = cond (not x) (notStepped Missing c) (cond (not y) (notStepped Denied c) (record { answer = Done; connection = recordAfter e (rowHere image m k) c }))
+      step x y = cond (not x) (notStepped Missing c)
+          (cond (not y) (notStepped Denied c) (record { answer = Done; connection = recordAfter e (rowHere image m k) c }))
 
       go : (x y : Bool) → answerNumber (toldOf s k (step x y .answer) (step x y .connection) .answer) ≡ cond (not x) 2 (cond (not y) 3 0)
       go false y = refl
@@ -146,11 +152,13 @@ module _ (image : List ℕ) (m : Machine) where
   change-number k e own is = gate-firstOf (λ (t : Told). answerNumber (t .answer)) (refusedTold s) (changeOf image s k e) own (λ r. refl) is k
 
   -- a take, a walk: 3, then 4
-  judged-number : (k : ℕ) (ok no-way : Bool) → not ok ≡ no-way → receiveNumber (judgedOf ok (here image m k)) ≡ firstFailing (check no-way 3 ∷ notOnline image m k ∷ [])
+  judged-number : (k : ℕ) (ok no-way : Bool) → not ok ≡ no-way
+      → receiveNumber (judgedOf ok (here image m k)) ≡ firstFailing (check no-way 3 ∷ notOnline image m k ∷ [])
   unfolding judgedOf firstFailing
   judged-number k ok no-way e = rw (← e) (go ok (isOnline (here image m k .mode)) (here image m k .«close_wanted»))
     where
-      go : (a b c : Bool) → receiveNumber (cond a (cond (b && not c) Receive.Done Receive.NotReceiving) (Receive.Refused Denied)) ≡ cond (not a) 3 (cond (not b || c) 4 0)
+      go : (a b c : Bool) → receiveNumber (cond a (cond (b && not c) Receive.Done Receive.NotReceiving) (Receive.Refused Denied))
+          ≡ cond (not a) 3 (cond (not b || c) 4 0)
       go false b c = refl
       go true true true = refl
       go true true false = refl
@@ -160,7 +168,8 @@ module _ (image : List ℕ) (m : Machine) where
       → receiveNumber (judgedAnswer (lentTo image m) k ok) ≡ firstFailing (firstOf image m k (check no-way 3 ∷ notOnline image m k ∷ []))
   unfolding judgedAnswer
   receive-number k ok no-way e =
-      gate-firstOf receiveNumber Receive.Refused (judgedOf ok (here image m k)) (check no-way 3 ∷ notOnline image m k ∷ []) (λ r. refl) (judged-number k ok no-way e) k
+      gate-firstOf receiveNumber Receive.Refused (judgedOf ok (here image m k))
+      (check no-way 3 ∷ notOnline image m k ∷ []) (λ r. refl) (judged-number k ok no-way e) k
 
   -- an answer that is done has the number 0
   done-zero : (a : Answer) → isDone a ≡ true → 0 ≡ receiveNumber a
@@ -173,7 +182,8 @@ module _ (image : List ℕ) (m : Machine) where
   segment-number k bs = go (isDone (segmentAnswer (lentTo image m) k)) refl
     where
       go : (b : Bool) → isDone (segmentAnswer (lentTo image m) k) ≡ b
-          → receiveNumber (cond b (takeOn image s (m .rx) k bs) (noneTaken s (segmentAnswer (lentTo image m) k)) .answer) ≡ receiveNumber (segmentAnswer (lentTo image m) k)
+          → receiveNumber (cond b (takeOn image s (m .rx) k bs) (noneTaken s (segmentAnswer (lentTo image m) k)) .answer)
+          ≡ receiveNumber (segmentAnswer (lentTo image m) k)
       go true e = done-zero (segmentAnswer (lentTo image m) k) e
       go false e = refl
 
@@ -182,7 +192,8 @@ module _ (image : List ℕ) (m : Machine) where
   walk-number k d p = go (isDone (walkAnswer (lentTo image m) k d p)) refl
     where
       go : (b : Bool) → isDone (walkAnswer (lentTo image m) k d p) ≡ b
-          → receiveNumber (cond b (walkOn image s k d p) (noneWalked s p (walkAnswer (lentTo image m) k d p)) .answer) ≡ receiveNumber (walkAnswer (lentTo image m) k d p)
+          → receiveNumber (cond b (walkOn image s k d p) (noneWalked s p (walkAnswer (lentTo image m) k d p)) .answer)
+          ≡ receiveNumber (walkAnswer (lentTo image m) k d p)
       go true e = done-zero (walkAnswer (lentTo image m) k d p) e
       go false e = refl
 
@@ -203,13 +214,15 @@ module _ (image : List ℕ) (m : Machine) where
       → takingNumber (takenWaiting (loanTo image m) k out .answer) ≡ firstFailing (firstOf image m k (check (ltb (length out) (here image m k .used)) 9 ∷ []))
   unfolding takenWaiting
   take-number k out =
-      gate-firstOf (λ (t : Drained). takingNumber (t .answer)) (notTaken s) (takePast image s k (length out)) (check (ltb (length out) (here image m k .used)) 9 ∷ []) (λ r. refl)
+      gate-firstOf (λ (t : Drained). takingNumber (t .answer)) (notTaken s)
+      (takePast image s k (length out)) (check (ltb (length out) (here image m k .used)) 9 ∷ []) (λ r. refl)
       (taking-number k (length out)) k
 
   -- a switch on all connections: 2; a count: 3
   switches-number : (n : ℕ) (b : Bool) → answerNumber (switchAllOf (lentTo image m) n b .answer) ≡ firstFailing (first image m (noSwitch image m n ∷ []))
   unfolding switchAllOf firstFailing
-  switches-number n b = gate-first (λ (t : Told). answerNumber (t .answer)) (refusedTold s) (event (ltb n 32)) (noSwitch image m n ∷ []) (λ r. refl) (rw (← not-below n 32) (past (ltb n 32)))
+  switches-number n b = gate-first (λ (t : Told). answerNumber (t .answer)) (refusedTold s)
+      (event (ltb n 32)) (noSwitch image m n ∷ []) (λ r. refl) (rw (← not-below n 32) (past (ltb n 32)))
     where
       event : Bool → Told
       event x = cond x (record { answer = Done; state = switchedAll (rowsOf image Connections) n b s }) (refusedTold s Missing)
@@ -219,10 +232,12 @@ module _ (image : List ℕ) (m : Machine) where
       past false = refl
 
   count-number : (f : Bool → Counted) → ((b : Bool) → countNumber (f b .answer) ≡ 0) → (p : ℕ)
-      → countNumber (through (gateOf (lentTo image m)) (uncounted s) (ofProtocol f (uncounted s Denied) p) .answer) ≡ firstFailing (first image m (noProtocol image m p ∷ []))
+      → countNumber (through (gateOf (lentTo image m)) (uncounted s) (ofProtocol f (uncounted s Denied) p) .answer)
+      ≡ firstFailing (first image m (noProtocol image m p ∷ []))
   unfolding ofProtocol firstFailing
   count-number f is p =
-      gate-first (λ (t : Counted). countNumber (t .answer)) (uncounted s) (ofProtocol f (uncounted s Denied) p) (noProtocol image m p ∷ []) (λ r. refl) (past (eqb p 1) (eqb p 2))
+      gate-first (λ (t : Counted). countNumber (t .answer)) (uncounted s)
+      (ofProtocol f (uncounted s Denied) p) (noProtocol image m p ∷ []) (λ r. refl) (past (eqb p 1) (eqb p 2))
     where
       past : (x y : Bool) → countNumber (cond x (f false) (cond y (f true) (uncounted s Denied)) .answer) ≡ cond (not (x || y)) 3 0
       past true y = is false
@@ -255,7 +270,8 @@ module _ (image : List ℕ) (m : Machine) where
     arrival-own = go (leb (rowsOf image Group) group) (deniedOf image a group source) (chosenIn image s a group source) (chosen-is-best image s a group source)
       where
         go : (x y : Bool) (c : Chosen) → IsChosen (scoreAt image s a group source) 16 c
-            → arrivalNumber (cond x (notMet s Missing) (cond y (notMet s Denied) (meet image s source c)) .answer) ≡ cond x 2 (cond y 3 (cond (every (λ i. not (match i)) 16) 10 0))
+            → arrivalNumber (cond x (notMet s Missing) (cond y (notMet s Denied) (meet image s source c)) .answer)
+            ≡ cond x 2 (cond y 3 (cond (every (λ i. not (match i)) 16) 10 0))
         go true y c h = refl
         go false true c h = refl
         go false false Nobody h = rw (every-all (λ i. not (match i)) 16 (λ i l. score-none i (h i l)))
@@ -264,7 +280,8 @@ module _ (image : List ℕ) (m : Machine) where
     arrival-number : arrivalNumber (arrivalOf (lentTo image m) a group source .answer) ≡ firstFailing (first image m (arrives image m a group source))
     unfolding arrivalOf
     arrival-number =
-        gate-first (λ (t : Arrived). arrivalNumber (t .answer)) (notMet s) (arriveOf image s a group source) (arrives image m a group source) (λ r. refl) arrival-own
+        gate-first (λ (t : Arrived). arrivalNumber (t .answer)) (notMet s)
+        (arriveOf image s a group source) (arrives image m a group source) (λ r. refl) arrival-own
 
   -- A TRANSMIT
   module _ (pdu len : ℕ) where
@@ -281,7 +298,8 @@ module _ (image : List ℕ) (m : Machine) where
     row-says : (i : ℕ) (next : List Check) → Row i next
     unfolding lookAt lookOf refusalOf firstFailing
     row-says i next =
-        go (has image m pdu len i) (switchedOn image m pdu len i) (notOnline image m (d .connection) .fails) (payloadTooLong image m pdu len i .fails) (noRoom image m pdu len i .fails)
+        go (has image m pdu len i) (switchedOn image m pdu len i) (notOnline image m (d .connection) .fails)
+        (payloadTooLong image m pdu len i .fails) (noRoom image m pdu len i .fails)
       where
         d : DestinationRow
         d = destinationOf image i
@@ -292,7 +310,8 @@ module _ (image : List ℕ) (m : Machine) where
         go : (x y z u v : Bool)
             → (eqb (says x y z u v) 5 ≡ not x)
             × (isOut (says x y z u v) ≡ (not x || not y))
-            × (firstFailing (cond (x && y) (check z 4 ∷ check u 7 ∷ check v 8 ∷ next) next) ≡ cond (passes (says x y z u v)) (firstFailing next) (says x y z u v))
+            × (firstFailing (cond (x && y) (check z 4 ∷ check u 7 ∷ check v 8 ∷ next) next)
+            ≡ cond (passes (says x y z u v)) (firstFailing next) (says x y z u v))
         go false y z u v = (refl, refl, refl)
         go true false z u v = (refl, refl, refl)
         go true true true u v = (refl, refl, refl)
@@ -301,13 +320,16 @@ module _ (image : List ℕ) (m : Machine) where
         go true true false false false = (refl, refl, refl)
 
     -- the first row that refuses has the first check that fails
-    rows-say : (n i total : ℕ) → i + n ≡ total → transmissionNumber (decidedAt look total (badFrom (λ j. passes (look j)) n i)) ≡ firstFailing (askedFrom image m pdu len n i)
+    rows-say : (n i total : ℕ) → i + n ≡ total
+        → transmissionNumber (decidedAt look total (badFrom (λ j. passes (look j)) n i)) ≡ firstFailing (askedFrom image m pdu len n i)
     unfolding badFrom askedFrom firstFailing
     rows-say zero i total e = rw (le-ltb i total (omega arith))
     rows-say (suc n) i total e = go (passes (look i)) (rows-say n (suc i) total (omega arith)) ∙ sym (row-says i (askedFrom image m pdu len n (suc i)) .2)
       where
-        go : (b : Bool) → transmissionNumber (decidedAt look total (badFrom (λ j. passes (look j)) n (suc i))) ≡ firstFailing (askedFrom image m pdu len n (suc i))
-            → transmissionNumber (decidedAt look total (cond b (badFrom (λ j. passes (look j)) n (suc i)) i)) ≡ cond b (firstFailing (askedFrom image m pdu len n (suc i))) (look i)
+        go : (b : Bool) → transmissionNumber (decidedAt look total (badFrom (λ j. passes (look j)) n (suc i)))
+            ≡ firstFailing (askedFrom image m pdu len n (suc i))
+            → transmissionNumber (decidedAt look total (cond b (badFrom (λ j. passes (look j)) n (suc i)) i))
+            ≡ cond b (firstFailing (askedFrom image m pdu len n (suc i))) (look i)
         go true h = h
         go false h = rw (lt-ltb i total (omega arith))
 
@@ -334,14 +356,17 @@ module _ (image : List ℕ) (m : Machine) where
   exactly-when (on k (change e)) =
       change-number k e (check (not (known e)) 2 ∷ check (not (allowed e (rowHere image m k) (here image m k))) 3 ∷ []) (step-number k e)
   exactly-when (on k (segment bs)) = segment-number k bs ∙ receive-number k (rowHere image m k .tcp) (not (rowHere image m k .tcp)) refl
-  exactly-when (on k (walk d p)) = walk-number k d p ∙ receive-number k (walkAllowed image k d p) (rowHere image m k .tcp || ltb (length d) p) (walk-denied k d p)
+  exactly-when (on k (walk d p)) =
+      walk-number k d p ∙ receive-number k (walkAllowed image k d p) (rowHere image m k .tcp || ltb (length d) p) (walk-denied k d p)
   exactly-when (on k (takeWaiting room)) = rw (length-replicate room) at (take-number k (replicate room 0))
   exactly-when (onWhole (datagram group source)) = arrival-number false group source
   exactly-when (onWhole (accept group source)) = arrival-number true group source
   exactly-when (onWhole tick) =
-      gate-first (λ (t : Ticked). answerNumber (t .answer)) (unticked s) (tickedFrom (rowsOf image Connections) s (tickedTo image (rowsOf image Connections) s)) [] (λ r. refl) refl
+      gate-first (λ (t : Ticked). answerNumber (t .answer)) (unticked s)
+      (tickedFrom (rowsOf image Connections) s (tickedTo image (rowsOf image Connections) s)) [] (λ r. refl) refl
   exactly-when (onWhole (transmit pdu payload)) =
-      gate-first (λ (t : Transmitted). transmissionNumber (t .answer)) (notSent s) (transmittedOf image s pdu payload (m .tx)) (transmits image m pdu (length payload)) (λ r. refl)
+      gate-first (λ (t : Transmitted). transmissionNumber (t .answer)) (notSent s)
+      (transmittedOf image s pdu payload (m .tx)) (transmits image m pdu (length payload)) (λ r. refl)
       (transmit-own pdu (length payload))
   exactly-when (onWhole (switchAll n b)) = switches-number n b
   exactly-when (onWhole (readCount p)) = count-number (readFrom s) (λ b. refl) p

@@ -23,7 +23,8 @@ use Rattle.soad_walk.specs.declared.TableWalk.{TableWalk}
 use Rattle.soad_walk.specs.declared.TableWalk.the-variants.{Refused, Step}
 use Rattle.soad_walk.specs.TableWalk.{acceptedWalk, afterCheck, tableWalkOf}
 use Rattle.theorem_calls.specs.Image.{MeetsAll, FirstFault, TableSays}
-use Rattle.theorem_calls.specs.Calls.{FramingSays, too-long, no-room, frames-it, MakeSays, made-fresh, made-empty, protocolNumber, WalkSays, bad-image, not-there, tcp, beyond, walks-on}
+use Rattle.theorem_calls.specs.Calls.{FramingSays, too-long, no-room, frames-it, MakeSays, made-fresh, made-empty}
+use Rattle.theorem_calls.specs.Calls.{protocolNumber, WalkSays, bad-image, not-there, tcp, beyond, walks-on}
 use Rattle.theorem_calls.proofs.Image.{table-answer, table-given}
 
 -- FRAMING
@@ -115,7 +116,8 @@ module _ (image : List ℕ) (connection switches : ℕ) (datagram : List ℕ) (p
       go (NotAccepted p) fault = refl
   walk-given _ (not-there all h) = rw (table-given image Accepted all, le-leb (rowsOf image Connection) connection h)
   walk-given _ (tcp all h e) = rw (table-given image Accepted all, lt-leb (rowsOf image Connection) connection h, eq-eqb its 2 e)
-  walk-given _ (beyond all h l) = rw (table-given image Accepted all, lt-leb (rowsOf image Connection) connection h, lt-ltb (length datagram) place l) (either (eqb its 2))
+  walk-given _ (beyond all h l) =
+      rw (table-given image Accepted all, lt-leb (rowsOf image Connection) connection h, lt-ltb (length datagram) place l) (either (eqb its 2))
     where
       either : (b : Bool) → cond b (Refused 3) (Refused 3) ≡ Refused 3
       either true = refl

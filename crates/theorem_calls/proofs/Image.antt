@@ -129,7 +129,8 @@ module _ (s : List ℕ) where
       record { spot = f .spot; low = f .low; high = omega (arith, m, f .high); there = f .there; at = f .at; bad = f .bad; before = f .before }
 
   -- a stage of one spot
-  one : (u : Spot) → ((i : ℕ) → spotFrom (stageOf u) i ≡ u) → There s u → (b : Bool) → goodAt s u ≡ b → (p : ℕ) → spotPlace s u ≡ p → Part (stageOf u) (suc (stageOf u)) (demand b p)
+  one : (u : Spot) → ((i : ℕ) → spotFrom (stageOf u) i ≡ u) → There s u → (b : Bool)
+      → goodAt s u ≡ b → (p : ℕ) → spotPlace s u ≡ p → Part (stageOf u) (suc (stageOf u)) (demand b p)
   one u only th true e p q = λ t lo hi _. ap (goodAt s) (only-of u only t (omega (arith, lo, hi))) ∙ e
   one u only th false e p q =
       record { spot = u; low = omega arith; high = omega arith; there = th; at = q; bad = e; before = λ t lo _ r. absurd (never t lo r) }
@@ -148,7 +149,8 @@ module _ (s : List ℕ) where
 
       go : (b : Bool) → leb (rowsOf s k) (badRow s k) ≡ b → Part (5 + number k) (6 + number k) (demand b (rowAt s k (badRow s k)))
       go true e = λ t lo hi th.
-          at-row (λ (u : Spot). There s u → goodAt s u ≡ true) t (omega (arith, lo, hi)) (λ h. none-bad (rowGood s k) (rowsOf s k) (leb-true _ _ e) (withinStage t) h) th
+          at-row (λ (u : Spot). There s u → goodAt s u ≡ true) t (omega (arith, lo, hi))
+          (λ h. none-bad (rowGood s k) (rowsOf s k) (leb-true _ _ e) (withinStage t) h) th
       go false e =
           let l : badRow s k < rowsOf s k = leb-false _ _ e in
           record {

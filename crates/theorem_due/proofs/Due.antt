@@ -52,7 +52,8 @@ use Rattle.model_refines.specs.Table.{tableOf}
 use Rattle.model_refines.specs.Whole.{wholeOf}
 use Rattle.model_refines.proofs.Steps.{event-view}
 use Rattle.model_refines.proofs.Good.{event-good}
-use Rattle.model_refines.proofs.Becomes.{Acts, acts-idle, acts-fed, acts-changed, acts-took, acts-is, Becomes, becomes-itself, as-it-was, becomes-met, becomes-ticked, becomes-switched, becomes-sent, becomes}
+use Rattle.model_refines.proofs.Becomes.{Acts, acts-idle, acts-fed, acts-changed, acts-took, acts-is, Becomes}
+use Rattle.model_refines.proofs.Becomes.{becomes-itself, as-it-was, becomes-met, becomes-ticked, becomes-switched, becomes-sent, becomes}
 use Rattle.theorems.specs.Waits.{emptiesBy, addsBy}
 use Rattle.theorems.proofs.Waiting.{event-waits}
 use Rattle.theorems.proofs.Empties.{leavesAll}

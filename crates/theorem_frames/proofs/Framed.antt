@@ -75,11 +75,13 @@ fronts-are (c ∷ cs) (done, rest) = ap₂ _++_ (front-is c done) (fronts-are cs
 
 module _ (cs : List FramingCall) (done : AllDone cs) (image : List ℕ) (m : Machine) (good : Good image m) (k : ℕ) where
   -- cut into segments in any way
-  pub framed-trip : Reader image m k → {ps : List Pdu} → Routed (routesIn image (m .state) k) (map framedPdu cs) ps → (pieces : List (List ℕ)) → flatten pieces ≡ framedFronts cs
+  pub framed-trip : Reader image m k → {ps : List Pdu} → Routed (routesIn image (m .state) k) (map framedPdu cs) ps
+      → (pieces : List (List ℕ)) → flatten pieces ≡ framedFronts cs
       → RunBytes (asSegments k pieces) → givenIn image k m (asSegments k pieces) ≡ map asOut ps
   framed-trip reader routed pieces is bytes = read-back image m good k reader pieces routed (is ∙ fronts-are cs done) bytes
 
   -- or as one datagram, in as many steps or more
-  pub framed-datagram : Walker image m k → {ps : List Pdu} → Routed (routesIn image (m .state) k) (map framedPdu cs) ps → (steps : ℕ) → length (map framedPdu cs) ≤ steps
+  pub framed-datagram : Walker image m k → {ps : List Pdu}
+      → Routed (routesIn image (m .state) k) (map framedPdu cs) ps → (steps : ℕ) → length (map framedPdu cs) ≤ steps
       → givenIn image k m (asWalks image k (framedFronts cs) steps m 0) ≡ map asOut ps
   framed-datagram walker routed steps enough = walk-back image m good k walker (framedFronts cs) routed (fronts-are cs done) steps enough

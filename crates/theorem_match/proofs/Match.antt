@@ -31,7 +31,9 @@ use Rattle.select.specs.Best.{Best, IsChosen}
 use Rattle.select.specs.Choose.{oneOf, rankOf, matches, memberCounts, scoreOf, member, scoreAt, chosenIn, meet, arrivalRefused, protocolOf, deniedOf, arriveOf}
 use Rattle.select.proofs.Pass.{chosen-is-best, chosen-is-only}
 use Rattle.entry_arrivals.specs.Arrivals.{arrivalOf}
-use Rattle.theorem_match.specs.Match.{MatchClass, both, any-port, any-address, neither, classPlace, MatchesAs, by-both, by-address, by-port, by-neither, CountsIn, in-reconnect, in-online, Matching, BestMatch, GroupFor, Welcome, Arrives, shut, no-group, not-welcome, none-matches, meets}
+use Rattle.theorem_match.specs.Match.{MatchClass, both, any-port, any-address, neither, classPlace, MatchesAs, by-both}
+use Rattle.theorem_match.specs.Match.{by-address, by-port, by-neither, CountsIn, in-reconnect, in-online, Matching, BestMatch}
+use Rattle.theorem_match.specs.Match.{GroupFor, Welcome, Arrives, shut, no-group, not-welcome, none-matches, meets}
 
 -- places and scores
 place-most : (x : MatchClass) → classPlace x ≤ 3
@@ -75,15 +77,27 @@ module _ (l : Lent) (accept : Bool) (group : ℕ) (source : Remote) where
         → cond (matches (equalFields r source) (wildFields r)) (1 + rankOf (equalFields r source)) 0 ≡ 4 - classPlace x
     unfolding rankOf
     remote-score r _ (by-both a p) = rw (eq-eqb _ _ a, eq-eqb _ _ p)
-    remote-score r _ (by-address a z) = rw (eq-eqb (r .address) (source .address) a, ne-eqb (r .port) (source .port) (λ q. port (sym q ∙ z)), eq-eqb (r .port) 0 z)
-    remote-score r _ (by-port z p) = rw (eq-eqb (r .port) (source .port) p, ne-eqb (r .address) (source .address) (λ q. address (sym q ∙ z)), eq-eqb (r .address) 0 z)
+    remote-score r _ (by-address a z) =
+        rw (eq-eqb (r .address) (source .address) a, ne-eqb (r .port) (source .port) (λ q. port (sym q ∙ z)), eq-eqb (r .port) 0 z)
+    remote-score r _ (by-port z p) =
+        rw (eq-eqb (r .port) (source .port) p, ne-eqb (r .address) (source .address) (λ q. address (sym q ∙ z)), eq-eqb (r .address) 0 z)
     remote-score r _ (by-neither z w) =
-        rw (ne-eqb (r .address) (source .address) (λ q. address (sym q ∙ z)), eq-eqb (r .address) 0 z, ne-eqb (r .port) (source .port) (λ q. port (sym q ∙ w)), eq-eqb (r .port) 0 w)
+        rw (
+          ne-eqb (r .address) (source .address) (λ q. address (sym q ∙ z)),
+          eq-eqb (r .address) 0 z,
+          ne-eqb (r .port) (source .port) (λ q. port (sym q ∙ w)),
+          eq-eqb (r .port) 0 w,
+        )
 
     match-score : (i : ℕ) (x : MatchClass) → Matches i x → score i ≡ 4 - classPlace x
     unfolding scoreAt scoreOf
     match-score i x m =
-        rw (lt-ltb i (rowsOf (l .image) Connections) (m .there), eq-eqb (connectionOf (l .image) i .group) group (m .its), counts-test accept (c i .mode) (m .counts), m .stays)
+        rw (
+          lt-ltb i (rowsOf (l .image) Connections) (m .there),
+          eq-eqb (connectionOf (l .image) i .group) group (m .its),
+          counts-test accept (c i .mode) (m .counts),
+          m .stays,
+        )
         (remote-score (c i .remote) x (m .matches))
 
     -- what scores matches
@@ -107,20 +121,27 @@ module _ (l : Lent) (accept : Bool) (group : ℕ) (source : Remote) where
 
     score-match : (i : ℕ) → 0 < score i → (x : MatchClass) × Matches i x
     unfolding scoreAt scoreOf
-    score-match i h = go (member (l .image) (l .state) accept group source i && memberCounts accept (c i) && matches (equalFields (c i .remote) source) (wildFields (c i .remote))) refl h
+    score-match i h = go (member (l .image) (l .state) accept group source i && memberCounts accept (c i)
+        && matches (equalFields (c i .remote) source) (wildFields (c i .remote))) refl h
       where
-        go : (b : Bool) → (member (l .image) (l .state) accept group source i && memberCounts accept (c i) && matches (equalFields (c i .remote) source) (wildFields (c i .remote))) ≡ b
+        go : (b : Bool) → (member (l .image) (l .state) accept group source i && memberCounts accept (c i)
+            && matches (equalFields (c i .remote) source) (wildFields (c i .remote))) ≡ b
             → 0 < cond b (1 + rankOf (equalFields (c i .remote) source)) 0 → (x : MatchClass) × Matches i x
         go false e h = absurd (omega (arith, h))
         go true e h =
-            let p = and3 (member (l .image) (l .state) accept group source i) (memberCounts accept (c i)) (matches (equalFields (c i .remote) source) (wildFields (c i .remote))) e in
+            let p = and3 (member (l .image) (l .state) accept group source i) (memberCounts accept (c i))
+            (matches (equalFields (c i .remote) source) (wildFields (c i .remote))) e in
             let m = remote-matches (c i .remote) (p .2) in
-            let wide : not (c i .«close_wanted») ≡ true = and-right (isReconnect (c i .mode) || (not accept && isOnline (c i .mode))) (not (c i .«close_wanted»)) (p .1) in (
+            let wide : not (c i .«close_wanted») ≡ true =
+            and-right (isReconnect (c i .mode) || (not accept && isOnline (c i .mode))) (not (c i .«close_wanted»)) (p .1) in (
               m .0,
               record {
-                there = ltb-true i (rowsOf (l .image) Connections) (and-left (ltb i (rowsOf (l .image) Connections)) (eqb (connectionOf (l .image) i .group) group) (p .0));
-                its = eqb-true (connectionOf (l .image) i .group) group (and-right (ltb i (rowsOf (l .image) Connections)) (eqb (connectionOf (l .image) i .group) group) (p .0));
-                counts = test-counts accept (c i .mode) (and-left (isReconnect (c i .mode) || (not accept && isOnline (c i .mode))) (not (c i .«close_wanted»)) (p .1));
+                there = ltb-true i (rowsOf (l .image) Connections)
+                    (and-left (ltb i (rowsOf (l .image) Connections)) (eqb (connectionOf (l .image) i .group) group) (p .0));
+                its = eqb-true (connectionOf (l .image) i .group) group
+                    (and-right (ltb i (rowsOf (l .image) Connections)) (eqb (connectionOf (l .image) i .group) group) (p .0));
+                counts = test-counts accept (c i .mode)
+                    (and-left (isReconnect (c i .mode) || (not accept && isOnline (c i .mode))) (not (c i .«close_wanted»)) (p .1));
                 stays = open-wish (c i .«close_wanted») wide;
                 matches = m .1;
               },
@@ -139,8 +160,10 @@ module _ (l : Lent) (accept : Bool) (group : ℕ) (source : Remote) where
           record {
             class = f .0;
             matching = f .1;
-            best = λ i x m. beneath (classPlace (f .0)) (classPlace x) (place-most (f .0)) (place-most x) (omega (arith, is, match-score i x m, b .highest i (omega (arith, most, m .there))));
-            lowest = λ i x m h. below (classPlace (f .0)) (classPlace x) (place-most (f .0)) (place-most x) (omega (arith, is, match-score i x m, b .lowest i h));
+            best = λ i x m. beneath (classPlace (f .0)) (classPlace x) (place-most (f .0)) (place-most x)
+                (omega (arith, is, match-score i x m, b .highest i (omega (arith, most, m .there))));
+            lowest = λ i x m h. below (classPlace (f .0)) (classPlace x) (place-most (f .0))
+                (place-most x) (omega (arith, is, match-score i x m, b .lowest i h));
           }
 
       -- each of the sixteen has score 0, or matches
@@ -157,7 +180,8 @@ module _ (l : Lent) (accept : Bool) (group : ℕ) (source : Remote) where
           record {
             inside = omega (arith, most, b .matching .there);
             counts = omega (arith, is, place-most (b .class));
-            highest = λ j h. subst (λ (n : ℕ). score j ≤ n) (sym is) (scored (λ n. n ≤ 4 - classPlace (b .class)) j (omega arith) (λ x m. omega (arith, b .best j x m)));
+            highest = λ j h. subst (λ (n : ℕ). score j ≤ n) (sym is)
+                (scored (λ n. n ≤ 4 - classPlace (b .class)) j (omega arith) (λ x m. omega (arith, b .best j x m)));
             lowest = λ j h. subst (λ (n : ℕ). score j < n) (sym is)
                 (scored (λ n. n < 4 - classPlace (b .class)) j (omega (arith, place-most (b .class))) (λ x m. omega (arith, b .lowest j x m h, place-most x)));
           }
@@ -189,7 +213,12 @@ module _ (l : Lent) (accept : Bool) (group : ℕ) (source : Remote) where
   not-denied-welcome e =
       let f = neither-of (not (eqb its (protocolOf accept))) (wildcard source) e in
       let g = neither-of (eqb (source .address) 0) (eqb (source .port) 0) (f .1) in
-      record { protocol = test-protocol accept its (twice (eqb its (protocolOf accept)) (f .0)); address = eqb-false (source .address) 0 (g .0); port = eqb-false (source .port) 0 (g .1) }
+      record {
+        protocol = test-protocol accept its (twice (eqb its (protocolOf accept)) (f .0));
+        address =
+            eqb-false (source .address) 0 (g .0);
+        port = eqb-false (source .port) 0 (g .1);
+      }
     where
       twice : (b : Bool) → not b ≡ false → b ≡ true
       twice true e = refl
@@ -206,7 +235,8 @@ module _ (l : Lent) (accept : Bool) (group : ℕ) (source : Remote) where
       most : rowsOf (l .image) Connections ≤ 16
       most = rows-in-sixteen l g
 
-      chosen : group < rowsOf (l .image) Group → Welcome l accept group source → (x : Chosen) → IsChosen score 16 x → Given (meet (l .image) (l .state) source x .answer)
+      chosen : group < rowsOf (l .image) Group → Welcome l accept group source → (x : Chosen)
+          → IsChosen score 16 x → Given (meet (l .image) (l .state) source x .answer)
       chosen h w Nobody none = none-matches g h w (none-match (w .address) (w .port) most none)
       chosen h w (At k) b = meets k g h w (best-match (w .address) (w .port) most k b)
 
@@ -218,7 +248,8 @@ module _ (l : Lent) (accept : Bool) (group : ℕ) (source : Remote) where
 
       there : (b : Bool) → leb (rowsOf (l .image) Group) group ≡ b
           → Given (cond b (arrivalRefused (l .state) Missing)
-          (cond (deniedOf (l .image) accept group source) (arrivalRefused (l .state) Denied) (meet (l .image) (l .state) source (chosenIn (l .image) (l .state) accept group source))) .answer)
+          (cond (deniedOf (l .image) accept group source) (arrivalRefused (l .state) Denied)
+          (meet (l .image) (l .state) source (chosenIn (l .image) (l .state) accept group source))) .answer)
       there true e = no-group g (leb-true (rowsOf (l .image) Group) group e)
       there false e = welcome (leb-false (rowsOf (l .image) Group) group e) (deniedOf (l .image) accept group source) refl
 

@@ -52,7 +52,8 @@ module _ (image : List ℕ) (m : Machine) (good : Good image m) (k : ℕ) (there
   unfolding afterEvent afterWhole tickEvent tickedTo tickOf
   closed-after wanted =
       rw (passed-gate (lentTo image m) (good .passed))
-      (each-own (tickAt image) zeroRecord 0 (rowsOf image Connections) k (m .state .connections) there inside ∙ ap (λ (n : ℕ). tickOf (configOf image n) c) (zero-add k) ∙ rw wanted)
+      (each-own (tickAt image) zeroRecord 0 (rowsOf image Connections) k (m .state .connections) there inside
+      ∙ ap (λ (n : ℕ). tickOf (configOf image n) c) (zero-add k) ∙ rw wanted)
 
   -- so a period ends
   ends-there : (e : Event) → PeriodEnds image m k e → endsAt image k m e ≡ true

@@ -31,7 +31,8 @@ use Rattle.state.specs.Fresh.{freshState}
 use Rattle.recording.specs.Recording.{distanceIn, stamps, mostEntries}
 use Rattle.recording.specs.Entry.{isRecorded, isSpelt}
 use Rattle.theorem_record.specs.Record.{Notable, AllNotable, Near, Recordable}
-use Rattle.theorem_record.specs.Again.{Timed, afterTicks, afterNote, answerTo, recorded, recordedFresh, segmentArguments, mostArguments, Callable, Followed, AllCallable}
+use Rattle.theorem_record.specs.Again.{Timed, afterTicks, afterNote, answerTo, recorded, recordedFresh}
+use Rattle.theorem_record.specs.Again.{segmentArguments, mostArguments, Callable, Followed, AllCallable}
 use Rattle.theorem_record.proofs.Numbers.{by-call, plain-long, told-long}
 
 -- ANSWERS: of a segment event at most 1,503 bytes and 32 for every nine of the segment; where no route is marked, 1,502 and 3 for each
@@ -104,7 +105,8 @@ module _ (l : Loan) (a : List ℕ) where
       go true none q = omega (arith, q, long, plain-below none c 6, length-drop 6 a)
       go false some q = omega (arith, q, long, segment-below c 6, length-drop 6 a)
 
-call-fills : (n : ℕ) → isRecorded n ≡ true → (a : List ℕ) → isSpelt (callOf n a) ≡ true → (l : Loan) → length a ≤ mostArguments (l .image) n → Fills l a (callOf n a)
+call-fills : (n : ℕ) → isRecorded n ≡ true → (a : List ℕ) → isSpelt (callOf n a) ≡ true
+    → (l : Loan) → length a ≤ mostArguments (l .image) n → Fills l a (callOf n a)
 unfolding mostArguments
 call-fills =
     by-call (λ n a call. (l : Loan) → length a ≤ mostArguments (l .image) n → Fills l a call)

@@ -58,7 +58,8 @@ module _ (g : Config) (c : Connection) where
   told Connected e =
       let a = g .tcp && isReconnect (c .mode) in
       let f = and-left (a && not (c .«close_wanted»)) (not (wildcard (c .remote))) e in
-      let w = neither (eqb (c .remote .address) 0) (eqb (c .remote .port) 0) (off (wildcard (c .remote)) (and-right (a && not (c .«close_wanted»)) (not (wildcard (c .remote))) e)) in
+      let w = neither (eqb (c .remote .address) 0) (eqb (c .remote .port) 0)
+      (off (wildcard (c .remote)) (and-right (a && not (c .«close_wanted»)) (not (wildcard (c .remote))) e)) in
       let h = and-left a (not (c .«close_wanted»)) f in
       may-connect (and-left (g .tcp) (isReconnect (c .mode)) h) (is-reconnect (c .mode) (and-right (g .tcp) (isReconnect (c .mode)) h))
       (off (c .«close_wanted») (and-right a (not (c .«close_wanted»)) f)) (eqb-false (c .remote .address) 0 (w .0)) (eqb-false (c .remote .port) 0 (w .1))

@@ -44,7 +44,9 @@ use Rattle.model_refines.specs.Run.{afterEvent, Good}
 use Rattle.model_refines.specs.Table.{tableOf}
 use Rattle.model_refines.specs.Whole.{wholeOf}
 use Rattle.model_refines.proofs.Steps.{event-view}
-use Rattle.theorem_records.specs.Records.{RemoteAfter, lost-configured, lost-refused, set-given, set-refused, kept-open, kept-close, kept-connected, kept-switch, kept-cancel, RemoteAtTick, closed-configured, let-go-configured, kept-ticking, Drained, ServesAnyone, TakeLeaves, nothing-taken, back-to-reconnect, to-be-closed, stays-as-it-is}
+use Rattle.theorem_records.specs.Records.{RemoteAfter, lost-configured, lost-refused, set-given, set-refused, kept-open, kept-close}
+use Rattle.theorem_records.specs.Records.{kept-connected, kept-switch, kept-cancel, RemoteAtTick, closed-configured, let-go-configured, kept-ticking}
+use Rattle.theorem_records.specs.Records.{Drained, ServesAnyone, TakeLeaves, nothing-taken, back-to-reconnect, to-be-closed, stays-as-it-is}
 
 -- A CONNECTION EVENT LEAVES EVERY OTHER CONNECTION AS IT WAS: its record, and the bytes that it holds
 others-step : (image : List ℕ) (w : World) (k : ℕ) (e : Own) (i : ℕ) → (i ≡ k → ⊥) → heldAt (step (tableOf image) (wholeOf image) w (on k e)) i ≡ heldAt w i
@@ -71,11 +73,13 @@ module _ (g : Config) (c : Connection) where
       go false q = refused q
 
   switch-remote : (n : ℕ) (position : Bool)
-      → RemoteAfter g c (Switch n position) (stepOf (Switch n position) g c .connection .remote) (stepOf (Switch n position) g c .connection .watch .«remote_set»)
+      → RemoteAfter g c (Switch n position) (stepOf (Switch n position) g c .connection .remote)
+      (stepOf (Switch n position) g c .connection .watch .«remote_set»)
   unfolding stepOf
   switch-remote n position = go (known (Switch n position))
     where
-      go : (b : Bool) → RemoteAfter g c (Switch n position) (cond (not b) (refusedBy Missing c) (record { answer = Done; connection = recordAfter (Switch n position) g c }) .connection .remote)
+      go : (b : Bool) → RemoteAfter g c (Switch n position)
+          (cond (not b) (refusedBy Missing c) (record { answer = Done; connection = recordAfter (Switch n position) g c }) .connection .remote)
           (cond (not b) (refusedBy Missing c) (record { answer = Done; connection = recordAfter (Switch n position) g c }) .connection .watch .«remote_set»)
       go true = kept-switch n position
       go false = kept-switch n position
@@ -102,7 +106,8 @@ module _ (g : Config) (c : Connection) where
 
 -- A TAKE OF WAITING BYTES
 module _ (g : Config) (room : ℕ) (c : Connection) where
-  drained : (x : Connection) → x .used ≡ 0 → x .timer ≡ 0 → x .due ≡ false → x .«open_wanted» ≡ c .«open_wanted» → x .switches ≡ c .switches → x .part ≡ c .part → Drained g room c x
+  drained : (x : Connection) → x .used ≡ 0 → x .timer ≡ 0 → x .due ≡ false
+      → x .«open_wanted» ≡ c .«open_wanted» → x .switches ≡ c .switches → x .part ≡ c .part → Drained g room c x
   drained x u t d o s p = record { used = u; timer = t; due = d; «open» = o; switches = s; part = p }
 
   after : 0 < c .used → c .used ≤ room → TakeLeaves g room c (afterTake g (withSend 0 0 false c))
@@ -112,7 +117,8 @@ module _ (g : Config) (room : ℕ) (c : Connection) where
       emptied = withSend 0 0 false c
 
       go : (a : Bool) → g .automatic ≡ a → (w : Bool) → wildcard (g .remote) ≡ w → (t : Bool) → g .tcp ≡ t
-          → TakeLeaves g room c (cond (a && w) (cond t (withMode (emptied .mode) (emptied .«open_wanted») true emptied) (become Reconnect (resetOf g emptied))) emptied)
+          → TakeLeaves g room c (cond (a && w)
+          (cond t (withMode (emptied .mode) (emptied .«open_wanted») true emptied) (become Reconnect (resetOf g emptied))) emptied)
       go true a true w true t =
           to-be-closed some fits (drained (withMode (c .mode) (c .«open_wanted») true emptied) refl refl refl refl refl refl) (a, w) t refl refl refl refl
       go true a true w false t =
@@ -146,18 +152,22 @@ module _ (l : Lent) (accept : Bool) (group : ℕ) (source : Remote) (k : ℕ) wh
   met-is : (x : Chosen) → Met-is (meet (l .image) (l .state) source x)
   unfolding whom
   met-is Nobody e = not-met (meet (l .image) (l .state) source Nobody) refl e
-  met-is (At j) e = let q : j ≡ k = omega (arith, ap whom e) in ap (λ (n : ℕ). withRecord n (metOf (configOf (l .image) n) source (recordAt (l .state) n)) (l .state)) q
+  met-is (At j) e = let q : j ≡ k = omega (arith, ap whom e) in
+      ap (λ (n : ℕ). withRecord n (metOf (configOf (l .image) n) source (recordAt (l .state) n)) (l .state)) q
 
-  pub arrival-leaves : arrivalOf l accept group source .answer ≡ Met k → arrivalOf l accept group source .state ≡ withRecord k (metOf (configOf (l .image) k) source (recordAt (l .state) k)) (l .state)
+  pub arrival-leaves : arrivalOf l accept group source .answer ≡ Met k
+      → arrivalOf l accept group source .state ≡ withRecord k (metOf (configOf (l .image) k) source (recordAt (l .state) k)) (l .state)
   unfolding arrivalOf arriveOf whom
   arrival-leaves = gate (gateOf l)
     where
-      asked : (b : Bool) → Met-is (cond b (arrivalRefused (l .state) Denied) (meet (l .image) (l .state) source (chosenIn (l .image) (l .state) accept group source)))
+      asked : (b : Bool) → Met-is
+          (cond b (arrivalRefused (l .state) Denied) (meet (l .image) (l .state) source (chosenIn (l .image) (l .state) accept group source)))
       asked true = not-met (arrivalRefused (l .state) Denied) refl
       asked false = met-is (chosenIn (l .image) (l .state) accept group source)
 
       there : (b : Bool) → Met-is (cond b (arrivalRefused (l .state) Missing)
-          (cond (deniedOf (l .image) accept group source) (arrivalRefused (l .state) Denied) (meet (l .image) (l .state) source (chosenIn (l .image) (l .state) accept group source))))
+          (cond (deniedOf (l .image) accept group source) (arrivalRefused (l .state) Denied)
+          (meet (l .image) (l .state) source (chosenIn (l .image) (l .state) accept group source))))
       there true = not-met (arrivalRefused (l .state) Missing) refl
       there false = asked (deniedOf (l .image) accept group source)
 

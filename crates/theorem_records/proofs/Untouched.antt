@@ -96,7 +96,8 @@ module _ (l : Lent) (tcp : Bool) (group : ℕ) (source : Remote) (i : ℕ) where
   unfolding arrivalOf arriveOf
   arrival-others = gate (gateOf l)
     where
-      asked : (b : Bool) → Stays (cond b (arrivalRefused (l .state) Denied) (meet (l .image) (l .state) source (chosenIn (l .image) (l .state) tcp group source)))
+      asked : (b : Bool) → Stays
+          (cond b (arrivalRefused (l .state) Denied) (meet (l .image) (l .state) source (chosenIn (l .image) (l .state) tcp group source)))
       asked true h = refl
       asked false h = met-stays (chosenIn (l .image) (l .state) tcp group source) h
 

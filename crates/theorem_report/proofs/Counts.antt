@@ -43,12 +43,14 @@ item-added (got i n) r f =
     ap₂ made
     (one-added figures-sums noPdus figures-none (r .routes) i (onePdu n)
     ∙ ap (λ (m : ℕ). pairwise addFigures (r .routes) (set (replicate m noPdus) i (addFigures (getD (replicate m noPdus) i noPdus) (onePdu n)))) (f .routes))
-    (sym (ap (λ (m : ℕ). pairwise addDrops (r .connections) (replicate m noDrops)) (sym (f .connections)) ∙ pairs-none drops-sums noDrops drops-none (r .connections)))
+    (sym (ap (λ (m : ℕ). pairwise addDrops (r .connections) (replicate m noDrops)) (sym (f .connections))
+    ∙ pairs-none drops-sums noDrops drops-none (r .connections)))
 item-added (lost k q) r f =
     ap₂ made
     (sym (ap (λ (m : ℕ). pairwise addFigures (r .routes) (replicate m noPdus)) (sym (f .routes)) ∙ pairs-none figures-sums noPdus figures-none (r .routes)))
     (one-added drops-sums noDrops drops-none (r .connections) k (oneDrop q)
-    ∙ ap (λ (m : ℕ). pairwise addDrops (r .connections) (set (replicate m noDrops) k (addDrops (getD (replicate m noDrops) k noDrops) (oneDrop q)))) (f .connections))
+    ∙ ap (λ (m : ℕ). pairwise addDrops (r .connections) (set (replicate m noDrops) k (addDrops (getD (replicate m noDrops) k noDrops) (oneDrop q))))
+    (f .connections))
 
 -- .. and so a list of them
 pub from-added : (r : Report) (xs : List Item) → FullReport r → countFrom r xs ≡ addReports r (reportOf xs)

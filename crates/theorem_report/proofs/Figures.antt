@@ -192,7 +192,8 @@ pub between-sum : (f g : RouteFigures) → Between f → Between g → Between (
 unfolding addFigures
 between-sum f g a b =
     record {
-      low = low-sum (f .pdus) (g .pdus) (eqb (f .pdus) 0) (eqb (g .pdus) 0) (f .smallest) (g .smallest) (f .bytes) (g .bytes) (eqb-true (f .pdus) 0) (eqb-true (g .pdus) 0) (a .low) (b .low);
+      low = low-sum (f .pdus) (g .pdus) (eqb (f .pdus) 0) (eqb (g .pdus) 0) (f .smallest) (g .smallest)
+          (f .bytes) (g .bytes) (eqb-true (f .pdus) 0) (eqb-true (g .pdus) 0) (a .low) (b .low);
       high = high-sum (f .pdus) (g .pdus) (f .largest) (g .largest) (f .bytes) (g .bytes) (a .high) (b .high);
     }
 

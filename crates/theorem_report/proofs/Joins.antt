@@ -13,7 +13,8 @@ use Rattle.report.specs.declared.Joined.{Joined}
 use Rattle.report.specs.Pairwise.{pairwise, allPairs}
 use Rattle.report.specs.Figures.{noPdus, addFigures, figuresFit, noDrops, addDrops, dropsFit}
 use Rattle.report.proofs.Turns.{SmallDrops}
-use Rattle.report.specs.Report.{emptyReport, figuresAt, dropsAt, FullReport, addReports, routesFit, connectionsFit, reportsFit, joinReports, runsFrom, runsReport}
+use Rattle.report.specs.Report.{emptyReport, figuresAt, dropsAt, FullReport, addReports, routesFit}
+use Rattle.report.specs.Report.{connectionsFit, reportsFit, joinReports, runsFrom, runsReport}
 use Rattle.theorem_report.proofs.Sums.{Sums, fit-back, fit-second, list-sums, pairs-none}
 use Rattle.theorem_report.proofs.Figures.{fits-figures, fits-drops, figures-none, figures-sums, drops-none, drops-sums}
 

@@ -28,12 +28,14 @@ use Rattle.model.specs.Events.{change, segment, walk, takeWaiting, datagram, ac
 use Rattle.model_refines.specs.Machine.{Machine}
 use Rattle.theorems.specs.Numbers.{numberOf}
 use Rattle.send.specs.Send.{destinations}
-use Rattle.theorem_answers.specs.When.{Check, check, firstFailing, notOnline, destinationHere, has, switchedOn, payloadTooLong, noRoom, askedFrom, transmits, checksFor}
+use Rattle.theorem_answers.specs.When.{Check, check, firstFailing, notOnline, destinationHere, has}
+use Rattle.theorem_answers.specs.When.{switchedOn, payloadTooLong, noRoom, askedFrom, transmits, checksFor}
 use Rattle.theorem_answers.proofs.When.{exactly-when}
 use Rattle.theorem_records.specs.Allowed.{MayHappen}
 use Rattle.theorem_records.proofs.Allowed.{allowed-exactly}
 use Rattle.theorem_sound.specs.Rules.{SoundTogether}
-use Rattle.theorem_sound.specs.Given.{Decides, by-this, by-later, NoneLeft, NoSuchSwitch, above-31, RightLengths, AfterGate, MayReceive, NoWalk, on-tcp, beyond-end, MayArrive, IsProtocol, is-udp, is-tcp, Counting, GivenFor}
+use Rattle.theorem_sound.specs.Given.{Decides, by-this, by-later, NoneLeft, NoSuchSwitch, above-31, RightLengths, AfterGate, MayReceive}
+use Rattle.theorem_sound.specs.Given.{NoWalk, on-tcp, beyond-end, MayArrive, IsProtocol, is-udp, is-tcp, Counting, GivenFor}
 use Rattle.theorem_sound.proofs.Rules.{sound-exactly}
 
 -- A CHECK AND ITS WORDS: the test fails exactly where the rule is broken

@@ -18,7 +18,8 @@ use Rattle.connection.specs.declared.Event.{Event as Change}
 use Rattle.connection.specs.declared.Event.the-variants.{Open, Close, Connected, SetRemote, Switch, Cancel}
 use Rattle.connection.specs.declared.Remote.{Remote}
 use Rattle.event_decode.specs.declared.Call.{Call}
-use Rattle.event_decode.specs.declared.Call.the-variants.{Unknown, Unfit, Ticks, Own, Lost, Segment, Walk, TakeWaiting, Datagram, Accept, Transmit, SwitchAll, ReadCount, ClearCount}
+use Rattle.event_decode.specs.declared.Call.the-variants.{Unknown, Unfit, Ticks, Own, Lost, Segment, Walk}
+use Rattle.event_decode.specs.declared.Call.the-variants.{TakeWaiting, Datagram, Accept, Transmit, SwitchAll, ReadCount, ClearCount}
 use Rattle.event_decode.specs.Calls.{fitted, plain, lengthFits, addressed, remoteIn, positioned, callOf, bytesFrom}
 use Rattle.dispatch_receive.specs.Long.{longestBody}
 use Rattle.entry_receive.specs.Walk.{walkOf}
@@ -30,7 +31,8 @@ use Rattle.dispatch_refines.specs.Spelt.{eventsOf}
 use Rattle.dispatch_refines.specs.Answer.{takesAnswer, answerOf}
 use Rattle.report_count.specs.declared.Counting.{Counting}
 use Rattle.report_count.specs.declared.Run.{Run}
-use Rattle.report_count.specs.Count.{addsNothing, addsOfKind, oneCounted, takesCounted, takesIn, takesAt, connectionNamed, countingAt, afterCounting, eventCounted}
+use Rattle.report_count.specs.Count.{addsNothing, addsOfKind, oneCounted, takesCounted, takesIn}
+use Rattle.report_count.specs.Count.{takesAt, connectionNamed, countingAt, afterCounting, eventCounted}
 use Rattle.theorem_tally.specs.Items.{itemsFrom, lengthKept}
 use Rattle.theorem_tally.proofs.Counted.{Counts, nothing-counts}
 use Rattle.theorem_tally.proofs.Segments.{segment-given}

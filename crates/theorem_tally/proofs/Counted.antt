@@ -204,7 +204,8 @@ bytes-add begins read Found.More payload rest h kept = found-adds read 0 0 0 0 r
 bytes-add begins read (Found.Drop reason id n) payload rest h kept = found-adds read 2 reason id n rest refl (omega arith) (h .0) (h .1 .1) kept
 bytes-add begins read (Found.Start route id n last) payload rest h kept = found-adds read 3 route id n rest refl (omega arith) (h .0 .0) (h .0 .1 .1) kept
 bytes-add begins read (Found.Piece route id at n last) payload rest h kept =
-    let is : pieceSpelt read route id n last begins at ++ rest ≡ foundBytes read (pieceKind last) route id n ++ (spell 4 (begins + at) ++ rest) = simp append-assoc in
+    let is : pieceSpelt read route id n last begins at ++ rest ≡ foundBytes read (pieceKind last) route id n ++ (spell 4 (begins + at) ++ rest) =
+    simp append-assoc in
     found-adds read (pieceKind last) route id n (spell 4 (begins + at) ++ rest) is (kind-small last) (h .0) (h .1 .0) kept ∙ piece-adds last route id at n kept
 bytes-add begins read (Found.Pdu route id true at n) payload rest h kept =
     let is : hereBytes read route id n begins at ++ rest ≡ foundBytes read 1 route id n ++ (spell 1 0 ++ (spell 4 (begins + at) ++ rest)) = simp append-assoc in
@@ -254,7 +255,8 @@ abbrev pub AllStand : List ℕ → List Take → Type 0
 AllStand seg [] = Unit {0}
 AllStand seg (t ∷ ts) =
     (TakeFits (t .begins) (t .outcome) (t .payload) × (Exact seg (t .begins) (t .outcome) (t .payload)
-    × (takeNeeds (takeBytes (t .begins) (t .read) (t .outcome) (t .payload) ++ bytesIn ts) ≡ length (takeBytes (t .begins) (t .read) (t .outcome) (t .payload)))))
+    × (takeNeeds (takeBytes (t .begins) (t .read) (t .outcome) (t .payload) ++ bytesIn ts)
+    ≡ length (takeBytes (t .begins) (t .read) (t .outcome) (t .payload)))))
     × AllStand seg ts
 
 -- R21.9: the count over the bytes of the takes is the count over what they told

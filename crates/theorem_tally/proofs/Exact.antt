@@ -103,7 +103,8 @@ module _ (start : Loan) (k : ℕ) (seg : List ℕ) (bytes : Bytes seg) (notLong 
 
     abbrev read : ℕ
     read =
-        length rest - length (takeB (lookupOf routes k (recordAt (l .state) k .switches)) (cellOf (recordAt (l .state) k .part) (stretch 1464 k (l .rx))) rest .rest)
+        length rest - length (takeB (lookupOf routes k (recordAt (l .state) k .switches))
+        (cellOf (recordAt (l .state) k .part) (stretch 1464 k (l .rx))) rest .rest)
 
     outcome-is : segmentOf l k rest .outcome ≡ takeOutcome (idOf routes) (inSegment (cellOf (recordAt (l .state) k .part) (stretch 1464 k (l .rx)))) read out
     unfolding segmentOf takeOn takenOf tookOf
@@ -121,7 +122,8 @@ module _ (start : Loan) (k : ℕ) (seg : List ℕ) (bytes : Bytes seg) (notLong 
     take-exact =
         let b = subst Both outcome-is (told, take-fits start k seg bytes notLong l at within d) in
         subst (λ (o : Outcome). Exact seg at o (payloadOf rest (memoryAt l k seg at) k o)) (sym outcome-is)
-        (exact-by (l .image) seg (memoryAt l k seg at) k at (idOf routes) (inSegment (cellOf (recordAt (l .state) k .part) (stretch 1464 k (l .rx)))) read out (b .0) (b .1))
+        (exact-by (l .image) seg (memoryAt l k seg at) k at (idOf routes)
+        (inSegment (cellOf (recordAt (l .state) k .part) (stretch 1464 k (l .rx)))) read out (b .0) (b .1))
 
   -- THE TAKES, one after the other
   abbrev next : Progress → Progress

@@ -5,7 +5,8 @@ use mathlib.Core.Bool.{Bool, true, false, cond}
 use mathlib.Core.List.{List, [], _∷_}
 use lib.Dec.{eqb}
 use lib.ListN.{length}
-use Rattle.reading.specs.Feed.{Out, nothing, pdu, dropped, start, piece, singles, single, fine, Handed, complete, began, middle, finished, push, pushAll, marked, compared}
+use Rattle.reading.specs.Feed.{Out, nothing, pdu, dropped, start, piece, singles, single, fine}
+use Rattle.reading.specs.Feed.{Handed, complete, began, middle, finished, push, pushAll, marked, compared}
 use Rattle.report.specs.declared.Report.{Report}
 use Rattle.report.specs.Report.{Item, got, lost, reportOf, addReports}
 use Rattle.model.specs.Events.{Event}

@@ -78,7 +78,8 @@ module _ (l : Loan) (k : ℕ) (seg : List ℕ) (bytes : Bytes seg) (notLong : le
   no-takes : (c : Counting) (answer : List ℕ) → takesIn 7 answer ≡ 0 → ts ≡ [] → ToldBy (outsIn seg ts) c (counted answer c)
   unfolding bytesIn
   no-takes c answer zero-takes no-ts =
-      let is : counted answer c ≡ takesCounted k 0 [] c = ap (λ (n : ℕ). takesCounted k n (drop (takesAt 7) answer) c) zero-takes ∙ empty-count k c (drop (takesAt 7) answer) in
+      let is : counted answer c ≡ takesCounted k 0 [] c =
+      ap (λ (n : ℕ). takesCounted k n (drop (takesAt 7) answer) c) zero-takes ∙ empty-count k c (drop (takesAt 7) answer) in
       subst (λ (d : Counting). ToldBy (outsIn seg ts) c d) (sym is)
       (subst (λ (xs : List Take). ToldBy (outsIn seg xs) c (takesCounted k 0 [] c)) (sym no-ts) (takes-told k seg [] c tt))
 
@@ -108,5 +109,6 @@ segment-given image m k seg bytes notLong c =
     subst
     (λ (os : List Out). Counts (itemsFrom k (c .kept) os) c
     (takesCounted k (takesIn 7 (takesAnswer (loanTo image m) k seg)) (drop (takesAt 7) (takesAnswer (loanTo image m) k seg)) c)
-    × (takesCounted k (takesIn 7 (takesAnswer (loanTo image m) k seg)) (drop (takesAt 7) (takesAnswer (loanTo image m) k seg)) c .kept ≡ lengthKept (c .kept) os))
+    × (takesCounted k (takesIn 7 (takesAnswer (loanTo image m) k seg)) (drop (takesAt 7) (takesAnswer (loanTo image m) k seg)) c .kept
+    ≡ lengthKept (c .kept) os))
     (segment-takes-told image k seg m) (segment-counted (loanTo image m) k seg bytes notLong c)

@@ -96,7 +96,8 @@ step-counted k c next (Met.Pdu route id at n) h =
     let l : List ℕ = walkBytes next (Met.Pdu route id at n) in
     one-take k c l (foundBytes next 1 route id n ++ spell 4 at) (addsPdu route n (c .kept))
     (number-at 2 0 [] (foundBytes next 1 route id n ++ spell 4 at) 0 (omega arith) refl (simp append-assoc))
-    (ap (drop 2) (append-assoc (spell 2 0) (foundBytes next 1 route id n) (spell 4 at)) ∙ drop-at (spell 2 0) (foundBytes next 1 route id n ++ spell 4 at) 2 (length-spell 2 0))
+    (ap (drop 2) (append-assoc (spell 2 0) (foundBytes next 1 route id n) (spell 4 at))
+    ∙ drop-at (spell 2 0) (foundBytes next 1 route id n ++ spell 4 at) 2 (length-spell 2 0))
     (found-adds next 1 route id n (spell 4 at) refl (omega arith) (h .0) (h .1 .0) (c .kept))
 
 -- a refusal has none

@@ -17,7 +17,8 @@ use Rattle.connection.specs.declared.Mode.the-variants.{Reconnect, Online}
 use Rattle.connection.specs.declared.Watch.{Watch}
 use Rattle.connection.proofs.Ticks.{Tick, closes-wanted, lets-go, goes-on, tick-is, tick-goes-on}
 use Rattle.send_destination.specs.Destination.{timerOf, sentOf}
-use Rattle.theorem_timer.specs.Timer.{BufferStep, stores, ticks, bufferAfter, KeepsPeer, WaitsSince, just-stored, stored-before, one-tick-more, Overdue, by-trigger, by-timeout, OneOverdue, AllowsStill, TimerReads}
+use Rattle.theorem_timer.specs.Timer.{BufferStep, stores, ticks, bufferAfter, KeepsPeer, WaitsSince, just-stored, stored-before}
+use Rattle.theorem_timer.specs.Timer.{one-tick-more, Overdue, by-trigger, by-timeout, OneOverdue, AllowsStill, TimerReads}
 
 -- AN APPEND, by what the timer becomes
 module _ (steps : List BufferStep) (timer : ℕ) (due : Bool) (h : TimerReads steps timer due) (d : DestinationRow) (used : ℕ) where
@@ -28,7 +29,14 @@ module _ (steps : List BufferStep) (timer : ℕ) (due : Bool) (h : TimerReads st
   triggered : d .trigger ≡ true → TimerReads more 0 true
   triggered t =
       record {
-        due-by = λ _. record { trigger = d .trigger; timeout = d .timeout; age = 0; waits = just-stored d used steps; over = subst (λ (b : Bool). Overdue b (d .timeout) 0) (sym t) (by-trigger (d .timeout) 0) };
+        due-by = λ _. record {
+          trigger = d .trigger;
+          timeout = d .timeout;
+          age = 0;
+          waits = just-stored d used steps;
+          over =
+              subst (λ (b : Bool). Overdue b (d .timeout) 0) (sym t) (by-trigger (d .timeout) 0);
+        };
         over-due = λ _ _ _ _ _. refl;
         stopped = λ _. refl;
         each-allows = λ e. impossible (sym e);
@@ -65,7 +73,8 @@ module _ (steps : List BufferStep) (timer : ℕ) (due : Bool) (h : TimerReads st
           over-due = λ trigger timeout age w o. not-over trigger timeout age w o;
           stopped = λ e. impossible e;
           each-allows = λ _ trigger timeout age w l. each trigger timeout age w l;
-          one-allows = λ l. let a = h .one-allows l in record { trigger = a .trigger; timeout = a .timeout; age = a .age; waits = stored-before d used (a .waits); left = a .left };
+          one-allows = λ l. let a = h .one-allows l in
+              record { trigger = a .trigger; timeout = a .timeout; age = a .age; waits = stored-before d used (a .waits); left = a .left };
         }
       where
         each : (trigger : Bool) (timeout age : ℕ) → WaitsSince more trigger timeout age → 0 < timeout → (0 < timer) × (age + timer ≤ timeout)
@@ -117,7 +126,8 @@ module _ (steps : List BufferStep) where
   later-over trigger timeout age (by-timeout _ _ _ l u) = by-timeout trigger timeout (suc age) l (omega (arith, u))
 
   -- overdue a tick later, not due and with so much time left: by nothing
-  over-soon : (timer : ℕ) → TimerReads steps timer false → (trigger : Bool) (timeout age : ℕ) → WaitsSince steps trigger timeout age → Overdue trigger timeout (suc age)
+  over-soon : (timer : ℕ) → TimerReads steps timer false → (trigger : Bool) (timeout age : ℕ)
+      → WaitsSince steps trigger timeout age → Overdue trigger timeout (suc age)
       → (0 < timer) × (timer ≤ 1)
   over-soon timer h _ timeout age w (by-trigger _ _) = impossible (h .over-due true timeout age w (by-trigger timeout age))
   over-soon timer h trigger timeout age w (by-timeout _ _ _ l u) =
@@ -129,7 +139,14 @@ module _ (steps : List BufferStep) where
   stopped-reads true h =
       let o = h .due-by refl in
       record {
-        due-by = λ _. record { trigger = o .trigger; timeout = o .timeout; age = suc (o .age); waits = one-tick-more (o .waits); over = later-over (o .trigger) (o .timeout) (o .age) (o .over) };
+        due-by = λ _. record {
+          trigger = o .trigger;
+          timeout = o .timeout;
+          age = suc (o .age);
+          waits =
+              one-tick-more (o .waits);
+          over = later-over (o .trigger) (o .timeout) (o .age) (o .over);
+        };
         over-due = λ _ _ _ _ _. refl;
         stopped = λ _. refl;
         each-allows = λ e. impossible (sym e);
@@ -192,7 +209,8 @@ module _ (steps : List BufferStep) where
       each trigger timeout _ (one-tick-more {age = a} w) l = (omega arith, omega (arith, h .each-allows refl trigger timeout a w l .1))
 
   -- so after any tick
-  ticked-reads : (timer : ℕ) (due : Bool) → TimerReads steps timer due → TimerReads (ticks ∷ steps) (cond (eqb timer 0) timer (timer - 1)) (cond (eqb timer 0) due (eqb timer 1 || due))
+  ticked-reads : (timer : ℕ) (due : Bool) → TimerReads steps timer due
+      → TimerReads (ticks ∷ steps) (cond (eqb timer 0) timer (timer - 1)) (cond (eqb timer 0) due (eqb timer 1 || due))
   ticked-reads zero due h = stopped-reads due h
   ticked-reads (suc n) true h = absurd (omega (arith, h .stopped refl))
   ticked-reads (suc zero) false h = ends-reads h
@@ -249,12 +267,14 @@ module _ (g : Config) where
 
   ready-same : (c : Connection) → Untimed c (ready c)
   ready-same c =
-      ready-keeps (Untimed c) (sunkOf c) (record { timer = refl; due = refl; closing = refl }) (record { timer = refl; due = refl; closing = refl }) (record { timer = refl; due = refl; closing = refl })
+      ready-keeps (Untimed c) (sunkOf c) (record { timer = refl; due = refl; closing = refl })
+      (record { timer = refl; due = refl; closing = refl }) (record { timer = refl; due = refl; closing = refl })
       (record { timer = refl; due = refl; closing = refl })
 
   -- and then
   run-is : (c : Connection)
-      → (runOf c .timer ≡ cond (eqb (c .timer) 0) (c .timer) (c .timer - 1)) × (runOf c .due ≡ cond (eqb (c .timer) 0) (c .due) (eqb (c .timer) 1 || c .due)) × (runOf c .«close_wanted» ≡ c .«close_wanted»)
+      → (runOf c .timer ≡ cond (eqb (c .timer) 0) (c .timer) (c .timer - 1))
+      × (runOf c .due ≡ cond (eqb (c .timer) 0) (c .due) (eqb (c .timer) 1 || c .due)) × (runOf c .«close_wanted» ≡ c .«close_wanted»)
   unfolding runOf
   run-is c = go (eqb (c .timer) 0)
     where

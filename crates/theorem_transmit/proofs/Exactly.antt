@@ -30,7 +30,8 @@ use Rattle.send.specs.declared.Transmission.the-variants.{Stored, Refused, NoDe
 use Rattle.send.specs.Verdict.{isOut, passes, decidedAt, verdictOf}
 use Rattle.send.specs.Send.{destinations, lookAt, checkOf, transmittedOf}
 use Rattle.entry_send.specs.Sending.{notSent, sendOf}
-use Rattle.theorem_transmit.specs.Exactly.{senderOf, HasPdu, IsOn, Asked, TakesAll, RefusesBy, not-online, too-long, no-room, FirstRefusing, PastGate, ExactlyWhen}
+use Rattle.theorem_transmit.specs.Exactly.{senderOf, HasPdu, IsOn, Asked, TakesAll, RefusesBy}
+use Rattle.theorem_transmit.specs.Exactly.{not-online, too-long, no-room, FirstRefusing, PastGate, ExactlyWhen}
 
 -- where not all are good, one is not
 some-bad : (good : ℕ → Bool) (n : ℕ) → every good n ≡ false → (i : ℕ) × (i < n) × (good i ≡ false)
@@ -73,7 +74,8 @@ module _ (image : List ℕ) (s : State) (pdu len : ℕ) where
       size : ℕ
       size = connectionOf image (d i .connection) .size
 
-      room : d i .pdu ≡ pdu → IsOn image s pdu len i → receiving (c i) ≡ true → len ≤ d i .longest → (b : Bool) → ltb size (c i .used + 8 + len) ≡ b → Says i (cond b 8 0)
+      room : d i .pdu ≡ pdu → IsOn image s pdu len i → receiving (c i) ≡ true
+          → len ≤ d i .longest → (b : Bool) → ltb size (c i .used + 8 + len) ≡ b → Says i (cond b 8 0)
       room p q r t true e = refusing 8 p q (no-room r t (ltb-true size (c i .used + 8 + len) e))
       room p q r t false e = taking p q (record { receives = r; short = t; room = ltb-false size (c i .used + 8 + len) e })
 
@@ -122,7 +124,8 @@ module _ (image : List ℕ) (s : State) (pdu len : ℕ) where
     pub refuses : passes n ≡ false → (d i .pdu ≡ pdu) × IsOn image s pdu len i × RefusesBy image s pdu len i n
 
   -- of one that is on
-  refusing-tested : (i n : ℕ) → eqb n 5 ≡ false → isOut n ≡ false → passes n ≡ false → d i .pdu ≡ pdu → IsOn image s pdu len i → RefusesBy image s pdu len i n → Tested i n
+  refusing-tested : (i n : ℕ) → eqb n 5 ≡ false → isOut n ≡ false → passes n ≡ false
+      → d i .pdu ≡ pdu → IsOn image s pdu len i → RefusesBy image s pdu len i n → Tested i n
   refusing-tested i n a b e p q r =
       record {
         five = λ h. impossible (sym a ∙ h);
@@ -185,7 +188,8 @@ module _ (image : List ℕ) (s : State) (pdu len : ℕ) where
       first : ℕ
       first = firstBad (λ i. passes (look i)) rows
 
-      decides : every (λ i. isOut (look i)) rows ≡ false → (b : Bool) → ltb first rows ≡ b → PastGate image s pdu len (cond b (RefusedAt (look first) first) Stored)
+      decides : every (λ i. isOut (look i)) rows ≡ false → (b : Bool) → ltb first rows ≡ b
+          → PastGate image s pdu len (cond b (RefusedAt (look first) first) Stored)
       decides f true e = first-refusing first refl (ltb-true first rows e)
       decides f false e =
           let x = some-bad (λ i. isOut (look i)) rows f in
@@ -197,8 +201,10 @@ module _ (image : List ℕ) (s : State) (pdu len : ℕ) where
       offs : every (λ i. eqb (look i) 5) rows ≡ false → (b : Bool) → every (λ i. isOut (look i)) rows ≡ b
           → PastGate image s pdu len (cond b SwitchedOff (decidedAt look rows first))
       offs f true e =
-          let x = some-bad (λ i. eqb (look i) 5) rows f in
-          ((x .0, record { there = x .1; its = row (x .0) .has (x .2) }), λ i a. row i .out (every-at (λ j. isOut (look j)) rows i e (a .0 .there)) (a .0 .its) (a .1))
+          let x = some-bad (λ i. eqb (look i) 5) rows f in (
+            (x .0, record { there = x .1; its = row (x .0) .has (x .2) }),
+            λ i a. row i .out (every-at (λ j. isOut (look j)) rows i e (a .0 .there)) (a .0 .its) (a .1),
+          )
       offs f false e = decides e (ltb first rows) refl
 
       nowhere : (b : Bool) → every (λ i. eqb (look i) 5) rows ≡ b

@@ -22,5 +22,6 @@ pub one-part : (bytes : List ℕ) (place : ℕ × ℕ) (x y : RefT (List ℕ)) �
 one-part bytes place x y p q = record { bytes = p .0 ∙ sym (q .0); place = p .1 ∙ sym (q .1) }
 
 -- A WHOLE CALL: an answer and the memory that it leaves
-pub one-call : {A M : Type 0} (definition : A) (left : M) (x y : A) (m n : M) → Equation definition x × Equation left m → Equation definition y × Equation left n → (x ≡ y) × (m ≡ n)
+pub one-call : {A M : Type 0} (definition : A) (left : M) (x y : A) (m n : M) → Equation definition x
+    × Equation left m → Equation definition y × Equation left n → (x ≡ y) × (m ≡ n)
 one-call definition left x y m n p q = (one-answer definition x y (p .0) (q .0), one-answer left m n (p .1) (q .1))

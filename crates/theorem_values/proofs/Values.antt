@@ -24,7 +24,8 @@ use Rattle.table.specs.declared.TableAnswer.{TableAnswer}
 use Rattle.table.specs.declared.TableAnswer.the-variants as Tables
 use Rattle.frame.specs.declared.Framed.{Framed}
 use Rattle.frame.specs.declared.Framed.the-variants as Frames
-use Rattle.theorem_values.specs.Values.{answerValues, framedValues, receiveValues, tableValues, countValues, arrivalValues, transmissionValues, takingValues}
+use Rattle.theorem_values.specs.Values.{answerValues, framedValues, receiveValues, tableValues}
+use Rattle.theorem_values.specs.Values.{countValues, arrivalValues, transmissionValues, takingValues}
 
 -- ONE LAW FOR ALL: what has a way back from its values is said by them
 module _ {A : Type 0} (values : A → List ℕ) (from : List ℕ → A) (back : (x : A) → from (values x) ≡ x) where
@@ -116,7 +117,8 @@ arrival-back Arrivals.Unmatched = refl
 transmission-back : (x : Transmission) → transmissionFrom (transmissionValues x) ≡ x
 unfolding transmissionFrom refusalFrom
 transmission-back Sends.Stored = refl
-transmission-back (Sends.Refused r) = by-refusal (λ (q : Refusal). transmissionFrom (transmissionValues (Sends.Refused q)) ≡ Sends.Refused q) refl refl refl refl r
+transmission-back (Sends.Refused r) =
+    by-refusal (λ (q : Refusal). transmissionFrom (transmissionValues (Sends.Refused q)) ≡ Sends.Refused q) refl refl refl refl r
 transmission-back Sends.NoDestination = refl
 transmission-back Sends.SwitchedOff = refl
 transmission-back (Sends.RefusedAt n d) = refl

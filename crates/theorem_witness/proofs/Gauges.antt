@@ -59,7 +59,9 @@ use Rattle.theorem_witness.specs.Gauges.{gauges, gaugesUp, halfRead, pre
 
 -- both states are sound
 sound : (soundState gauges gaugesUp ≡ true) × (soundState gauges halfRead ≡ true)
-unfolding gauges be badFrom every rowsOf bodyBytes startOf endOf rowAt partOf bodyOf rowIn groupRow connectionRow routeRow destinationRow groupGood connectionGood routeGood destinationGood sizeIn routesShare destinationsShare share clearIn goodIn headGood entryGood rule thenCheck entriesPlace headPlace allRowsPlace checkTable configOf freshState soundOf zeroOf soundAt recordsSound soundState
+unfolding gauges be badFrom every rowsOf bodyBytes startOf endOf rowAt partOf bodyOf rowIn groupRow connectionRow routeRow destinationRow groupGood
+    connectionGood routeGood destinationGood sizeIn routesShare destinationsShare share clearIn goodIn headGood entryGood rule thenCheck entriesPlace
+    headPlace allRowsPlace checkTable configOf freshState soundOf zeroOf soundAt recordsSound soundState
 sound = (refl, refl)
 
 sixteen-up : length (gaugesUp .connections) ≡ 16
@@ -88,11 +90,13 @@ unfolding gauges be rowsOf bodyBytes startOf partOf bodyOf rowIn groupRow connec
 protocols = (refl, refl)
 
 routes-say : (routesIn gauges gaugesUp 0 0x101 2 ≡ Accept 0) × (routesIn gauges gaugesUp 1 0x101 2 ≡ Accept 1)
-unfolding gauges be rowsOf bodyBytes startOf partOf bodyOf rowIn groupRow connectionRow routeRow configOf freshState isOn rowsIn counts rowFor reasonIn reasonOf decisionOf lookupOf badFrom
+unfolding gauges be rowsOf bodyBytes startOf partOf bodyOf rowIn groupRow connectionRow routeRow
+    configOf freshState isOn rowsIn counts rowFor reasonIn reasonOf decisionOf lookupOf badFrom
 routes-say = (refl, refl)
 
 sent-to : (sentTo gauges gaugesUp 9 pressure 0 ≡ sentPressure ∷ []) × (sentTo gauges gaugesUp 9 pressure 1 ≡ sentPressure ∷ [])
-unfolding gauges be rowsOf bodyBytes startOf partOf bodyOf rowIn groupRow connectionRow destinationRow configOf freshState isOn badFrom every refusalOf lookOf verdictOf lookAt checkOf wantedAt sentFrom sentTo
+unfolding gauges be rowsOf bodyBytes startOf partOf bodyOf rowIn groupRow connectionRow destinationRow
+    configOf freshState isOn badFrom every refusalOf lookOf verdictOf lookAt checkOf wantedAt sentFrom sentTo
 sent-to = (refl, refl)
 
 there-0 : 0 < rowsOf gauges Connections
@@ -157,12 +161,14 @@ module _ (rx tx : List ℕ) (long : length rx ≡ 23424) (wide : length tx ≡ 2
   pub stream-case : (pieces : List (List ℕ)) → flatten pieces ≡ outgoing gauges sender 1 out → RunBytes (asSegments 1 pieces)
       → givenIn gauges 1 m (asSegments 1 pieces) ≡ pdu 1 pressure ∷ []
   stream-case pieces is bytes =
-      round-trip gauges m (good-up rx tx long wide) 1 there-1 (none-used .1) sendPressure (tt, tt) out (fits 1) gauges m (good-up rx tx long wide) 1 (a-reader rx tx)
+      round-trip gauges m (good-up rx tx long wide) 1 there-1 (none-used .1) sendPressure
+      (tt, tt) out (fits 1) gauges m (good-up rx tx long wide) 1 (a-reader rx tx)
       (routed 1 1 (routes-say .1) sent-1) pieces is bytes
 
   pub datagram-case : (steps : ℕ) → 1 ≤ steps → givenIn gauges 0 m (asWalks gauges 0 (outgoing gauges sender 0 out) steps m 0) ≡ pdu 0 pressure ∷ []
   datagram-case steps enough =
-      datagram-trip gauges m (good-up rx tx long wide) 0 there-0 (none-used .0) sendPressure (tt, tt) out (fits 0) gauges m (good-up rx tx long wide) 0 (a-walker rx tx)
+      datagram-trip gauges m (good-up rx tx long wide) 0 there-0 (none-used .0) sendPressure
+      (tt, tt) out (fits 0) gauges m (good-up rx tx long wide) 0 (a-walker rx tx)
       (routed 0 0 (routes-say .0) sent-0) steps (subst (λ (ss : List Sent). length ss ≤ steps) (sym sent-0) enough)
 
 -- A HEADER HALF READ at the start: its rest, whole or cut, gives the PDU
@@ -185,7 +191,8 @@ isSegment (onWhole e) = false
 
 -- its list, by lengths
 half-listed : listedIn (lookupOf (bodyOf gauges Routes) 1) (cell 5 (header 1)) (streams (map (mark 0) restRead) []) ≡ complete 1 pressure ∷ []
-unfolding gauges be rowsOf bodyBytes startOf partOf bodyOf rowIn routeRow isOn rowsIn counts rowFor reasonIn reasonOf decisionOf lookupOf badFrom headOf splits split accepted listed listedFrom listedLater listedIn spell
+unfolding gauges be rowsOf bodyBytes startOf partOf bodyOf rowIn routeRow isOn rowsIn counts rowFor reasonIn
+    reasonOf decisionOf lookupOf badFrom headOf splits split accepted listed listedFrom listedLater listedIn spell
 half-listed = refl
 
 module _ (rx tx : List ℕ) (long : length rx ≡ 23424) (wide : length tx ≡ 23552) where
@@ -209,7 +216,8 @@ module _ (rx tx : List ℕ) (long : length rx ≡ 23424) (wide : length tx ≡ 2
   goes-on = go (endsAt gauges 1 h (on 1 (segment restRead))) refl
     where
       go : (b : Bool) → endsAt gauges 1 h (on 1 (segment restRead)) ≡ b → b ≡ false
-      go true e = absurd (no-segment (on 1 (segment restRead)) refl (period-exactly gauges h (good-half rx tx long wide) 1 there-1 (protocols .1) (on 1 (segment restRead)) bytes-rest .0 e))
+      go true e = absurd (no-segment (on 1 (segment restRead)) refl
+          (period-exactly gauges h (good-half rx tx long wide) 1 there-1 (protocols .1) (on 1 (segment restRead)) bytes-rest .0 e))
       go false e = refl
 
   cell-half : cellAt (heldAt (seen h) 1) ≡ cell 5 (header 1)

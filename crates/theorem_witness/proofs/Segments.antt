@@ -50,7 +50,8 @@ closed-reads =
 
 -- its routes take the pressure on route 1
 takes-pressure : lookupOf (bodyOf gauges Route) 1 (recordAt gaugesUp 1 .switches) 0x101 2 ≡ Accept 1
-unfolding gauges be rowsOf bodyBytes startOf partOf bodyOf rowIn connectionRow routeRow configOf freshState isOn rowsIn counts rowFor reasonIn reasonOf decisionOf lookupOf badFrom
+unfolding gauges be rowsOf bodyBytes startOf partOf bodyOf rowIn connectionRow routeRow
+    configOf freshState isOn rowsIn counts rowFor reasonIn reasonOf decisionOf lookupOf badFrom
 takes-pressure = refl
 
 routed : Routed (routesAt (tableOf gauges) 1 (heldAt world 1)) (sentPressure ∷ []) (handed 1 pressure ∷ [])

@@ -68,12 +68,14 @@ module _ (routes : List ℕ) (k switches : ℕ) (part : Part) (st bytes : List �
   short (Skip n) f = (omega arith, tt)
   short (Transfer route n) f = (omega arith, tt)
 
-  added-fits : heldBy part + addedBy (takenOf routes k switches part st bytes .outcome) (heldBy part) (heldBy (takenOf routes k switches part st bytes .part)) ≤ 1464
+  added-fits : heldBy part + addedBy (takenOf routes k switches part st bytes .outcome)
+      (heldBy part) (heldBy (takenOf routes k switches part st bytes .part)) ≤ 1464
   unfolding takenOf tookOf
   added-fits =
       let t = tookOf routes k switches part st bytes in
       let sane =
-      take-sane Short Any (lookupOf routes k switches) (λ i n r e. accepted-short routes k switches i n r e (fit .limits)) (λ i n r e. tt) (cellOf part st) bytes small
+      take-sane Short Any (lookupOf routes k switches)
+      (λ i n r e. accepted-short routes k switches i n r e (fit .limits)) (λ i n r e. tt) (cellOf part st) bytes small
       (part-sane Short Any routes part st fit (short part fit .1)) in
       bound (idOf routes) (inSegment (cellOf part st)) (heldBy part) (length bytes - length (t .rest)) (t .out) (t .to) (short part fit .0) (sane .0) (sane .1)
 
@@ -87,11 +89,14 @@ module _ (image : List ℕ) (k i : ℕ) where
     unfolding segmentOf
     none-added e = rw e (omega arith)
 
-    take-fits : Bytes bytes → isAnswered image k m bytes ≡ true → Fits (addedBy (taken image k m bytes .outcome) (payloadHeld k m) (payloadHeld k (afterOne image k m bytes)))
+    take-fits : Bytes bytes → isAnswered image k m bytes ≡ true
+        → Fits (addedBy (taken image k m bytes .outcome) (payloadHeld k m) (payloadHeld k (afterOne image k m bytes)))
     take-fits small e =
         subst Fits
-        (ap₂ (λ (o : Outcome) (c : Connection). addedBy o (payloadHeld k m) (heldBy (c .part))) (sym (outcome-is image k m bytes e)) (sym (record-is image k m bytes e)))
-        (added-fits (bodyOf image Routes) k (recordAt (m .state) k .switches) (recordAt (m .state) k .part) (stretch 1464 k (m .rx)) bytes (takes-here image k m bytes e .fit) small)
+        (ap₂ (λ (o : Outcome) (c : Connection). addedBy o (payloadHeld k m) (heldBy (c .part)))
+        (sym (outcome-is image k m bytes e)) (sym (record-is image k m bytes e)))
+        (added-fits (bodyOf image Routes) k (recordAt (m .state) k .switches) (recordAt (m .state) k .part)
+        (stretch 1464 k (m .rx)) bytes (takes-here image k m bytes e .fit) small)
 
     take-inside : Bytes bytes → TakeWrites image k m bytes i → Within (k * 1464) 1464 i
     take-inside small w = go (isAnswered image k m bytes) refl

@@ -107,7 +107,8 @@ module _ (image : List ℕ) (k : ℕ) where
         go false = refl
 
   -- ALL TAKES
-  pub takes-stay : (f : ℕ) (m : Machine) (bytes : List ℕ) (i : ℕ) → (SegmentWrites image k i m bytes → ⊥) → byteAt (afterTakes image k f m bytes .rx) i ≡ byteAt (m .rx) i
+  pub takes-stay : (f : ℕ) (m : Machine) (bytes : List ℕ) (i : ℕ)
+      → (SegmentWrites image k i m bytes → ⊥) → byteAt (afterTakes image k f m bytes .rx) i ≡ byteAt (m .rx) i
   unfolding afterTakes
   takes-stay zero m bytes i not = refl
   takes-stay (suc f) m bytes i not =

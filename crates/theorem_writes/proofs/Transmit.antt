@@ -44,7 +44,8 @@ module _ (image : List ℕ) (m : Machine) (pdu : ℕ) (payload : List ℕ) where
     Kept d x = (byteAt (x .memory) i ≡ byteAt (m .tx) i)
         × ((j : ℕ) → d ≤ j → j < destinations image → wantedAt image s pdu payload j ≡ true → recordAt (x .state) (dest j) ≡ recordAt s (dest j))
 
-    append-kept : (d : ℕ) (x : Sending) → recordAt (x .state) (dest d) ≡ recordAt s (dest d) → (FrameWrites image m d payload i → ⊥) → byteAt (appendOf (destinationOf image d) payload x .memory) i ≡ byteAt (x .memory) i
+    append-kept : (d : ℕ) (x : Sending) → recordAt (x .state) (dest d) ≡ recordAt s (dest d)
+        → (FrameWrites image m d payload i → ⊥) → byteAt (appendOf (destinationOf image d) payload x .memory) i ≡ byteAt (x .memory) i
     unfolding appendOf
     append-kept d x e not =
         lay-other (x .memory) (dest d * 1472 + recordAt (x .state) (dest d) .used) (frame (destinationOf image d .id) payload) i
@@ -65,10 +66,12 @@ module _ (image : List ℕ) (m : Machine) (pdu : ℕ) (payload : List ℕ) where
               ∙ kept .1 j (omega arith) u q,
         )
 
-    stored-kept : ((d : ℕ) → d < destinations image → wantedAt image s pdu payload d ≡ true → FrameWrites image m d payload i → ⊥) → byteAt (storeAll image s pdu payload (m .tx) .memory) i ≡ byteAt (m .tx) i
+    stored-kept : ((d : ℕ) → d < destinations image → wantedAt image s pdu payload d ≡ true → FrameWrites image m d payload i → ⊥)
+        → byteAt (storeAll image s pdu payload (m .tx) .memory) i ≡ byteAt (m .tx) i
     unfolding storeAll
     stored-kept not =
-        fold-goes (storeOf image s pdu payload) Kept (destinations image) 0 (sending s (m .tx)) (λ d x l u kept. store-kept not d x (omega arith) kept) (refl, λ j l u q. refl) .0
+        fold-goes (storeOf image s pdu payload) Kept (destinations image) 0 (sending s (m .tx))
+        (λ d x l u kept. store-kept not d x (omega arith) kept) (refl, λ j l u q. refl) .0
 
   -- THE EVENT
   pub sent-stays : (i : ℕ) → (WritesTx image m (onWhole (transmit pdu payload)) i → ⊥) → byteAt (sentMemory (loanTo image m) pdu payload) i ≡ byteAt (m .tx) i
@@ -78,13 +81,15 @@ module _ (image : List ℕ) (m : Machine) (pdu : ℕ) (payload : List ℕ) where
       check : Transmission
       check = checkOf image s pdu (length payload)
 
-      past : gateOf (lentTo image m) ≡ Pass → (b : Bool) → isStored check ≡ b → byteAt (cond b (storeAll image s pdu payload (m .tx)) (sending s (m .tx)) .memory) i ≡ byteAt (m .tx) i
+      past : gateOf (lentTo image m) ≡ Pass → (b : Bool) → isStored check ≡ b
+          → byteAt (cond b (storeAll image s pdu payload (m .tx)) (sending s (m .tx)) .memory) i ≡ byteAt (m .tx) i
       past g false e = refl
       past g true e =
           stored-kept (ready-from image (accepted-facts image (gate-passed (lentTo image m) g .table))) i
           (λ d l w at. not (by-transmit pdu payload d i (rw g e) l w at))
 
-      gate : (g : Gate) → gateOf (lentTo image m) ≡ g → byteAt (through g (λ r. m .tx) (cond (isStored check) (storeAll image s pdu payload (m .tx)) (sending s (m .tx)) .memory)) i ≡ byteAt (m .tx) i
+      gate : (g : Gate) → gateOf (lentTo image m) ≡ g
+          → byteAt (through g (λ r. m .tx) (cond (isStored check) (storeAll image s pdu payload (m .tx)) (sending s (m .tx)) .memory)) i ≡ byteAt (m .tx) i
       gate Pass e = past e (isStored check) refl
       gate (Refused r) e = refl
 

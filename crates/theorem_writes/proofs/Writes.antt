@@ -4,7 +4,8 @@ use mathlib.Core.Path.{_≡_, refl, ap}
 use mathlib.Core.List.{List}
 use lib.ListN.{length}
 use Rattle.wire.specs.Be.{byteAt}
-use Rattle.model.specs.Events.{Own, change, segment, walk, takeWaiting, Whole, datagram, accept, tick, transmit, switchAll, readCount, clearCount, Event, on, onWhole}
+use Rattle.model.specs.Events.{Own, change, segment, walk, takeWaiting, Whole, datagram, accept}
+use Rattle.model.specs.Events.{tick, transmit, switchAll, readCount, clearCount, Event, on, onWhole}
 use Rattle.model_refines.specs.Machine.{Machine}
 use Rattle.model_refines.specs.Run.{afterOwn, afterWhole, afterEvent}
 use Rattle.theorems.proofs.Waiting.{own-tx}

@@ -43,10 +43,12 @@ drains-used room c = go (eqb (c .used) 0) refl (not (ltb room (c .used)))
     go false e b = refl
 
 -- AN EVENT OF A CONNECTION on its record
-does-used : (T : Table) (k : ℕ) (e : Own) (h : Held) → does T k e h .to .connection .used ≡ cond (isEmptied (ownEmpties e (T .config k) (h .connection))) 0 (h .connection .used)
+does-used : (T : Table) (k : ℕ) (e : Own) (h : Held)
+    → does T k e h .to .connection .used ≡ cond (isEmptied (ownEmpties e (T .config k) (h .connection))) 0 (h .connection .used)
 unfolding does
 does-used T k (change e) h =
-    step-used e (T .config k) (h .connection) ∙ ap (λ (b : Bool). cond b 0 (h .connection .used)) (sym (if-emptied (emptiedBy e (T .config k) (h .connection)) was-lost))
+    step-used e (T .config k) (h .connection)
+    ∙ ap (λ (b : Bool). cond b 0 (h .connection .used)) (sym (if-emptied (emptiedBy e (T .config k) (h .connection)) was-lost))
 does-used T k (segment bytes) h = go (T .config k .tcp && receiving (h .connection))
   where
     go : (b : Bool) → cond b (streamed h (finely (segmentOf (routesAt T k h) (cellAt h) bytes))) (acted h []) .to .connection .used ≡ h .connection .used
@@ -64,7 +66,8 @@ does-used T k (takeWaiting room) h =
 
 -- of all records to a number, each is changed, and past it each is as it was
 module _ {A : Type 0} (d : A) (f : ℕ → A → A) (P : A → Type 0) where
-  below-or-past : (b n : ℕ) (xs : List A) (k : ℕ) → n ≤ length xs → (k < n → P (f (b + k) (getD xs k d))) → (n ≤ k → P (getD xs k d)) → P (getD (eachTo f b n xs) k d)
+  below-or-past : (b n : ℕ) (xs : List A) (k : ℕ) → n ≤ length xs
+      → (k < n → P (f (b + k) (getD xs k d))) → (n ≤ k → P (getD xs k d)) → P (getD (eachTo f b n xs) k d)
   below-or-past b zero xs k l p q = q (omega arith)
   below-or-past b (suc n) [] k l p q = absurd (omega arith)
   below-or-past b (suc n) (x ∷ xs) zero l p q = let e : b + 0 ≡ b = omega arith in subst (λ (m : ℕ). P (f m x)) e (p (omega arith))
@@ -74,15 +77,18 @@ module _ {A : Type 0} (d : A) (f : ℕ → A → A) (P : A → Type 0) where
 
 -- A TICK
 pub ticked-used : (image : List ℕ) (s : State) (j : ℕ) → rowsOf image Connections ≤ length (s .connections)
-    → recordAt (tickedTo image (rowsOf image Connections) s) j .used ≡ cond (ltb j (rowsOf image Connections) && isEmptied (emptiedAtTick (configOf image j) (recordAt s j))) 0 (recordAt s j .used)
+    → recordAt (tickedTo image (rowsOf image Connections) s) j .used
+    ≡ cond (ltb j (rowsOf image Connections) && isEmptied (emptiedAtTick (configOf image j) (recordAt s j))) 0 (recordAt s j .used)
 unfolding tickedTo
 ticked-used image s j rows =
     below-or-past zeroRecord (tickAt image)
-    (λ (c : Connection). c .used ≡ cond (ltb j (rowsOf image Connections) && isEmptied (emptiedAtTick (configOf image j) (recordAt s j))) 0 (recordAt s j .used))
+    (λ (c : Connection). c .used
+    ≡ cond (ltb j (rowsOf image Connections) && isEmptied (emptiedAtTick (configOf image j) (recordAt s j))) 0 (recordAt s j .used))
     0 (rowsOf image Connections) (s .connections) j rows
     (λ h.
     let z : 0 + j ≡ j = omega arith in
-    rw (lt-ltb _ _ h) (subst (λ (i : ℕ). tickOf (configOf image i) (recordAt s j) .used ≡ cond (isEmptied (emptiedAtTick (configOf image j) (recordAt s j))) 0 (recordAt s j .used))
+    rw (lt-ltb _ _ h) (subst
+    (λ (i : ℕ). tickOf (configOf image i) (recordAt s j) .used ≡ cond (isEmptied (emptiedAtTick (configOf image j) (recordAt s j))) 0 (recordAt s j .used))
     (sym z) (tick-used (configOf image j) (recordAt s j))))
     (λ h. rw (le-ltb _ _ h))
 

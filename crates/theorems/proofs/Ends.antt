@@ -21,7 +21,8 @@ use Rattle.lists.proofs.Each.{one-at}
 use Rattle.connection.proofs.Leaves.{after-leaves, only-loss}
 use Rattle.connection.proofs.Ticks.{Tick, closes-wanted, lets-go, goes-on, tick-is, let-go-udp, step-either}
 use Rattle.send_waiting.proofs.Taken.{take-mode}
-use Rattle.model_refines.proofs.Becomes.{Acts, acts-idle, acts-fed, acts-changed, acts-took, acts-is, Becomes, becomes-itself, as-it-was, becomes-met, becomes-ticked, becomes-switched, becomes-sent, becomes}
+use Rattle.model_refines.proofs.Becomes.{Acts, acts-idle, acts-fed, acts-changed, acts-took, acts-is, Becomes}
+use Rattle.model_refines.proofs.Becomes.{becomes-itself, as-it-was, becomes-met, becomes-ticked, becomes-switched, becomes-sent, becomes}
 use Rattle.theorems.specs.Ends.{EndsBy, by-loss, by-closing}
 
 -- still online (c after, d before)
@@ -60,7 +61,8 @@ module _ (image : List ℕ) (w : World) (k : ℕ) (tcp : configOf image k .tcp �
   unfolding step
   own-up i e ne =
       one-at blank (w .held) i k (actsAt (tableOf image) w i e .to) (λ (h : Held). Up (h .connection) c)
-      (λ q. subst (λ (j : ℕ). Up (acts (tableOf image) j e (heldAt w j) .to .connection) c) (sym q) (up-acts (configOf image k) c e _ (acts-is (tableOf image) k e (heldAt w k)) tcp (ne q)))
+      (λ q. subst (λ (j : ℕ). Up (acts (tableOf image) j e (heldAt w j) .to .connection) c) (sym q)
+      (up-acts (configOf image k) c e _ (acts-is (tableOf image) k e (heldAt w k)) tcp (ne q)))
       (λ on-line. on-line)
 
   -- an event after which it is online ends nothing
@@ -70,7 +72,8 @@ module _ (image : List ℕ) (w : World) (k : ℕ) (tcp : configOf image k .tcp �
       let behind : not (online (step (tableOf image) (wholeOf image) w e) k) ≡ true = and-right (online w k) _ q in
       false≢true (ap not (sym (up before)) ∙ behind)
 
-  still : (e : Whole) {h : Held} → heldAt (step (tableOf image) (wholeOf image) w (onWhole e)) k ≡ h → Up (h .connection) c → ends (tableOf image) (wholeOf image) k w (onWhole e) ≡ true → ⊥
+  still : (e : Whole) {h : Held} → heldAt (step (tableOf image) (wholeOf image) w (onWhole e)) k ≡ h
+      → Up (h .connection) c → ends (tableOf image) (wholeOf image) k w (onWhole e) ≡ true → ⊥
   still e is up = not-ended (onWhole e) (subst (λ (h : Held). Up (h .connection) c) (sym is) up)
 
   ends-own : (i : ℕ) (e : Own) (b : Bool) → losing e ≡ b → Dec (i ≡ k) → ends (tableOf image) (wholeOf image) k w (on i e) ≡ true → EndsBy k c (on i e)
@@ -83,7 +86,8 @@ module _ (image : List ℕ) (w : World) (k : ℕ) (tcp : configOf image k .tcp �
   ends-own i (takeWaiting room) true l (yes p) q = absurd (false≢true l)
 
   -- an event of a whole group or module, by what it makes of the connection
-  ends-whole : (e : Whole) (h : Held) → heldAt (step (tableOf image) (wholeOf image) w (onWhole e)) k ≡ h → Becomes image k (heldAt w k) e h → ends (tableOf image) (wholeOf image) k w (onWhole e) ≡ true
+  ends-whole : (e : Whole) (h : Held) → heldAt (step (tableOf image) (wholeOf image) w (onWhole e)) k ≡ h
+      → Becomes image k (heldAt w k) e h → ends (tableOf image) (wholeOf image) k w (onWhole e) ≡ true
       → EndsBy k c (onWhole e)
   ends-whole _ _ is (becomes-itself e) q = absurd (still e is (λ on-line. on-line) q)
   ends-whole _ _ is (as-it-was e) q = absurd (still e is (λ on-line. on-line) q)

@@ -1,4 +1,5 @@
--- The demands: 1 (Refusals, Refused, Numbers, Single), 2 (Waiting from Empties, Trip from Walking), 3 (Three from Runs, Ends), pieces of transfers (Pieces); uniqueness (Unique).
+-- The demands: 1 (Refusals, Refused, Numbers, Single), 2 (Waiting from Empties, Trip from Walking), 3 (Three from Runs, Ends), pieces of transfers
+-- (Pieces); uniqueness (Unique).
 pub mod Runs
 pub mod Refused
 pub mod Refusals

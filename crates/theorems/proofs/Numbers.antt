@@ -116,7 +116,8 @@ module _ (image : List ℕ) (m : Machine) where
   unfolding numbersFor among
   always k e = go (deniable e)
     where
-      go : (b : Bool) → (among 11 (changeNumbers b) ≡ true) × (among 12 (changeNumbers b) ≡ true) × (among 2 (changeNumbers b) ≡ true) × (among 0 (changeNumbers b) ≡ true)
+      go : (b : Bool) → (among 11 (changeNumbers b) ≡ true) × (among 12 (changeNumbers b) ≡ true)
+          × (among 2 (changeNumbers b) ≡ true) × (among 0 (changeNumbers b) ≡ true)
       go true = (refl, refl, refl, refl)
       go false = (refl, refl, refl, refl)
 
@@ -136,9 +137,11 @@ module _ (image : List ℕ) (m : Machine) where
       c = recordAt s k
 
       step : Bool → Bool → Stepped
-      step x y = cond (not x) (notStepped Missing c) (cond (not y) (notStepped Denied c) (record { answer = Done; connection = recordAfter e (configOf image k) c }))
+      step x y = cond (not x) (notStepped Missing c)
+          (cond (not y) (notStepped Denied c) (record { answer = Done; connection = recordAfter e (configOf image k) c }))
 
-      go : (x y : Bool) → allowed e (configOf image k) c ≡ y → Listed (on k (change e)) (answerNumber (toldOf s k (step x y .answer) (step x y .connection) .answer))
+      go : (x y : Bool) → allowed e (configOf image k) c ≡ y
+          → Listed (on k (change e)) (answerNumber (toldOf s k (step x y .answer) (step x y .connection) .answer))
       go false y p = always k e .2
       go true false p = denied k e (configOf image k) c p
       go true true p = always k e .3
@@ -146,7 +149,8 @@ module _ (image : List ℕ) (m : Machine) where
   change-listed : (k : ℕ) (e : Change) → Listed (on k (change e)) (numberOf image m (on k (change e)))
   unfolding eventOf
   change-listed k e =
-      gate-at k (λ g. Listed (on k (change e)) (answerNumber (through g (refusedTold s) (changeOf image s k e) .answer))) (step-listed k e) (always k e .0) (always k e .1)
+      gate-at k (λ g. Listed (on k (change e)) (answerNumber (through g (refusedTold s) (changeOf image s k e) .answer)))
+      (step-listed k e) (always k e .0) (always k e .1)
       (always k e .2)
 
   -- a take, a walk: 3, then 4
@@ -181,7 +185,8 @@ module _ (image : List ℕ) (m : Machine) where
   -- the waiting bytes: 9
   take-listed : (k : ℕ) (out : List ℕ) → among (takingNumber (takenWaiting (loanTo image m) k out .answer)) (11 ∷ 12 ∷ 2 ∷ 9 ∷ 0 ∷ []) ≡ true
   unfolding takenWaiting takingOf among
-  take-listed k out = gate-at k (λ g. Takes (through g (notTaken s) (takePast image s k (length out)) .answer)) (past (ltb (length out) (recordAt s k .used))) refl refl refl
+  take-listed k out = gate-at k (λ g. Takes (through g (notTaken s) (takePast image s k (length out)) .answer))
+      (past (ltb (length out) (recordAt s k .used))) refl refl refl
     where
       Takes : Taking → Type 0
       Takes t = among (takingNumber t) (11 ∷ 12 ∷ 2 ∷ 9 ∷ 0 ∷ []) ≡ true
@@ -191,7 +196,8 @@ module _ (image : List ℕ) (m : Machine) where
       past false = refl
 
   -- a datagram, an accept: 2, 3, then 10
-  arrival-listed : (a : Bool) (group : ℕ) (source : Remote) → among (arrivalNumber (arrivalOf (lentTo image m) a group source .answer)) (11 ∷ 12 ∷ 2 ∷ 3 ∷ 10 ∷ 0 ∷ []) ≡ true
+  arrival-listed : (a : Bool) (group : ℕ) (source : Remote)
+      → among (arrivalNumber (arrivalOf (lentTo image m) a group source .answer)) (11 ∷ 12 ∷ 2 ∷ 3 ∷ 10 ∷ 0 ∷ []) ≡ true
   unfolding arrivalOf arriveOf among
   arrival-listed a group source =
       gate-is (λ g. Met (through g (notMet s) (arriveOf image s a group source)))
@@ -311,7 +317,10 @@ module _ (image : List ℕ) (m : Machine) where
   number-for (on k (takeWaiting room)) = take-listed k (replicate room 0)
   number-for (onWhole (datagram group source)) = arrival-listed false group source
   number-for (onWhole (accept group source)) = arrival-listed true group source
-  number-for (onWhole tick) = gate-is (λ g. Listed (onWhole tick) (answerNumber (through g (unticked s) (tickedFrom (rowsOf image Connections) s (tickedTo image (rowsOf image Connections) s)) .answer))) refl refl refl
+  number-for (onWhole tick) =
+      gate-is (λ g. Listed (onWhole tick)
+      (answerNumber (through g (unticked s)
+      (tickedFrom (rowsOf image Connections) s (tickedTo image (rowsOf image Connections) s)) .answer))) refl refl refl
   number-for (onWhole (transmit pdu payload)) = transmit-listed pdu payload
   number-for (onWhole (switchAll n b)) = switches-listed n b
   number-for (onWhole (readCount p)) = count-listed (readFrom s) (λ b. refl) p

@@ -74,14 +74,16 @@ module _ (image : List ℕ) (k : ℕ) where
   unfolding given
   solid-event (on i (change e)) m = tt
   solid-event (on i (segment bs)) m = solid-own (eqb i k) (toldSegment image i m bs) (solid-takes image i (suc (length bs)) m bs)
-  solid-event (on i (walk d p)) m = solid-own (eqb i k) (toldWalk d (walkOf (lentTo image m) i d p .outcome)) (solid-walk d (walkOf (lentTo image m) i d p .outcome))
+  solid-event (on i (walk d p)) m =
+      solid-own (eqb i k) (toldWalk d (walkOf (lentTo image m) i d p .outcome)) (solid-walk d (walkOf (lentTo image m) i d p .outcome))
   solid-event (on i (takeWaiting room)) m = tt
   solid-event (onWhole e) m = tt
 
   pub given-solid : (m : Machine) (es : List Event) → Solid (givenIn image k m es)
   unfolding givenIn
   given-solid m [] = tt
-  given-solid m (e ∷ es) = solid-append (given image k e m) (givenIn image k (afterEvent image e m) es) (solid-event e m) (given-solid (afterEvent image e m) es)
+  given-solid m (e ∷ es) =
+      solid-append (given image k e m) (givenIn image k (afterEvent image e m) es) (solid-event e m) (given-solid (afterEvent image e m) es)
 
   -- EVERY PIECE HAS A BYTE AT LEAST
   full-own : (b : Bool) (os : List Out) → FullPieces os → FullPieces (cond b os [])
@@ -99,8 +101,10 @@ module _ (image : List ℕ) (k : ℕ) where
   full-event m good (on i (segment bs)) b =
       full-own (eqb i k) (toldSegment image i m bs)
       (subst FullPieces (sym (segment-list image i m bs (good .passed) b (λ e w. w)))
-      (full-own (ltb i (rowsOf image Connections) && (configOf image i .tcp && receiving (recordAt (m .state) i))) _ (full-segment (R image i m) (C image i m) bs)))
-  full-event m good (on i (walk d p)) b = full-own (eqb i k) (toldWalk d (walkOf (lentTo image m) i d p .outcome)) (full-walk d (walkOf (lentTo image m) i d p .outcome))
+      (full-own (ltb i (rowsOf image Connections) && (configOf image i .tcp && receiving (recordAt (m .state) i))) _
+      (full-segment (R image i m) (C image i m) bs)))
+  full-event m good (on i (walk d p)) b =
+      full-own (eqb i k) (toldWalk d (walkOf (lentTo image m) i d p .outcome)) (full-walk d (walkOf (lentTo image m) i d p .outcome))
   full-event m good (on i (takeWaiting room)) b = tt
   full-event m good (onWhole e) b = tt
 
@@ -108,7 +112,8 @@ module _ (image : List ℕ) (k : ℕ) where
   unfolding givenIn
   given-full m good [] b = tt
   given-full m good (e ∷ es) (b, bs) =
-      full-append (given image k e m) (givenIn image k (afterEvent image e m) es) (full-event m good e b) (given-full (afterEvent image e m) (event-good image m good e b) es bs)
+      full-append (given image k e m) (givenIn image k (afterEvent image e m) es)
+      (full-event m good e b) (given-full (afterEvent image e m) (event-good image m good e b) es bs)
 
   -- THE PIECES, JOINED, ARE THE BYTES OF THE TRANSFERS
   pub pieces-joined : k < rowsOf image Connections → configOf image k .tcp ≡ true → (m : Machine) → Good image m → (es : List Event) → RunBytes es

@@ -163,14 +163,16 @@ module _ (image : List ℕ) (m : Machine) where
   unfolding switchAllOf
   switches-stay n b =
       past-or StaysTold (gateOf (lentTo image m)) (refusedTold s)
-      (cond (ltb n 32) (record { answer = Done; state = switchedAll (rowsOf image Connections) n b s }) (refusedTold s Missing)) (λ r no-zero. refl) (λ _. go (ltb n 32))
+      (cond (ltb n 32) (record { answer = Done; state = switchedAll (rowsOf image Connections) n b s }) (refusedTold s Missing))
+      (λ r no-zero. refl) (λ _. go (ltb n 32))
     where
       go : (x : Bool) → StaysTold (cond x (record { answer = Done; state = switchedAll (rowsOf image Connections) n b s }) (refusedTold s Missing))
       go true no-zero = absurd (no-zero refl)
       go false no-zero = refl
 
   -- a count: read it never changes the state; cleared it does, where it is not refused
-  count-stays : (f : Bool → Counted) → ((b : Bool) → countNumber (f b .answer) ≡ 0) → (p : ℕ) → StaysCounted (through (gateOf (lentTo image m)) (uncounted s) (ofProtocol f (uncounted s Denied) p))
+  count-stays : (f : Bool → Counted) → ((b : Bool) → countNumber (f b .answer) ≡ 0) → (p : ℕ)
+      → StaysCounted (through (gateOf (lentTo image m)) (uncounted s) (ofProtocol f (uncounted s Denied) p))
   unfolding ofProtocol
   count-stays f zero p =
       past-or StaysCounted (gateOf (lentTo image m)) (uncounted s) (ofProtocol f (uncounted s Denied) p) (λ r no-zero. refl) (λ _. go (eqb p 1) (eqb p 2))
@@ -196,7 +198,8 @@ module _ (image : List ℕ) (m : Machine) where
   not-stored Sent.SwitchedOff no-zero = refl
   not-stored (Sent.RefusedAt n d) no-zero = refl
 
-  nothing-sent : (pdu : ℕ) (payload : List ℕ) → (transmissionNumber (checkOf image s pdu (length payload)) ≡ 0 → ⊥) → transmitOf image s pdu payload (m .tx) ≡ sending s (m .tx)
+  nothing-sent : (pdu : ℕ) (payload : List ℕ) → (transmissionNumber (checkOf image s pdu (length payload)) ≡ 0 → ⊥)
+      → transmitOf image s pdu payload (m .tx) ≡ sending s (m .tx)
   unfolding transmitOf
   nothing-sent pdu payload no-zero = rw (not-stored (checkOf image s pdu (length payload)) no-zero)
 
@@ -206,7 +209,8 @@ module _ (image : List ℕ) (m : Machine) where
   transmit-stays pdu payload = go (gateOf (lentTo image m))
     where
       go : (g : Gate) → (transmissionNumber (through g (notSent s) (transmittedOf image s pdu payload (m .tx)) .answer) ≡ 0 → ⊥)
-          → machine (through g (notSent s) (transmittedOf image s pdu payload (m .tx)) .state) (m .rx) (through g (λ r. m .tx) (transmitOf image s pdu payload (m .tx) .memory)) ≡ m
+          → machine (through g (notSent s) (transmittedOf image s pdu payload (m .tx)) .state)
+          (m .rx) (through g (λ r. m .tx) (transmitOf image s pdu payload (m .tx) .memory)) ≡ m
       go Gated.Pass no-zero = ap (λ (x : Sending). machine (x .state) (m .rx) (x .memory)) (nothing-sent pdu payload no-zero)
       go (Gated.Refused r) no-zero = refl
 

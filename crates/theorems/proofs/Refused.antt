@@ -27,7 +27,8 @@ use Rattle.entry_receive.specs.Answer.{isDone, judgedAnswer}
 use Rattle.entry_receive.specs.Segment.{segmentOf}
 use Rattle.entry_receive.specs.Walk.{walkAllowed, walkOf}
 use Rattle.entry_send.specs.Sending.{sendOf, sentMemory, takenWaiting}
-use Rattle.model.specs.Events.{Own, change, segment, walk, takeWaiting, Whole, datagram, accept, tick, transmit, switchAll, readCount, clearCount, Event, on, onWhole}
+use Rattle.model.specs.Events.{Own, change, segment, walk, takeWaiting, Whole, datagram, accept}
+use Rattle.model.specs.Events.{tick, transmit, switchAll, readCount, clearCount, Event, on, onWhole}
 use Rattle.model_runs.specs.Streams.{RunBytes}
 use Rattle.model_refines.specs.Machine.{Machine, lentTo}
 use Rattle.model_refines.specs.Run.{afterOwn, afterWhole, afterEvent, afterRun}

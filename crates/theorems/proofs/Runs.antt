@@ -51,13 +51,15 @@ module _ (image : List ℕ) where
       run-view (afterEvent image e m) es bs (event-good image m g e b) ∙ ap (λ (w : World). run (tableOf image) (wholeOf image) w es) (event-view image m g e b)
 
   -- .. and what the caller is given is, byte by byte, what the world hands out
-  pub run-given : (k : ℕ) (m : Machine) (es : List Event) → RunBytes es → Good image m → fine (givenIn image k m es) ≡ heard (tableOf image) (wholeOf image) k (seen m) es
+  pub run-given : (k : ℕ) (m : Machine) (es : List Event) → RunBytes es → Good image m
+      → fine (givenIn image k m es) ≡ heard (tableOf image) (wholeOf image) k (seen m) es
   unfolding givenIn heard fine
   run-given k m [] b g = refl
   run-given k m (e ∷ es) (b, bs) g =
       fine-append (given image k e m) (givenIn image k (afterEvent image e m) es)
       ∙ ap₂ _++_ (event-given image m g k e b)
-      (run-given k (afterEvent image e m) es bs (event-good image m g e b) ∙ ap (λ (w : World). heard (tableOf image) (wholeOf image) k w es) (event-view image m g e b))
+      (run-given k (afterEvent image e m) es bs (event-good image m g e b)
+      ∙ ap (λ (w : World). heard (tableOf image) (wholeOf image) k w es) (event-view image m g e b))
 
 -- swapped, cut and joined bytes are bytes
 front-bytes : (x y : List ℕ) → Bytes (x ++ y) → Bytes x
@@ -97,13 +99,18 @@ module _ (image : List ℕ) (m : Machine) (good : Good image m) {es fs : List Ev
 
 -- .. and that list is exactly demand 2's: of each online period's stream the PDUs that are complete, routed, switched on at their eighth
 -- header byte and short enough, and the transfers with their bytes so far, in order; the first stream begun with what the record holds
-module _ (image : List ℕ) (m : Machine) (good : Good image m) (es : List Event) (bytes : RunBytes es) (k : ℕ) (there : k < rowsOf image Connections) (tcp : configOf image k .tcp ≡ true) where
+module _ (image : List ℕ) (m : Machine) (good : Good image m) (es : List Event) (bytes : RunBytes es)
+    (k : ℕ) (there : k < rowsOf image Connections) (tcp : configOf image k .tcp ≡ true) where
   rests : Rests (heldAt (seen m) k)
   rests =
       let lt : k < length (m .state .connections) = omega (arith, good .sixteen, accepted-facts image (good .passed .table) .most Connections) in
-      let s : Sound (configOf image k) (recordAt (m .state) k) = row-sound image k (recordAt (m .state) k) (record-at image (m .state .connections) k (good .passed .sound) lt) there in
-      sound-rests (configOf image k) (heldAt (seen m) k) (subst (Sound (configOf image k)) (sym (ap (λ (h : Held). h .connection) (view-at (m .state) (m .rx) (m .tx) k))) s)
+      let s : Sound (configOf image k) (recordAt (m .state) k) =
+      row-sound image k (recordAt (m .state) k) (record-at image (m .state .connections) k (good .passed .sound) lt) there in
+      sound-rests (configOf image k) (heldAt (seen m) k)
+      (subst (Sound (configOf image k)) (sym (ap (λ (h : Held). h .connection) (view-at (m .state) (m .rx) (m .tx) k))) s)
 
-  pub exact-list : compared (givenIn image k m es) ≡ listedIn (lookupOf (bodyOf image Routes) k) (cellAt (heldAt (seen m) k)) (streamsOf (tableOf image) (wholeOf image) k (seen m) es)
+  pub exact-list : compared (givenIn image k m es)
+      ≡ listedIn (lookupOf (bodyOf image Routes) k) (cellAt (heldAt (seen m) k)) (streamsOf (tableOf image) (wholeOf image) k (seen m) es)
   exact-list =
-      sym (compared-fine (givenIn image k m es)) ∙ ap compared (run-given image k m es bytes good) ∙ heard-listed (tableOf image) (wholeOf image) k tcp (gentle image k tcp) (seen m) es rests bytes
+      sym (compared-fine (givenIn image k m es)) ∙ ap compared (run-given image k m es bytes good)
+      ∙ heard-listed (tableOf image) (wholeOf image) k tcp (gentle image k tcp) (seen m) es rests bytes

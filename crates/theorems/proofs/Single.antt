@@ -15,7 +15,8 @@ use Rattle.table_layout.specs.Layout.{bodyOf, partOf}
 use Rattle.table_layout.specs.declared.Kind.the-variants.{Route as RouteBody}
 use Rattle.reading.specs.declared.Decision.{Decision}
 use Rattle.reading.specs.declared.Decision.the-variants.{Accept, Refuse, Transfer}
-use Rattle.reading.specs.Feed.{Routes, header, payload, skip, Cell, cell, transfer, Out, nothing, pdu, dropped, start, piece, Fed, ready, decided, pieceDone, feed, after, stops, Took, took}
+use Rattle.reading.specs.Feed.{Routes, header, payload, skip, Cell, cell, transfer, Out, nothing, pdu, dropped}
+use Rattle.reading.specs.Feed.{start, piece, Fed, ready, decided, pieceDone, feed, after, stops, Took, took}
 use Rattle.reading.specs.Feed.{pieceBy, takeB, bytesRead, Ends, at-end, at-byte, at-seam, at-mark}
 use Rattle.reading.proofs.Cut.{take-ends, ends-take}
 use Rattle.wire.specs.Lay.{lay}
@@ -45,13 +46,17 @@ front-is a r =
 
 -- the stream's take of just these is the same take, with nothing left
 front-ends : (R : Routes) (c : Cell) (bs : List ℕ) (t : Took) → Ends R c bs t → takeB R c (take (bytesRead bs t) bs) ≡ took (t .to) (t .out) []
-front-ends R c bs t (at-end _ _ e) = ap (takeB R c) (take-all (length bs - 0) bs (omega arith)) ∙ sym (ends-take R c bs (took (after R c bs) nothing []) (at-end c bs e))
+front-ends R c bs t (at-end _ _ e) =
+    ap (takeB R c) (take-all (length bs - 0) bs (omega arith)) ∙ sym (ends-take R c bs (took (after R c bs) nothing []) (at-end c bs e))
 front-ends R c bs t (at-byte _ a b rest f e is s) =
-    ap (takeB R c) (rw (sym (append-snoc a b rest)) (front-is (a ++ b ∷ []) rest)) ∙ sym (ends-take R c (a ++ b ∷ []) (took (f .to) (f .out) []) (at-byte c a b [] f e is s))
+    ap (takeB R c) (rw (sym (append-snoc a b rest)) (front-is (a ++ b ∷ []) rest))
+    ∙ sym (ends-take R c (a ++ b ∷ []) (took (f .to) (f .out) []) (at-byte c a b [] f e is s))
 front-ends R c bs t (at-seam n r a pos lt) =
-    ap (takeB R (transfer n r)) (take-all (length a - 0) a (omega arith)) ∙ sym (ends-take R (transfer n r) a (took (transfer (n - length a) r) (piece r a false) []) (at-seam n r a pos lt))
+    ap (takeB R (transfer n r)) (take-all (length a - 0) a (omega arith))
+    ∙ sym (ends-take R (transfer n r) a (took (transfer (n - length a) r) (piece r a false) []) (at-seam n r a pos lt))
 front-ends R c bs t (at-mark n r a rest pos e) =
-    ap (takeB R (transfer n r)) (front-is a rest ∙ sym (append-nil a)) ∙ sym (ends-take R (transfer n r) (a ++ []) (took ready (piece r a true) []) (at-mark n r a [] pos e))
+    ap (takeB R (transfer n r)) (front-is a rest ∙ sym (append-nil a))
+    ∙ sym (ends-take R (transfer n r) (a ++ []) (took ready (piece r a true) []) (at-mark n r a [] pos e))
 
 front-take : (R : Routes) (c : Cell) (bs : List ℕ) → takeB R c (take (bytesRead bs (takeB R c bs)) bs) ≡ took (takeB R c bs .to) (takeB R c bs .out) []
 front-take R c bs = front-ends R c bs (takeB R c bs) (take-ends R c bs)
@@ -84,7 +89,8 @@ decided-fits (Transfer r) i (suc n) m = (omega arith, omega arith)
 feed-fits : (R : Routes) (c : Cell) (b : ℕ) → Fits (length (heldIn c) + 1) (feed R c b)
 unfolding feed pieceDone size
 feed-fits R (cell zero k) b = (omega arith, omega arith)
-feed-fits R (cell (suc zero) (header v)) b = decided-fits (R ((v * 256 + b) / 2 ^ 32) ((v * 256 + b) % 2 ^ 32)) ((v * 256 + b) / 2 ^ 32) ((v * 256 + b) % 2 ^ 32) 1
+feed-fits R (cell (suc zero) (header v)) b =
+    decided-fits (R ((v * 256 + b) / 2 ^ 32) ((v * 256 + b) % 2 ^ 32)) ((v * 256 + b) / 2 ^ 32) ((v * 256 + b) % 2 ^ 32) 1
 feed-fits R (cell (suc zero) (payload r h)) b = (omega (arith, length-append h (b ∷ [])), omega arith)
 feed-fits R (cell (suc zero) skip) b = (omega arith, omega arith)
 feed-fits R (cell (suc (suc n)) (header v)) b = (omega arith, omega arith)
@@ -113,7 +119,8 @@ take-fits R (cell n k) (b ∷ bs) = go (stops (feed R (cell n k) b .out)) (feed-
     u = takeB R (feed R c b .to) bs
 
     go : (s : Bool) → Fits (length (heldIn c) + 1) (feed R c b) → size (u .out) + length (u .rest) ≤ length (heldIn (feed R c b .to)) + length bs
-        → size (cond s (took (feed R c b .to) (feed R c b .out) bs) u .out) + length (cond s (took (feed R c b .to) (feed R c b .out) bs) u .rest) ≤ length (heldIn c) + length (b ∷ bs)
+        → size (cond s (took (feed R c b .to) (feed R c b .out) bs) u .out) + length
+        (cond s (took (feed R c b .to) (feed R c b .out) bs) u .rest) ≤ length (heldIn c) + length (b ∷ bs)
     go true f h = omega (arith, f .0)
     go false f h = omega (arith, f .1, h)
 
@@ -127,7 +134,8 @@ unfolding partOf
 part-front xs ys n le =
     rw (le-leb (length xs - n + n) (length xs) (omega arith))
     (rw (le-leb (length xs - n + n) (length (xs ++ ys)) (omega (arith, length-append xs ys)))
-    (sym (ap (take n) (drop-append-le (length xs - n) xs ys (omega arith)) ∙ take-append-le n (drop (length xs - n) xs) ys (omega (arith, length-drop (length xs - n) xs)))))
+    (sym (ap (take n) (drop-append-le (length xs - n) xs ys (omega arith))
+    ∙ take-append-le n (drop (length xs - n) xs) ys (omega (arith, length-drop (length xs - n) xs)))))
 
 -- THE TAKE OVER A STRETCH
 module _ (routes : List ℕ) (k switches : ℕ) (part : Part) (st bs : List ℕ) where
@@ -178,7 +186,8 @@ module _ (routes : List ℕ) (k switches : ℕ) (part : Part) (st bs : List ℕ)
       ∙ sym (handed-piece routes k switches part st bs r p x e)
 
   -- the payload, of the bytes read as of the segment
-  payload-front : (rx : List ℕ) → payloadOf (take n′ bs) rx k (takenOf routes k switches part st bs .outcome) ≡ payloadOf bs rx k (takenOf routes k switches part st bs .outcome)
+  payload-front : (rx : List ℕ)
+      → payloadOf (take n′ bs) rx k (takenOf routes k switches part st bs .outcome) ≡ payloadOf bs rx k (takenOf routes k switches part st bs .outcome)
   unfolding takenOf payloadOf size
   payload-front rx = go (inSegment (cellOf part st)) refl (t .out) refl within
     where

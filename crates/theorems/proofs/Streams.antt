@@ -53,7 +53,8 @@ module _ (image : List ℕ) (k : ℕ) (there : k < rowsOf image Connections) (tc
   reads-is m (on i (change e)) = refl
   reads-is m (on i (segment bs)) =
       ap (λ (c : Connection). cond (eqb i k && receiving c) (map (mark (c .switches)) bs) []) (sym (seen-c m))
-      ∙ ap₂ (λ (a b : Bool). cond (eqb i k && (a && (b && receiving (heldAt (seen m) k .connection)))) (map (mark (heldAt (seen m) k .connection .switches)) bs) [])
+      ∙ ap₂ (λ (a b : Bool). cond (eqb i k && (a && (b && receiving (heldAt (seen m) k .connection))))
+      (map (mark (heldAt (seen m) k .connection .switches)) bs) [])
       (sym (lt-ltb k (rowsOf image Connections) there)) (sym tcp)
   reads-is m (on i (walk d p)) = refl
   reads-is m (on i (takeWaiting room)) = refl

@@ -38,7 +38,8 @@ use Rattle.entry_receive.proofs.Keeps.{walk-records}
 use Rattle.entry_receive.proofs.Running.{segment-running}
 use Rattle.law_transitions.proofs.Transfers.{PartStays, event-part, switch-all-part, read-part, clear-part, arrival-part, send-part, taken-part}
 use Rattle.model.specs.World.{Held, World, blank, heldAt}
-use Rattle.model.specs.Events.{Own, change, segment, walk, takeWaiting, Whole, datagram, accept, tick, transmit, switchAll, readCount, clearCount, Event, on, onWhole}
+use Rattle.model.specs.Events.{Own, change, segment, walk, takeWaiting, Whole, datagram, accept}
+use Rattle.model.specs.Events.{tick, transmit, switchAll, readCount, clearCount, Event, on, onWhole}
 use Rattle.model.specs.Step.{actsAt, step}
 use Rattle.model.proofs.View.{view-record}
 use Rattle.model_runs.specs.Streams.{EventBytes}
@@ -80,7 +81,8 @@ module _ (image : List ℕ) (k : ℕ) where
       segment-running (loanTo image m) k bs bytes ∙ ap (λ (b : Bool). runsAfter b (taken image k m bs .outcome)) runs
 
   -- .. and so do the takes over a segment
-  takes-mark : (f : ℕ) (m : Machine) (bs : List ℕ) → Bytes bs → runsAt k m ≡ true → runsAt k (afterTakes image k f m bs) ≡ false → someMark (toldTakes image k f m bs) ≡ true
+  takes-mark : (f : ℕ) (m : Machine) (bs : List ℕ) → Bytes bs → runsAt k m ≡ true
+      → runsAt k (afterTakes image k f m bs) ≡ false → someMark (toldTakes image k f m bs) ≡ true
   unfolding afterTakes toldTakes
   takes-mark zero m bs bytes runs over = absurd (true≢false (sym runs ∙ over))
   takes-mark (suc f) m bs bytes runs over =
@@ -128,7 +130,8 @@ module _ (image : List ℕ) (k : ℕ) (m : Machine) (good : Good image m) (runs 
   unfolding step
   other i e bytes ne =
       let v : World = seen (afterEvent image (on i e) m) in
-      ap (λ (c : Connection). c .part) (sym (view-record (afterEvent image (on i e) m .state) (afterEvent image (on i e) m .rx) (afterEvent image (on i e) m .tx) k))
+      ap (λ (c : Connection). c .part)
+      (sym (view-record (afterEvent image (on i e) m .state) (afterEvent image (on i e) m .rx) (afterEvent image (on i e) m .tx) k))
       ∙ ap (λ (w : World). heldAt w k .connection .part) (event-view image m good (on i e) bytes)
       ∙ one-at blank (seen m .held) i k (actsAt (tableOf image) (seen m) i e .to) (λ (h : Held). h .connection .part ≡ recordAt (m .state) k .part)
       (λ q. absurd (ne q)) (ap (λ (c : Connection). c .part) (view-record (m .state) (m .rx) (m .tx) k))
@@ -157,7 +160,8 @@ module _ (image : List ℕ) (k : ℕ) (m : Machine) (good : Good image m) (runs 
   unfolding afterEvent afterOwn given
   own (change e) b over = changed e (empties e) refl over
   own (segment bs) b over = by-end-mark bs (rw (eq-eqb k k refl) (takes-mark image k (suc (length bs)) m bs b runs over))
-  own (walk d p) b over = absurd (part-stays (on k (walk d p)) (ap (λ (cs : List Connection). getD cs k zeroRecord .part) (walk-records (lentTo image m) k d p)) over)
+  own (walk d p) b over = absurd
+      (part-stays (on k (walk d p)) (ap (λ (cs : List Connection). getD cs k zeroRecord .part) (walk-records (lentTo image m) k d p)) over)
   own (takeWaiting room) b over = absurd (part-stays (on k (takeWaiting room)) (taken-part (loanTo image m) k k (replicate room 0)) over)
 
   -- of a whole group or module
@@ -179,6 +183,7 @@ module _ (image : List ℕ) (k : ℕ) (m : Machine) (good : Good image m) (runs 
   transfer-ends (on i e) bytes over = go (ℕ-discrete i k)
     where
       go : Dec (i ≡ k) → EndsTransfer image k m (on i e)
-      go (yes p) = subst (λ (j : ℕ). EventBytes (on j e) → runsAt k (afterEvent image (on j e) m) ≡ false → EndsTransfer image k m (on j e)) (sym p) (own e) bytes over
+      go (yes p) = subst (λ (j : ℕ). EventBytes (on j e) → runsAt k (afterEvent image (on j e) m) ≡ false → EndsTransfer image k m (on j e))
+          (sym p) (own e) bytes over
       go (no ne) = absurd (part-stays (on i e) (other i e bytes ne) over)
   transfer-ends (onWhole e) bytes over = whole e over

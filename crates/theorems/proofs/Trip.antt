@@ -80,17 +80,20 @@ module _ (image : List ℕ) (m : Machine) (good : Good image m) (k : ℕ) (reade
   read-back {ss} {ps} pieces h e bytes =
       pdus-alone (givenIn image k m (asSegments k pieces)) ps (given-solid image k m (asSegments k pieces))
       (run-given image k m (asSegments k pieces) bytes good
-      ∙ trip-pdus (tableOf image) (wholeOf image) (seen m) k reads pieces (subst (λ (d : Connection). Routed (lookupOf (bodyOf image Route) k (d .switches)) ss ps) (sym seen-c) h) e)
+      ∙ trip-pdus (tableOf image) (wholeOf image) (seen m) k reads pieces
+      (subst (λ (d : Connection). Routed (lookupOf (bodyOf image Route) k (d .switches)) ss ps) (sym seen-c) h) e)
 
   -- .. and, where routes are marked, these PDUs and whole transfers, byte by byte
   pub read-carried : {ss : List Sent} {os : List Out} (pieces : List (List ℕ)) → Carried (routesIn image (m .state) k) ss os → flatten pieces ≡ frames ss
       → RunBytes (asSegments k pieces) → fine (givenIn image k m (asSegments k pieces)) ≡ fine os
   read-carried {ss} {os} pieces h e bytes =
       run-given image k m (asSegments k pieces) bytes good
-      ∙ trip (tableOf image) (wholeOf image) (seen m) k reads pieces (subst (λ (d : Connection). Carried (lookupOf (bodyOf image Route) k (d .switches)) ss os) (sym seen-c) h) e
+      ∙ trip (tableOf image) (wholeOf image) (seen m) k reads pieces
+      (subst (λ (d : Connection). Carried (lookupOf (bodyOf image Route) k (d .switches)) ss os) (sym seen-c) h) e
 
 -- WHAT A WALK HANDS OUT, a step for each PDU; more steps meet the end and hand out nothing
-pub walk-back : (image : List ℕ) (m : Machine) → Good image m → (k : ℕ) → Walker image m k → {ss : List Sent} {ps : List Pdu} (datagram : List ℕ) → Routed (routesIn image (m .state) k) ss ps
+pub walk-back : (image : List ℕ) (m : Machine) → Good image m → (k : ℕ) → Walker image m k
+    → {ss : List Sent} {ps : List Pdu} (datagram : List ℕ) → Routed (routesIn image (m .state) k) ss ps
     → datagram ≡ frames ss → (steps : ℕ) → length ss ≤ steps → givenIn image k m (asWalks image k datagram steps m 0) ≡ map asOut ps
 walk-back image m good k walker {ss} {ps} datagram routed e steps enough =
     walks-given image k datagram m walker steps m good refl 0 (omega arith)
@@ -99,7 +102,8 @@ walk-back image m good k walker {ss} {ps} datagram routed e steps enough =
     ∙ walk-trip (routesIn image (m .state) k) routed
 
 -- BOTH TOGETHER: any run from a machine where nothing waits on connection j, and then a take of what waits
-module _ (image : List ℕ) (a : Machine) (good : Good image a) (j : ℕ) (there : j < rowsOf image Connections) (nothing : recordAt (a .state) j .used ≡ 0) (es : List Event) (bytes : RunBytes es)
+module _ (image : List ℕ) (a : Machine) (good : Good image a) (j : ℕ) (there : j < rowsOf image Connections)
+    (nothing : recordAt (a .state) j .used ≡ 0) (es : List Event) (bytes : RunBytes es)
     (out : List ℕ) where
   none-waits : waits (a .state) (a .tx) j ≡ frames []
   unfolding waitingOf frames
@@ -110,19 +114,25 @@ module _ (image : List ℕ) (a : Machine) (good : Good image a) (j : ℕ) (there
   sent-out room = out-waits image (afterRun image a es) (run-good image a es bytes good) j there out room ∙ run-frames image j a es [] bytes good none-waits
 
   -- and what is read out of them is those PDUs: cut into segments in any way
-  pub round-trip : recordAt (afterRun image a es .state) j .used ≤ length out → (image′ : List ℕ) (b : Machine) → Good image′ b → (k : ℕ) → Reader image′ b k → {ps : List Pdu}
-      → Routed (routesIn image′ (b .state) k) (sentIn image j a es []) ps → (pieces : List (List ℕ)) → flatten pieces ≡ outgoing image (afterRun image a es) j out → RunBytes (asSegments k pieces)
+  pub round-trip : recordAt (afterRun image a es .state) j .used ≤ length out
+      → (image′ : List ℕ) (b : Machine) → Good image′ b → (k : ℕ) → Reader image′ b k → {ps : List Pdu}
+      → Routed (routesIn image′ (b .state) k) (sentIn image j a es []) ps → (pieces : List (List ℕ))
+      → flatten pieces ≡ outgoing image (afterRun image a es) j out → RunBytes (asSegments k pieces)
       → givenIn image′ k b (asSegments k pieces) ≡ map asOut ps
   round-trip room image′ b good′ k reader routed pieces cut-is bytes′ = read-back image′ b good′ k reader pieces routed (cut-is ∙ sent-out room) bytes′
 
   -- .. each on a marked route as one transfer with all its bytes
-  pub carried-trip : recordAt (afterRun image a es .state) j .used ≤ length out → (image′ : List ℕ) (b : Machine) → Good image′ b → (k : ℕ) → Reader image′ b k → {os : List Out}
-      → Carried (routesIn image′ (b .state) k) (sentIn image j a es []) os → (pieces : List (List ℕ)) → flatten pieces ≡ outgoing image (afterRun image a es) j out → RunBytes (asSegments k pieces)
+  pub carried-trip : recordAt (afterRun image a es .state) j .used ≤ length out
+      → (image′ : List ℕ) (b : Machine) → Good image′ b → (k : ℕ) → Reader image′ b k → {os : List Out}
+      → Carried (routesIn image′ (b .state) k) (sentIn image j a es []) os → (pieces : List (List ℕ))
+      → flatten pieces ≡ outgoing image (afterRun image a es) j out → RunBytes (asSegments k pieces)
       → fine (givenIn image′ k b (asSegments k pieces)) ≡ fine os
   carried-trip room image′ b good′ k reader carried pieces cut-is bytes′ = read-carried image′ b good′ k reader pieces carried (cut-is ∙ sent-out room) bytes′
 
   -- or walked over as one datagram, in as many steps or more
-  pub datagram-trip : recordAt (afterRun image a es .state) j .used ≤ length out → (image′ : List ℕ) (b : Machine) → Good image′ b → (k : ℕ) → Walker image′ b k → {ps : List Pdu}
+  pub datagram-trip : recordAt (afterRun image a es .state) j .used ≤ length out
+      → (image′ : List ℕ) (b : Machine) → Good image′ b → (k : ℕ) → Walker image′ b k → {ps : List Pdu}
       → Routed (routesIn image′ (b .state) k) (sentIn image j a es []) ps → (steps : ℕ) → length (sentIn image j a es []) ≤ steps
       → givenIn image′ k b (asWalks image′ k (outgoing image (afterRun image a es) j out) steps b 0) ≡ map asOut ps
-  datagram-trip room image′ b good′ k walker routed steps enough = walk-back image′ b good′ k walker (outgoing image (afterRun image a es) j out) routed (sent-out room) steps enough
+  datagram-trip room image′ b good′ k walker routed steps enough =
+      walk-back image′ b good′ k walker (outgoing image (afterRun image a es) j out) routed (sent-out room) steps enough

@@ -26,11 +26,13 @@ use Rattle.entry_ticks.specs.declared.Ticked.{Ticked}
 use Rattle.entry_ticks.specs.Tick.{tickedTo, unticked, tickedFrom, tickEvent}
 use Rattle.entry_receive.specs.Answer.{isDone}
 use Rattle.send_waiting.specs.Waiting.{waitingOf}
-use Rattle.law_waits.specs.Waits.{waits, goesTo, framesFrom, addedTo, turned, afterAll, anyEmpties, since, emptiedAtTick, Emptied, not-emptied, emptied, isEmptied, onlyIf, turnBy}
+use Rattle.law_waits.specs.Waits.{waits, goesTo, framesFrom, addedTo, turned, afterAll, anyEmpties, since}
+use Rattle.law_waits.specs.Waits.{emptiedAtTick, Emptied, not-emptied, emptied, isEmptied, onlyIf, turnBy}
 use Rattle.law_waits.proofs.Since.{waits-since}
 use Rattle.law_turns.proofs.Entries.{transmit-turn}
 use Rattle.model.specs.World.{World, heldAt}
-use Rattle.model.specs.Events.{Own, change, segment, walk, takeWaiting, Whole, datagram, accept, tick, transmit, switchAll, readCount, clearCount, Event, on, onWhole}
+use Rattle.model.specs.Events.{Own, change, segment, walk, takeWaiting, Whole, datagram, accept}
+use Rattle.model.specs.Events.{tick, transmit, switchAll, readCount, clearCount, Event, on, onWhole}
 use Rattle.model.specs.Step.{step}
 use Rattle.model.proofs.View.{view-record, view-length}
 use Rattle.model_runs.specs.Streams.{EventBytes, RunBytes}
@@ -49,7 +51,8 @@ use Rattle.law_waits.proofs.Turns.{only-emptied}
 frames-append : (a b : List Sent) → frames (a ++ b) ≡ frames a ++ frames b
 unfolding frames
 frames-append [] b = refl
-frames-append (x ∷ a) b = ap (λ (l : List ℕ). frame (x .id) (x .body) ++ l) (frames-append a b) ∙ sym (append-assoc (frame (x .id) (x .body)) (frames a) (frames b))
+frames-append (x ∷ a) b =
+    ap (λ (l : List ℕ). frame (x .id) (x .body) ++ l) (frames-append a b) ∙ sym (append-assoc (frame (x .id) (x .body)) (frames a) (frames b))
 
 no-frames : frames [] ≡ []
 unfolding frames
@@ -61,9 +64,11 @@ module _ (image : List ℕ) (s : State) (pdu : ℕ) (payload : List ℕ) (k : �
   rows-sent zero i = refl
   rows-sent (suc n) i =
       ap₂ _++_ (go (goesTo image s pdu payload k i)) (rows-sent n (suc i))
-      ∙ sym (frames-append (cond (goesTo image s pdu payload k i) (record { id = destinationOf image i .id; body = payload } ∷ []) []) (sentFrom image s pdu payload k n (suc i)))
+      ∙ sym (frames-append (cond (goesTo image s pdu payload k i) (record { id = destinationOf image i .id; body = payload } ∷ []) [])
+      (sentFrom image s pdu payload k n (suc i)))
     where
-      go : (b : Bool) → cond b (frame (destinationOf image i .id) payload) [] ≡ frames (cond b (record { id = destinationOf image i .id; body = payload } ∷ []) [])
+      go : (b : Bool) → cond b (frame (destinationOf image i .id) payload) []
+          ≡ frames (cond b (record { id = destinationOf image i .id; body = payload } ∷ []) [])
       go true = sym (append-nil (frame (destinationOf image i .id) payload))
       go false = refl
 
@@ -71,7 +76,8 @@ module _ (image : List ℕ) (s : State) (pdu : ℕ) (payload : List ℕ) (k : �
   unfolding addedTo sentTo
   added-sent = go (isStored (checkOf image s pdu (length payload)))
     where
-      go : (b : Bool) → cond b (framesFrom image s pdu payload k (destinations image) 0) [] ≡ frames (cond b (sentFrom image s pdu payload k (destinations image) 0) [])
+      go : (b : Bool) → cond b (framesFrom image s pdu payload k (destinations image) 0) []
+          ≡ frames (cond b (sentFrom image s pdu payload k (destinations image) 0) [])
       go true = rows-sent (destinations image) 0
       go false = sym no-frames
 
@@ -79,7 +85,8 @@ module _ (image : List ℕ) (s : State) (pdu : ℕ) (payload : List ℕ) (k : �
 takes-tx : (image : List ℕ) (k f : ℕ) (m : Machine) (bs : List ℕ) → afterTakes image k f m bs .tx ≡ m .tx
 unfolding afterTakes
 takes-tx image k zero m bs = refl
-takes-tx image k (suc f) m bs = go (goesOn image k (isDone (taken image k m bs .answer)) (restOf image k m bs)) (takes-tx image k f (afterOne image k m bs) (restOf image k m bs))
+takes-tx image k (suc f) m bs =
+    go (goesOn image k (isDone (taken image k m bs .answer)) (restOf image k m bs)) (takes-tx image k f (afterOne image k m bs) (restOf image k m bs))
   where
     go : (b : Bool) → afterTakes image k f (afterOne image k m bs) (restOf image k m bs) .tx ≡ m .tx
         → cond b (afterTakes image k f (afterOne image k m bs) (restOf image k m bs)) (afterOne image k m bs) .tx ≡ m .tx
@@ -104,15 +111,18 @@ module _ (image : List ℕ) (j : ℕ) (m : Machine) (good : Good image m) where
   rows-fit = omega (arith, good .sixteen, accepted-facts image (good .passed .table) .most Connections)
 
   -- HOW MANY BYTES WAIT: by the world's step
-  after-used : (e : Event) → EventBytes e → recordAt (afterEvent image e m .state) j .used ≡ heldAt (step (tableOf image) (wholeOf image) (seen m) e) j .connection .used
+  after-used : (e : Event) → EventBytes e
+      → recordAt (afterEvent image e m .state) j .used ≡ heldAt (step (tableOf image) (wholeOf image) (seen m) e) j .connection .used
   after-used e b =
       ap (λ (d : Connection). d .used) (sym (view-record (afterEvent image e m .state) (afterEvent image e m .rx) (afterEvent image e m .tx) j))
       ∙ ap (λ (w : World). heldAt w j .connection .used) (event-view image m good e b)
 
-  own-after : (k : ℕ) (e : Own) → EventBytes (on k e) → recordAt (afterEvent image (on k e) m .state) j .used ≡ cond (isEmptied (emptiesBy image j m (on k e))) 0 (c .used)
+  own-after : (k : ℕ) (e : Own) → EventBytes (on k e)
+      → recordAt (afterEvent image (on k e) m .state) j .used ≡ cond (isEmptied (emptiesBy image j m (on k e))) 0 (c .used)
   own-after k e b =
       after-used (on k e) b
-      ∙ subst (λ (d : Connection). heldAt (step (tableOf image) (wholeOf image) (seen m) (on k e)) j .connection .used ≡ cond (isEmptied (onlyIf (eqb k j && ltb j (rowsOf image Connections)) (ownEmpties e (configOf image j) d))) 0 (d .used)) seen-c
+      ∙ subst (λ (d : Connection). heldAt (step (tableOf image) (wholeOf image) (seen m) (on k e)) j .connection .used
+      ≡ cond (isEmptied (onlyIf (eqb k j && ltb j (rowsOf image Connections)) (ownEmpties e (configOf image j) d))) 0 (d .used)) seen-c
       (own-used image (seen m) j k e (omega (arith, rows-fit, view-length (m .rx) (m .tx) 0 (m .state .connections))))
 
   whole-after : (e : Whole) → leavesAll e ≡ true → recordAt (afterEvent image (onWhole e) m .state) j .used ≡ c .used
@@ -122,12 +132,14 @@ module _ (image : List ℕ) (j : ℕ) (m : Machine) (good : Good image m) where
   unfolding afterEvent afterWhole tickEvent
   tick-after =
       ap (λ (t : Ticked). recordAt (t .state) j .used)
-      (past (loanTo image m) (unticked (m .state)) (tickedFrom (rowsOf image Connections) (m .state) (tickedTo image (rowsOf image Connections) (m .state))) (good .passed))
+      (past (loanTo image m) (unticked (m .state))
+      (tickedFrom (rowsOf image Connections) (m .state) (tickedTo image (rowsOf image Connections) (m .state))) (good .passed))
       ∙ ticked-used image (m .state) j rows-fit
       ∙ ap (λ (b : Bool). cond b 0 (c .used)) (sym (only-emptied (ltb j (rowsOf image Connections)) (emptiedAtTick (configOf image j) c)))
 
   -- AN EVENT THAT ADDS NOTHING, and the bytes themselves
-  kept-waits : (e : Event) → addsBy image j m e ≡ [] → afterEvent image e m .tx ≡ m .tx → recordAt (afterEvent image e m .state) j .used ≡ cond (isEmptied (emptiesBy image j m e)) 0 (c .used)
+  kept-waits : (e : Event) → addsBy image j m e ≡ [] → afterEvent image e m .tx ≡ m .tx
+      → recordAt (afterEvent image e m .state) j .used ≡ cond (isEmptied (emptiesBy image j m e)) 0 (c .used)
       → waits (afterEvent image e m .state) (afterEvent image e m .tx) j ≡ turned (turnOf image j m e) (waits (m .state) (m .tx) j)
   unfolding waitingOf
   kept-waits e none tx used = go (emptiesBy image j m e) used
@@ -141,16 +153,19 @@ module _ (image : List ℕ) (j : ℕ) (m : Machine) (good : Good image m) where
           ∙ ap (λ (l : List ℕ). waits (m .state) (m .tx) j ++ l) (sym (ap frames none ∙ no-frames))
 
   -- A TRANSMIT
-  transmit-waits : (pdu : ℕ) (payload : List ℕ) → waits (afterEvent image (onWhole (transmit pdu payload)) m .state) (afterEvent image (onWhole (transmit pdu payload)) m .tx) j
+  transmit-waits : (pdu : ℕ) (payload : List ℕ)
+      → waits (afterEvent image (onWhole (transmit pdu payload)) m .state) (afterEvent image (onWhole (transmit pdu payload)) m .tx) j
       ≡ turned (turnOf image j m (onWhole (transmit pdu payload))) (waits (m .state) (m .tx) j)
   unfolding afterEvent afterWhole
   transmit-waits pdu payload =
       transmit-turn (loanTo image m) pdu payload (good .sixteen) (good .passed .sound) j
-      ∙ ap (λ (g : Gate). waits (m .state) (m .tx) j ++ through g (λ r. []) (addedTo image (m .state) pdu payload j)) (passed-gate (lentTo image m) (good .passed))
+      ∙ ap (λ (g : Gate). waits (m .state) (m .tx) j ++ through g (λ r. []) (addedTo image (m .state) pdu payload j))
+      (passed-gate (lentTo image m) (good .passed))
       ∙ ap (λ (l : List ℕ). waits (m .state) (m .tx) j ++ l) (added-sent image (m .state) pdu payload j)
 
   -- ANY EVENT
-  pub event-waits : (e : Event) → EventBytes e → waits (afterEvent image e m .state) (afterEvent image e m .tx) j ≡ turned (turnOf image j m e) (waits (m .state) (m .tx) j)
+  pub event-waits : (e : Event) → EventBytes e
+      → waits (afterEvent image e m .state) (afterEvent image e m .tx) j ≡ turned (turnOf image j m e) (waits (m .state) (m .tx) j)
   unfolding afterEvent afterWhole
   event-waits (on k e) b = kept-waits (on k e) refl (own-tx image k e m) (own-after k e b)
   event-waits (onWhole (datagram group source)) b = kept-waits (onWhole (datagram group source)) refl refl (whole-after (datagram group source) refl)
@@ -167,7 +182,8 @@ turns-waits : (image : List ℕ) (j : ℕ) (m : Machine) (es : List Event) → R
 unfolding afterRun turnsOf
 turns-waits image j m [] b g = refl
 turns-waits image j m (e ∷ es) (b, bs) g =
-    turns-waits image j (afterEvent image e m) es bs (event-good image m g e b) ∙ ap (afterAll (turnsOf image j (afterEvent image e m) es)) (event-waits image j m g e b)
+    turns-waits image j (afterEvent image e m) es bs (event-good image m g e b)
+    ∙ ap (afterAll (turnsOf image j (afterEvent image e m) es)) (event-waits image j m g e b)
 
 pub run-waits : (image : List ℕ) (j : ℕ) (m : Machine) (es : List Event) → RunBytes es → Good image m
     → waits (afterRun image m es .state) (afterRun image m es .tx) j
@@ -175,14 +191,16 @@ pub run-waits : (image : List ℕ) (j : ℕ) (m : Machine) (es : List Event) →
 run-waits image j m es b g = turns-waits image j m es b g ∙ waits-since (turnsOf image j m es) (waits (m .state) (m .tx) j)
 
 -- BY NAME: where the frames of ss wait at the start, those of `sentIn` wait after the run
-turned-sent : (image : List ℕ) (j : ℕ) (m : Machine) (e : Event) (ss : List Sent) → turned (turnOf image j m e) (frames ss) ≡ frames (cond (isEmptied (emptiesBy image j m e)) [] (ss ++ addsBy image j m e))
+turned-sent : (image : List ℕ) (j : ℕ) (m : Machine) (e : Event) (ss : List Sent)
+    → turned (turnOf image j m e) (frames ss) ≡ frames (cond (isEmptied (emptiesBy image j m e)) [] (ss ++ addsBy image j m e))
 turned-sent image j m e ss = go (emptiesBy image j m e)
   where
     go : (x : Emptied) → turned (turnBy x (frames (addsBy image j m e))) (frames ss) ≡ frames (cond (isEmptied x) [] (ss ++ addsBy image j m e))
     go (emptied why) = sym no-frames
     go not-emptied = sym (frames-append ss (addsBy image j m e))
 
-turns-sent : (image : List ℕ) (j : ℕ) (m : Machine) (es : List Event) (ss : List Sent) → afterAll (turnsOf image j m es) (frames ss) ≡ frames (sentIn image j m es ss)
+turns-sent : (image : List ℕ) (j : ℕ) (m : Machine) (es : List Event) (ss : List Sent)
+    → afterAll (turnsOf image j m es) (frames ss) ≡ frames (sentIn image j m es ss)
 unfolding turnsOf sentIn
 turns-sent image j m [] ss = refl
 turns-sent image j m (e ∷ es) ss =

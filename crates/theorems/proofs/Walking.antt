@@ -41,7 +41,8 @@ told-found d (a-pdu r p n i) = refl
 told-found d (a-drop q i n) = refl
 
 -- steps past the end give nothing more
-pub walks-more : (R : Routes) (n f : ℕ) (d : List ℕ) (p : ℕ) → n ≤ f → walkAt R d (placeAfterSteps R n d p) ≡ walked the-end (length d) → walks R f d p ≡ walks R n d p
+pub walks-more : (R : Routes) (n f : ℕ) (d : List ℕ) (p : ℕ) → n ≤ f
+    → walkAt R d (placeAfterSteps R n d p) ≡ walked the-end (length d) → walks R f d p ≡ walks R n d p
 unfolding walks placeAfterSteps
 walks-more R zero zero d p l e = refl
 walks-more R zero (suc f) d p l e = ap (λ (w : Walked). outsTold d (w .found) (walks R f d (w .next))) e
@@ -53,7 +54,8 @@ then-later : (R : Routes) (f : ℕ) (d : List ℕ) (p : ℕ) → outsTold d (wal
 unfolding walks walkAt placeAfterSteps
 then-later R f d p = go (headOf (drop p d))
   where
-    decided : (q : Decision) (i n : ℕ) → outsTold d (wholeAt q p i n .found) [] ++ walks R f d (wholeAt q p i n .next) ≡ outsTold d (wholeAt q p i n .found) (walks R f d (wholeAt q p i n .next))
+    decided : (q : Decision) (i n : ℕ) → outsTold d (wholeAt q p i n .found) [] ++ walks R f d (wholeAt q p i n .next)
+        ≡ outsTold d (wholeAt q p i n .found) (walks R f d (wholeAt q p i n .next))
     decided (Accept r) i n = refl
     decided (Refuse k) i n = refl
     decided (Transfer r) i n = refl
@@ -107,12 +109,14 @@ module _ (image : List ℕ) (k : ℕ) (d : List ℕ) (start : Machine) (walker :
     still-same = walk-records (lentTo image m) k d p ∙ same
 
   -- ANY NUMBER OF STEPS
-  pub walks-given : (f : ℕ) (m : Machine) → Good image m → m .state .connections ≡ start .state .connections → (p : ℕ) → p ≤ length d → givenIn image k m (asWalks image k d f m p) ≡ walks (routesIn image (start .state) k) f d p
+  pub walks-given : (f : ℕ) (m : Machine) → Good image m → m .state .connections ≡ start .state .connections → (p : ℕ)
+      → p ≤ length d → givenIn image k m (asWalks image k d f m p) ≡ walks (routesIn image (start .state) k) f d p
   unfolding givenIn asWalks walks
   walks-given zero m good same p within = refl
   walks-given (suc f) m good same p within =
       ap₂ _++_ (given-here m good same p within)
-      (walks-given f (afterEvent image (on k (walk d p)) m) (event-good image m good (on k (walk d p)) tt) (still-same m good same p within) (w m good same p within .next)
+      (walks-given f (afterEvent image (on k (walk d p)) m) (event-good image m good (on k (walk d p)) tt)
+      (still-same m good same p within) (w m good same p within .next)
       (subst (λ (q : ℕ). q ≤ length d) (sym (next-is m good same p within)) (next-within R d p within))
       ∙ ap (λ (q : ℕ). walks R f d q) (next-is m good same p within))
       ∙ then-later R f d p

@@ -90,7 +90,8 @@ lay-lay d at m x y e h =
     ∙ sym (lay-fits d at (x ++ y) (omega arith))
 
 -- what is laid, with the part from base on that ends where it begins
-pub lay-held : (d : List ℕ) (base used : ℕ) (x : List ℕ) → base + used + length x ≤ length d → take (used + length x) (drop base (lay d (base + used) x)) ≡ take used (drop base d) ++ x
+pub lay-held : (d : List ℕ) (base used : ℕ) (x : List ℕ) → base + used + length x ≤ length d
+    → take (used + length x) (drop base (lay d (base + used) x)) ≡ take used (drop base d) ++ x
 lay-held d base used x h =
     let n : length (take base d) ≡ base = length-take-le base d (omega arith) in
     let m : length (take used (drop base d)) ≡ used = length-take-le used (drop base d) (omega (arith, length-drop base d)) in
@@ -98,7 +99,8 @@ lay-held d base used x h =
     lay-fits d (base + used) x h ∙ ap (λ (z : List ℕ). z ++ x ++ drop (base + used + length x) d) (take-add base used d) ∙ simp append-assoc in
     ap (λ (z : List ℕ). take (used + length x) (drop base z)) e
     ∙ ap (take (used + length x)) (drop-at (take base d) (take used (drop base d) ++ x ++ drop (base + used + length x) d) base n)
-    ∙ take-at (take used (drop base d) ++ x) (drop (base + used + length x) d) (used + length x) (length-append (take used (drop base d)) x ∙ ap (λ (k : ℕ). k + length x) m)
+    ∙ take-at (take used (drop base d) ++ x) (drop (base + used + length x) d) (used + length x)
+    (length-append (take used (drop base d)) x ∙ ap (λ (k : ℕ). k + length x) m)
 
 -- what is laid, by itself
 pub lay-own : (d : List ℕ) (at : ℕ) (x : List ℕ) → at + length x ≤ length d → take (length x) (drop at (lay d at x)) ≡ x

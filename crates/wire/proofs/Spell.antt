@@ -3,7 +3,8 @@ use Prim.Native.Nat.{ℕ, zero, suc, _+_, _*_, _/_, _%_, _^_, _≤_, _<_}
 use mathlib.Core.Path.{_≡_, refl, sym, ap, ap₂, _∙_}
 use mathlib.Core.List.{List, [], _∷_, _++_, append-assoc, append-nil}
 use native.Mathlib.Omega.{arith}
-use native.Mathlib.Nat.{add-zero, add-suc, mul-one, mul-assoc, pow-zero, pow-suc, div-add-mod', div-lt-iff-lt-mul, mul-add-div-right, mul-add-mod-self-right, mod-eq-of-lt, mod-lt}
+use native.Mathlib.Nat.{add-zero, add-suc, mul-one, mul-assoc, pow-zero, pow-suc}
+use native.Mathlib.Nat.{div-add-mod', div-lt-iff-lt-mul, mul-add-div-right, mul-add-mod-self-right, mod-eq-of-lt, mod-lt}
 use lib.Arith.{digits-div, digits-mod}
 use lib.ListN.{length, take, drop, set, length-append, length-drop}
 use lib.Seq.{getD-append-add, getD-at, getD-drop, take-suc, length-take-le}
@@ -49,7 +50,8 @@ pub put-join : (m n : ℕ) (d e f : List ℕ) (at v : ℕ) → at + (m + n) ≤ 
     → e ≡ lay d at (spell m (v / 256 ^ n)) → f ≡ lay e (at + m) (spell n (v % 256 ^ n)) → 0 < 256 ^ n → f ≡ lay d at (spell (m + n) v)
 put-join m n d e f at v h p q pos =
     q ∙ ap (λ (l : List ℕ). lay l (at + m) (spell n (v % 256 ^ n))) p
-    ∙ lay-lay d at (at + m) (spell m (v / 256 ^ n)) (spell n (v % 256 ^ n)) (omega (arith, length-spell m (v / 256 ^ n))) (omega (arith, length-spell n (v % 256 ^ n)))
+    ∙ lay-lay d at (at + m) (spell m (v / 256 ^ n)) (spell n (v % 256 ^ n))
+    (omega (arith, length-spell m (v / 256 ^ n))) (omega (arith, length-spell n (v % 256 ^ n)))
     ∙ ap (lay d at) (sym (spell-join m n (v / 256 ^ n) (v % 256 ^ n) (mod-lt v pos)) ∙ ap (spell (m + n)) (div-add-mod' v (256 ^ n)))
 
 -- reading what was spelt, at any width and after any bytes
@@ -58,7 +60,8 @@ unfolding be spell
 be-spell zero v a r h = omega arith
 be-spell (suc w) v a r h =
     let small : v / 256 < 256 ^ w = quotient v 256 (256 ^ w) (omega arith) (rw pow-suc at h) in
-    let s : a ++ ((spell w (v / 256) ++ (v % 256 ∷ [])) ++ r) ≡ a ++ (spell w (v / 256) ++ (v % 256 ∷ r)) = ap (λ (x : List ℕ). a ++ x) (append-assoc (spell w (v / 256)) (v % 256 ∷ []) r) in
+    let s : a ++ ((spell w (v / 256) ++ (v % 256 ∷ [])) ++ r) ≡ a ++ (spell w (v / 256) ++ (v % 256 ∷ r)) =
+    ap (λ (x : List ℕ). a ++ x) (append-assoc (spell w (v / 256)) (v % 256 ∷ []) r) in
     rw s
     (ap₂ (λ (x y : ℕ). x * 256 + y) (be-spell w (v / 256) a (v % 256 ∷ r) small)
     (getD-append-add a (spell w (v / 256) ++ (v % 256 ∷ r)) w 0 ∙ getD-at (spell w (v / 256)) (v % 256) r 0 w (length-spell w (v / 256)))
@@ -69,7 +72,8 @@ pub be-lay : (w : ℕ) (d : List ℕ) (at v : ℕ) → at + w ≤ length d → v
 be-lay w d at v h s =
     let x : List ℕ = spell w v in
     let n : length (take at d) ≡ at = length-take-le at d (omega arith) in
-    ap (λ (l : List ℕ). be w l at) (lay-fits d at (spell w v) (omega (arith, length-spell w v)) ∙ append-assoc (take at d) (spell w v) (drop (at + length (spell w v)) d))
+    ap (λ (l : List ℕ). be w l at)
+    (lay-fits d at (spell w v) (omega (arith, length-spell w v)) ∙ append-assoc (take at d) (spell w v) (drop (at + length (spell w v)) d))
     ∙ ap (be w (take at d ++ (spell w v ++ drop (at + length (spell w v)) d))) (sym n)
     ∙ be-spell w v (take at d) (drop (at + length (spell w v)) d) s
 

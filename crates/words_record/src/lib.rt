@@ -1,5 +1,6 @@
 // Every record that a table has a row for, and both drop counts, as lines of text: the end of what programs print (docs/EVENTS.md, "What `./soad
-// run` prints"; the patterns are those of crate words). A record is spelt first as a start state spells it. Proved to be safe and to return; the words are tried by stored output.
+// run` prints"; the patterns are those of crate words). A record is spelt first as a start state spells it. Proved to be safe and to return; the
+// words are tried by stored output.
 use connection::Connection;
 use connection::Mode;
 use connection::Watch;

@@ -1,5 +1,6 @@
 // The tale of a replay, entry by entry, and its lines (docs/RECORDING.md, "What a replay prints"; the patterns are those of crate words, over a
-// contents row: stamp 4, event number 2, zero 2, body length 4; or over the whole contents: edition 2, entries 2). Proved to be safe and to return; the words are tried by stored output.
+// contents row: stamp 4, event number 2, zero 2, body length 4; or over the whole contents: edition 2, entries 2). Proved to be safe and to return;
+// the words are tried by stored output.
 ghost use Prim.Native.Nat.{_≤_};
 use recording::Fault;
 use recording::Front;

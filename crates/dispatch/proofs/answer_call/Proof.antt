@@ -3,7 +3,8 @@ use mathlib.Core.Path.{refl}
 use Rattle.gate.specs.Lent.{loan}
 use Rattle.dispatch.specs.Dispatch.{effectOf}
 use Rattle.dispatch_receive.proofs.Room.{segment-sent, walk-kept}
-use Rattle.dispatch.proofs.Kept.{own-kept, lost-kept, ticks-kept, switch-all-kept, read-kept, clear-kept, datagram-kept, accept-kept, take-kept, transmit-kept}
+use Rattle.dispatch.proofs.Kept.{own-kept, lost-kept, ticks-kept, switch-all-kept, read-kept}
+use Rattle.dispatch.proofs.Kept.{clear-kept, datagram-kept, accept-kept, take-kept, transmit-kept}
 use borrow.Author.Needs.{needs}
 use Rattle.dispatch.proofs.answer_call.Statement.{statement}
 use Rattle.dispatch.proofs.answer_call.Tie as tie
@@ -117,7 +118,8 @@ same-length-3 c = search needs
 
 returns-3 : tie.Need-returns-3
 unfolding effectOf
-returns-3 c = let p = c .before .before .many-ticks .ensures in let k = ticks-kept _ _ _ in rw (c .before .before .before .before .before .before .before .call .given .1) (p .0, (k .0, (k .1, p .1)))
+returns-3 c = let p = c .before .before .many-ticks .ensures in let k = ticks-kept _ _ _ in
+    rw (c .before .before .before .before .before .before .before .call .given .1) (p .0, (k .0, (k .1, p .1)))
 
 same-length-4 : tie.Need-same-length-4
 same-length-4 c = search needs
@@ -130,7 +132,8 @@ same-length-6 c = search needs
 
 returns-4 : tie.Need-returns-4
 unfolding effectOf
-returns-4 c = let p = c .before .before .own .ensures in let k = own-kept _ _ _ _ in rw (c .before .before .before .before .before .before .before .call2 .given .1) (p .0, (k .0, (k .1, p .1)))
+returns-4 c = let p = c .before .before .own .ensures in let k = own-kept _ _ _ _ in
+    rw (c .before .before .before .before .before .before .before .call2 .given .1) (p .0, (k .0, (k .1, p .1)))
 
 same-length-7 : tie.Need-same-length-7
 same-length-7 c = search needs
@@ -143,7 +146,8 @@ same-length-9 c = search needs
 
 returns-5 : tie.Need-returns-5
 unfolding effectOf
-returns-5 c = let p = c .before .before .lost .ensures in let k = lost-kept _ _ _ in rw (c .before .before .before .before .before .before .before .call3 .given .1) (p .0, (k .0, (k .1, p .1)))
+returns-5 c = let p = c .before .before .lost .ensures in let k = lost-kept _ _ _ in
+    rw (c .before .before .before .before .before .before .before .call3 .given .1) (p .0, (k .0, (k .1, p .1)))
 
 same-length-10 : tie.Need-same-length-10
 same-length-10 c = search needs
@@ -156,7 +160,13 @@ same-length-12 c = search needs
 
 returns-6 : tie.Need-returns-6
 unfolding effectOf
-returns-6 c = let a = c .before .before .before .before .before .before .before .before .before .before .before .before .before .before .before .before .before .args in let p = c .before .before .before .before .segment .ensures in rw (c .before .before .before .before .before .before .before .before .before .before .call4 .given .1, ← c .before .before .before .before .before .before .bytes-from .ensures .0) (p .0, (p .1 .0, (segment-sent (loan (a .image .now) (a .state) (a .rx .now) (a .tx .now)) _ _ _, p .1 .1)))
+returns-6 c = let a = c .before .before .before .before .before .before .before .before .before .before .before .before .before .before .before .before
+    .before .args in let p = c .before .before .before .before .segment .ensures in
+    rw (
+      c .before .before .before .before .before .before .before .before .before .before .call4 .given .1,
+      ← c .before .before .before .before .before .before .bytes-from .ensures .0,
+    )
+    (p .0, (p .1 .0, (segment-sent (loan (a .image .now) (a .state) (a .rx .now) (a .tx .now)) _ _ _, p .1 .1)))
 
 same-length-13 : tie.Need-same-length-13
 same-length-13 c = search needs
@@ -169,7 +179,9 @@ same-length-15 c = search needs
 
 returns-7 : tie.Need-returns-7
 unfolding effectOf
-returns-7 c = let p = c .before .before .walk .ensures in let w = walk-kept _ _ _ _ _ in rw (c .before .before .before .before .before .before .before .before .call5 .given .1, ← c .before .before .before .before .bytes-from2 .ensures .0) (p .0, (w .0, (w .1, p .1)))
+returns-7 c = let p = c .before .before .walk .ensures in let w = walk-kept _ _ _ _ _ in
+    rw (c .before .before .before .before .before .before .before .before .call5 .given .1, ← c .before .before .before .before .bytes-from2 .ensures .0)
+    (p .0, (w .0, (w .1, p .1)))
 
 same-length-16 : tie.Need-same-length-16
 same-length-16 c = search needs
@@ -182,7 +194,8 @@ same-length-18 c = search needs
 
 returns-8 : tie.Need-returns-8
 unfolding effectOf
-returns-8 c = let p = c .before .before .take-waiting .ensures in let k = take-kept _ _ _ _ in rw (c .before .before .before .before .before .before .before .call6 .given .1) (p .0, (k .0, (k .1, p .1)))
+returns-8 c = let p = c .before .before .take-waiting .ensures in let k = take-kept _ _ _ _ in
+    rw (c .before .before .before .before .before .before .before .call6 .given .1) (p .0, (k .0, (k .1, p .1)))
 
 same-length-19 : tie.Need-same-length-19
 same-length-19 c = search needs
@@ -195,7 +208,8 @@ same-length-21 c = search needs
 
 returns-9 : tie.Need-returns-9
 unfolding effectOf
-returns-9 c = let p = c .before .before .datagram .ensures in let k = datagram-kept _ _ _ _ in rw (c .before .before .before .before .before .before .before .call7 .given .1) (p .0, (k .0, (k .1, p .1)))
+returns-9 c = let p = c .before .before .datagram .ensures in let k = datagram-kept _ _ _ _ in
+    rw (c .before .before .before .before .before .before .before .call7 .given .1) (p .0, (k .0, (k .1, p .1)))
 
 same-length-22 : tie.Need-same-length-22
 same-length-22 c = search needs
@@ -208,7 +222,8 @@ same-length-24 c = search needs
 
 returns-10 : tie.Need-returns-10
 unfolding effectOf
-returns-10 c = let p = c .before .before .accept .ensures in let k = accept-kept _ _ _ _ in rw (c .before .before .before .before .before .before .before .call8 .given .1) (p .0, (k .0, (k .1, p .1)))
+returns-10 c = let p = c .before .before .accept .ensures in let k = accept-kept _ _ _ _ in
+    rw (c .before .before .before .before .before .before .before .call8 .given .1) (p .0, (k .0, (k .1, p .1)))
 
 same-length-25 : tie.Need-same-length-25
 same-length-25 c = search needs
@@ -221,7 +236,11 @@ same-length-27 c = search needs
 
 returns-11 : tie.Need-returns-11
 unfolding effectOf
-returns-11 c = let p = c .before .before .before .before .transmit .ensures in rw (c .before .before .before .before .before .before .before .before .before .before .call9 .given .1, ← c .before .before .before .before .before .before .bytes-from3 .ensures .0) (p .0, (transmit-kept _ _ _ _, (p .1 .0, p .1 .1)))
+returns-11 c = let p = c .before .before .before .before .transmit .ensures in
+    rw (
+      c .before .before .before .before .before .before .before .before .before .before .call9 .given .1,
+      ← c .before .before .before .before .before .before .bytes-from3 .ensures .0,
+    ) (p .0, (transmit-kept _ _ _ _, (p .1 .0, p .1 .1)))
 
 same-length-28 : tie.Need-same-length-28
 same-length-28 c = search needs
@@ -234,7 +253,8 @@ same-length-30 c = search needs
 
 returns-12 : tie.Need-returns-12
 unfolding effectOf
-returns-12 c = let p = c .before .before .switch-all .ensures in let k = switch-all-kept _ _ _ _ in rw (c .before .before .before .before .before .before .before .call10 .given .1) (p .0, (k .0, (k .1, p .1)))
+returns-12 c = let p = c .before .before .switch-all .ensures in let k = switch-all-kept _ _ _ _ in
+    rw (c .before .before .before .before .before .before .before .call10 .given .1) (p .0, (k .0, (k .1, p .1)))
 
 same-length-31 : tie.Need-same-length-31
 same-length-31 c = search needs
@@ -247,7 +267,8 @@ same-length-33 c = search needs
 
 returns-13 : tie.Need-returns-13
 unfolding effectOf
-returns-13 c = let p = c .before .before .read-count .ensures in let k = read-kept _ _ _ in rw (c .before .before .before .before .before .before .before .call11 .given .1) (p .0, (k .0, (k .1, p .1)))
+returns-13 c = let p = c .before .before .read-count .ensures in let k = read-kept _ _ _ in
+    rw (c .before .before .before .before .before .before .before .call11 .given .1) (p .0, (k .0, (k .1, p .1)))
 
 same-length-34 : tie.Need-same-length-34
 same-length-34 c = search needs
@@ -260,7 +281,8 @@ same-length-36 c = search needs
 
 returns-14 : tie.Need-returns-14
 unfolding effectOf
-returns-14 c = let p = c .before .before .clear-count .ensures in let k = clear-kept _ _ _ in rw (c .before .before .before .before .before .before .before .call12 .given .1) (p .0, (k .0, (k .1, p .1)))
+returns-14 c = let p = c .before .before .clear-count .ensures in let k = clear-kept _ _ _ in
+    rw (c .before .before .before .before .before .before .before .call12 .given .1) (p .0, (k .0, (k .1, p .1)))
 
 pub answer-call-spec : {M : Type 1} → statement M
 answer-call-spec =

@@ -27,7 +27,11 @@ same-length-3 c = search needs
 
 returns-2 : tie.Need-returns-2
 unfolding dispatchOf
-returns-2 c = let p = c .before .before .before .before .before .before .answer-call .ensures in rw (le-ltb _ _ (c .before .before .before .before .before .before .before .before .before .before .before .if1 .left), ← c .before .before .before .before .before .before .before .before .before .before .call-of .ensures) (p .0, (p .1 .0, (p .1 .1 .0, p .1 .1 .1)))
+returns-2 c = let p = c .before .before .before .before .before .before .answer-call .ensures in
+    rw (
+      le-ltb _ _ (c .before .before .before .before .before .before .before .before .before .before .before .if1 .left),
+      ← c .before .before .before .before .before .before .before .before .before .before .call-of .ensures,
+    ) (p .0, (p .1 .0, (p .1 .1 .0, p .1 .1 .1)))
 
 pub dispatch-spec : {M : Type 1} → statement M
 dispatch-spec =

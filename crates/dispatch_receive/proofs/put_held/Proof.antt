@@ -16,13 +16,23 @@ add-long : tie.Need-add-long
 add-long c = omega arith
 
 returns : tie.Need-returns
-returns c = let a = c .before .before .before .args in (place-stays (length (a .out .now)) (a .place) (length (heldBytes (a .read) (a .route) (a .id) (a .n) (a .payload .now))) (omega (arith, length-held (a .read) (a .route) (a .id) (a .n) (a .payload .now))), unlaid (a .out .now) (a .place) (length (a .payload .now) + 15) (heldBytes (a .read) (a .route) (a .id) (a .n) (a .payload .now)) (length-held (a .read) (a .route) (a .id) (a .n) (a .payload .now)) (omega arith))
+returns c = let a = c .before .before .before .args in (
+  place-stays (length (a .out .now)) (a .place) (length (heldBytes (a .read) (a .route) (a .id) (a .n) (a .payload .now)))
+      (omega (arith, length-held (a .read) (a .route) (a .id) (a .n) (a .payload .now))),
+  unlaid (a .out .now) (a .place) (length (a .payload .now) + 15)
+      (heldBytes (a .read) (a .route) (a .id) (a .n) (a .payload .now)) (length-held (a .read) (a .route) (a .id) (a .n) (a .payload .now)) (omega arith),
+)
 
 sub-if2 : tie.Need-sub-if2
 sub-if2 c = search needs
 
 returns-2 : tie.Need-returns-2
-returns-2 c = let a = c .before .before .before .before .args in (place-stays (length (a .out .now)) (a .place) (length (heldBytes (a .read) (a .route) (a .id) (a .n) (a .payload .now))) (omega (arith, length-held (a .read) (a .route) (a .id) (a .n) (a .payload .now))), unlaid (a .out .now) (a .place) (length (a .payload .now) + 15) (heldBytes (a .read) (a .route) (a .id) (a .n) (a .payload .now)) (length-held (a .read) (a .route) (a .id) (a .n) (a .payload .now)) (omega arith))
+returns-2 c = let a = c .before .before .before .before .args in (
+  place-stays (length (a .out .now)) (a .place) (length (heldBytes (a .read) (a .route) (a .id) (a .n) (a .payload .now)))
+      (omega (arith, length-held (a .read) (a .route) (a .id) (a .n) (a .payload .now))),
+  unlaid (a .out .now) (a .place) (length (a .payload .now) + 15)
+      (heldBytes (a .read) (a .route) (a .id) (a .n) (a .payload .now)) (length-held (a .read) (a .route) (a .id) (a .n) (a .payload .now)) (omega arith),
+)
 
 put-found-requires : tie.Need-put-found-requires
 put-found-requires c κs = search needs
@@ -46,7 +56,15 @@ same-length : tie.Need-same-length
 same-length c = search needs
 
 returns-3 : tie.Need-returns-3
-returns-3 c = let a = c .before .before .before .before .before .before .before .before .before .before .before .before .before .before .before .before .args in (ap (λ (k : ℕ). a .place + k) (sym (length-held (a .read) (a .route) (a .id) (a .n) (a .payload .now))) ∙ moves (length (a .out .now)) (a .place) (length (heldBytes (a .read) (a .route) (a .id) (a .n) (a .payload .now))) (omega (arith, length-held (a .read) (a .route) (a .id) (a .n) (a .payload .now))), held-laid (a .out .now) (a .place) (a .read) (a .route) (a .id) (a .n) (a .payload .now) (c .before .before .before .before .before .before .before .before .before .before .put-found .ensures) (c .before .before .before .before .before .before .put8 .ensures) (c .before .before .copy-in .ensures) (omega arith))
+returns-3 c = let a = c .before .before .before .before .before .before .before .before .before .before .before .before .before .before .before
+    .before .args in (
+      ap (λ (k : ℕ). a .place + k) (sym (length-held (a .read) (a .route) (a .id) (a .n) (a .payload .now)))
+          ∙ moves (length (a .out .now)) (a .place) (length (heldBytes (a .read) (a .route) (a .id) (a .n) (a .payload .now)))
+          (omega (arith, length-held (a .read) (a .route) (a .id) (a .n) (a .payload .now))),
+      held-laid (a .out .now) (a .place) (a .read) (a .route) (a .id) (a .n) (a .payload .now)
+          (c .before .before .before .before .before .before .before .before .before .before .put-found .ensures)
+          (c .before .before .before .before .before .before .put8 .ensures) (c .before .before .copy-in .ensures) (omega arith),
+    )
 
 pub put-held-spec : {M : Type 1} → statement M
 put-held-spec =

@@ -13,13 +13,23 @@ use Rattle.dispatch_receive.proofs.put_here.Statement.{statement}
 use Rattle.dispatch_receive.proofs.put_here.Tie as tie
 
 returns : tie.Need-returns
-returns c = let a = c .before .before .args in (place-stays (length (a .out .now)) (a .place) (length (hereBytes (a .read) (a .route) (a .id) (a .n) (a .from) (a .at))) (omega (arith, length-here (a .read) (a .route) (a .id) (a .n) (a .from) (a .at))), unlaid (a .out .now) (a .place) (19) (hereBytes (a .read) (a .route) (a .id) (a .n) (a .from) (a .at)) (length-here (a .read) (a .route) (a .id) (a .n) (a .from) (a .at)) (omega arith))
+returns c = let a = c .before .before .args in (
+  place-stays (length (a .out .now)) (a .place) (length (hereBytes (a .read) (a .route) (a .id) (a .n) (a .from) (a .at)))
+      (omega (arith, length-here (a .read) (a .route) (a .id) (a .n) (a .from) (a .at))),
+  unlaid (a .out .now) (a .place) (19)
+      (hereBytes (a .read) (a .route) (a .id) (a .n) (a .from) (a .at)) (length-here (a .read) (a .route) (a .id) (a .n) (a .from) (a .at)) (omega arith),
+)
 
 sub-if2 : tie.Need-sub-if2
 sub-if2 c = search needs
 
 returns-2 : tie.Need-returns-2
-returns-2 c = let a = c .before .before .before .args in (place-stays (length (a .out .now)) (a .place) (length (hereBytes (a .read) (a .route) (a .id) (a .n) (a .from) (a .at))) (omega (arith, length-here (a .read) (a .route) (a .id) (a .n) (a .from) (a .at))), unlaid (a .out .now) (a .place) (19) (hereBytes (a .read) (a .route) (a .id) (a .n) (a .from) (a .at)) (length-here (a .read) (a .route) (a .id) (a .n) (a .from) (a .at)) (omega arith))
+returns-2 c = let a = c .before .before .before .args in (
+  place-stays (length (a .out .now)) (a .place) (length (hereBytes (a .read) (a .route) (a .id) (a .n) (a .from) (a .at)))
+      (omega (arith, length-here (a .read) (a .route) (a .id) (a .n) (a .from) (a .at))),
+  unlaid (a .out .now) (a .place) (19)
+      (hereBytes (a .read) (a .route) (a .id) (a .n) (a .from) (a .at)) (length-here (a .read) (a .route) (a .id) (a .n) (a .from) (a .at)) (omega arith),
+)
 
 put-found-requires : tie.Need-put-found-requires
 put-found-requires c κs = search needs
@@ -43,7 +53,14 @@ same-length : tie.Need-same-length
 same-length c = search needs
 
 returns-3 : tie.Need-returns-3
-returns-3 c = let a = c .before .before .before .before .before .before .before .before .before .before .before .before .before .before .before .args in (ap (λ (k : ℕ). a .place + k) (sym (length-here (a .read) (a .route) (a .id) (a .n) (a .from) (a .at))) ∙ moves (length (a .out .now)) (a .place) (length (hereBytes (a .read) (a .route) (a .id) (a .n) (a .from) (a .at))) (omega (arith, length-here (a .read) (a .route) (a .id) (a .n) (a .from) (a .at))), here-laid (a .out .now) (a .place) (a .read) (a .route) (a .id) (a .n) (a .from) (a .at) (c .before .before .before .before .before .before .before .before .before .before .put-found .ensures) (c .before .before .before .before .before .before .put8 .ensures) (c .before .before .put-sum .ensures) (omega arith))
+returns-3 c = let a = c .before .before .before .before .before .before .before .before .before .before .before .before .before .before .before .args in (
+  ap (λ (k : ℕ). a .place + k) (sym (length-here (a .read) (a .route) (a .id) (a .n) (a .from) (a .at)))
+      ∙ moves (length (a .out .now)) (a .place) (length (hereBytes (a .read) (a .route) (a .id) (a .n) (a .from) (a .at)))
+      (omega (arith, length-here (a .read) (a .route) (a .id) (a .n) (a .from) (a .at))),
+  here-laid (a .out .now) (a .place) (a .read) (a .route) (a .id) (a .n) (a .from) (a .at)
+      (c .before .before .before .before .before .before .before .before .before .before .put-found .ensures)
+      (c .before .before .before .before .before .before .put8 .ensures) (c .before .before .put-sum .ensures) (omega arith),
+)
 
 pub put-here-spec : {M : Type 1} → statement M
 put-here-spec =

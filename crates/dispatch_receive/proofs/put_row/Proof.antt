@@ -18,7 +18,11 @@ same-length : tie.Need-same-length
 same-length c = search needs
 
 returns : tie.Need-returns
-returns c = let a = c .before .before .before .before .before .before .args in (c .before .before .before .before .after .ensures ∙ ap (afterOf (length (a .out .now)) (a .place)) (sym (length-found (a .read) (a .kind) (a .which) (a .id) (a .n))), c .before .before .put-found .ensures)
+returns c = let a = c .before .before .before .before .before .before .args in (
+  c .before .before .before .before .after .ensures
+      ∙ ap (afterOf (length (a .out .now)) (a .place)) (sym (length-found (a .read) (a .kind) (a .which) (a .id) (a .n))),
+  c .before .before .put-found .ensures,
+)
 
 pub put-row-spec : {M : Type 1} → statement M
 put-row-spec =

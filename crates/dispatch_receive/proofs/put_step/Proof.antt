@@ -9,7 +9,11 @@ use Rattle.dispatch_receive.proofs.put_step.Statement.{statement}
 use Rattle.dispatch_receive.proofs.put_step.Tie as tie
 
 returns : tie.Need-returns
-returns c = let a = c .before .before .args in (sym (length-step (a .next) (a .kind) (a .which) (a .id) (a .n)), unlaid (a .out .now) 0 16 (stepBytes (a .next) (a .kind) (a .which) (a .id) (a .n)) (length-step (a .next) (a .kind) (a .which) (a .id) (a .n)) (omega arith))
+returns c = let a = c .before .before .args in (
+  sym (length-step (a .next) (a .kind) (a .which) (a .id) (a .n)),
+  unlaid (a .out .now) 0 16
+      (stepBytes (a .next) (a .kind) (a .which) (a .id) (a .n)) (length-step (a .next) (a .kind) (a .which) (a .id) (a .n)) (omega arith),
+)
 
 put-done-requires : tie.Need-put-done-requires
 put-done-requires c κs = search needs
@@ -21,7 +25,11 @@ same-length : tie.Need-same-length
 same-length c = search needs
 
 returns-2 : tie.Need-returns-2
-returns-2 c = let a = c .before .before .before .before .before .before .before .before .before .before .args in (sym (length-step (a .next) (a .kind) (a .which) (a .id) (a .n)), step-laid (a .out .now) (a .next) (a .kind) (a .which) (a .id) (a .n) (c .before .before .before .before .before .before .put-done .ensures .1) (c .before .before .put-found .ensures) (omega arith))
+returns-2 c = let a = c .before .before .before .before .before .before .before .before .before .before .args in (
+  sym (length-step (a .next) (a .kind) (a .which) (a .id) (a .n)),
+  step-laid (a .out .now) (a .next) (a .kind) (a .which) (a .id)
+      (a .n) (c .before .before .before .before .before .before .put-done .ensures .1) (c .before .before .put-found .ensures) (omega arith),
+)
 
 pub put-step-spec : {M : Type 1} → statement M
 put-step-spec =

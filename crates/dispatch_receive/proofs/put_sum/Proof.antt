@@ -17,7 +17,8 @@ same-length : tie.Need-same-length
 same-length c = search needs
 
 returns : tie.Need-returns
-returns c = let a = c .before .before .before .before .before .args in c .before .before .put-number .ensures ∙ ap (lay (a .out .now) (a .at)) (sum-low (a .a) (a .b))
+returns c = let a = c .before .before .before .before .before .args in
+    c .before .before .put-number .ensures ∙ ap (lay (a .out .now) (a .at)) (sum-low (a .a) (a .b))
 
 pub put-sum-spec : {M : Type 1} → statement M
 put-sum-spec =

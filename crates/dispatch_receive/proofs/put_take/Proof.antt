@@ -52,13 +52,15 @@ same-length-2 : tie.Need-same-length-2
 same-length-2 c = search needs
 
 returns-2 : tie.Need-returns-2
-returns-2 c = rw (c .before .before .before .before .before .before .outcome .given .1, c .before .before .before .before .if1 .taken) (c .before .before .put-here .ensures)
+returns-2 c = rw (c .before .before .before .before .before .before .outcome .given .1, c .before .before .before .before .if1 .taken)
+    (c .before .before .put-here .ensures)
 
 same-length-3 : tie.Need-same-length-3
 same-length-3 c = search needs
 
 returns-3 : tie.Need-returns-3
-returns-3 c = rw (c .before .before .before .before .before .before .outcome .given .1, c .before .before .before .before .if1 .left) (c .before .before .put-held .ensures)
+returns-3 c = rw (c .before .before .before .before .before .before .outcome .given .1, c .before .before .before .before .if1 .left)
+    (c .before .before .put-held .ensures)
 
 same-length-4 : tie.Need-same-length-4
 same-length-4 c = search needs

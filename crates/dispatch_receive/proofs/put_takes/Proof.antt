@@ -34,7 +34,9 @@ same-length : tie.Need-same-length
 same-length c = search needs
 
 returns : tie.Need-returns
-returns c = let a = c .before .before .before .before .before .before .before .args in rw (c .before .before .before .before .enum-told .given .1) (refl, c .before .before .put-done2 .ensures .1 ∙ ap (λ (x : List ℕ). lay (a .out .now) 0 (spell 2 0 ++ x)) (spell-low 2 (a .count) (omega arith)))
+returns c = let a = c .before .before .before .before .before .before .before .args in
+    rw (c .before .before .before .before .enum-told .given .1)
+    (refl, c .before .before .put-done2 .ensures .1 ∙ ap (λ (x : List ℕ). lay (a .out .now) 0 (spell 2 0 ++ x)) (spell-low 2 (a .count) (omega arith)))
 
 same-length-2 : tie.Need-same-length-2
 same-length-2 c = search needs

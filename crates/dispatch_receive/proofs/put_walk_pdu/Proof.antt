@@ -9,7 +9,10 @@ use Rattle.dispatch_receive.proofs.put_walk_pdu.Statement.{statement}
 use Rattle.dispatch_receive.proofs.put_walk_pdu.Tie as tie
 
 returns : tie.Need-returns
-returns c = let a = c .before .before .args in (sym (length-pdu (a .next) (a .route) (a .id) (a .n) (a .at)), unlaid (a .out .now) 0 20 (pduBytes (a .next) (a .route) (a .id) (a .n) (a .at)) (length-pdu (a .next) (a .route) (a .id) (a .n) (a .at)) (omega arith))
+returns c = let a = c .before .before .args in (
+  sym (length-pdu (a .next) (a .route) (a .id) (a .n) (a .at)),
+  unlaid (a .out .now) 0 20 (pduBytes (a .next) (a .route) (a .id) (a .n) (a .at)) (length-pdu (a .next) (a .route) (a .id) (a .n) (a .at)) (omega arith),
+)
 
 put-step-requires : tie.Need-put-step-requires
 put-step-requires c κs = search needs
@@ -21,7 +24,11 @@ same-length : tie.Need-same-length
 same-length c = search needs
 
 returns-2 : tie.Need-returns-2
-returns-2 c = let a = c .before .before .before .before .before .before .before .before .before .before .args in (sym (length-pdu (a .next) (a .route) (a .id) (a .n) (a .at)), pdu-laid (a .out .now) (a .next) (a .route) (a .id) (a .n) (a .at) (c .before .before .before .before .before .before .put-step .ensures .1) (c .before .before .put-number .ensures) (omega arith))
+returns-2 c = let a = c .before .before .before .before .before .before .before .before .before .before .args in (
+  sym (length-pdu (a .next) (a .route) (a .id) (a .n) (a .at)),
+  pdu-laid (a .out .now) (a .next) (a .route) (a .id) (a .n) (a .at)
+      (c .before .before .before .before .before .before .put-step .ensures .1) (c .before .before .put-number .ensures) (omega arith),
+)
 
 pub put-walk-pdu-spec : {M : Type 1} → statement M
 put-walk-pdu-spec =

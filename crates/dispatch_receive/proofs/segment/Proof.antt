@@ -13,12 +13,14 @@ use Rattle.dispatch_receive.proofs.segment.Tie as tie
 returns : tie.Need-returns
 returns c =
     let a = c .before .before .before .before .before .before .args in
-    rw (segment-small (loan (a .image .now) (a .state) (a .rx .now) (a .tx .now)) (a .out .now) (a .connection) (a .segment .now) (c .if1 .taken)) (refl, (refl, refl))
+    rw (segment-small (loan (a .image .now) (a .state) (a .rx .now) (a .tx .now)) (a .out .now) (a .connection) (a .segment .now) (c .if1 .taken))
+    (refl, (refl, refl))
 
 returns-2 : tie.Need-returns-2
 returns-2 c =
     let a = c .before .before .before .before .before .before .before .args in
-    rw (segment-long (loan (a .image .now) (a .state) (a .rx .now) (a .tx .now)) (a .out .now) (a .connection) (a .segment .now) (c .before .if1 .left) (c .if2 .taken))
+    rw (segment-long (loan (a .image .now) (a .state) (a .rx .now) (a .tx .now))
+    (a .out .now) (a .connection) (a .segment .now) (c .before .if1 .left) (c .if2 .taken))
     (refl, (refl, refl))
 
 take-all-requires : tie.Need-take-all-requires
@@ -40,9 +42,15 @@ returns-3 c =
     let a = i .before .before .before .before .before .before .before .args in
     let h = k .take-all .ensures in
     let p = c .before .before .put-takes .ensures in
-    rw (segment-roomy (loan (a .image .now) (a .state) (a .rx .now) (a .tx .now)) (a .out .now) (a .connection) (a .segment .now) (i .before .if1 .left) (i .if2 .left))
+    rw (segment-roomy (loan (a .image .now) (a .state) (a .rx .now) (a .tx .now))
+    (a .out .now) (a .connection) (a .segment .now) (i .before .if1 .left) (i .if2 .left))
     (all-told (allTakes (loan (a .image .now) (a .state) (a .rx .now) (a .tx .now)) (a .connection) (a .segment .now)) (a .tx .now) (a .out .now)
-    (omega (arith, i .before .if1 .left, i .if2 .left, takes-fit (loan (a .image .now) (a .state) (a .rx .now) (a .tx .now)) (a .connection) (a .segment .now))) (h .0) (h .1 .0) (h .1 .1) (p .0) (p .1))
+    (omega (
+      arith,
+      i .before .if1 .left,
+      i .if2 .left,
+      takes-fit (loan (a .image .now) (a .state) (a .rx .now) (a .tx .now)) (a .connection) (a .segment .now),
+    )) (h .0) (h .1 .0) (h .1 .1) (p .0) (p .1))
 
 pub segment-spec : {M : Type 1} → statement M
 segment-spec =

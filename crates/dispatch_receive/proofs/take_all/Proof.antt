@@ -111,7 +111,8 @@ returns-2 c =
     let o = gate-open (lentBy (a .image .now) (a .t2) (a .rx .now) (a .tx .now)) (a .connection) (e .before .before .may-take .ensures) done in
     put-together (loan (a .image .now) (a .t2) (a .rx .now) (a .tx .now)) (a .connection) (a .segment .now) (a .out .now) (t .take-once .result)
     (turn-ends (loan (a .image .now) (a .t2) (a .rx .now) (a .tx .now)) (a .connection) (a .segment .now) (a .out .now)
-    (o .there) (l .loop .turn) (l .loop .rx) (l .loop .out) (l .loop .inv .0) (l .before .body-of .ensures .0) (h .0) (h .1 .0) (h .1 .1) (c .before .if2 .taken))
+    (o .there) (l .loop .turn) (l .loop .rx) (l .loop .out) (l .loop .inv .0)
+    (l .before .body-of .ensures .0) (h .0) (h .1 .0) (h .1 .1) (c .before .if2 .taken))
     done (c .with-part .ensures)
 
 loop-less : tie.Need-loop-less Inv-loop μ-loop
@@ -125,7 +126,8 @@ loop-less c =
     let done = sym (e .before .is-done .ensures) ∙ not-false _ (e .if1 .left) in
     let o = gate-open (lentBy (a .image .now) (a .t2) (a .rx .now) (a .tx .now)) (a .connection) (e .before .before .may-take .ensures) done in
     let g = turn-on (loan (a .image .now) (a .t2) (a .rx .now) (a .tx .now)) (a .connection) (a .segment .now) (a .out .now)
-    (o .there) (l .loop .turn) (l .loop .rx) (l .loop .out) (l .loop .inv .0) (l .before .body-of .ensures .0) (h .0) (h .1 .0) (h .1 .1) (λ i. e .before .before .before .before .shared-slice-known3 .given i .fits) (omega (arith, c .if2 .left)) in
+    (o .there) (l .loop .turn) (l .loop .rx) (l .loop .out) (l .loop .inv .0) (l .before .body-of .ensures .0) (h .0) (h .1 .0)
+    (h .1 .1) (λ i. e .before .before .before .before .shared-slice-known3 .given i .fits) (omega (arith, c .if2 .left)) in
     let n = turn-count (loan (a .image .now) (a .t2) (a .rx .now) (a .tx .now)) (a .connection) (a .segment .now) (a .out .now)
     (o .there) (l .loop .turn) (l .loop .rx) (l .loop .out) (l .loop .inv .0) (l .before .body-of .ensures .0) (h .0) (h .1 .0) (h .1 .1) in
     omega (arith, l .loop .inv .0 .low, g .low, c .if2 .left, n)
@@ -141,7 +143,8 @@ loop-again c = (
       let done = sym (e .before .is-done .ensures) ∙ not-false _ (e .if1 .left) in
       let o = gate-open (lentBy (a .image .now) (a .t2) (a .rx .now) (a .tx .now)) (a .connection) (e .before .before .may-take .ensures) done in
       turn-on (loan (a .image .now) (a .t2) (a .rx .now) (a .tx .now)) (a .connection) (a .segment .now) (a .out .now)
-      (o .there) (l .loop .turn) (l .loop .rx) (l .loop .out) (l .loop .inv .0) (l .before .body-of .ensures .0) (h .0) (h .1 .0) (h .1 .1) (λ i. e .before .before .before .before .shared-slice-known3 .given i .fits) (omega (arith, c .if2 .left)),
+      (o .there) (l .loop .turn) (l .loop .rx) (l .loop .out) (l .loop .inv .0) (l .before .body-of .ensures .0) (h .0) (h .1 .0)
+      (h .1 .1) (λ i. e .before .before .before .before .shared-slice-known3 .given i .fits) (omega (arith, c .if2 .left)),
   (omega arith, omega arith),
 )
 

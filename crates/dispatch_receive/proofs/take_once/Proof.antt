@@ -41,11 +41,17 @@ add-t17 c =
     let f = k .before .before in
     let b = f .before .before .before .before .before in
     let a = b .args in
-    omega (arith, turn-within (a .routes .now) (a .switches) (a .connection) (a .segment .now) (a .turn) (a .rx .now) (a .out .now) (b .pre) (λ i. k .before .before .before .before .shared-slice-known2 .given i .fits) (f .bytes-from .ensures .0) (k .take .ensures .0), b .good .1 .1 .1 .1 .1 .0 .0)
+    omega (
+      arith,
+      turn-within (a .routes .now) (a .switches) (a .connection) (a .segment .now) (a .turn) (a .rx .now) (a .out .now) (b .pre)
+          (λ i. k .before .before .before .before .shared-slice-known2 .given i .fits) (f .bytes-from .ensures .0) (k .take .ensures .0),
+      b .good .1 .1 .1 .1 .1 .0 .0,
+    )
 
 add-t26 : tie.Need-add-t26
 add-t26 c =
-    let b = c .before .before .before .before .before .before .before .before .before .before .before .before .before .before .before .before .before .before .before in
+    let b = c .before .before .before .before .before .before .before .before .before
+    .before .before .before .before .before .before .before .before .before .before in
     omega (arith, b .pre .low, b .pre .within, b .good .1 .1 .1 .1 .1 .0 .1)
 
 same-length : tie.Need-same-length
@@ -61,8 +67,10 @@ returns c =
     let f = k .before .before in
     let b = f .before .before .before .before .before in
     let a = b .args in
-    turn-is (a .routes .now) (a .switches) (a .connection) (a .segment .now) (a .turn) (a .rx .now) (a .out .now) (b .pre) (λ i. k .before .before .before .before .shared-slice-known2 .given i .fits) (f .bytes-from .ensures .0)
-    (k .take .ensures .0) (k .take .ensures .1) (q .before .before .segment-payload .ensures .0) (q .put-take .ensures .0) (q .put-take .ensures .1) (c .before .before .before .drops-after .ensures)
+    turn-is (a .routes .now) (a .switches) (a .connection) (a .segment .now) (a .turn) (a .rx .now) (a .out .now)
+    (b .pre) (λ i. k .before .before .before .before .shared-slice-known2 .given i .fits) (f .bytes-from .ensures .0)
+    (k .take .ensures .0) (k .take .ensures .1) (q .before .before .segment-payload .ensures .0)
+    (q .put-take .ensures .0) (q .put-take .ensures .1) (c .before .before .before .drops-after .ensures)
 
 pub take-once-spec : {M : Type 1} → statement M
 take-once-spec =

@@ -22,7 +22,10 @@ same-length-2 : tie.Need-same-length-2
 same-length-2 c = search needs
 
 returns : tie.Need-returns
-returns c = let h = c .before .before .before .before .before .before .before .before .take-waiting .ensures in let p = c .before .before .put-taking .ensures in reply (c .before .before .before .before .before .before .before .before .before .before .before .before .before .before .before .args .out .now) (p .0) (p .1) (ap₂ (λ (t : Taken) (l : List ℕ). takingBytes (t .answer) l) (h .0) (h .1)) (ap (λ (t : Taken). t .state) (h .0))
+returns c = let h = c .before .before .before .before .before .before .before .before .take-waiting .ensures in let p =
+    c .before .before .put-taking .ensures in
+    reply (c .before .before .before .before .before .before .before .before .before .before .before .before .before .before .before .args .out .now)
+    (p .0) (p .1) (ap₂ (λ (t : Taken) (l : List ℕ). takingBytes (t .answer) l) (h .0) (h .1)) (ap (λ (t : Taken). t .state) (h .0))
 
 pub take-into-spec : {M : Type 1} → statement M
 take-into-spec =

@@ -25,7 +25,8 @@ array-borrow-prefix-buffer : tie.Need-array-borrow-prefix-buffer
 array-borrow-prefix-buffer c = search needs
 
 slice-aggregate-take-into : tie.Need-slice-aggregate-take-into
-slice-aggregate-take-into c = let n = c .before .room-of in let h : n .result ≤ length (replicate {A = ℕ} 1472 0) = rw length-replicate (n .ensures .1) in sym (length-take-le (n .result) (replicate 1472 0) h)
+slice-aggregate-take-into c = let n = c .before .room-of in let h : n .result ≤ length (replicate {A = ℕ} 1472 0) =
+    rw length-replicate (n .ensures .1) in sym (length-take-le (n .result) (replicate 1472 0) h)
 
 take-into-requires : tie.Need-take-into-requires
 take-into-requires c κs = search needs

@@ -20,11 +20,18 @@ rows-of-requires : tie.Need-rows-of-requires
 rows-of-requires c κs = search needs
 
 switch-rows-requires : tie.Need-switch-rows-requires
-switch-rows-requires c κs = rw (c .rows-of .ensures .0) (rows-in-sixteen _ (sym (c .before .before .before .before .ask .ensures) ∙ c .before .before .enum-told .given .1))
+switch-rows-requires c κs =
+    rw (c .rows-of .ensures .0) (rows-in-sixteen _ (sym (c .before .before .before .before .ask .ensures) ∙ c .before .before .enum-told .given .1))
 
 returns : tie.Need-returns
 unfolding switchAllOf
-returns c = rw (← c .before .before .before .before .before .ask .ensures, c .before .before .before .enum-told .given .1, lt-ltb _ _ (c .before .before .if1 .taken), ← c .before .rows-of .ensures .0, c .switch-rows .ensures)
+returns c = rw (
+  ← c .before .before .before .before .before .ask .ensures,
+  c .before .before .before .enum-told .given .1,
+  lt-ltb _ _ (c .before .before .if1 .taken),
+  ← c .before .rows-of .ensures .0,
+  c .switch-rows .ensures,
+)
 
 returns-2 : tie.Need-returns-2
 unfolding switchAllOf

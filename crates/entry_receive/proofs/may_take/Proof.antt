@@ -16,7 +16,8 @@ answer-at-requires c κs = search needs
 returns : tie.Need-returns
 returns c =
     let a = c .before .before .before .args in
-    c .answer-at .ensures ∙ ap (λ (g : Config). judgedAnswer (lent (a .image .now) (a .state) (a .rx) (a .tx)) (a .connection) (g .tcp)) (c .before .config-of .ensures)
+    c .answer-at .ensures ∙ ap (λ (g : Config). judgedAnswer (lent (a .image .now) (a .state) (a .rx) (a .tx)) (a .connection) (g .tcp))
+    (c .before .config-of .ensures)
 
 pub may-take-spec : {M : Type 1} → statement M
 may-take-spec = tie.close (tie.spec config-of-requires answer-at-requires returns)

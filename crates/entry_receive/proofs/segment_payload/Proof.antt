@@ -47,8 +47,10 @@ returns-2 : tie.Need-returns-2
 returns-2 c =
     let s = c .before .before .before .before in
     let w = s .stretch-of .ensures in
-    let e = c .before .before .outcome .given .1 in
-    (payload-pdu _ _ _ _ _ _ _ _ _ e _ (w .0) _ (c .payload-of .ensures .0), payload-there _ _ _ _ _ _ _ _ _ _ _ e _ (w .0) _ (w .1) _ (c .payload-of .ensures .1))
+    let e = c .before .before .outcome .given .1 in (
+      payload-pdu _ _ _ _ _ _ _ _ _ e _ (w .0) _ (c .payload-of .ensures .0),
+      payload-there _ _ _ _ _ _ _ _ _ _ _ e _ (w .0) _ (w .1) _ (c .payload-of .ensures .1),
+    )
 
 returns-3 : tie.Need-returns-3
 unfolding payloadOf payloadStands

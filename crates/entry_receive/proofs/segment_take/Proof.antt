@@ -33,7 +33,8 @@ returns c =
       segment-done (loan (a .image .now) (a .state) (a .rx .now) (a .tx .now)) (a .connection) (a .segment .now)
           (n .may-take .result) (n .may-take .ensures) (d .is-done .result) (d .is-done .ensures) (h .if1 .taken) (o .take-on .result) (o .take-on .ensures .0),
       memory-done (loan (a .image .now) (a .state) (a .rx .now) (a .tx .now)) (a .connection) (a .segment .now)
-          (n .may-take .result) (n .may-take .ensures) (d .is-done .result) (d .is-done .ensures) (h .if1 .taken) (o .take-on .last .1 .1 .0) (o .take-on .ensures .1),
+          (n .may-take .result) (n .may-take .ensures) (d .is-done .result) (d .is-done .ensures)
+          (h .if1 .taken) (o .take-on .last .1 .1 .0) (o .take-on .ensures .1),
     )
 
 returns-2 : tie.Need-returns-2

@@ -14,7 +14,8 @@ slice-aggregate-result : tie.Need-slice-aggregate-result
 slice-aggregate-result c = search needs
 
 returns : tie.Need-returns
-returns c = let a = c .before .before .args in (stretch-none (a .connection) (a .rx .now) (omega arith), from-past (a .rx .ptr) (a .rx .now) (a .connection * 1464) (omega arith))
+returns c = let a = c .before .before .args in
+    (stretch-none (a .connection) (a .rx .now) (omega arith), from-past (a .rx .ptr) (a .rx .now) (a .connection * 1464) (omega arith))
 
 sub-if2 : tie.Need-sub-if2
 sub-if2 c = search needs
@@ -29,7 +30,8 @@ part-result-end : tie.Need-part-result-end
 part-result-end c = search needs
 
 returns-2 : tie.Need-returns-2
-returns-2 c = let a = c .before .before .before .args in (stretch-some (a .connection) (a .rx .now) (omega arith), from-there (a .rx .ptr) (a .rx .now) (a .connection * 1464) (omega arith))
+returns-2 c = let a = c .before .before .before .args in
+    (stretch-some (a .connection) (a .rx .now) (omega arith), from-there (a .rx .ptr) (a .rx .now) (a .connection * 1464) (omega arith))
 
 add-result : tie.Need-add-result
 add-result c = search needs
@@ -44,7 +46,8 @@ part-result-end-2 : tie.Need-part-result-end-2
 part-result-end-2 c = search needs
 
 returns-3 : tie.Need-returns-3
-returns-3 c = let a = c .before .before .before .args in (stretch-all (a .connection) (a .rx .now), from-there (a .rx .ptr) (a .rx .now) (a .connection * 1464) (omega arith))
+returns-3 c = let a = c .before .before .before .args in
+    (stretch-all (a .connection) (a .rx .now), from-there (a .rx .ptr) (a .rx .now) (a .connection * 1464) (omega arith))
 
 pub stretch-of-spec : {M : Type 1} → statement M
 stretch-of-spec =

@@ -20,7 +20,8 @@ walk-on-requires c κs =
     let n = d .before in
     let g = n .before .before in
     let a = g .before .before .before .before .before .args in
-    may-walk (lentBy (a .image .now) (a .state) (a .rx .now) (a .tx .now)) (a .connection) (a .datagram .now) (a .place) (g .config-of .result) (g .config-of .ensures)
+    may-walk (lentBy (a .image .now) (a .state) (a .rx .now) (a .tx .now)) (a .connection)
+    (a .datagram .now) (a .place) (g .config-of .result) (g .config-of .ensures)
     (n .answer-at .result) (n .answer-at .ensures) (d .is-done .result) (d .is-done .ensures) (c .if1 .taken)
 
 returns : tie.Need-returns
@@ -30,7 +31,8 @@ returns c =
     let n = d .before in
     let g = n .before .before in
     let a = g .before .before .before .before .before .args in
-    walk-done (lentBy (a .image .now) (a .state) (a .rx .now) (a .tx .now)) (a .connection) (a .datagram .now) (a .place) (g .config-of .result) (g .config-of .ensures)
+    walk-done (lentBy (a .image .now) (a .state) (a .rx .now) (a .tx .now)) (a .connection)
+    (a .datagram .now) (a .place) (g .config-of .result) (g .config-of .ensures)
     (n .answer-at .result) (n .answer-at .ensures) (d .is-done .result) (d .is-done .ensures) (h .if1 .taken) (c .walk-on .result) (c .walk-on .ensures)
 
 returns-2 : tie.Need-returns-2
@@ -39,7 +41,8 @@ returns-2 c =
     let n = d .before in
     let g = n .before .before in
     let a = g .before .before .before .before .before .args in
-    walk-none (lentBy (a .image .now) (a .state) (a .rx .now) (a .tx .now)) (a .connection) (a .datagram .now) (a .place) (g .config-of .result) (g .config-of .ensures)
+    walk-none (lentBy (a .image .now) (a .state) (a .rx .now) (a .tx .now)) (a .connection)
+    (a .datagram .now) (a .place) (g .config-of .result) (g .config-of .ensures)
     (n .answer-at .result) (n .answer-at .ensures) (d .is-done .result) (d .is-done .ensures) (c .if1 .left)
 
 pub walk-datagram-spec : {M : Type 1} → statement M

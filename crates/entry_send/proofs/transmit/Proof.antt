@@ -19,7 +19,10 @@ transmit-requires c κs = past-gate _ _ (c .before .before .before .ask .ensures
 
 returns : tie.Need-returns
 unfolding sendOf sentMemory
-returns c = (rw (← c .before .before .before .ask .ensures, c .before .asked .given .1), rw (← c .before .before .before .ask .ensures, c .before .asked .given .1))
+returns c = (
+  rw (← c .before .before .before .ask .ensures, c .before .asked .given .1),
+  rw (← c .before .before .before .ask .ensures, c .before .asked .given .1),
+)
 
 same-length : tie.Need-same-length
 same-length c = search needs

@@ -28,7 +28,13 @@ returns c = rw (← c .before .before .before .ask .ensures, c .before .asked .g
 
 returns-2 : tie.Need-returns-2
 unfolding tickEvent
-returns-2 c = rw (← c .before .before .before .before .ask .ensures, c .before .before .enum-told .given .1, ← c .before .rows-of .ensures .0, c .tick-rows .ensures, ticks-one _ _ _)
+returns-2 c = rw (
+  ← c .before .before .before .before .ask .ensures,
+  c .before .before .enum-told .given .1,
+  ← c .before .rows-of .ensures .0,
+  c .tick-rows .ensures,
+  ticks-one _ _ _,
+)
 
 pub tick-spec : {M : Type 1} → statement M
 tick-spec =

@@ -27,7 +27,12 @@ returns c = rw (← c .before .before .before .ask .ensures, c .before .asked .g
 
 returns-2 : tie.Need-returns-2
 unfolding ticksEvent
-returns-2 c = rw (← c .before .before .before .before .ask .ensures, c .before .before .enum-told .given .1, ← c .before .rows-of .ensures .0, c .tick-rows .ensures)
+returns-2 c = rw (
+  ← c .before .before .before .before .ask .ensures,
+  c .before .before .enum-told .given .1,
+  ← c .before .rows-of .ensures .0,
+  c .tick-rows .ensures,
+)
 
 pub ticks-spec : {M : Type 1} → statement M
 ticks-spec =

@@ -40,7 +40,12 @@ same-length : tie.Need-same-length
 same-length c = search needs
 
 returns-3 : tie.Need-returns-3
-returns-3 c = let a = c .before .before .before .before .before .before .before .before .before .before .before .before .before .before .before .before .before .before .before .args in address-laid (a .out .now) (a .at) (a .remote) (c .before .before .before .before .before .before .before .before .before .before .before .before .before .before .put8 .ensures) (c .before .before .before .before .before .before .before .before .before .before .put-zeros .ensures) (c .before .before .before .before .before .before .put32 .ensures) (c .before .before .put16 .ensures) (omega arith)
+returns-3 c = let a = c .before .before .before .before .before .before .before .before .before .before .before .before .before .before .before .before .before
+    .before .before .args in
+    address-laid (a .out .now) (a .at) (a .remote)
+    (c .before .before .before .before .before .before .before .before .before .before .before .before .before .before .put8 .ensures)
+    (c .before .before .before .before .before .before .before .before .before .before .put-zeros .ensures)
+    (c .before .before .before .before .before .before .put32 .ensures) (c .before .before .put16 .ensures) (omega arith)
 
 pub put-address-spec : {M : Type 1} → statement M
 put-address-spec =

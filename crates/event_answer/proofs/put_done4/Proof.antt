@@ -19,7 +19,10 @@ same-length : tie.Need-same-length
 same-length c = search needs
 
 returns-2 : tie.Need-returns-2
-returns-2 c = let a = c .before .before .before .before .before .before .before .before .before .before .args in (sym (pair-length 2 4 0 (a .v)), pair (a .out .now) 2 4 0 (a .v) (c .before .before .before .before .before .before .put16 .ensures) (c .before .before .put32 .ensures) (omega arith))
+returns-2 c = let a = c .before .before .before .before .before .before .before .before .before .before .args in (
+  sym (pair-length 2 4 0 (a .v)),
+  pair (a .out .now) 2 4 0 (a .v) (c .before .before .before .before .before .before .put16 .ensures) (c .before .before .put32 .ensures) (omega arith),
+)
 
 pub put-done4-spec : {M : Type 1} → statement M
 put-done4-spec = tie.close (tie.spec returns put16-requires put32-requires same-length returns-2)

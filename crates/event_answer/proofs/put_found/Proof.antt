@@ -7,13 +7,17 @@ use Rattle.event_answer.proofs.put_found.Statement.{statement}
 use Rattle.event_answer.proofs.put_found.Tie as tie
 
 returns : tie.Need-returns
-returns c = let a = c .before .before .args in unlaid (a .out .now) (a .at) 14 (foundBytes (a .first) (a .kind) (a .which) (a .id) (a .n)) (length-found (a .first) (a .kind) (a .which) (a .id) (a .n)) (omega arith)
+returns c = let a = c .before .before .args in
+    unlaid (a .out .now) (a .at) 14 (foundBytes (a .first) (a .kind) (a .which) (a .id) (a .n))
+    (length-found (a .first) (a .kind) (a .which) (a .id) (a .n)) (omega arith)
 
 sub-if2 : tie.Need-sub-if2
 sub-if2 c = search needs
 
 returns-2 : tie.Need-returns-2
-returns-2 c = let a = c .before .before .before .args in unlaid (a .out .now) (a .at) 14 (foundBytes (a .first) (a .kind) (a .which) (a .id) (a .n)) (length-found (a .first) (a .kind) (a .which) (a .id) (a .n)) (omega arith)
+returns-2 c = let a = c .before .before .before .args in
+    unlaid (a .out .now) (a .at) 14 (foundBytes (a .first) (a .kind) (a .which) (a .id) (a .n))
+    (length-found (a .first) (a .kind) (a .which) (a .id) (a .n)) (omega arith)
 
 put-number-requires : tie.Need-put-number-requires
 put-number-requires c κs = search needs
@@ -46,7 +50,14 @@ same-length : tie.Need-same-length
 same-length c = search needs
 
 returns-3 : tie.Need-returns-3
-returns-3 c = let a = c .before .before .before .before .before .before .before .before .before .before .before .before .before .before .before .before .before .before .before .before .before .before .before .args in found-laid (a .out .now) (a .at) (a .first) (a .kind) (a .which) (a .id) (a .n) (c .before .before .before .before .before .before .before .before .before .before .before .before .before .before .before .before .before .before .put-number .ensures) (c .before .before .before .before .before .before .before .before .before .before .before .before .before .before .put8 .ensures) (c .before .before .before .before .before .before .before .before .before .before .put82 .ensures) (c .before .before .before .before .before .before .put32 .ensures) (c .before .before .put322 .ensures) (omega arith)
+returns-3 c = let a = c .before .before .before .before .before .before .before .before .before .before .before .before .before .before .before .before .before
+    .before .before .before .before .before .before .args in
+    found-laid (a .out .now) (a .at) (a .first) (a .kind) (a .which) (a .id) (a .n)
+    (c .before .before .before .before .before .before .before .before .before .before .before .before .before .before .before .before .before
+    .before .put-number .ensures)
+    (c .before .before .before .before .before .before .before .before .before .before .before .before .before .before .put8 .ensures)
+    (c .before .before .before .before .before .before .before .before .before .before .put82 .ensures)
+    (c .before .before .before .before .before .before .put32 .ensures) (c .before .before .put322 .ensures) (omega arith)
 
 pub put-found-spec : {M : Type 1} → statement M
 put-found-spec =

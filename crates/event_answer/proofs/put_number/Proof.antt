@@ -17,7 +17,8 @@ same-length : tie.Need-same-length
 same-length c = search needs
 
 returns : tie.Need-returns
-returns c = let a = c .before .before .before .before .before .args in c .before .before .put32 .ensures ∙ ap (lay (a .out .now) (a .at)) (spell-low 4 (a .v) (omega arith))
+returns c = let a = c .before .before .before .before .before .args in
+    c .before .before .put32 .ensures ∙ ap (lay (a .out .now) (a .at)) (spell-low 4 (a .v) (omega arith))
 
 pub put-number-spec : {M : Type 1} → statement M
 put-number-spec = tie.close (tie.spec cast-put32 put32-requires same-length returns)

@@ -18,7 +18,11 @@ same-length : tie.Need-same-length
 same-length c = search needs
 
 returns : tie.Need-returns
-returns c = let p = c .before .before .put-refused .ensures in let n = c .before .before .before .refusal-number .ensures in (p .0 ∙ ap (λ (k : ℕ). length (refused k 0)) n, p .1 ∙ ap (λ (k : ℕ). lay (c .before .before .before .before .before .before .args .out .now) 0 (refused k 0)) n)
+returns c = let p = c .before .before .put-refused .ensures in let n = c .before .before .before .refusal-number .ensures in (
+  p .0 ∙ ap (λ (k : ℕ). length (refused k 0)) n,
+  p .1
+      ∙ ap (λ (k : ℕ). lay (c .before .before .before .before .before .before .args .out .now) 0 (refused k 0)) n,
+)
 
 pub put-refusal-spec : {M : Type 1} → statement M
 put-refusal-spec =

@@ -19,7 +19,11 @@ same-length : tie.Need-same-length
 same-length c = search needs
 
 returns-2 : tie.Need-returns-2
-returns-2 c = let a = c .before .before .before .before .before .before .before .before .before .before .args in (sym (pair-length 2 4 (a .number) (a .place)), pair (a .out .now) 2 4 (a .number) (a .place) (c .before .before .before .before .before .before .put16 .ensures) (c .before .before .put-number .ensures) (omega arith))
+returns-2 c = let a = c .before .before .before .before .before .before .before .before .before .before .args in (
+  sym (pair-length 2 4 (a .number) (a .place)),
+  pair (a .out .now) 2 4 (a .number) (a .place)
+      (c .before .before .before .before .before .before .put16 .ensures) (c .before .before .put-number .ensures) (omega arith),
+)
 
 pub put-refused-spec : {M : Type 1} → statement M
 put-refused-spec =

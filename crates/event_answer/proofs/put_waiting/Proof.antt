@@ -16,7 +16,10 @@ add-result : tie.Need-add-result
 add-result c = search needs
 
 returns : tie.Need-returns
-returns c = let a = c .before .before .before .args in (sym (length-waiting (a .remote) (a .bytes .now)), unlaid (a .out .now) 0 (25 + length (a .bytes .now)) (waiting (a .remote) (a .bytes .now)) (length-waiting (a .remote) (a .bytes .now)) (omega arith))
+returns c = let a = c .before .before .before .args in (
+  sym (length-waiting (a .remote) (a .bytes .now)),
+  unlaid (a .out .now) 0 (25 + length (a .bytes .now)) (waiting (a .remote) (a .bytes .now)) (length-waiting (a .remote) (a .bytes .now)) (omega arith),
+)
 
 put16-requires : tie.Need-put16-requires
 put16-requires c κs = search needs
@@ -37,7 +40,14 @@ same-length : tie.Need-same-length
 same-length c = search needs
 
 returns-2 : tie.Need-returns-2
-returns-2 c = let a = c .before .before .before .before .before .before .before .before .before .before .before .before .before .before .before .before .before .before .before .args in (sym (length-waiting (a .remote) (a .bytes .now)), waiting-laid (a .out .now) (a .remote) (a .bytes .now) (c .before .before .before .before .before .before .before .before .before .before .before .before .before .before .put16 .ensures) (c .before .before .before .before .before .before .before .before .before .before .put-number .ensures) (c .before .before .before .before .before .before .put-address .ensures) (c .before .before .copy-in .ensures) (omega arith))
+returns-2 c = let a = c .before .before .before .before .before .before .before .before .before .before .before .before .before .before .before .before .before
+    .before .before .args in (
+      sym (length-waiting (a .remote) (a .bytes .now)),
+      waiting-laid (a .out .now) (a .remote) (a .bytes .now)
+          (c .before .before .before .before .before .before .before .before .before .before .before .before .before .before .put16 .ensures)
+          (c .before .before .before .before .before .before .before .before .before .before .put-number .ensures)
+          (c .before .before .before .before .before .before .put-address .ensures) (c .before .before .copy-in .ensures) (omega arith),
+    )
 
 pub put-waiting-spec : {M : Type 1} → statement M
 put-waiting-spec =

@@ -35,7 +35,9 @@ same-length : tie.Need-same-length
 same-length c = search needs
 
 returns-3 : tie.Need-returns-3
-returns-3 c = let a = c .before .before .before .before .before .before .before .before .before .before .before .before .before .before .before .args in zeros (a .out .now) (a .at) (c .before .before .before .before .before .before .before .before .before .before .put32 .ensures) (c .before .before .before .before .before .before .put322 .ensures) (c .before .before .put323 .ensures) (omega arith)
+returns-3 c = let a = c .before .before .before .before .before .before .before .before .before .before .before .before .before .before .before .args in
+    zeros (a .out .now) (a .at) (c .before .before .before .before .before .before .before .before .before .before .put32 .ensures)
+    (c .before .before .before .before .before .before .put322 .ensures) (c .before .before .put323 .ensures) (omega arith)
 
 pub put-zeros-spec : {M : Type 1} → statement M
 put-zeros-spec =

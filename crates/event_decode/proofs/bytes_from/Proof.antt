@@ -14,7 +14,8 @@ slice-aggregate-result : tie.Need-slice-aggregate-result
 slice-aggregate-result c = search needs
 
 returns : tie.Need-returns
-returns c = let a = c .before .before .args in (sym (drop-of-length-le (a .body .now) {i = a .at} (omega arith)), from-past (a .body .ptr) (a .body .now) (a .at) (omega arith))
+returns c = let a = c .before .before .args in
+    (sym (drop-of-length-le (a .body .now) {i = a .at} (omega arith)), from-past (a .body .ptr) (a .body .now) (a .at) (omega arith))
 
 sub-result : tie.Need-sub-result
 sub-result c = search needs
@@ -26,7 +27,11 @@ part-result-end : tie.Need-part-result-end
 part-result-end c = search needs
 
 returns-2 : tie.Need-returns-2
-returns-2 c = let a = c .before .before .args in (ap (λ (n : ℕ). take n (drop (a .at) (a .body .now))) (sym (length-drop (a .at) (a .body .now))) ∙ take-length (drop (a .at) (a .body .now)), from-there (a .body .ptr) (a .body .now) (a .at) (omega arith))
+returns-2 c = let a = c .before .before .args in (
+  ap (λ (n : ℕ). take n (drop (a .at) (a .body .now))) (sym (length-drop (a .at) (a .body .now)))
+      ∙ take-length (drop (a .at) (a .body .now)),
+  from-there (a .body .ptr) (a .body .now) (a .at) (omega arith),
+)
 
 pub bytes-from-spec : {M : Type 1} → statement M
 bytes-from-spec =

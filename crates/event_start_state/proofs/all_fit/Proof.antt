@@ -38,10 +38,15 @@ loop-less c = omega arith
 
 loop-again : tie.Need-loop-again Inv-loop μ-loop
 unfolding every
-loop-again c = let l = c .before .before .before .loop in let a = c .before .before .before .before .before .args in (omega arith, ap₂ _&&_ (l .inv .1) (c .record-fits .ensures ∙ ap recordFits (c .before .bytes-from .ensures .0)) ∙ sym (ap (every (fitsAt (a .bytes .now))) (add-one (l .i))))
+loop-again c = let l = c .before .before .before .loop in let a = c .before .before .before .before .before .args in (
+  omega arith,
+  ap₂ _&&_ (l .inv .1) (c .record-fits .ensures ∙ ap recordFits (c .before .bytes-from .ensures .0))
+      ∙ sym (ap (every (fitsAt (a .bytes .now))) (add-one (l .i))),
+)
 
 returns : tie.Need-returns Inv-loop μ-loop
-returns c = let l = c .before .loop in let a = c .before .before .before .args in let e : l .i ≡ 16 = omega arith in l .inv .1 ∙ ap (every (fitsAt (a .bytes .now))) e
+returns c = let l = c .before .loop in let a = c .before .before .before .args in
+    let e : l .i ≡ 16 = omega arith in l .inv .1 ∙ ap (every (fitsAt (a .bytes .now))) e
 
 pub all-fit-spec : {M : Type 1} → statement M
 all-fit-spec =

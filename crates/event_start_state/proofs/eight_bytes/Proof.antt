@@ -22,7 +22,8 @@ add-result : tie.Need-add-result
 add-result c = search needs
 
 returns : tie.Need-returns
-returns c = let a = c .before .before .before .args in ap₂ (λ (x y : ℕ). x * 4294967296 + y) (c .before .be32 .ensures .is) (c .be322 .ensures .is) ∙ sym (be-add 4 4 (a .s .now) (a .at))
+returns c = let a = c .before .before .before .args in
+    ap₂ (λ (x y : ℕ). x * 4294967296 + y) (c .before .be32 .ensures .is) (c .be322 .ensures .is) ∙ sym (be-add 4 4 (a .s .now) (a .at))
 
 pub eight-bytes-spec : {M : Type 1} → statement M
 eight-bytes-spec =

@@ -17,7 +17,8 @@ all-fit-requires : tie.Need-all-fit-requires
 all-fit-requires c κs = search needs
 
 returns : tie.Need-returns
-returns c = given-is (c .before .before .before .before .before .args .bytes .now) (c .all-fit .ensures) (c .before .before .before .records-in .ensures) (c .before .before .four-bytes .ensures) (c .before .four-bytes2 .ensures)
+returns c = given-is (c .before .before .before .before .before .args .bytes .now) (c .all-fit .ensures)
+    (c .before .before .before .records-in .ensures) (c .before .before .four-bytes .ensures) (c .before .four-bytes2 .ensures)
 
 pub given-state-spec : {M : Type 1} → statement M
 given-state-spec = tie.close (tie.spec records-in-requires four-bytes-requires four-bytes-requires-2 all-fit-requires returns)

@@ -34,10 +34,12 @@ four-bytes-requires-2 : tie.Need-four-bytes-requires-2
 four-bytes-requires-2 c κs = search needs
 
 returns : tie.Need-returns
-returns c = let a = c .before .before .before .before .before .args in let i = c .before .before .before .be8 .ensures .is in rw (eq-eqb (be 1 (a .s .now) 26) 0 (sym i ∙ c .before .before .match .keys1)) (cc)
+returns c = let a = c .before .before .before .before .before .args in let i = c .before .before .before .be8 .ensures .is in
+    rw (eq-eqb (be 1 (a .s .now) 26) 0 (sym i ∙ c .before .before .match .keys1)) (cc)
 
 returns-2 : tie.Need-returns-2
-returns-2 c = let a = c .before .before .before .before .before .before .args in let i = c .before .before .before .before .be8 .ensures .is in let e = sym i ∙ c .before .before .before .match .keys2 in rw (e) (cc)
+returns-2 c = let a = c .before .before .before .before .before .before .args in let i =
+    c .before .before .before .before .be8 .ensures .is in let e = sym i ∙ c .before .before .before .match .keys2 in rw (e) (cc)
 
 returns-3 : tie.Need-returns-3
 returns-3 c =

@@ -43,7 +43,8 @@ loop-less : tie.Need-loop-less Inv-loop μ-loop
 loop-less c = omega arith
 
 loop-again : tie.Need-loop-again Inv-loop μ-loop
-loop-again c = let l = c .before .before .before .loop in let h : l .i < 16 = omega arith in (omega arith, turn (givenAt _) emptyState _ _ _ h (l .inv .1) (c .record-in .ensures ∙ ap recordIn (c .before .bytes-from .ensures .0)))
+loop-again c = let l = c .before .before .before .loop in let h : l .i < 16 = omega arith in
+    (omega arith, turn (givenAt _) emptyState _ _ _ h (l .inv .1) (c .record-in .ensures ∙ ap recordIn (c .before .bytes-from .ensures .0)))
 
 returns : tie.Need-returns Inv-loop μ-loop
 returns c = let l = c .before .loop in let e : 16 ≡ l .i = omega arith in upto-whole (givenAt _) emptyState _ _ e (l .inv .1)

@@ -44,8 +44,11 @@ returns-3 c =
     let k₁ = k₂ .before .before .before .before in
     let t = k₁ .before .before in
     let a = t .before .before .before .before .args in
-    let e = framing-fits (length (a .payload .now)) (length (a .out .now)) (t .before .if1 .left) (t .if2 .left) in
-    (e, frame-is (a .id) (a .payload .now) (a .out .now) _ _ _ (t .if2 .left) (k₁ .put32 .ensures) (k₂ .put322 .ensures) (k₃ .copy-in .ensures) ∙ out-at (a .id) (a .payload .now) (a .out .now) Done e)
+    let e = framing-fits (length (a .payload .now)) (length (a .out .now)) (t .before .if1 .left) (t .if2 .left) in (
+      e,
+      frame-is (a .id) (a .payload .now) (a .out .now) _ _ _ (t .if2 .left) (k₁ .put32 .ensures) (k₂ .put322 .ensures) (k₃ .copy-in .ensures)
+          ∙ out-at (a .id) (a .payload .now) (a .out .now) Done e,
+    )
 
 pub framing-spec : {M : Type 1} → statement M
 framing-spec =

@@ -24,7 +24,8 @@ returns : tie.Need-returns
 returns c =
     let r = c .before in
     let b = r .before .before in
-    c .each-sound .ensures ∙ records-in _ _ _ _ _ _ (r .rows-of .ensures .0) (b .before .body-of .ensures .0) (b .body-of2 .ensures .0) (r .before .body-of3 .ensures .0)
+    c .each-sound .ensures ∙ records-in _ _ _ _ _ _ (r .rows-of .ensures .0)
+    (b .before .body-of .ensures .0) (b .body-of2 .ensures .0) (r .before .body-of3 .ensures .0)
 
 pub are-sound-spec : {M : Type 1} → statement M
 are-sound-spec =

@@ -23,7 +23,13 @@ are-sound-requires c κs = search needs
 
 returns-2 : tie.Need-returns-2
 unfolding gateOf soundState
-returns-2 c = rw (c .before .before .before .before .before .if1 .left, ← c .before .before .before .before .check-table .ensures, c .before .before .enum-told2 .given .1, ← c .before .are-sound .ensures, c .if2 .taken)
+returns-2 c = rw (
+  c .before .before .before .before .before .if1 .left,
+  ← c .before .before .before .before .check-table .ensures,
+  c .before .before .enum-told2 .given .1,
+  ← c .before .are-sound .ensures,
+  c .if2 .taken,
+)
 
 returns-3 : tie.Need-returns-3
 unfolding gateOf soundState
@@ -31,7 +37,13 @@ returns-3 c = rw (c .before .before .before .if1 .left, ← c .before .before .c
 
 returns-4 : tie.Need-returns-4
 unfolding gateOf soundState
-returns-4 c = rw (c .before .before .before .before .before .if1 .left, ← c .before .before .before .before .check-table .ensures, c .before .before .enum-told2 .given .1, ← c .before .are-sound .ensures, c .if2 .left)
+returns-4 c = rw (
+  c .before .before .before .before .before .if1 .left,
+  ← c .before .before .before .before .check-table .ensures,
+  c .before .before .enum-told2 .given .1,
+  ← c .before .are-sound .ensures,
+  c .if2 .left,
+)
 
 pub ask-spec : {M : Type 1} → statement M
 ask-spec =

@@ -19,7 +19,12 @@ rows-of-requires c κs = search needs
 
 returns : tie.Need-returns
 unfolding gateAt
-returns c = rw (← c .before .before .before .before .ask .ensures, c .before .before .enum-told .given .1, ← c .before .rows-of .ensures .0, lt-ltb _ _ (c .if1 .taken))
+returns c = rw (
+  ← c .before .before .before .before .ask .ensures,
+  c .before .before .enum-told .given .1,
+  ← c .before .rows-of .ensures .0,
+  lt-ltb _ _ (c .if1 .taken),
+)
 
 returns-2 : tie.Need-returns-2
 unfolding gateAt
@@ -27,7 +32,12 @@ returns-2 c = rw (← c .before .before .before .ask .ensures, c .before .first 
 
 returns-3 : tie.Need-returns-3
 unfolding gateAt
-returns-3 c = rw (← c .before .before .before .before .ask .ensures, c .before .before .enum-told .given .1, ← c .before .rows-of .ensures .0, le-ltb _ _ (c .if1 .left))
+returns-3 c = rw (
+  ← c .before .before .before .before .ask .ensures,
+  c .before .before .enum-told .given .1,
+  ← c .before .rows-of .ensures .0,
+  le-ltb _ _ (c .if1 .left),
+)
 
 pub ask-at-spec : {M : Type 1} → statement M
 ask-at-spec =

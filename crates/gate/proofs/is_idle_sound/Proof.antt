@@ -28,7 +28,8 @@ returns-2 : tie.Need-returns-2
 returns-2 c =
     let z = c .before .before .before in
     let a = z .before .before .before .before .before .before .args in
-    idle-with (sizeIn 16 (now (a .connections)) (a .n)) _ (a .c) _ _ (z .before .before .before .before .is-reached .ensures) (z .before .is-online .ensures) (z .size-in .ensures) (z .before .before .if1 .left)
+    idle-with (sizeIn 16 (now (a .connections)) (a .n)) _ (a .c) _ _ (z .before .before .before .before .is-reached .ensures)
+    (z .before .is-online .ensures) (z .size-in .ensures) (z .before .before .if1 .left)
 
 pub is-idle-sound-spec : {M : Type 1} → statement M
 is-idle-sound-spec =

@@ -16,7 +16,8 @@ returns : tie.Need-returns
 returns c =
     let s = c .before .before .before in
     let a = s .args in
-    stands-at-front (lookupOf (a .routes .now) (a .connection) (a .switches)) (a .place + length (a .rest .now)) (a .place) (a .rest .now) short (head-short (a .rest .now) (s .pre .0) (c .if1 .taken))
+    stands-at-front (lookupOf (a .routes .now) (a .connection) (a .switches)) (a .place + length (a .rest .now))
+    (a .place) (a .rest .now) short (head-short (a .rest .now) (s .pre .0) (c .if1 .taken))
 
 be32-requires : tie.Need-be32-requires
 be32-requires c κs = search needs
@@ -38,7 +39,8 @@ returns-2 c =
     let k = c .before in
     let e = k .before .before in
     let a = e .before .before .before .args in
-    stands-at-front (lookupOf (a .routes .now) (a .connection) (a .switches)) (a .place + length (a .rest .now)) (a .place) (a .rest .now) (beyond (k .before .be32 .result) (k .be322 .result))
+    stands-at-front (lookupOf (a .routes .now) (a .connection) (a .switches)) (a .place + length (a .rest .now))
+    (a .place) (a .rest .now) (beyond (k .before .be32 .result) (k .be322 .result))
     (head-beyond (a .rest .now) _ _ (e .if1 .left) (k .before .be32 .ensures .is) (k .be322 .ensures .is) (c .if2 .taken))
 
 cast-lookup : tie.Need-cast-lookup
@@ -65,7 +67,8 @@ returns-3 c =
     let k = t .before in
     let e = k .before .before in
     let a = e .before .before .before .args in
-    judged (lookupOf (a .routes .now) (a .connection) (a .switches)) (a .place + length (a .rest .now)) (a .place) (a .rest .now) (k .before .be32 .result) (k .be322 .result) _ _
+    judged (lookupOf (a .routes .now) (a .connection) (a .switches)) (a .place + length (a .rest .now))
+    (a .place) (a .rest .now) (k .before .be32 .result) (k .be322 .result) _ _
     (e .if1 .left) (k .before .be32 .ensures .is) (k .be322 .ensures .is) (t .if2 .left) (c .before .lookup .ensures) (c .whole-at .ensures)
 
 pub walk-rest-spec : {M : Type 1} → statement M

@@ -14,7 +14,8 @@ reason-in-requires : tie.Need-reason-in-requires
 reason-in-requires c κs = search needs
 
 returns : tie.Need-returns
-returns c = reason-row _ _ _ _ _ _ _ (c .before .before .if1 .taken) (c .before .before .before .rows-in .ensures .is) (c .before .route-in .ensures) (c .reason-in .ensures)
+returns c = reason-row _ _ _ _ _ _ _ (c .before .before .if1 .taken)
+    (c .before .before .before .rows-in .ensures .is) (c .before .route-in .ensures) (c .reason-in .ensures)
 
 returns-2 : tie.Need-returns-2
 returns-2 c = reason-none _ _ _ _ _ (c .if1 .left) (c .before .rows-in .ensures .is)

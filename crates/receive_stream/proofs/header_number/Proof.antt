@@ -20,7 +20,8 @@ returns : tie.Need-returns
 returns c =
     let k = c .before in
     let s = k .before .before .before in
-    at-once (s .args .value) (s .args .held) (s .args .n) _ _ (s .args .bytes .now) (s .pre .0) (s .pre .1) (s .pre .2) (k .before .if1 .taken) (k .be32 .ensures) (c .be322 .ensures)
+    at-once (s .args .value) (s .args .held) (s .args .n) _ _ (s .args .bytes .now) (s .pre .0)
+    (s .pre .1) (s .pre .2) (k .before .if1 .taken) (k .be32 .ensures) (c .be322 .ensures)
 
 gather-requires : tie.Need-gather-requires
 gather-requires c κs = search needs

@@ -26,7 +26,8 @@ add-t22 c = search needs
 returns : tie.Need-returns
 returns c =
     let a = c .before .before .before .before .before .args in
-    header-part (idOf (a .routes .now)) (lookupOf (a .routes .now) (a .connection) (a .switches)) (a .value) (a .held) (a .total) (c .gather .result) (a .rx .now) (a .rest .now) (omega arith) (c .before .if1 .taken) (c .gather .ensures .0)
+    header-part (idOf (a .routes .now)) (lookupOf (a .routes .now) (a .connection) (a .switches)) (a .value) (a .held)
+    (a .total) (c .gather .result) (a .rx .now) (a .rest .now) (omega arith) (c .before .if1 .taken) (c .gather .ensures .0)
 
 header-number-requires : tie.Need-header-number-requires
 header-number-requires c κs = search needs
@@ -98,9 +99,11 @@ returns-2 c =
     let s = g .before .before .before .before .before in
     let a = s .args in
     let is = sym (l .lookup .ensures) ∙ k .route .given .1 in
-    header-accepted (idOf (a .routes .now)) (lookupOf (a .routes .now) (a .connection) (a .switches)) (a .value) _ (g .header-number .result) _ _ _ (a .total) (a .rx .now) (a .rest .now) _ _
+    header-accepted (idOf (a .routes .now)) (lookupOf (a .routes .now) (a .connection) (a .switches))
+    (a .value) _ (g .header-number .result) _ _ _ (a .total) (a .rx .now) (a .rest .now) _ _
     (omega (arith, s .pre .2)) (g .before .if1 .left) (g .header-number .ensures .0) refl refl is
-    (b .take-body .ensures (lookupOf (a .routes .now) (a .connection) (a .switches)) (g .header-number .result / 4294967296) (idOf (a .routes .now)) (accepted-id (a .routes .now) _ _ _ _ _ is))
+    (b .take-body .ensures (lookupOf (a .routes .now) (a .connection) (a .switches))
+    (g .header-number .result / 4294967296) (idOf (a .routes .now)) (accepted-id (a .routes .now) _ _ _ _ _ is))
 
 returns-3 : tie.Need-returns-3
 returns-3 c =
@@ -108,7 +111,8 @@ returns-3 c =
     let l = k .before .before in
     let g = l .before in
     let a = g .before .before .before .before .before .args in
-    header-dropped (idOf (a .routes .now)) (lookupOf (a .routes .now) (a .connection) (a .switches)) (a .value) _ (g .header-number .result) _ _ _ (a .total) (a .rx .now) (a .rest .now) _
+    header-dropped (idOf (a .routes .now)) (lookupOf (a .routes .now) (a .connection) (a .switches))
+    (a .value) _ (g .header-number .result) _ _ _ (a .total) (a .rx .now) (a .rest .now) _
     (omega arith) (g .before .if1 .left) (g .header-number .ensures .0) refl refl (sym (l .lookup .ensures) ∙ k .reason .given .1) (c .skipping .ensures)
 
 returns-4 : tie.Need-returns-4
@@ -117,7 +121,8 @@ returns-4 c =
     let l = k .before .before in
     let g = l .before in
     let a = g .before .before .before .before .before .args in
-    header-started (idOf (a .routes .now)) (lookupOf (a .routes .now) (a .connection) (a .switches)) (a .value) _ (g .header-number .result) _ _ _ (a .total) (a .rx .now) (a .rest .now) _
+    header-started (idOf (a .routes .now)) (lookupOf (a .routes .now) (a .connection) (a .switches))
+    (a .value) _ (g .header-number .result) _ _ _ (a .total) (a .rx .now) (a .rest .now) _
     (omega arith) (g .before .if1 .left) (g .header-number .ensures .0) refl refl (sym (l .lookup .ensures) ∙ k .route2 .given .1) (c .take-start .ensures)
 
 pub take-header-spec : {M : Type 1} → statement M

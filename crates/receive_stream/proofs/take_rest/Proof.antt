@@ -27,7 +27,8 @@ returns : tie.Need-returns
 returns c =
     let k = c .before .before in
     let a = k .before .before .before .before .before .before .args in
-    λ R ids e. rest-here ids R (a .route) (a .id) (a .size) (a .held) (a .rx .now) (a .segment .now) _ e (omega arith) (omega arith) (k .before .before .before .if1 .taken) (k .copy-in .ensures)
+    λ R ids e. rest-here ids R (a .route) (a .id) (a .size) (a .held) (a .rx .now) (a .segment .now) _ e
+    (omega arith) (omega arith) (k .before .before .before .if1 .taken) (k .copy-in .ensures)
 
 copy-in-requires-2 : tie.Need-copy-in-requires-2
 copy-in-requires-2 c κs = search needs
@@ -45,7 +46,8 @@ returns-2 : tie.Need-returns-2
 returns-2 c =
     let k = c .before .before in
     let a = k .before .before .before .before .before .args in
-    λ R ids e. rest-part ids R (a .route) (a .size) (a .held) (a .rx .now) (a .segment .now) _ (omega arith) (omega arith) (k .before .before .if1 .left) (k .copy-in2 .ensures)
+    λ R ids e. rest-part ids R (a .route) (a .size) (a .held) (a .rx .now) (a .segment .now) _
+    (omega arith) (omega arith) (k .before .before .if1 .left) (k .copy-in2 .ensures)
 
 pub take-rest-spec : {M : Type 1} → statement M
 take-rest-spec =

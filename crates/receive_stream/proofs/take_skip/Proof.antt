@@ -38,7 +38,8 @@ returns-2 c =
     let i = b .before .before .before in
     let s = i .before .before .before .before in
     let a = s .args in
-    skip-over (idOf (a .routes .now)) (lookupOf (a .routes .now) (a .connection) (a .switches)) (a .n) (a .rx .now) (a .segment .now) _ _ (s .pre .2) (i .if1 .left) (b .take-header .ensures)
+    skip-over (idOf (a .routes .now)) (lookupOf (a .routes .now) (a .connection) (a .switches))
+    (a .n) (a .rx .now) (a .segment .now) _ _ (s .pre .2) (i .if1 .left) (b .take-header .ensures)
 
 pub take-skip-spec : {M : Type 1} → statement M
 take-skip-spec =

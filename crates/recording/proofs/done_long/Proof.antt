@@ -27,7 +27,8 @@ returns-5 c = rw (c .match .keys5) refl
 
 returns-6 : tie.Need-returns-6
 unfolding doneLong
-returns-6 c = let r = c .match .rest in simp (ne-eqb _ _ (r .1), ne-eqb _ _ (r .0 .1), ne-eqb _ _ (r .0 .0 .1), ne-eqb _ _ (r .0 .0 .0 .1), ne-eqb _ _ (r .0 .0 .0 .0 .1))
+returns-6 c = let r = c .match .rest in
+    simp (ne-eqb _ _ (r .1), ne-eqb _ _ (r .0 .1), ne-eqb _ _ (r .0 .0 .1), ne-eqb _ _ (r .0 .0 .0 .1), ne-eqb _ _ (r .0 .0 .0 .0 .1))
 
 pub done-long-spec : {M : Type 1} → statement M
 done-long-spec = tie.close (tie.spec returns returns-2 returns-3 returns-4 returns-5 returns-6)

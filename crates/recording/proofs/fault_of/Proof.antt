@@ -18,25 +18,55 @@ is-recorded-requires c κs = search needs
 
 returns-2 : tie.Need-returns-2
 unfolding faultOf
-returns-2 c = rw (le-ltb _ _ (c .before .before .before .if1 .left), ← (c .before .before .number-in .ensures), ← (c .before .is-recorded .ensures), c .if2 .taken) refl
+returns-2 c = rw (
+  le-ltb _ _ (c .before .before .before .if1 .left),
+  ← (c .before .before .number-in .ensures),
+  ← (c .before .is-recorded .ensures),
+  c .if2 .taken,
+) refl
 
 be16-requires : tie.Need-be16-requires
 be16-requires c κs = search needs
 
 returns-3 : tie.Need-returns-3
 unfolding faultOf
-returns-3 c = rw (le-ltb _ _ (c .before .before .before .before .before .if1 .left), ← (c .before .before .before .before .number-in .ensures), ← (c .before .before .before .is-recorded .ensures), c .before .before .if2 .left, ← (c .before .be16 .ensures .is), ne-eqb _ _ (c .if3 .taken)) refl
+returns-3 c = rw (
+  le-ltb _ _ (c .before .before .before .before .before .if1 .left),
+  ← (c .before .before .before .before .number-in .ensures),
+  ← (c .before .before .before .is-recorded .ensures),
+  c .before .before .if2 .left,
+  ← (c .before .be16 .ensures .is),
+  ne-eqb _ _ (c .if3 .taken),
+) refl
 
 body-fits-requires : tie.Need-body-fits-requires
 body-fits-requires c κs = search needs
 
 returns-4 : tie.Need-returns-4
 unfolding faultOf
-returns-4 c = rw (le-ltb _ _ (c .before .before .before .before .before .before .before .if1 .left), ← (c .before .before .before .before .before .before .number-in .ensures), ← (c .before .before .before .before .before .is-recorded .ensures), c .before .before .before .before .if2 .left, ← (c .before .before .before .be16 .ensures .is), eq-eqb _ _ (c .before .before .if3 .left), ← (c .before .body-fits .ensures), c .if4 .taken) refl
+returns-4 c = rw (
+  le-ltb _ _ (c .before .before .before .before .before .before .before .if1 .left),
+  ← (c .before .before .before .before .before .before .number-in .ensures),
+  ← (c .before .before .before .before .before .is-recorded .ensures),
+  c .before .before .before .before .if2 .left,
+  ← (c .before .before .before .be16 .ensures .is),
+  eq-eqb _ _ (c .before .before .if3 .left),
+  ← (c .before .body-fits .ensures),
+  c .if4 .taken,
+) refl
 
 returns-5 : tie.Need-returns-5
 unfolding faultOf
-returns-5 c = rw (le-ltb _ _ (c .before .before .before .before .before .before .before .if1 .left), ← (c .before .before .before .before .before .before .number-in .ensures), ← (c .before .before .before .before .before .is-recorded .ensures), c .before .before .before .before .if2 .left, ← (c .before .before .before .be16 .ensures .is), eq-eqb _ _ (c .before .before .if3 .left), ← (c .before .body-fits .ensures), c .if4 .left) refl
+returns-5 c = rw (
+  le-ltb _ _ (c .before .before .before .before .before .before .before .if1 .left),
+  ← (c .before .before .before .before .before .before .number-in .ensures),
+  ← (c .before .before .before .before .before .is-recorded .ensures),
+  c .before .before .before .before .if2 .left,
+  ← (c .before .before .before .be16 .ensures .is),
+  eq-eqb _ _ (c .before .before .if3 .left),
+  ← (c .before .body-fits .ensures),
+  c .if4 .left,
+) refl
 
 pub fault-of-spec : {M : Type 1} → statement M
 fault-of-spec =

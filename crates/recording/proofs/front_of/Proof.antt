@@ -25,7 +25,12 @@ sized-requires c κs = search needs
 
 returns-3 : tie.Need-returns-3
 unfolding shownBy
-returns-3 c = rw (le-ltb _ _ (c .before .before .before .before .if1 .left), ← (c .before .before .before .be16 .ensures .is), eq-eqb _ _ (c .before .before .if2 .left), ← (c .before .entries-in .ensures)) (c .sized .ensures)
+returns-3 c = rw (
+  le-ltb _ _ (c .before .before .before .before .if1 .left),
+  ← (c .before .before .before .be16 .ensures .is),
+  eq-eqb _ _ (c .before .before .if2 .left),
+  ← (c .before .entries-in .ensures),
+) (c .sized .ensures)
 
 pub front-of-spec : {M : Type 1} → statement M
 front-of-spec =

@@ -25,11 +25,21 @@ first-long-requires c κs = search needs
 
 returns-3 : tie.Need-returns-3
 unfolding sizedOf
-returns-3 c = rw (le-ltb _ _ (c .before .before .before .if1 .left), le-ltb _ _ (c .before .before .if2 .left), ← (c .before .first-long .ensures), lt-ltb _ _ (c .if3 .taken)) refl
+returns-3 c = rw (
+  le-ltb _ _ (c .before .before .before .if1 .left),
+  le-ltb _ _ (c .before .before .if2 .left),
+  ← (c .before .first-long .ensures),
+  lt-ltb _ _ (c .if3 .taken),
+) refl
 
 returns-4 : tie.Need-returns-4
 unfolding sizedOf
-returns-4 c = rw (le-ltb _ _ (c .before .before .before .if1 .left), le-ltb _ _ (c .before .before .if2 .left), ← (c .before .first-long .ensures), le-ltb _ _ (c .if3 .left)) refl
+returns-4 c = rw (
+  le-ltb _ _ (c .before .before .before .if1 .left),
+  le-ltb _ _ (c .before .before .if2 .left),
+  ← (c .before .first-long .ensures),
+  le-ltb _ _ (c .if3 .left),
+) refl
 
 pub sized-spec : {M : Type 1} → statement M
 sized-spec =

@@ -28,14 +28,19 @@ returns c =
     let t = c .before in
     let n = t .before in
     let b = n .before in
-    takes-refused _ _ _ _ _ _ _ (b .before .before .loop .inv) (search needs) (b .bytes-from .ensures .0) (t .take-fits .ensures) (n .take-needs .ensures) (c .if1 .taken)
+    takes-refused _ _ _ _ _ _ _ (b .before .before .loop .inv) (search needs)
+    (b .bytes-from .ensures .0) (t .take-fits .ensures) (n .take-needs .ensures) (c .if1 .taken)
 
 add-at : tie.Need-add-at Inv-loop μ-loop
 add-at c =
     let t = c .before in
     let n = t .before in
     let b = n .before in
-    omega (arith, takes-within _ _ _ _ _ _ _ (b .before .before .loop .inv) (search needs) (b .bytes-from .ensures .0) (t .take-fits .ensures) (n .take-needs .ensures) (c .if1 .left))
+    omega (
+      arith,
+      takes-within _ _ _ _ _ _ _ (b .before .before .loop .inv) (search needs)
+          (b .bytes-from .ensures .0) (t .take-fits .ensures) (n .take-needs .ensures) (c .if1 .left),
+    )
 
 sub-left : tie.Need-sub-left Inv-loop μ-loop
 sub-left c = search needs
@@ -48,7 +53,8 @@ loop-again c =
     let t = c .before in
     let n = t .before in
     let b = n .before in
-    takes-next _ _ _ _ _ _ _ (b .before .before .loop .inv) (search needs) (b .bytes-from .ensures .0) (t .take-fits .ensures) (n .take-needs .ensures) (c .if1 .left)
+    takes-next _ _ _ _ _ _ _ (b .before .before .loop .inv) (search needs)
+    (b .bytes-from .ensures .0) (t .take-fits .ensures) (n .take-needs .ensures) (c .if1 .left)
 
 returns-2 : tie.Need-returns-2 Inv-loop μ-loop
 returns-2 c = takes-ended _ _ _ _ (c .before .loop .inv) (search needs)

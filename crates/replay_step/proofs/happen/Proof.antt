@@ -32,7 +32,8 @@ returns : tie.Need-returns
 returns c =
     let d = c .before .before .before .before .before .before .before .before .before .before in
     let p = d .dispatch .ensures in
-    happens-so _ _ _ _ _ _ _ _ _ _ _ _ _ _ _ _ (d .before .before .before .before .before .before .ticks .ensures) (d .before .before .arguments-in .ensures .0) (p .0) (p .1 .0)
+    happens-so _ _ _ _ _ _ _ _ _ _ _ _ _ _ _ _ (d .before .before .before .before .before .before .ticks .ensures)
+    (d .before .before .arguments-in .ensures .0) (p .0) (p .1 .0)
     (p .1 .1 .0) (p .1 .1 .1) (c .before .answer-in .ensures .0) (c .played-by .ensures)
 
 pub happen-spec : {M : Type 1} → statement M

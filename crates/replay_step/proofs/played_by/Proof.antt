@@ -25,10 +25,12 @@ enum-told-3 : tie.Need-enum-told-3
 enum-told-3 c = search needs
 
 returns : tie.Need-returns
-returns c = told-same _ _ (c .before .before .before .before .verdict .given .1) (c .before .before .front .ensures .0) (c .before .same-bytes .ensures) (c .if1 .taken)
+returns c = told-same _ _ (c .before .before .before .before .verdict .given .1)
+    (c .before .before .front .ensures .0) (c .before .same-bytes .ensures) (c .if1 .taken)
 
 returns-2 : tie.Need-returns-2
-returns-2 c = told-other _ _ (c .before .before .before .before .verdict .given .1) (c .before .before .front .ensures .0) (c .before .same-bytes .ensures) (c .if1 .left)
+returns-2 c = told-other _ _ (c .before .before .before .before .verdict .given .1)
+    (c .before .before .front .ensures .0) (c .before .same-bytes .ensures) (c .if1 .left)
 
 returns-3 : tie.Need-returns-3
 unfolding playedBy

@@ -22,7 +22,8 @@ unplayed-requires-2 c κs = search needs
 
 returns-2 : tie.Need-returns-2
 unfolding entryStep
-returns-2 c = rw (le-ltb _ _ (c .before .before .before .if1 .left), ← (c .before .before .body-long .ensures), lt-ltb _ _ (c .before .if2 .taken)) (c .unplayed2 .ensures, (refl, (refl, refl)))
+returns-2 c = rw (le-ltb _ _ (c .before .before .before .if1 .left), ← (c .before .before .body-long .ensures), lt-ltb _ _ (c .before .if2 .taken))
+    (c .unplayed2 .ensures, (refl, (refl, refl)))
 
 front-requires : tie.Need-front-requires
 front-requires c κs = search needs

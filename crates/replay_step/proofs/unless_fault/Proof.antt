@@ -46,7 +46,8 @@ same-length-3 c = search needs
 
 returns : tie.Need-returns
 unfolding unlessFault
-returns c = let p = c .before .before .before .before .before .before .happen .ensures in rw (c .before .before .before .before .before .before .before .before .before .before .enum-told .given .1) (p .0, (p .1 .0, (p .1 .1 .0, p .1 .1 .1)))
+returns c = let p = c .before .before .before .before .before .before .happen .ensures in
+    rw (c .before .before .before .before .before .before .before .before .before .before .enum-told .given .1) (p .0, (p .1 .0, (p .1 .1 .0, p .1 .1 .1)))
 
 returns-2 : tie.Need-returns-2
 unfolding unlessFault

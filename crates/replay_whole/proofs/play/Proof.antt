@@ -38,8 +38,11 @@ stamp-in-requires : tie.Need-stamp-in-requires Inv-loop μ-loop
 stamp-in-requires c κs = search needs
 
 loop-holds : tie.Need-loop-holds Inv-loop μ-loop
-loop-holds c =
-    (entry-start _ _ _ _ _ _ _ _ _ (c .before .before .entries-in .ensures) (search needs) refl (c .stamp-in .ensures ∙ ap stampIn (c .before .entry-row .ensures .0)), (refl, (refl, refl)))
+loop-holds c = (
+  entry-start _ _ _ _ _ _ _ _ _ (c .before .before .entries-in .ensures) (search needs) refl
+      (c .stamp-in .ensures ∙ ap stampIn (c .before .entry-row .ensures .0)),
+  (refl, (refl, refl)),
+)
 
 entry-row-requires-2 : tie.Need-entry-row-requires-2 Inv-loop μ-loop
 entry-row-requires-2 c κs = search needs
@@ -93,7 +96,11 @@ cast-ticks c = search needs
 
 add-ticks : tie.Need-add-ticks Inv-loop μ-loop
 add-ticks c =
-    omega (arith, c .before .before .before .before .before .before .before .before .before .before .before .before .before .before .before .before .before .before .loop .inv .0 .few)
+    omega (
+      arith,
+      c .before .before .before .before .before .before .before .before .before
+          .before .before .before .before .before .before .before .before .before .loop .inv .0 .few,
+    )
 
 body-long-requires : tie.Need-body-long-requires Inv-loop μ-loop
 body-long-requires c κs = search needs
@@ -107,7 +114,8 @@ add-at-2 c =
     let p = r .replay-step .ensures in
     ⊎-elim (λ x. omega (arith, x)) (λ x. omega (arith, x, l .before .before .before .before .before .before .before .before .before .good))
     (entry-placed _ _ _ _ _ _ _ _ _ (l .loop .inv .0) (e .before .loop-test .taken) _ _ _ _ _ _ (e .entry-row2 .ensures .0) (f .bytes-from .ensures .0)
-    (p .0, (p .1 .0, (p .1 .1 .0, p .1 .1 .1))) _ _ (c .before .before .before .before .is-run .ensures) (c .before .before .before .if1 .left) (c .body-long .ensures))
+    (p .0, (p .1 .0, (p .1 .1 .0, p .1 .1 .1))) _ _ (c .before .before .before .before .is-run .ensures)
+    (c .before .before .before .if1 .left) (c .body-long .ensures))
 
 stamp-in-requires-3 : tie.Need-stamp-in-requires-3 Inv-loop μ-loop
 stamp-in-requires-3 c κs = search needs
@@ -119,7 +127,13 @@ first-other-requires : tie.Need-first-other-requires Inv-loop μ-loop
 first-other-requires c κs = search needs
 
 add-i : tie.Need-add-i Inv-loop μ-loop
-add-i c = omega (arith, c .before .before .before .before .before .before .before .before .before .before .before .before .before .before .before .before .before .before .before .before .before .loop-test .taken, c .before .before .before .before .before .before .before .before .before .before .before .before .before .before .before .before .before .before .before .before .before .before .before .before .before .entries-in .ok)
+add-i c = omega (
+  arith,
+  c .before .before .before .before .before .before .before .before .before .before .before .before .before .before .before .before
+      .before .before .before .before .before .loop-test .taken,
+  c .before .before .before .before .before .before .before .before .before .before .before .before .before
+      .before .before .before .before .before .before .before .before .before .before .before .before .entries-in .ok,
+)
 
 loop-less : tie.Need-loop-less Inv-loop μ-loop
 loop-less c = search needs
@@ -133,7 +147,9 @@ loop-again c =
     let p = r .replay-step .ensures in (
       entry-on _ _ _ _ _ _ _ _ _ (l .loop .inv .0) (e .before .loop-test .taken) _ _ _ _ _ _ (e .entry-row2 .ensures .0) (f .bytes-from .ensures .0)
           (p .0, (p .1 .0, (p .1 .1 .0, p .1 .1 .1))) _ _ _ _ _ _ _
-          (c .before .before .before .before .before .before .before .is-run .ensures) (c .before .before .before .before .before .before .if1 .left) (c .before .before .before .before .before .stamp-in2 .ensures) (c .before .before .before .before .distance .ensures) (omega (arith, c .before .before .before .before .distance .ok)) (c .before .before .before .body-long .ensures)
+          (c .before .before .before .before .before .before .before .is-run .ensures) (c .before .before .before .before .before .before .if1 .left)
+          (c .before .before .before .before .before .stamp-in2 .ensures) (c .before .before .before .before .distance .ensures)
+          (omega (arith, c .before .before .before .before .distance .ok)) (c .before .before .before .body-long .ensures)
           (c .before .before .stamp-in3 .ensures) (c .before .is-other .ensures) (c .first-other .ensures),
       (
         omega (arith, r .replay-step .kept, l .loop .inv .1),

@@ -38,11 +38,18 @@ same-length-3 c = search needs
 
 returns : tie.Need-returns
 unfolding replayOf underTable
-returns c = let p = c .before .before .before .before .before .before .under-front .ensures in rw (← (c .before .before .before .before .before .before .before .before .before .before .before .before .before .check-table .ensures), c .before .before .before .before .before .before .before .before .before .before .before .enum-told .given .1, ← (c .before .before .before .before .before .before .before .before .before .before .front-of .ensures)) (p .0, (p .1 .0, (p .1 .1 .0, p .1 .1 .1)))
+returns c = let p = c .before .before .before .before .before .before .under-front .ensures in
+    rw (
+      ← (c .before .before .before .before .before .before .before .before .before .before .before .before .before .check-table .ensures),
+      c .before .before .before .before .before .before .before .before .before .before .before .enum-told .given .1,
+      ←
+          (c .before .before .before .before .before .before .before .before .before .before .front-of .ensures),
+    ) (p .0, (p .1 .0, (p .1 .1 .0, p .1 .1 .1)))
 
 returns-2 : tie.Need-returns-2
 unfolding replayOf underTable
-returns-2 c = rw (← (c .before .before .before .before .before .check-table .ensures), c .before .before .before .checked .given .1) (unrun-so _ _ _ _ (c .unrun .ensures) (c .before .empty-state .ensures), (refl, (refl, refl)))
+returns-2 c = rw (← (c .before .before .before .before .before .check-table .ensures), c .before .before .before .checked .given .1)
+    (unrun-so _ _ _ _ (c .unrun .ensures) (c .before .empty-state .ensures), (refl, (refl, refl)))
 
 pub replay-spec : {M : Type 1} → statement M
 replay-spec =

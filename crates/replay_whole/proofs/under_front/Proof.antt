@@ -45,15 +45,18 @@ returns c = rw (c .before .enum-told .given .1) (unrun-so _ _ _ _ (c .unrun .ens
 
 returns-2 : tie.Need-returns-2
 unfolding underFront
-returns-2 c = rw (c .before .enum-told2 .given .1) (unrun-so _ _ _ _ (c .unrun2 .ensures) (c .before .before .before .fresh-state .ensures), (refl, (refl, refl)))
+returns-2 c = rw (c .before .enum-told2 .given .1)
+    (unrun-so _ _ _ _ (c .unrun2 .ensures) (c .before .before .before .fresh-state .ensures), (refl, (refl, refl)))
 
 returns-3 : tie.Need-returns-3
 unfolding underFront
-returns-3 c = rw (c .before .enum-told3 .given .1) (unrun-so _ _ _ _ (c .unrun3 .ensures) (c .before .before .before .fresh-state .ensures), (refl, (refl, refl)))
+returns-3 c = rw (c .before .enum-told3 .given .1)
+    (unrun-so _ _ _ _ (c .unrun3 .ensures) (c .before .before .before .fresh-state .ensures), (refl, (refl, refl)))
 
 returns-4 : tie.Need-returns-4
 unfolding underFront
-returns-4 c = rw (c .before .before .shown .given .1) (unrun-so _ _ _ _ (c .unrun4 .ensures) (c .before .before .before .before .fresh-state .ensures), (refl, (refl, refl)))
+returns-4 c = rw (c .before .before .shown .given .1)
+    (unrun-so _ _ _ _ (c .unrun4 .ensures) (c .before .before .before .before .fresh-state .ensures), (refl, (refl, refl)))
 
 same-length : tie.Need-same-length
 same-length c = search needs
@@ -66,7 +69,10 @@ same-length-3 c = search needs
 
 returns-5 : tie.Need-returns-5
 unfolding underFront
-returns-5 c = let p = c .before .before .before .before .before .before .play .ensures in rw (c .before .before .before .before .before .before .before .before .before .before .enum-told4 .given .1) (played-so _ _ _ _ _ _ _ _ _ _ _ (p .0, (p .1 .0, (p .1 .1 .0, p .1 .1 .1))) (c .before .before .before .before .before .before .before .before .before .before .before .before .fresh-state .ensures))
+returns-5 c = let p = c .before .before .before .before .before .before .play .ensures in
+    rw (c .before .before .before .before .before .before .before .before .before .before .enum-told4 .given .1)
+    (played-so _ _ _ _ _ _ _ _ _ _ _ (p .0, (p .1 .0, (p .1 .1 .0, p .1 .1 .1)))
+    (c .before .before .before .before .before .before .before .before .before .before .before .before .fresh-state .ensures))
 
 pub under-front-spec : {M : Type 1} → statement M
 under-front-spec =

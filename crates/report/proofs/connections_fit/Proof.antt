@@ -14,13 +14,19 @@ use Rattle.report.proofs.connections_fit.Statement.{statement}
 use Rattle.report.proofs.connections_fit.Tie as tie
 
 abbrev Inv-loop : tie.InvT-loop
-Inv-loop first second ok₀ i₀ ok i = (i ≤ 16) × (length (first .connections) ≡ 16) × (length (second .connections) ≡ 16) × (ok ≡ allTo (tested noDrops dropsFit (second .connections)) 0 i (first .connections))
+Inv-loop first second ok₀ i₀ ok i = (i ≤ 16) × (length (first .connections) ≡ 16) × (length (second .connections) ≡ 16)
+    × (ok ≡ allTo (tested noDrops dropsFit (second .connections)) 0 i (first .connections))
 
 abbrev μ-loop : tie.MeasureT-loop
 μ-loop first second ok₀ i₀ ok i = 16 - i
 
 loop-holds : tie.Need-loop-holds Inv-loop μ-loop
-loop-holds c = (search needs, long _ (c .args .t1 .connections) (c .good .0 .1 .1 .1 .0 .1 .0 .1), long _ (c .args .t2 .connections) (c .good .1 .0 .1 .1 .1 .0 .1 .0 .1), refl)
+loop-holds c = (
+  search needs,
+  long _ (c .args .t1 .connections) (c .good .0 .1 .1 .1 .0 .1 .0 .1),
+  long _ (c .args .t2 .connections) (c .good .1 .0 .1 .1 .1 .0 .1 .0 .1),
+  refl,
+)
 
 mul-these : tie.Need-mul-these Inv-loop μ-loop
 mul-these c = search needs
@@ -51,7 +57,8 @@ loop-again c =
       omega arith,
       b .loop .inv .1,
       b .loop .inv .2,
-      all-turn (tested noDrops dropsFit (a .t2 .connections)) (a .t1 .connections) noDrops (b .loop .i) true (b .loop .ok) _ h (b .loop .inv .3) (c .fits2 .ensures),
+      all-turn (tested noDrops dropsFit (a .t2 .connections)) (a .t1 .connections) noDrops
+          (b .loop .i) true (b .loop .ok) _ h (b .loop .inv .3) (c .fits2 .ensures),
     )
 
 returns : tie.Need-returns Inv-loop μ-loop

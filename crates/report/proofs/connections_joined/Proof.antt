@@ -23,7 +23,13 @@ abbrev μ-loop : tie.MeasureT-loop
 μ-loop second after₀ i₀ after i = 16 - i
 
 loop-holds : tie.Need-loop-holds Inv-loop μ-loop
-loop-holds c = (search needs, long _ (c .args .first .connections) (c .good .0 .1 .1 .1 .0 .1 .0 .1), long _ (c .args .t2 .connections) (c .good .1 .0 .1 .1 .1 .0 .1 .0 .1), refl, refl)
+loop-holds c = (
+  search needs,
+  long _ (c .args .first .connections) (c .good .0 .1 .1 .1 .0 .1 .0 .1),
+  long _ (c .args .t2 .connections) (c .good .1 .0 .1 .1 .1 .0 .1 .0 .1),
+  refl,
+  refl,
+)
 
 mul-these : tie.Need-mul-these Inv-loop μ-loop
 mul-these c = search needs
@@ -60,7 +66,8 @@ loop-again c =
       omega arith,
       b .loop .inv .1,
       b .loop .inv .2,
-      joined-on noDrops plusDrops (a .first .connections) (a .t2 .connections) (b .loop .i) (b .loop .after .connections) _ h (b .loop .inv .3) (c .plus .ensures),
+      joined-on noDrops plusDrops (a .first .connections) (a .t2 .connections)
+          (b .loop .i) (b .loop .after .connections) _ h (b .loop .inv .3) (c .plus .ensures),
       b .loop .inv .4,
     )
 

@@ -15,7 +15,8 @@ no-drops-requires c κs = search needs
 
 returns : tie.Need-returns
 returns c =
-    ap₂ (λ (f : RouteFigures) (d : Drops). record { routes = replicate 64 f; connections = replicate 16 d }) (c .before .no-pdus .ensures) (c .no-drops .ensures)
+    ap₂ (λ (f : RouteFigures) (d : Drops). record { routes = replicate 64 f; connections = replicate 16 d })
+    (c .before .no-pdus .ensures) (c .no-drops .ensures)
 
 pub empty-spec : {M : Type 1} → statement M
 empty-spec = tie.close (tie.spec no-pdus-requires no-drops-requires returns)

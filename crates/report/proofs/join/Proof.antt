@@ -22,7 +22,8 @@ connections-joined-requires : tie.Need-connections-joined-requires
 connections-joined-requires c κs = search needs
 
 returns : tie.Need-returns
-returns c = sym (refused-first _ _ (sym (ap₂ _&&_ (c .before .before .before .before .routes-fit .ensures) (c .before .before .before .connections-fit .ensures))
+returns c = sym (refused-first _ _
+    (sym (ap₂ _&&_ (c .before .before .before .before .routes-fit .ensures) (c .before .before .before .connections-fit .ensures))
     ∙ not-true _ (c .if1 .taken)))
 
 returns-2 : tie.Need-returns-2

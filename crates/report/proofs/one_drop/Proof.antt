@@ -46,7 +46,9 @@ returns-5 c = c .drops-of5 .ensures ∙ sym (rw (c .before .match .keys5) refl)
 
 returns-6 : tie.Need-returns-6
 unfolding oneDrop
-returns-6 c = let r = c .before .match .rest in rw (c .drops-of6 .ensures) (sym (simp (ne-eqb _ _ (r .1), ne-eqb _ _ (r .0 .1), ne-eqb _ _ (r .0 .0 .1), ne-eqb _ _ (r .0 .0 .0 .1), ne-eqb _ _ (r .0 .0 .0 .0 .1))))
+returns-6 c = let r = c .before .match .rest in
+    rw (c .drops-of6 .ensures)
+    (sym (simp (ne-eqb _ _ (r .1), ne-eqb _ _ (r .0 .1), ne-eqb _ _ (r .0 .0 .1), ne-eqb _ _ (r .0 .0 .0 .1), ne-eqb _ _ (r .0 .0 .0 .0 .1))))
 
 pub one-drop-spec : {M : Type 1} → statement M
 one-drop-spec =

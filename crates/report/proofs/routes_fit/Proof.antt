@@ -14,7 +14,8 @@ use Rattle.report.proofs.routes_fit.Statement.{statement}
 use Rattle.report.proofs.routes_fit.Tie as tie
 
 abbrev Inv-loop : tie.InvT-loop
-Inv-loop first second ok₀ i₀ ok i = (i ≤ 64) × (length (first .routes) ≡ 64) × (length (second .routes) ≡ 64) × (ok ≡ allTo (tested noPdus figuresFit (second .routes)) 0 i (first .routes))
+Inv-loop first second ok₀ i₀ ok i =
+    (i ≤ 64) × (length (first .routes) ≡ 64) × (length (second .routes) ≡ 64) × (ok ≡ allTo (tested noPdus figuresFit (second .routes)) 0 i (first .routes))
 
 abbrev μ-loop : tie.MeasureT-loop
 μ-loop first second ok₀ i₀ ok i = 64 - i

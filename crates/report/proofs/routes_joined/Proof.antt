@@ -23,7 +23,13 @@ abbrev μ-loop : tie.MeasureT-loop
 μ-loop second after₀ i₀ after i = 64 - i
 
 loop-holds : tie.Need-loop-holds Inv-loop μ-loop
-loop-holds c = (search needs, long _ (c .args .first .routes) (c .good .0 .1 .1 .0 .1 .0 .1), long _ (c .args .t2 .routes) (c .good .1 .0 .1 .1 .0 .1 .0 .1), refl, refl)
+loop-holds c = (
+  search needs,
+  long _ (c .args .first .routes) (c .good .0 .1 .1 .0 .1 .0 .1),
+  long _ (c .args .t2 .routes) (c .good .1 .0 .1 .1 .0 .1 .0 .1),
+  refl,
+  refl,
+)
 
 mul-these : tie.Need-mul-these Inv-loop μ-loop
 mul-these c = search needs

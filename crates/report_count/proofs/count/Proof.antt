@@ -43,7 +43,8 @@ returns-3 c =
     let w = c .before .before .before .before .before .before .before in
     let a = w .before .before .before .before .before .before .args in
     event-on (a .number) (a .arguments .now) (a .answer .now) (a .t1) _ (w .before .be8 .ensures .is) _ _ _ (c .before .before .takes-counted .result)
-    (w .if2 .left) (c .before .before .before .before .takes-at .ensures) (c .before .before .before .bytes-from .ensures .0) (w .before .before .before .takes-in .ensures)
+    (w .if2 .left) (c .before .before .before .before .takes-at .ensures)
+    (c .before .before .before .bytes-from .ensures .0) (w .before .before .before .takes-in .ensures)
     (c .before .before .takes-counted .ensures)
 
 pub count-spec : {M : Type 1} → statement M

@@ -81,9 +81,14 @@ loop-again : tie.Need-loop-again Inv-loop μ-loop
 loop-again c =
     let l = c .before .before .before .before .before .before .before .before .before .before .before .before .before .before in
     let a = c .before .before .before .before .before .before .before .before .before .before .before .before .before .before .before .before .before .args in
-    count-on (a .connection) (a .s .now) (l .loop .report) (l .loop .fits) (l .loop .kept) (l .loop .left) (l .loop .at) _ (c .before .before .before .before .before .before .before .before .before .before .before .adds-of .result)
-    _ _ _ _ _ _ _ (sub-left c) (l .loop .inv) (c .before .before .before .before .before .before .before .before .before .before .before .before .bytes-from .ensures .0) (c .before .before .before .before .before .before .before .before .before .before .before .adds-of .ensures) (c .before .before .before .before .before .fits2 .ensures)
-    (c .before .before .before .before .fits3 .ensures) (c .before .before .before .plus .ensures) (c .before .before .plus2 .ensures) (c .before .take-needs .ensures) (c .passed .ensures)
+    count-on (a .connection) (a .s .now) (l .loop .report) (l .loop .fits) (l .loop .kept) (l .loop .left) (l .loop .at) _
+    (c .before .before .before .before .before .before .before .before .before .before .before .adds-of .result)
+    _ _ _ _ _ _ _ (sub-left c) (l .loop .inv)
+    (c .before .before .before .before .before .before .before .before .before .before .before .before .bytes-from .ensures .0)
+    (c .before .before .before .before .before .before .before .before .before .before .before .adds-of .ensures)
+    (c .before .before .before .before .before .fits2 .ensures)
+    (c .before .before .before .before .fits3 .ensures) (c .before .before .before .plus .ensures)
+    (c .before .before .plus2 .ensures) (c .before .take-needs .ensures) (c .passed .ensures)
 
 returns : tie.Need-returns Inv-loop μ-loop
 unfolding takesCounted

@@ -22,7 +22,8 @@ cast-result c = search needs
 
 returns-2 : tie.Need-returns-2
 unfolding takesIn
-returns-2 c = c .be162 .ensures .is ∙ sym (rw (eq-eqb _ 0 (sym (c .before .before .before .be16 .ensures .is) ∙ c .before .before .if1 .left), c .before .match .keys1) refl)
+returns-2 c = c .be162 .ensures .is
+    ∙ sym (rw (eq-eqb _ 0 (sym (c .before .before .before .be16 .ensures .is) ∙ c .before .before .if1 .left), c .before .match .keys1) refl)
 
 returns-3 : tie.Need-returns-3
 unfolding takesIn

@@ -8,7 +8,8 @@ use Rattle.run.proofs.entries.Statement.{statement}
 use Rattle.run.proofs.entries.Tie as tie
 
 abbrev Inv-loop : tie.InvT-loop
-Inv-loop table rx₀ tx₀ room₀ text₀ out₀ state₀ n₀ rx tx room text out state n = (length rx ≡ length rx₀) × ((length tx ≡ length tx₀) × ((length room ≡ length room₀) × ((length text ≡ length text₀) × (length out ≡ length out₀))))
+Inv-loop table rx₀ tx₀ room₀ text₀ out₀ state₀ n₀ rx tx room text out state n =
+    (length rx ≡ length rx₀) × ((length tx ≡ length tx₀) × ((length room ≡ length room₀) × ((length text ≡ length text₀) × (length out ≡ length out₀))))
 
 abbrev μ-loop : tie.MeasureT-loop
 μ-loop table rx₀ tx₀ room₀ text₀ out₀ state₀ n₀ rx tx room text out state n = 18446744073709551615 - n

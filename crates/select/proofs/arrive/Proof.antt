@@ -27,7 +27,8 @@ returns-2 : tie.Need-returns-2
 returns-2 c =
     let k = c .before in
     let r = k .before .before .before .before .before in
-    arrive-denied _ _ _ _ _ _ (r .rows-of .ensures .0) (k .before .before .before .before .if1 .left) _ (k .before .before .before .group-row .ensures) _ (k .before .before .protocol-of .ensures) _ (k .has-wildcard .ensures) (c .if2 .taken)
+    arrive-denied _ _ _ _ _ _ (r .rows-of .ensures .0) (k .before .before .before .before .if1 .left) _
+    (k .before .before .before .group-row .ensures) _ (k .before .before .protocol-of .ensures) _ (k .has-wildcard .ensures) (c .if2 .taken)
 
 choose-requires : tie.Need-choose-requires
 choose-requires c κs = search needs
@@ -68,7 +69,8 @@ returns-3 c =
     let x = c .before .before in
     let k = x .before .before in
     let r = k .before .before .before .before .before in
-    arrive-nobody _ _ _ _ _ _ (r .rows-of .ensures .0) (k .before .before .before .before .if1 .left) _ (k .before .before .before .group-row .ensures) _ (k .before .before .protocol-of .ensures) _ (k .has-wildcard .ensures) (x .before .if2 .left) _ (x .choose .ensures) (c .enum-told .given .1)
+    arrive-nobody _ _ _ _ _ _ (r .rows-of .ensures .0) (k .before .before .before .before .if1 .left) _ (k .before .before .before .group-row .ensures) _
+    (k .before .before .protocol-of .ensures) _ (k .has-wildcard .ensures) (x .before .if2 .left) _ (x .choose .ensures) (c .enum-told .given .1)
 
 returns-4 : tie.Need-returns-4
 returns-4 c =
@@ -76,7 +78,9 @@ returns-4 c =
     let x = m .before .before in
     let k = x .before .before in
     let r = k .before .before .before .before .before in
-    arrive-met _ _ _ _ _ _ (r .rows-of .ensures .0) (k .before .before .before .before .if1 .left) _ (k .before .before .before .group-row .ensures) _ (k .before .before .protocol-of .ensures) _ (k .has-wildcard .ensures) (x .before .if2 .left) _ (x .choose .ensures) _ _ _ (m .chosen .given .1) (c .before .config-of .ensures) (c .met .ensures)
+    arrive-met _ _ _ _ _ _ (r .rows-of .ensures .0) (k .before .before .before .before .if1 .left) _ (k .before .before .before .group-row .ensures) _
+    (k .before .before .protocol-of .ensures) _ (k .has-wildcard .ensures) (x .before .if2 .left) _
+    (x .choose .ensures) _ _ _ (m .chosen .given .1) (c .before .config-of .ensures) (c .met .ensures)
 
 pub arrive-spec : {M : Type 1} → statement M
 arrive-spec =

@@ -69,8 +69,11 @@ L c = c .before .before .before .before .before .before
 abbrev A : tie.After-score Inv-loop μ-loop → tie.Start Inv-loop μ-loop
 A c = L c .before .before .before .before
 
-scored : (c : tie.After-score Inv-loop μ-loop) → c .score .result ≡ scoreAt (now (A c .args .image)) (A c .args .t2) (A c .args .accept) (A c .args .group) (A c .args .source) (L c .loop .i)
-scored c = score-at _ (A c .args .t2) _ _ _ _ _ (L c .loop .i) _ (L c .before .before .rows-of .ensures .0) (c .before .before .before .before .brief-in .ensures ∙ ap (λ (b : List ℕ). briefIn b (L c .loop .i)) (L c .before .body-of .ensures .0)) (c .score .ensures)
+scored : (c : tie.After-score Inv-loop μ-loop)
+    → c .score .result ≡ scoreAt (now (A c .args .image)) (A c .args .t2) (A c .args .accept) (A c .args .group) (A c .args .source) (L c .loop .i)
+scored c = score-at _ (A c .args .t2) _ _ _ _ _ (L c .loop .i) _ (L c .before .before .rows-of .ensures .0)
+    (c .before .before .before .before .brief-in .ensures ∙ ap (λ (b : List ℕ). briefIn b (L c .loop .i)) (L c .before .body-of .ensures .0))
+    (c .score .ensures)
 
 loop-again-2 : tie.Need-loop-again-2 Inv-loop μ-loop
 loop-again-2 c = let l = L (c .before) in pass-no _ _ _ _ _ (l .loop .i) _ _ _ (l .loop .inv) (omega arith) (scored (c .before)) (c .if2 .taken)

@@ -26,13 +26,15 @@ returns : tie.Need-returns
 returns c =
     let k = c .before .before .before .before .before .before .before in
     let a = k .before .before .before .before .before .args in
-    score-yes (a .accept) (a .member) (a .source) (a .c) _ _ _ _ (k .before .before .before .is-reconnect .ensures) (k .before .before .is-online .ensures) (k .before .equal-fields .ensures) (k .wild-fields .ensures) _ (c .before .if1 .taken) (c .rank .ensures .0)
+    score-yes (a .accept) (a .member) (a .source) (a .c) _ _ _ _ (k .before .before .before .is-reconnect .ensures)
+    (k .before .before .is-online .ensures) (k .before .equal-fields .ensures) (k .wild-fields .ensures) _ (c .before .if1 .taken) (c .rank .ensures .0)
 
 returns-2 : tie.Need-returns-2
 returns-2 c =
     let k = c .before .before .before .before .before .before in
     let a = k .before .before .before .before .before .args in
-    score-no (a .accept) (a .member) (a .source) (a .c) _ _ _ _ (k .before .before .before .is-reconnect .ensures) (k .before .before .is-online .ensures) (k .before .equal-fields .ensures) (k .wild-fields .ensures) (c .if1 .left)
+    score-no (a .accept) (a .member) (a .source) (a .c) _ _ _ _ (k .before .before .before .is-reconnect .ensures)
+    (k .before .before .is-online .ensures) (k .before .equal-fields .ensures) (k .wild-fields .ensures) (c .if1 .left)
 
 pub score-spec : {M : Type 1} → statement M
 score-spec =

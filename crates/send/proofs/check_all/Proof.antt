@@ -92,7 +92,8 @@ look-requires : tie.Need-look-requires Inv-loop μ-loop
 look-requires c κs = search needs
 
 -- what row i says, as the definition has it
-said : (c : tie.After-look Inv-loop μ-loop) → let k = c .before .before .before .before in c .look .result ≡ lookAt (now (S (T k) .args .image)) (S (T k) .args .t2) (S (T k) .args .pdu) (S (T k) .args .len) (L (T k) .loop .i)
+said : (c : tie.After-look Inv-loop μ-loop) → let k = c .before .before .before .before in
+    c .look .result ≡ lookAt (now (S (T k) .args .image)) (S (T k) .args .t2) (S (T k) .args .pdu) (S (T k) .args .len) (L (T k) .loop .i)
 said c =
     let k = c .before .before .before .before in
     look-own _ _ _ _ (L (T k) .loop .i) _ (row k) (own k) _ _ (c .before .connection-row .ensures) (c .look .ensures)
@@ -103,7 +104,8 @@ returns c =
     let k = c .before .before .before .before .before in
     let e = said (c .before) in
     ap (λ (a : ℕ). RefusedAt a (L (T k) .loop .i)) e
-    ∙ scan-refused _ _ (L (T k) .loop .i) _ (L (T k) .loop .inv) (inside (T k)) (sym (ap passes e) ∙ not-true (passes (c .before .look .result)) (c .if2 .taken))
+    ∙ scan-refused _ _ (L (T k) .loop .i) _ (L (T k) .loop .inv) (inside (T k))
+    (sym (ap passes e) ∙ not-true (passes (c .before .look .result)) (c .if2 .taken))
 
 join-requires : tie.Need-join-requires Inv-loop μ-loop
 join-requires c κs = search needs
@@ -118,7 +120,9 @@ loop-again-2 : tie.Need-loop-again-2 Inv-loop μ-loop
 loop-again-2 c =
     let k = c .before .before .before .before .before .before in
     let e = said (c .before .before) in
-    scan-on _ _ (L (T k) .loop .i) _ (L (T k) .loop .inv) _ (inside (T k)) (sym (ap passes e) ∙ not-false (passes (c .before .before .look .result)) (c .before .if2 .left)) (c .join .ensures ∙ ap (joinOf (L (T k) .loop .seen)) e)
+    scan-on _ _ (L (T k) .loop .i) _ (L (T k) .loop .inv) _ (inside (T k))
+    (sym (ap passes e) ∙ not-false (passes (c .before .before .look .result)) (c .before .if2 .left))
+    (c .join .ensures ∙ ap (joinOf (L (T k) .loop .seen)) e)
 
 outcome-requires : tie.Need-outcome-requires Inv-loop μ-loop
 outcome-requires c κs = search needs

@@ -100,8 +100,10 @@ is-on-requires c κs = search needs
 abbrev K : tie.After-is-on Inv-loop μ-loop → tie.After-destination-in Inv-loop μ-loop
 K c = c .before .before .before
 
-asked : (c : tie.After-is-on Inv-loop μ-loop) → wantedAt (now (S (T (K c)) .args .image)) (S (T (K c)) .args .s) (S (T (K c)) .args .pdu) (now (S (T (K c)) .args .payload)) (L (T (K c)) .loop .i) ≡ c .is-on .result
-asked c = wanted-own _ _ _ _ (L (T (K c)) .loop .i) _ (row (K c)) (own (K c)) _ _ (c .is-on .ensures) (L (T (K c)) .loop .inv .switched (K c .destination-in .result .connection))
+asked : (c : tie.After-is-on Inv-loop μ-loop) → wantedAt (now (S (T (K c)) .args .image)) (S (T (K c)) .args .s)
+    (S (T (K c)) .args .pdu) (now (S (T (K c)) .args .payload)) (L (T (K c)) .loop .i) ≡ c .is-on .result
+asked c = wanted-own _ _ _ _ (L (T (K c)) .loop .i) _ (row (K c)) (own (K c)) _ _
+    (c .is-on .ensures) (L (T (K c)) .loop .inv .switched (K c .destination-in .result .connection))
 
 add-i-2 : tie.Need-add-i-2 Inv-loop μ-loop
 add-i-2 c = omega arith
@@ -114,15 +116,19 @@ loop-again-2 c =
     let k = K (c .before) in
     store-skip _ _ _ _ _ _ _ (L (T k) .loop .i) (L (T k) .loop .inv) (inside (T k)) (asked (c .before) ∙ not-true _ (c .if2 .taken))
 
-wants : (c : tie.Else2 Inv-loop μ-loop) → let k = K (c .before) in wantedAt (now (S (T k) .args .image)) (S (T k) .args .s) (S (T k) .args .pdu) (now (S (T k) .args .payload)) (L (T k) .loop .i) ≡ true
+wants : (c : tie.Else2 Inv-loop μ-loop) → let k = K (c .before) in
+    wantedAt (now (S (T k) .args .image)) (S (T k) .args .s) (S (T k) .args .pdu) (now (S (T k) .args .payload)) (L (T k) .loop .i) ≡ true
 wants c = asked (c .before) ∙ not-false _ (c .if2 .left)
 
 -- the room that the check found is still there
-roomy : (c : tie.Else2 Inv-loop μ-loop) → let k = K (c .before) in recordAt (L (T k) .loop .next) (k .destination-in .result .connection) .used + 8 + length (now (S (T k) .args .payload)) ≤ 1472
+roomy : (c : tie.Else2 Inv-loop μ-loop) → let k = K (c .before) in
+    recordAt (L (T k) .loop .next) (k .destination-in .result .connection) .used + 8 + length (now (S (T k) .args .payload)) ≤ 1472
 roomy c =
     let k = K (c .before) in
-    let e : recordAt (L (T k) .loop .next) (k .destination-in .result .connection) ≡ recordAt (S (T k) .args .s) (destinationOf (now (S (T k) .args .image)) (L (T k) .loop .i) .connection) =
-    ap (λ (d : DestinationRow). recordAt (L (T k) .loop .next) (d .connection)) (row k) ∙ L (T k) .loop .inv .same (L (T k) .loop .i) (omega arith) (inside (T k)) (wants c) in
+    let e : recordAt (L (T k) .loop .next) (k .destination-in .result .connection)
+    ≡ recordAt (S (T k) .args .s) (destinationOf (now (S (T k) .args .image)) (L (T k) .loop .i) .connection) =
+    ap (λ (d : DestinationRow). recordAt (L (T k) .loop .next) (d .connection)) (row k)
+    ∙ L (T k) .loop .inv .same (L (T k) .loop .i) (omega arith) (inside (T k)) (wants c) in
     rw e (S (T k) .pre .2 (L (T k) .loop .i) (inside (T k)) (wants c))
 
 cast-used : tie.Need-cast-used Inv-loop μ-loop
@@ -165,7 +171,9 @@ loop-again-3 : tie.Need-loop-again-3 Inv-loop μ-loop
 loop-again-3 c =
     let k = c .before .before .before .before .before .before .before .before .before .before in
     let r = roomy (c .before .before .before .before .before .before) in
-    store-on _ _ _ _ _ _ _ (L (T k) .loop .i) (L (T k) .loop .inv) (S (T k) .pre .0) _ _ _ (inside (T k)) (row k) (wants (c .before .before .before .before .before .before)) (omega (arith, r)) (c .sent .ensures) (c .before .before .before .append .ensures) (c .before .before .before .append .kept .0)
+    store-on _ _ _ _ _ _ _ (L (T k) .loop .i) (L (T k) .loop .inv) (S (T k) .pre .0) _ _ _ (inside (T k)) (row k)
+    (wants (c .before .before .before .before .before .before)) (omega (arith, r)) (c .sent .ensures)
+    (c .before .before .before .append .ensures) (c .before .before .before .append .kept .0)
 
 same-length : tie.Need-same-length Inv-loop μ-loop
 same-length c = c .before .loop .inv .long

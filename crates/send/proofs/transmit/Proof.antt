@@ -15,8 +15,13 @@ is-stored-requires c κs = search needs
 store-all-requires : tie.Need-store-all-requires
 store-all-requires c κs =
     let k = c .before .before in
-    let b = k .before .before .before .before .before in
-    (b .pre .0, b .pre .1, clear-roomy _ _ _ _ (was-clear _ _ _ (b .args .payload .now) (b .args .tx .now) _ (k .before .check-all .ensures) (sym (k .is-stored .ensures) ∙ c .before .if1 .taken)) (b .pre .0))
+    let b = k .before .before .before .before .before in (
+      b .pre .0,
+      b .pre .1,
+      clear-roomy _ _ _ _
+          (was-clear _ _ _ (b .args .payload .now) (b .args .tx .now) _ (k .before .check-all .ensures) (sym (k .is-stored .ensures) ∙ c .before .if1 .taken))
+          (b .pre .0),
+    )
 
 same-length : tie.Need-same-length
 same-length c = search needs
@@ -24,7 +29,8 @@ same-length c = search needs
 returns : tie.Need-returns
 returns c =
     let k = c .before .before .before .before .before in
-    all-stored _ _ _ _ _ _ (k .before .check-all .ensures) _ _ (sym (k .is-stored .ensures) ∙ c .before .before .before .before .if1 .taken) (c .before .before .store-all .ensures .0) (c .before .before .store-all .ensures .1)
+    all-stored _ _ _ _ _ _ (k .before .check-all .ensures) _ _ (sym (k .is-stored .ensures) ∙ c .before .before .before .before .if1 .taken)
+    (c .before .before .store-all .ensures .0) (c .before .before .store-all .ensures .1)
 
 returns-2 : tie.Need-returns-2
 returns-2 c =

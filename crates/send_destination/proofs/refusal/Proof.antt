@@ -30,11 +30,21 @@ add-if3-2 c = search needs
 
 returns-3 : tie.Need-returns-3
 unfolding refusalOf
-returns-3 c = rw (← c .before .before .before .before .before .before .is-online .ensures, c .before .before .before .before .if1 .left, le-ltb _ _ (c .before .before .if2 .left), lt-ltb _ _ (c .if3 .taken))
+returns-3 c = rw (
+  ← c .before .before .before .before .before .before .is-online .ensures,
+  c .before .before .before .before .if1 .left,
+  le-ltb _ _ (c .before .before .if2 .left),
+  lt-ltb _ _ (c .if3 .taken),
+)
 
 returns-4 : tie.Need-returns-4
 unfolding refusalOf
-returns-4 c = rw (← c .before .before .before .before .before .before .is-online .ensures, c .before .before .before .before .if1 .left, le-ltb _ _ (c .before .before .if2 .left), le-ltb _ _ (c .if3 .left))
+returns-4 c = rw (
+  ← c .before .before .before .before .before .before .is-online .ensures,
+  c .before .before .before .before .if1 .left,
+  le-ltb _ _ (c .before .before .if2 .left),
+  le-ltb _ _ (c .if3 .left),
+)
 
 pub refusal-spec : {M : Type 1} → statement M
 refusal-spec =

@@ -37,7 +37,8 @@ returns-3 : tie.Need-returns-3
 returns-3 c =
     let k = c .before .before .before .before .before in
     let a = k .before .before .before .before .before .before .args in
-    take-some _ _ _ _ (k .before .before .if1 .left) _ (k .copy-in .ensures) (c .before .before .if2 .left) _ (c .after-take .ensures ∙ ap (λ (x : Connection). afterTake (a .config) x) (c .before .with-send .ensures))
+    take-some _ _ _ _ (k .before .before .if1 .left) _ (k .copy-in .ensures) (c .before .before .if2 .left) _
+    (c .after-take .ensures ∙ ap (λ (x : Connection). afterTake (a .config) x) (c .before .with-send .ensures))
 
 pub take-spec : {M : Type 1} → statement M
 take-spec =

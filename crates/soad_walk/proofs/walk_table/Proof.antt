@@ -28,7 +28,8 @@ returns-2 : tie.Need-returns-2
 returns-2 c =
     let k = c .before .before .before in
     let a = k .before .before .before .args in
-    c .walk-accepted .ensures ∙ checked (a .image .now) (a .connection) (a .switches) (a .datagram .now) (a .place) _ (sym (k .check-table .ensures) ∙ c .before .enum-told2 .given .1)
+    c .walk-accepted .ensures ∙ checked (a .image .now) (a .connection) (a .switches)
+    (a .datagram .now) (a .place) _ (sym (k .check-table .ensures) ∙ c .before .enum-told2 .given .1)
 
 pub walk-table-spec : {M : Type 1} → statement M
 walk-table-spec =

@@ -33,7 +33,8 @@ returns c =
     let p = c .before in
     let x = p .before .before in
     let b = x .before .before .before .before .before .before in
-    last-places (b .args .image .now) (b .pre) _ _ _ _ _ _ _ _ (x .before .before .before .before .body-of .ensures .0) (x .before .before .before .body-of2 .ensures .0)
+    last-places (b .args .image .now) (b .pre) _ _ _ _ _ _ _ _
+    (x .before .before .before .before .body-of .ensures .0) (x .before .before .before .body-of2 .ensures .0)
     (x .before .before .body-of3 .ensures .0) (x .before .body-of4 .ensures .0)
     (x .first-bad-rows .ensures) (p .before .place-of .ensures) (p .place-of2 .ensures) (c .first-refusal .ensures)
 

@@ -35,7 +35,8 @@ returns c =
     let b = p .before .before .before .before .before in
     let s = b .args .image .now in
     then-refused (rowsPlace s Connection) _ _
-    (sym (connections-place s (b .pre) _ _ _ _ (p .before .before .before .body-of .ensures .0) (p .before .before .body-of2 .ensures .0) (p .before .first-bad-connection .ensures) (p .place-of .ensures)) ∙ c .before .connections .given .1)
+    (sym (connections-place s (b .pre) _ _ _ _ (p .before .before .before .body-of .ensures .0) (p .before .before .body-of2 .ensures .0)
+    (p .before .first-bad-connection .ensures) (p .place-of .ensures)) ∙ c .before .connections .given .1)
 
 returns-2 : tie.Need-returns-2
 returns-2 c =
@@ -43,7 +44,8 @@ returns-2 c =
     let b = p .before .before .before .before .before in
     let s = b .args .image .now in
     then-accepted (rowsPlace s Connection) _ _
-    (sym (connections-place s (b .pre) _ _ _ _ (p .before .before .before .body-of .ensures .0) (p .before .before .body-of2 .ensures .0) (p .before .first-bad-connection .ensures) (p .place-of .ensures)) ∙ c .before .enum-told .given .1)
+    (sym (connections-place s (b .pre) _ _ _ _ (p .before .before .before .body-of .ensures .0) (p .before .before .body-of2 .ensures .0)
+    (p .before .first-bad-connection .ensures) (p .place-of .ensures)) ∙ c .before .enum-told .given .1)
     (c .after-connections .ensures)
 
 pub after-groups-spec : {M : Type 1} → statement M

@@ -33,7 +33,8 @@ returns c =
     let b = p .before .before .before .before in
     let s = b .args .image .now in
     then-refused (rowsPlace s Group) _ _
-    (sym (groups-place s (b .pre) _ _ _ (p .before .before .body-of .ensures .0) (p .before .first-bad-group .ensures) (p .place-of .ensures)) ∙ c .before .groups .given .1)
+    (sym (groups-place s (b .pre) _ _ _ (p .before .before .body-of .ensures .0) (p .before .first-bad-group .ensures) (p .place-of .ensures))
+    ∙ c .before .groups .given .1)
 
 returns-2 : tie.Need-returns-2
 unfolding allRowsPlace
@@ -42,7 +43,8 @@ returns-2 c =
     let b = p .before .before .before .before in
     let s = b .args .image .now in
     then-accepted (rowsPlace s Group) _ _
-    (sym (groups-place s (b .pre) _ _ _ (p .before .before .body-of .ensures .0) (p .before .first-bad-group .ensures) (p .place-of .ensures)) ∙ c .before .enum-told .given .1)
+    (sym (groups-place s (b .pre) _ _ _ (p .before .before .body-of .ensures .0) (p .before .first-bad-group .ensures) (p .place-of .ensures))
+    ∙ c .before .enum-told .given .1)
     (c .after-groups .ensures)
 
 pub all-rows-place-spec : {M : Type 1} → statement M

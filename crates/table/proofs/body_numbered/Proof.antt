@@ -34,7 +34,12 @@ returns-4 : tie.Need-returns-4
 returns-4 c = rw (c .before .match .keys4) (c .body-of4 .ensures)
 
 returns-5 : tie.Need-returns-5
-returns-5 c = rw (ne-eqb _ 1 (c .before .match .rest .0 .0 .0 .1), ne-eqb _ 2 (c .before .match .rest .0 .0 .1), ne-eqb _ 3 (c .before .match .rest .0 .1), ne-eqb _ 4 (c .before .match .rest .1)) (refl, at-front _)
+returns-5 c = rw (
+  ne-eqb _ 1 (c .before .match .rest .0 .0 .0 .1),
+  ne-eqb _ 2 (c .before .match .rest .0 .0 .1),
+  ne-eqb _ 3 (c .before .match .rest .0 .1),
+  ne-eqb _ 4 (c .before .match .rest .1),
+) (refl, at-front _)
 
 pub body-numbered-spec : {M : Type 1} → statement M
 body-numbered-spec =

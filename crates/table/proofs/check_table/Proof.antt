@@ -31,19 +31,32 @@ all-rows-place-requires c κs = search needs
 
 returns-2 : tie.Need-returns-2
 unfolding checkTable thenCheck
-returns-2 c = rw (le-leb 36 (length (now (c .before .before .before .before .before .before .args .image))) (omega arith), sym (c .before .before .before .head-place .ensures) ∙ c .before .head .given .1)
+returns-2 c = rw (
+  le-leb 36 (length (now (c .before .before .before .before .before .before .args .image))) (omega arith),
+  sym (c .before .before .before .head-place .ensures) ∙ c .before .head .given .1,
+)
 
 returns-3 : tie.Need-returns-3
 unfolding checkTable thenCheck
 returns-3 c =
     let s = now (c .before .before .before .before .before .before .before .before .args .image) in
-    rw (le-leb 36 (length s) (omega arith), sym (c .before .before .before .before .before .head-place .ensures) ∙ c .before .before .before .enum-told .given .1, eq-eqb (length s) (endOf s) (omega arith)) (c .all-rows-place .ensures)
+    rw (
+      le-leb 36 (length s) (omega arith),
+      sym (c .before .before .before .before .before .head-place .ensures)
+          ∙ c .before .before .before .enum-told .given .1,
+      eq-eqb (length s) (endOf s) (omega arith),
+    ) (c .all-rows-place .ensures)
 
 returns-4 : tie.Need-returns-4
 unfolding checkTable thenCheck
 returns-4 c =
     let s = now (c .before .before .before .before .before .before .before .args .image) in
-    rw (le-leb 36 (length s) (omega arith), sym (c .before .before .before .before .head-place .ensures) ∙ c .before .before .enum-told .given .1, ne-eqb (length s) (endOf s) (λ e. c .if2 .left (e ∙ sym (c .before .end-of .ensures))))
+    rw (
+      le-leb 36 (length s) (omega arith),
+      sym (c .before .before .before .before .head-place .ensures)
+          ∙ c .before .before .enum-told .given .1,
+      ne-eqb (length s) (endOf s) (λ e. c .if2 .left (e ∙ sym (c .before .end-of .ensures))),
+    )
 
 pub check-table-spec : {M : Type 1} → statement M
 check-table-spec =

@@ -25,7 +25,8 @@ returns : tie.Need-returns
 returns c = no-place _ _ (c .before .rows-of .result) _ 0 0 (c .before .rows-of .ensures .0) (c .if1 .taken)
 
 returns-2 : tie.Need-returns-2
-returns-2 c = some-place _ _ (c .before .before .before .rows-of .result) _ _ _ (c .before .before .before .rows-of .ensures .0) (c .before .start-of .ensures .0) (c .row-bytes .ensures .0) (c .before .before .if1 .left)
+returns-2 c = some-place _ _ (c .before .before .before .rows-of .result) _ _ _ (c .before .before .before .rows-of .ensures .0)
+    (c .before .start-of .ensures .0) (c .row-bytes .ensures .0) (c .before .before .if1 .left)
 
 pub place-of-spec : {M : Type 1} → statement M
 place-of-spec =

@@ -55,7 +55,8 @@ returns c =
     let s = now (e .before .before .args .image) in
     next-fault WrongKind (c .ask3 .ensures) (c .before .before .be16 .ensures .is ∙ ap (be 2 s) (e .entry-at .ensures .0)) (c .before .kind-number .ensures)
     (next-fault TooMany (a₂ .ask2 .ensures) (a₂ .before .before .rows-of .ensures .0) (a₂ .before .most-rows .ensures)
-    (next-fault Offset (a₁ .ask .ensures) (a₁ .before .before .be32 .ensures .is ∙ ap (λ (x : ℕ). be 4 s (x + 4)) (e .entry-at .ensures .0)) (a₁ .before .start-of .ensures .0)
+    (next-fault Offset (a₁ .ask .ensures)
+    (a₁ .before .before .be32 .ensures .is ∙ ap (λ (x : ℕ). be 4 s (x + 4)) (e .entry-at .ensures .0)) (a₁ .before .start-of .ensures .0)
     (a₁ .before .before .before .told-of .ensures)))
 
 pub entry-fault-spec : {M : Type 1} → statement M

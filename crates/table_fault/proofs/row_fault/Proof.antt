@@ -91,7 +91,9 @@ returns-3 c =
 returns-4 : tie.Need-returns-4
 returns-4 c =
     let t = c .before .before .before .before .before .before in
-    destination-told _ _ _ (t .enum-told4 .given .1) (t .before .before .row-of .ensures) (c .before .before .before .before .before .shared-fault2 .ensures) (c .before .before .before .before .body-of .ensures .0) (c .before .before .before .be83 .ensures .is) (c .before .before .size-in .ensures) (c .before .rows-of3 .ensures .0) (c .destination-fault .ensures)
+    destination-told _ _ _ (t .enum-told4 .given .1) (t .before .before .row-of .ensures) (c .before .before .before .before .before .shared-fault2 .ensures)
+    (c .before .before .before .before .body-of .ensures .0) (c .before .before .before .be83 .ensures .is)
+    (c .before .before .size-in .ensures) (c .before .rows-of3 .ensures .0) (c .destination-fault .ensures)
 
 pub row-fault-spec : {M : Type 1} → statement M
 row-fault-spec =

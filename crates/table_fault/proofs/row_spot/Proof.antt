@@ -22,7 +22,8 @@ row-number-requires-2 c κs = search needs
 returns-2 : tie.Need-returns-2
 returns-2 c =
     let a = c .before .before .before in
-    in-connections _ _ (a .before .start-of .ensures .0) (a .if1 .left) (c .before .before .start-of2 .ensures .0) (c .before .if2 .taken) (c .row-number2 .ensures)
+    in-connections _ _ (a .before .start-of .ensures .0) (a .if1 .left)
+    (c .before .before .start-of2 .ensures .0) (c .before .if2 .taken) (c .row-number2 .ensures)
 
 start-of-requires-3 : tie.Need-start-of-requires-3
 start-of-requires-3 c κs = search needs
@@ -34,7 +35,8 @@ returns-3 : tie.Need-returns-3
 returns-3 c =
     let b = c .before .before .before in
     let a = b .before .before in
-    in-routes _ _ (a .before .start-of .ensures .0) (a .if1 .left) (b .before .start-of2 .ensures .0) (b .if2 .left) (c .before .before .start-of3 .ensures .0) (c .before .if3 .taken) (c .row-number3 .ensures)
+    in-routes _ _ (a .before .start-of .ensures .0) (a .if1 .left) (b .before .start-of2 .ensures .0)
+    (b .if2 .left) (c .before .before .start-of3 .ensures .0) (c .before .if3 .taken) (c .row-number3 .ensures)
 
 row-number-requires-4 : tie.Need-row-number-requires-4
 row-number-requires-4 c κs = search needs
@@ -43,7 +45,8 @@ returns-4 : tie.Need-returns-4
 returns-4 c =
     let b = c .before .before .before in
     let a = b .before .before in
-    in-destinations _ _ (a .before .start-of .ensures .0) (a .if1 .left) (b .before .start-of2 .ensures .0) (b .if2 .left) (c .before .before .start-of3 .ensures .0) (c .before .if3 .left) (c .row-number4 .ensures)
+    in-destinations _ _ (a .before .start-of .ensures .0) (a .if1 .left) (b .before .start-of2 .ensures .0)
+    (b .if2 .left) (c .before .before .start-of3 .ensures .0) (c .before .if3 .left) (c .row-number4 .ensures)
 
 pub row-spot-spec : {M : Type 1} → statement M
 row-spot-spec =

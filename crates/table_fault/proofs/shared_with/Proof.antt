@@ -35,7 +35,8 @@ returns c =
     let a = r .before .before .args in
     let s = a .image .now in
     search-found _ _ _ (l .before .loop .inv) (l .loop-test .taken)
-    (shared-pair (share (a .k)) (rowBytes s (a .k)) (bodyOf s (a .k)) (a .i) (l .before .loop .j) _ _ (r .row-of .ensures) (c .before .before .row-of2 .ensures) (c .before .rows-share .ensures) (c .if1 .taken))
+    (shared-pair (share (a .k)) (rowBytes s (a .k)) (bodyOf s (a .k)) (a .i) (l .before .loop .j) _ _
+    (r .row-of .ensures) (c .before .before .row-of2 .ensures) (c .before .rows-share .ensures) (c .if1 .taken))
 
 add-j : tie.Need-add-j Inv-loop μ-loop
 add-j c = omega arith
@@ -50,7 +51,8 @@ loop-again c =
     let a = r .before .before .args in
     let s = a .image .now in
     search-on _ _ _ (l .before .loop .inv) (l .loop-test .taken)
-    (clear-pair (share (a .k)) (rowBytes s (a .k)) (bodyOf s (a .k)) (a .i) (l .before .loop .j) _ _ (r .row-of .ensures) (c .before .before .row-of2 .ensures) (c .before .rows-share .ensures) (c .if1 .left))
+    (clear-pair (share (a .k)) (rowBytes s (a .k)) (bodyOf s (a .k)) (a .i) (l .before .loop .j) _ _
+    (r .row-of .ensures) (c .before .before .row-of2 .ensures) (c .before .rows-share .ensures) (c .if1 .left))
 
 returns-2 : tie.Need-returns-2 Inv-loop μ-loop
 returns-2 c = search-ended _ _ _ (c .before .loop .inv) (c .loop-test .left)

@@ -36,7 +36,14 @@ returns-7 : tie.Need-returns-7
 unfolding spotOf
 returns-7 c =
     let m = c .before .match .rest in
-    rw (ne-eqb _ 0 (m .0 .0 .0 .0 .0 .1), ne-eqb _ 2 (m .0 .0 .0 .0 .1), ne-eqb _ 4 (m .0 .0 .0 .1), ne-eqb _ 12 (m .0 .0 .1), ne-eqb _ 20 (m .0 .1), ne-eqb _ 28 (m .1)) (c .row-spot .ensures)
+    rw (
+      ne-eqb _ 0 (m .0 .0 .0 .0 .0 .1),
+      ne-eqb _ 2 (m .0 .0 .0 .0 .1),
+      ne-eqb _ 4 (m .0 .0 .0 .1),
+      ne-eqb _ 12 (m .0 .0 .1),
+      ne-eqb _ 20 (m .0 .1),
+      ne-eqb _ 28 (m .1),
+    ) (c .row-spot .ensures)
 
 pub spot-of-spec : {M : Type 1} → statement M
 spot-of-spec =

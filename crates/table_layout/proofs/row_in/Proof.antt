@@ -9,7 +9,8 @@ slice-aggregate-result : tie.Need-slice-aggregate-result
 slice-aggregate-result c = search needs
 
 returns : tie.Need-returns
-returns c = let a = c .before .before .args in (row-zero (a .body .now) (a .i) (a .n) (c .before .if1 .taken), row-front-zero (a .body .now) (a .i) (a .n) (a .body .ptr) (c .before .if1 .taken))
+returns c = let a = c .before .before .args in
+    (row-zero (a .body .now) (a .i) (a .n) (c .before .if1 .taken), row-front-zero (a .body .now) (a .i) (a .n) (a .body .ptr) (c .before .if1 .taken))
 
 div-if2 : tie.Need-div-if2
 div-if2 c = search needs
@@ -33,10 +34,12 @@ slice-aggregate-result-2 : tie.Need-slice-aggregate-result-2
 slice-aggregate-result-2 c = search needs
 
 returns-2 : tie.Need-returns-2
-returns-2 c = let a = c .before .before .before .args in (row-range (a .n) (a .body .now) (a .i) (c .before .if2 .taken), row-there (a .n) (a .body .now) (a .i) (a .body .ptr) (c .before .if2 .taken))
+returns-2 c = let a = c .before .before .before .args in
+    (row-range (a .n) (a .body .now) (a .i) (c .before .if2 .taken), row-there (a .n) (a .body .now) (a .i) (a .body .ptr) (c .before .if2 .taken))
 
 returns-3 : tie.Need-returns-3
-returns-3 c = let a = c .before .before .before .args in (row-none (a .n) (a .body .now) (a .i) (c .before .if2 .left), row-front (a .n) (a .body .now) (a .i) (a .body .ptr) (c .before .if2 .left))
+returns-3 c = let a = c .before .before .before .args in
+    (row-none (a .n) (a .body .now) (a .i) (c .before .if2 .left), row-front (a .n) (a .body .now) (a .i) (a .body .ptr) (c .before .if2 .left))
 
 pub row-in-spec : {M : Type 1} → statement M
 row-in-spec =

@@ -18,14 +18,16 @@ be16-requires-2 c κs = search needs
 
 returns : tie.Need-returns
 returns c = let b = c .before in
-    limit-none _ _ _ _ _ _ _ (b .before .before .be8 .ensures .is) (b .before .be82 .ensures .is) (b .before .before .before .be16 .ensures .is) (b .be162 .ensures .is) (c .if1 .taken)
+    limit-none _ _ _ _ _ _ _ (b .before .before .be8 .ensures .is) (b .before .be82 .ensures .is)
+    (b .before .before .before .be16 .ensures .is) (b .be162 .ensures .is) (c .if1 .taken)
 
 is-group-tcp-requires : tie.Need-is-group-tcp-requires
 is-group-tcp-requires c κs = search needs
 
 returns-2 : tie.Need-returns-2
 returns-2 c = let b = c .before .before in
-    limit-some _ _ _ _ _ _ _ (b .before .before .be8 .ensures .is) (b .before .be82 .ensures .is) (b .before .before .before .be16 .ensures .is) (b .be162 .ensures .is) (c .before .if1 .left) _ (c .is-group-tcp .ensures)
+    limit-some _ _ _ _ _ _ _ (b .before .before .be8 .ensures .is) (b .before .be82 .ensures .is)
+    (b .before .before .before .be16 .ensures .is) (b .be162 .ensures .is) (c .before .if1 .left) _ (c .is-group-tcp .ensures)
 
 pub connection-good-spec : {M : Type 1} → statement M
 connection-good-spec =

@@ -26,7 +26,8 @@ part-owner-start : tie.Need-part-owner-start
 part-owner-start c = search needs
 
 part-owner-end : tie.Need-part-owner-end
-part-owner-end c = let b = c .before .before .before .before in omega (arith, row-in 16 (b .args .connections .now) (c .before .be32 .result / 16777216) (c .if1 .left))
+part-owner-end c = let b = c .before .before .before .before in
+    omega (arith, row-in 16 (b .args .connections .now) (c .before .be32 .result / 16777216) (c .if1 .left))
 
 add-result : tie.Need-add-result
 add-result c = search needs
@@ -39,7 +40,8 @@ returns-2 c =
     let e = c .before .before in
     let h = e .before .be32 in
     let a = e .before .before .before .before .args in
-    destination-by-head _ (λ i. e .before .before .before .shared-slice-known .given i .fits) _ (h .ensures .is) _ _ _ _ (e .if1 .left) (row-range 16 (a .connections .now) (h .result / 16777216) (e .if1 .left)) (c .be16 .ensures .is)
+    destination-by-head _ (λ i. e .before .before .before .shared-slice-known .given i .fits) _ (h .ensures .is) _ _ _ _
+    (e .if1 .left) (row-range 16 (a .connections .now) (h .result / 16777216) (e .if1 .left)) (c .be16 .ensures .is)
 
 pub destination-good-spec : {M : Type 1} → statement M
 destination-good-spec =

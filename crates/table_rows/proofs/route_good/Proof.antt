@@ -13,7 +13,8 @@ be32-requires-2 c κs = search needs
 returns : tie.Need-returns
 returns c =
     let b = c .before .before in
-    route-unmarked _ (λ i. b .before .before .before .shared-slice-known .given i .fits) _ (b .be32 .ensures .is) _ _ _ (c .be322 .ensures .is) (c .before .if1 .taken)
+    route-unmarked _ (λ i. b .before .before .before .shared-slice-known .given i .fits) _
+    (b .be32 .ensures .is) _ _ _ (c .be322 .ensures .is) (c .before .if1 .taken)
 
 returns-2 : tie.Need-returns-2
 returns-2 c =

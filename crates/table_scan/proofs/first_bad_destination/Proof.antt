@@ -42,7 +42,10 @@ part-row-start : tie.Need-part-row-start Inv-loop μ-loop
 part-row-start c = omega arith
 
 part-row-end : tie.Need-part-row-end Inv-loop μ-loop
-part-row-end c = omega (arith, row-in 16 (c .before .before .before .before .before .before .args .body .now) (c .before .next-destination .result) (c .if1 .left))
+part-row-end c = omega (
+  arith,
+  row-in 16 (c .before .before .before .before .before .before .args .body .now) (c .before .next-destination .result) (c .if1 .left),
+)
 
 destination-good-requires : tie.Need-destination-good-requires Inv-loop μ-loop
 destination-good-requires c κs = search needs
@@ -52,7 +55,8 @@ returns-2 c =
     let t = c .before .before .before in
     let s = t .before .before .before .before .before .before .args .body .now in
     let k = t .before .next-destination in
-    found-bad _ _ _ _ s _ _ _ (row-range 16 s (k .result) (t .if1 .left)) (k .ensures .1) (t .if1 .left) (c .before .destination-good .ensures) (not-true _ (c .if2 .taken))
+    found-bad _ _ _ _ s _ _ _ (row-range 16 s (k .result) (t .if1 .left)) (k .ensures .1)
+    (t .if1 .left) (c .before .destination-good .ensures) (not-true _ (c .if2 .taken))
 
 fresh-requires : tie.Need-fresh-requires Inv-loop μ-loop
 fresh-requires c κs = search needs
@@ -62,7 +66,8 @@ returns-3 c =
     let t = c .before .before .before .before .before in
     let s = t .before .before .before .before .before .before .args .body .now in
     let k = t .before .next-destination in
-    found-shared _ _ _ _ s _ _ _ (row-range 16 s (k .result) (t .if1 .left)) (k .ensures .1) (t .if1 .left) (c .before .fresh .ensures) (not-true _ (c .if3 .taken))
+    found-shared _ _ _ _ s _ _ _ (row-range 16 s (k .result) (t .if1 .left))
+    (k .ensures .1) (t .if1 .left) (c .before .fresh .ensures) (not-true _ (c .if3 .taken))
 
 add-i : tie.Need-add-i Inv-loop μ-loop
 add-i c = omega arith
@@ -77,7 +82,8 @@ loop-again c =
     let t = c .before .before .before .before .before in
     let s = t .before .before .before .before .before .before .args .body .now in
     let k = t .before .next-destination in
-    come-past _ _ _ _ s _ _ _ (row-range 16 s (k .result) (t .if1 .left)) (k .ensures .1) (t .if1 .left) (c .before .before .before .destination-good .ensures) (not-false _ (c .before .before .if2 .left)) (c .before .fresh .ensures) (not-false _ (c .if3 .left))
+    come-past _ _ _ _ s _ _ _ (row-range 16 s (k .result) (t .if1 .left)) (k .ensures .1) (t .if1 .left) (c .before .before .before .destination-good .ensures)
+    (not-false _ (c .before .before .if2 .left)) (c .before .fresh .ensures) (not-false _ (c .if3 .left))
 
 pub first-bad-destination-spec : {M : Type 1} → statement M
 first-bad-destination-spec =

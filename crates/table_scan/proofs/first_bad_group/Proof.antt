@@ -45,7 +45,8 @@ returns : tie.Need-returns Inv-loop μ-loop
 returns c =
     let l = c .before .before .before in
     let b = l .before .before .before .args .body .now in
-    bad-row _ _ 2 b (l .before .loop .i) _ (l .before .loop .inv) (l .loop-test .taken) (row-range 2 b (l .before .loop .i) (l .loop-test .taken)) (c .before .group-good .ensures) (not-true _ (c .if1 .taken))
+    bad-row _ _ 2 b (l .before .loop .i) _ (l .before .loop .inv) (l .loop-test .taken)
+    (row-range 2 b (l .before .loop .i) (l .loop-test .taken)) (c .before .group-good .ensures) (not-true _ (c .if1 .taken))
 
 add-i : tie.Need-add-i Inv-loop μ-loop
 add-i c = omega arith
@@ -57,7 +58,8 @@ loop-again : tie.Need-loop-again Inv-loop μ-loop
 loop-again c =
     let l = c .before .before .before in
     let b = l .before .before .before .args .body .now in
-    good-row _ _ 2 b (l .before .loop .i) _ (l .before .loop .inv) (l .loop-test .taken) (row-range 2 b (l .before .loop .i) (l .loop-test .taken)) (c .before .group-good .ensures) (not-false _ (c .if1 .left)) (free Group 2 b (l .before .loop .i) groups-free) refl
+    good-row _ _ 2 b (l .before .loop .i) _ (l .before .loop .inv) (l .loop-test .taken) (row-range 2 b (l .before .loop .i) (l .loop-test .taken))
+    (c .before .group-good .ensures) (not-false _ (c .if1 .left)) (free Group 2 b (l .before .loop .i) groups-free) refl
 
 returns-2 : tie.Need-returns-2 Inv-loop μ-loop
 returns-2 c = search-ended _ _ _ (c .before .loop .inv) (c .loop-test .left)

@@ -42,7 +42,10 @@ part-row-start : tie.Need-part-row-start Inv-loop μ-loop
 part-row-start c = omega arith
 
 part-row-end : tie.Need-part-row-end Inv-loop μ-loop
-part-row-end c = omega (arith, row-in 16 (c .before .before .before .before .before .before .before .args .body .now) (c .before .next-route .result) (c .if1 .left))
+part-row-end c = omega (
+  arith,
+  row-in 16 (c .before .before .before .before .before .before .before .args .body .now) (c .before .next-route .result) (c .if1 .left),
+)
 
 route-good-requires : tie.Need-route-good-requires Inv-loop μ-loop
 route-good-requires c κs = search needs
@@ -51,8 +54,11 @@ returns-2 : tie.Need-returns-2 Inv-loop μ-loop
 returns-2 c =
     let t = c .before .before .before in
     let s = t .before .before .before .before .before .before .before .args .body .now in
-    let k = t .before .next-route in
-    (found-bad _ _ _ _ s _ _ _ (row-range 16 s (k .result) (t .if1 .left)) (k .ensures .1) (t .if1 .left) (c .before .route-good .ensures) (not-true _ (c .if2 .taken)), k .ensures .1 .come .size)
+    let k = t .before .next-route in (
+      found-bad _ _ _ _ s _ _ _ (row-range 16 s (k .result) (t .if1 .left)) (k .ensures .1) (t .if1 .left)
+          (c .before .route-good .ensures) (not-true _ (c .if2 .taken)),
+      k .ensures .1 .come .size,
+    )
 
 fresh-requires : tie.Need-fresh-requires Inv-loop μ-loop
 fresh-requires c κs = search needs
@@ -61,8 +67,11 @@ returns-3 : tie.Need-returns-3 Inv-loop μ-loop
 returns-3 c =
     let t = c .before .before .before .before .before in
     let s = t .before .before .before .before .before .before .before .args .body .now in
-    let k = t .before .next-route in
-    (found-shared _ _ _ _ s _ _ _ (row-range 16 s (k .result) (t .if1 .left)) (k .ensures .1) (t .if1 .left) (c .before .fresh .ensures) (not-true _ (c .if3 .taken)), k .ensures .1 .come .size)
+    let k = t .before .next-route in (
+      found-shared _ _ _ _ s _ _ _ (row-range 16 s (k .result) (t .if1 .left)) (k .ensures .1)
+          (t .if1 .left) (c .before .fresh .ensures) (not-true _ (c .if3 .taken)),
+      k .ensures .1 .come .size,
+    )
 
 add-i : tie.Need-add-i Inv-loop μ-loop
 add-i c = omega arith
@@ -77,7 +86,8 @@ loop-again c =
     let t = c .before .before .before .before .before in
     let s = t .before .before .before .before .before .before .before .args .body .now in
     let k = t .before .next-route in
-    come-past _ _ _ _ s _ _ _ (row-range 16 s (k .result) (t .if1 .left)) (k .ensures .1) (t .if1 .left) (c .before .before .before .route-good .ensures) (not-false _ (c .before .before .if2 .left)) (c .before .fresh .ensures) (not-false _ (c .if3 .left))
+    come-past _ _ _ _ s _ _ _ (row-range 16 s (k .result) (t .if1 .left)) (k .ensures .1) (t .if1 .left)
+    (c .before .before .before .route-good .ensures) (not-false _ (c .before .before .if2 .left)) (c .before .fresh .ensures) (not-false _ (c .if3 .left))
 
 pub first-bad-route-spec : {M : Type 1} → statement M
 first-bad-route-spec =

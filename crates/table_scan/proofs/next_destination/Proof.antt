@@ -44,8 +44,11 @@ returns : tie.Need-returns Inv-loop μ-loop
 returns c =
     let l = c .before .before .before in
     let s = l .before .before .before .before .args .body .now in
-    let i = l .before .loop .i in
-    (l .before .loop .inv .0, struck-bad _ _ _ _ s _ i _ (row-range 16 s i (l .loop-test .taken)) (l .before .loop .inv .1) (c .before .destination-good .ensures) (not-true _ (c .if1 .taken)))
+    let i = l .before .loop .i in (
+      l .before .loop .inv .0,
+      struck-bad _ _ _ _ s _ i _ (row-range 16 s i (l .loop-test .taken))
+          (l .before .loop .inv .1) (c .before .destination-good .ensures) (not-true _ (c .if1 .taken)),
+    )
 
 destination-mark-requires : tie.Need-destination-mark-requires Inv-loop μ-loop
 destination-mark-requires c κs = search needs
@@ -58,8 +61,10 @@ returns-2 c =
     let m = c .before .before in
     let l = m .before .before .before .before in
     let s = l .before .before .before .before .args .body .now in
-    let i = l .before .loop .i in
-    (l .before .loop .inv .0, struck-met _ _ _ _ s _ i _ (row-range 16 s i (l .loop-test .taken)) _ (m .destination-mark .ensures .0) (l .before .loop .inv .1) (c .if2 .taken))
+    let i = l .before .loop .i in (
+      l .before .loop .inv .0,
+      struck-met _ _ _ _ s _ i _ (row-range 16 s i (l .loop-test .taken)) _ (m .destination-mark .ensures .0) (l .before .loop .inv .1) (c .if2 .taken),
+    )
 
 element-write-seen : tie.Need-element-write-seen Inv-loop μ-loop
 element-write-seen c = search needs
@@ -77,7 +82,9 @@ loop-again c =
     let s = l .before .before .before .before .args .body .now in
     let i = l .before .loop .i in (
       search needs,
-      come-on _ _ _ _ s _ i _ (row-range 16 s i (l .loop-test .taken)) _ (m .destination-mark .ensures .0) destinations-marked (l .before .loop .inv .1) (l .loop-test .taken) (m .before .before .destination-good .ensures) (not-false _ (m .before .if1 .left)) (m .destination-mark .ensures .1) (c .if2 .left),
+      come-on _ _ _ _ s _ i _ (row-range 16 s i (l .loop-test .taken)) _ (m .destination-mark .ensures .0) destinations-marked (l .before .loop .inv .1)
+          (l .loop-test .taken) (m .before .before .destination-good .ensures)
+          (not-false _ (m .before .if1 .left)) (m .destination-mark .ensures .1) (c .if2 .left),
     )
 
 returns-3 : tie.Need-returns-3 Inv-loop μ-loop

@@ -8,7 +8,8 @@ use Rattle.tally.proofs.entries.Statement.{statement}
 use Rattle.tally.proofs.entries.Tie as tie
 
 abbrev Inv-loop : tie.InvT-loop
-Inv-loop table contents count left rx₀ tx₀ kept₀ going₀ i₀ rx tx kept going i = (length rx ≡ length rx₀) × ((length tx ≡ length tx₀) × (length kept ≡ length kept₀))
+Inv-loop table contents count left rx₀ tx₀ kept₀ going₀ i₀ rx tx kept going i =
+    (length rx ≡ length rx₀) × ((length tx ≡ length tx₀) × (length kept ≡ length kept₀))
 
 abbrev μ-loop : tie.MeasureT-loop
 μ-loop table contents count left rx₀ tx₀ kept₀ going₀ i₀ rx tx kept going i = count - i

@@ -18,7 +18,13 @@ empty-state-requires : tie.Need-empty-state-requires Inv-loop μ-loop
 empty-state-requires c κs = search needs
 
 loop-holds : tie.Need-loop-holds Inv-loop μ-loop
-loop-holds c = (length-replicate {A = ℕ} 4096 0, length-replicate {A = ℕ} 65536 0, length-replicate {A = ℕ} 23424 0, length-replicate {A = ℕ} 23552 0, omega arith)
+loop-holds c = (
+  length-replicate {A = ℕ} 4096 0,
+  length-replicate {A = ℕ} 65536 0,
+  length-replicate {A = ℕ} 23424 0,
+  length-replicate {A = ℕ} 23552 0,
+  omega arith,
+)
 
 slice-aggregate-one-record : tie.Need-slice-aggregate-one-record Inv-loop μ-loop
 slice-aggregate-one-record c = sym (c .before .before .loop .inv .0)
@@ -47,8 +53,14 @@ loop-less c = search needs
 loop-again : tie.Need-loop-again Inv-loop μ-loop
 loop-again c =
     let k = c .before .before .before .before .before in
-    let l = k .before .before .before .before .before .before in
-    (k .one-record .kept .0 ∙ l .loop .inv .0, k .one-record .kept .1 .0 ∙ l .loop .inv .1, k .one-record .kept .1 .1 .0 ∙ l .loop .inv .2, l .loop .inv .3, omega arith)
+    let l = k .before .before .before .before .before .before in (
+      k .one-record .kept .0 ∙ l .loop .inv .0,
+      k .one-record .kept .1 .0
+          ∙ l .loop .inv .1,
+      k .one-record .kept .1 .1 .0 ∙ l .loop .inv .2,
+      l .loop .inv .3,
+      omega arith,
+    )
 
 returns-2 : tie.Need-returns-2 Inv-loop μ-loop
 returns-2 c = search needs

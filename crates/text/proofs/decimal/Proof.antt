@@ -22,7 +22,15 @@ same-length : tie.Need-same-length
 same-length c = search needs
 
 returns : tie.Need-returns
-returns c = let k = c .before .before .before .before .before .decimal in let a = c .before .before .before .before .before .before .before .before .args in let w = c .before .before .put-piece in record { count = k .result; fewest = k .ensures .1 .0; place = w .ensures .0 ∙ ap (placeAfter (a .out .now) (a .at)) (k .ensures .1 .1); memory = w .ensures .1 ∙ ap (lay (a .out .now) (a .at)) (k .ensures .1 .1) }
+returns c = let k = c .before .before .before .before .before .decimal in let a = c .before .before .before .before .before .before .before .before .args in
+    let w = c .before .before .put-piece in
+    record {
+      count = k .result;
+      fewest = k .ensures .1 .0;
+      place = w .ensures .0 ∙ ap (placeAfter (a .out .now) (a .at)) (k .ensures .1 .1);
+      memory =
+          w .ensures .1 ∙ ap (lay (a .out .now) (a .at)) (k .ensures .1 .1);
+    }
 
 pub decimal-spec : {M : Type 1} → statement M
 decimal-spec =

@@ -20,7 +20,10 @@ abbrev μ-loop : tie.MeasureT-loop
 μ-loop out₀ at bytes n i₀ out i = length bytes - i
 
 returns : tie.Need-returns Inv-loop μ-loop
-returns c = let a = c .before .before .before .args in (place-stays (length (a .out .now)) (a .at) (length (hexOf (a .bytes .now))) (omega arith), unwritten (a .out .now) (a .at) (hexOf (a .bytes .now)) (omega arith))
+returns c = let a = c .before .before .before .args in (
+  place-stays (length (a .out .now)) (a .at) (length (hexOf (a .bytes .now))) (omega arith),
+  unwritten (a .out .now) (a .at) (hexOf (a .bytes .now)) (omega arith),
+)
 
 sub-if2 : tie.Need-sub-if2 Inv-loop μ-loop
 sub-if2 c = search needs
@@ -29,7 +32,10 @@ mul-if2 : tie.Need-mul-if2 Inv-loop μ-loop
 mul-if2 c = omega arith
 
 returns-2 : tie.Need-returns-2 Inv-loop μ-loop
-returns-2 c = let a = c .before .before .before .before .args in (place-stays (length (a .out .now)) (a .at) (length (hexOf (a .bytes .now))) (omega (arith, hex-length (a .bytes .now))), unwritten (a .out .now) (a .at) (hexOf (a .bytes .now)) (omega (arith, hex-length (a .bytes .now))))
+returns-2 c = let a = c .before .before .before .before .args in (
+  place-stays (length (a .out .now)) (a .at) (length (hexOf (a .bytes .now))) (omega (arith, hex-length (a .bytes .now))),
+  unwritten (a .out .now) (a .at) (hexOf (a .bytes .now)) (omega (arith, hex-length (a .bytes .now))),
+)
 
 loop-holds : tie.Need-loop-holds Inv-loop μ-loop
 loop-holds c = let a = c .before .before .before .before .args in (omega arith, empty-piece (a .out .now) (a .at) (omega arith))
@@ -56,7 +62,13 @@ loop-less : tie.Need-loop-less Inv-loop μ-loop
 loop-less c = omega arith
 
 loop-again : tie.Need-loop-again Inv-loop μ-loop
-loop-again c = let a = c .before .before .before .before .before .before .before .before .before .before .before .before .args in let l = c .before .before .before .before .before .before .before .loop in (omega arith, hex-next (a .out .now) (a .at) (l .i) (a .bytes .now) (omega arith) (omega arith) (omega (arith, c .before .before .before .before .shared-slice-known2 .given (l .i))) (l .inv .1) (c .before .before .put16 .ensures ∙ ap (λ (v : ℕ). lay (l .out) (a .at + l .i * 2) (spell 2 v)) (c .before .before .before .pair .ensures)))
+loop-again c = let a = c .before .before .before .before .before .before .before .before .before .before .before .before .args in let l =
+    c .before .before .before .before .before .before .before .loop in (
+      omega arith,
+      hex-next (a .out .now) (a .at) (l .i) (a .bytes .now) (omega arith) (omega arith)
+          (omega (arith, c .before .before .before .before .shared-slice-known2 .given (l .i))) (l .inv .1)
+          (c .before .before .put16 .ensures ∙ ap (λ (v : ℕ). lay (l .out) (a .at + l .i * 2) (spell 2 v)) (c .before .before .before .pair .ensures)),
+    )
 
 mul-result : tie.Need-mul-result Inv-loop μ-loop
 mul-result c = omega arith
@@ -65,10 +77,15 @@ add-result : tie.Need-add-result Inv-loop μ-loop
 add-result c = omega arith
 
 same-length : tie.Need-same-length Inv-loop μ-loop
-same-length c = let a = c .before .before .before .before .before .before .args in let l = c .before .loop in ap length (l .inv .1) ∙ lay-length (a .out .now) (a .at) (hexOf (take (l .i) (a .bytes .now)))
+same-length c = let a = c .before .before .before .before .before .before .args in let l = c .before .loop in
+    ap length (l .inv .1) ∙ lay-length (a .out .now) (a .at) (hexOf (take (l .i) (a .bytes .now)))
 
 returns-3 : tie.Need-returns-3 Inv-loop μ-loop
-returns-3 c = let a = c .before .before .before .before .before .before .args in let l = c .before .loop in (ap (λ (k : ℕ). a .at + k) (sym (hex-length (a .bytes .now))) ∙ moves (length (a .out .now)) (a .at) (length (hexOf (a .bytes .now))) (omega (arith, hex-length (a .bytes .now))), hex-all (a .out .now) (a .at) (l .i) (a .bytes .now) (omega arith) (l .inv .1))
+returns-3 c = let a = c .before .before .before .before .before .before .args in let l = c .before .loop in (
+  ap (λ (k : ℕ). a .at + k) (sym (hex-length (a .bytes .now))) ∙ moves (length (a .out .now)) (a .at) (length (hexOf (a .bytes .now)))
+      (omega (arith, hex-length (a .bytes .now))),
+  hex-all (a .out .now) (a .at) (l .i) (a .bytes .now) (omega arith) (l .inv .1),
+)
 
 pub hex-spec : {M : Type 1} → statement M
 hex-spec =

@@ -39,7 +39,8 @@ returns c =
     let k₁ = k₂ .before .before .before .before in
     let k₀ = k₁ .before .before in
     let a = k₀ .before .before .before .args in
-    put-join 1 1 (a .d .now) (k₁ .put8 .last .0) (k₂ .put82 .last .0) (a .at) (a .v) (room-there _ _ _ (k₀ .before .has-room .ensures) (k₀ .if1 .taken)) (k₁ .put8 .ensures) (k₂ .put82 .ensures) (omega arith)
+    put-join 1 1 (a .d .now) (k₁ .put8 .last .0) (k₂ .put82 .last .0) (a .at) (a .v)
+    (room-there _ _ _ (k₀ .before .has-room .ensures) (k₀ .if1 .taken)) (k₁ .put8 .ensures) (k₂ .put82 .ensures) (omega arith)
 
 returns-2 : tie.Need-returns-2
 returns-2 c =

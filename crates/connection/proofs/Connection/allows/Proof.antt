@@ -46,7 +46,11 @@ returns-2 : tie.Need-returns-2
 returns-2 c = rw (c .before .before .enum-told2 .given .1, c .before .before .before .before .before .before .before .before .is-offline .ensures)
 
 returns-3 : tie.Need-returns-3
-returns-3 c = rw (c .before .before .enum-told3 .given .1, c .before .before .before .before .before .before .before .is-reconnect .ensures, c .before .before .before .before .before .has-wildcard .ensures)
+returns-3 c = rw (
+  c .before .before .enum-told3 .given .1,
+  c .before .before .before .before .before .before .before .is-reconnect .ensures,
+  c .before .before .before .before .before .has-wildcard .ensures,
+)
 
 returns-4 : tie.Need-returns-4
 returns-4 c = rw (c .before .enum-told4 .given .1, c .before .before .before .before .before .is-online .ensures)

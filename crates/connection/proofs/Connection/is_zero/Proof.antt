@@ -15,7 +15,8 @@ wild-fields-requires c κs = search needs
 
 returns : tie.Need-returns
 unfolding zeroOf
-returns c = let w = c .before .before .before .before .before .before .before .before .before in rw (w .wild-fields .ensures, w .before .is-empty .ensures, w .before .before .is-offline .ensures)
+returns c = let w = c .before .before .before .before .before .before .before .before .before in
+    rw (w .wild-fields .ensures, w .before .is-empty .ensures, w .before .before .is-offline .ensures)
 
 pub is-zero-spec : {M : Type 1} → statement M
 is-zero-spec =

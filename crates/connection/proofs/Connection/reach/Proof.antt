@@ -15,7 +15,8 @@ connected-requires c κs = search needs
 
 returns : tie.Need-returns
 unfolding reachOf
-returns c = rw (← c .before .before .before .before .is-reconnect .ensures, ← c .before .before .has-wildcard .ensures, c .before .if1 .taken) (c .connected .ensures)
+returns c = rw (← c .before .before .before .before .is-reconnect .ensures, ← c .before .before .has-wildcard .ensures, c .before .if1 .taken)
+    (c .connected .ensures)
 
 returns-2 : tie.Need-returns-2
 unfolding reachOf

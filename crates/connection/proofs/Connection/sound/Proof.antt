@@ -22,8 +22,15 @@ has-wildcard-requires c κs = search needs
 returns : tie.Need-returns
 unfolding soundOf
 returns c =
-    let w = c .before .before .before .before .before .before .before .before .before .before .before .before .before .before .before .before .before .before .before in
-    rw (w .has-wildcard .ensures, w .before .is-empty .ensures, w .before .before .is-shaped .ensures, w .before .before .before .is-offline .ensures, w .before .before .before .before .is-online .ensures)
+    let w = c .before .before .before .before .before .before .before .before .before
+    .before .before .before .before .before .before .before .before .before .before in
+    rw (
+      w .has-wildcard .ensures,
+      w .before .is-empty .ensures,
+      w .before .before .is-shaped .ensures,
+      w .before .before .before .is-offline .ensures,
+      w .before .before .before .before .is-online .ensures,
+    )
 
 pub sound-spec : {M : Type 1} → statement M
 sound-spec =

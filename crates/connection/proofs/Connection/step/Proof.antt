@@ -25,11 +25,22 @@ refused-requires-2 c κs = search needs
 
 returns-2 : tie.Need-returns-2
 unfolding stepOf
-returns-2 c = rw (← c .before .before .before .before .before .is-known .ensures, c .before .before .if1 .left, ← c .before .before .before .before .allows .ensures, c .before .if2 .taken) (c .refused2 .ensures)
+returns-2 c = rw (
+  ← c .before .before .before .before .before .is-known .ensures,
+  c .before .before .if1 .left,
+  ← c .before .before .before .before .allows .ensures,
+  c .before .if2 .taken,
+) (c .refused2 .ensures)
 
 returns-3 : tie.Need-returns-3
 unfolding stepOf
-returns-3 c = rw (← c .before .before .before .before .is-known .ensures, c .before .if1 .left, ← c .before .before .before .allows .ensures, c .if2 .left, c .before .before .after .ensures)
+returns-3 c = rw (
+  ← c .before .before .before .before .is-known .ensures,
+  c .before .if1 .left,
+  ← c .before .before .before .allows .ensures,
+  c .if2 .left,
+  c .before .before .after .ensures,
+)
 
 pub step-spec : {M : Type 1} → statement M
 step-spec =

@@ -21,7 +21,13 @@ sum-fits-requires-5 c κs = search needs
 
 returns : tie.Need-returns
 unfolding dropsFit
-returns c = rw (c .before .before .before .before .sum-fits .ensures, c .before .before .before .sum-fits2 .ensures, c .before .before .sum-fits3 .ensures, c .before .sum-fits4 .ensures, c .sum-fits5 .ensures)
+returns c = rw (
+  c .before .before .before .before .sum-fits .ensures,
+  c .before .before .before .sum-fits2 .ensures,
+  c .before .before .sum-fits3 .ensures,
+  c .before .sum-fits4 .ensures,
+  c .sum-fits5 .ensures,
+)
 
 pub fits-spec : {M : Type 1} → statement M
 fits-spec =

@@ -19,7 +19,8 @@ add-t5 : tie.Need-add-t5
 add-t5 c = let s = figures-small _ _ (sym (c .before .before .before .fits2 .ensures) ∙ not-false _ (c .before .before .if1 .left)) in omega arith
 
 add-t6 : tie.Need-add-t6
-add-t6 c = let s = figures-small _ _ (sym (c .before .before .before .before .before .fits2 .ensures) ∙ not-false _ (c .before .before .before .before .if1 .left)) in omega arith
+add-t6 c = let s = figures-small _ _
+    (sym (c .before .before .before .before .before .fits2 .ensures) ∙ not-false _ (c .before .before .before .before .if1 .left)) in omega arith
 
 smallest-of-requires : tie.Need-smallest-of-requires
 smallest-of-requires c κs = search needs
@@ -29,7 +30,9 @@ larger-requires c κs = search needs
 
 returns-2 : tie.Need-returns-2
 unfolding plusFigures addFigures
-returns-2 c = rw (c .before .smallest-of .ensures, c .larger .ensures) (sym (rw (sym (c .before .before .before .before .before .before .before .before .before .fits2 .ensures) ∙ not-false _ (c .before .before .before .before .before .before .before .before .if1 .left))))
+returns-2 c = rw (c .before .smallest-of .ensures, c .larger .ensures)
+    (sym (rw (sym (c .before .before .before .before .before .before .before .before .before .fits2 .ensures)
+    ∙ not-false _ (c .before .before .before .before .before .before .before .before .if1 .left))))
 
 pub plus-spec : {M : Type 1} → statement M
 plus-spec =
