@@ -81,10 +81,9 @@ fn fallen(timer: u16, n: u32) -> u16
 fn aged(c: Connection, n: u32) -> Connection
     ensures { λ r. ⌜ r ≡ agedBy n c ⌝ }
 {
-    let before = c.watch;
     let watch = Watch {
-        alive: fallen(before.alive, n),
-        ..before
+        alive: fallen(c.watch.alive, n),
+        remote_set: c.watch.remote_set,
     };
     let sent = c.with_send(c.used, fallen(c.timer, n), c.due);
     sent.with_watch(watch)
