@@ -219,10 +219,9 @@ impl Connection {
     pub fn set_remote(self, remote: Remote) -> Connection
         ensures { λ r. ⌜ r ≡ Is.remoteOf remote self ⌝ }
     {
-        let before = self.watch;
         let watch = Watch {
+            alive: self.watch.alive,
             remote_set: true,
-            ..before
         };
         Connection {
             remote: remote,
@@ -245,10 +244,9 @@ impl Connection {
     pub fn met(self, config: Config, source: Remote) -> Connection
         ensures { λ r. ⌜ r ≡ Is.metOf config source self ⌝ }
     {
-        let before = self.watch;
         let watch = Watch {
             alive: self.alive_after(config),
-            ..before
+            remote_set: self.watch.remote_set,
         };
         Connection {
             mode: Mode::Online,
@@ -300,14 +298,13 @@ impl Connection {
     fn sink(self) -> Connection
         ensures { λ r. ⌜ r ≡ Is.sunkOf self ⌝ }
     {
-        let before = self.watch;
-        let alive = before.alive;
+        let alive = self.watch.alive;
         if alive == 0 {
             return self;
         }
         let watch = Watch {
             alive: alive - 1,
-            ..before
+            remote_set: self.watch.remote_set,
         };
         Connection {
             watch: watch,

@@ -7,11 +7,11 @@ use Rattle.connection.proofs.Connection.sink.Tie as tie
 returns : tie.Need-returns
 returns c = sunk-none _ (c .if1 .taken)
 
-sub-t6 : tie.Need-sub-t6
-sub-t6 c = search needs
+sub-t5 : tie.Need-sub-t5
+sub-t5 c = search needs
 
 returns-2 : tie.Need-returns-2
 returns-2 c = search needs
 
 pub sink-spec : {M : Type 1} → statement M
-sink-spec = tie.close (tie.spec returns sub-t6 returns-2)
+sink-spec = tie.close (tie.spec returns sub-t5 returns-2)
