@@ -5,9 +5,13 @@ ghost use lib.ListN.{length};
 ghost use Rattle.wire.specs.Lay.{lay};
 ghost use Rattle.event_answer.specs.Answers.{dispatched};
 ghost use Rattle.dispatch_events.specs.Events as Is;
+ghost use Rattle.state.specs.Fresh.{configOf};
 ghost use Rattle.gate.specs.Lent.{loan};
 use connection::Answer;
+use connection::Connection;
 use connection::Event;
+use connection::Stepped;
+use connection::failed;
 use entry_events::CountAnswer;
 use event_answer::Dispatched;
 use event_answer::Verdict;
@@ -16,7 +20,10 @@ use event_answer::put_done1;
 use event_answer::put_done2;
 use event_answer::put_done4;
 use event_answer::put_refusal;
+use gate::Gate;
+use gate::ask_at;
 use state::State;
+use state::config_of;
 
 fn put_told(out: &mut [u8], answer: Answer) -> usize
     ensures { λ r. ⌜ r ≡ length (Is.toldBytes answer) ⌝ }
@@ -66,7 +73,21 @@ fn put_count(out: &mut [u8], answer: CountAnswer) -> usize
     }
 }
 
-// Open, close, connected, set remote, switch, cancel.
+// The gate's refusal, or past the gate the event on the record of connection n.
+fn step_past(asked: Gate, image: &[u8], n: usize, c: Connection, event: Event) -> Stepped
+    ensures { λ r. ⌜ r ≡ Is.stepPast asked (configOf (now (image .entry)) n) c event ⌝ }
+{
+    match asked {
+        Gate::Refused(reason) => Stepped {
+            answer: Answer::Refused(reason),
+            connection: c,
+        },
+        Gate::Pass => c.step(config_of(image, n), event),
+    }
+}
+
+// Open, close, connected, set remote, switch, cancel: as `entry_events::happen`, with one copy of the state, in which the record is put
+// back; in a refusal it is the one that stood there.
 pub fn own(
     image: &[u8],
     state: State,
@@ -86,12 +107,23 @@ pub fn own(
             state: state,
         };
     }
-    let entry = entry_events::happen(image, state, rx, tx, connection, event);
-    let answer = entry.answer;
-    let after = entry.state;
-    let n = put_told(out, answer);
+    let n = connection as usize;
+    let k = n % 16;
+    let records = state.connections;
+    let mut after = State {
+        connections: records,
+        udp_drops: state.udp_drops,
+        tcp_drops: state.tcp_drops,
+    };
+    let before = after.connections[k];
+    let asked = ask_at(image, after, rx.len(), tx.len(), n);
+    let stepped = step_past(asked, image, n, before, event);
+    let answer = stepped.answer;
+    let next = stepped.connection;
+    after.connections[k] = next;
+    let long = put_told(out, answer);
     Dispatched {
-        verdict: Verdict::Done(n),
+        verdict: Verdict::Done(long),
         state: after,
     }
 }
@@ -114,12 +146,24 @@ pub fn lost(
             state: state,
         };
     }
-    let entry = entry_events::lost(image, state, rx, tx, connection);
-    let answer = entry.answer;
-    let after = entry.state;
-    let n = put_loss(out, answer, entry.failed);
+    let n = connection as usize;
+    let k = n % 16;
+    let records = state.connections;
+    let mut after = State {
+        connections: records,
+        udp_drops: state.udp_drops,
+        tcp_drops: state.tcp_drops,
+    };
+    let before = after.connections[k];
+    let asked = ask_at(image, after, rx.len(), tx.len(), n);
+    let stepped = step_past(asked, image, n, before, Event::Lost);
+    let answer = stepped.answer;
+    let next = stepped.connection;
+    after.connections[k] = next;
+    let now = after.connections[k];
+    let long = put_loss(out, answer, failed(before, now));
     Dispatched {
-        verdict: Verdict::Done(n),
+        verdict: Verdict::Done(long),
         state: after,
     }
 }

@@ -92,7 +92,7 @@ module _ (l : Loan) (k : ℕ) (segment : List ℕ) (out₀ : List ℕ) where
     turn-goes =
         let c : Clear (sizes (received l at-turn rx)) k (configOf image k .tcp) =
         done-clear (sizes (received l at-turn rx)) k (configOf image k .tcp) (g .clear) in
-        let a : Takes image at-turn rx k = passed-takes (received l at-turn rx) k (c .passed) (c .there) in
+        let a : Takes image (recordAt at-turn k) rx k = passed-takes (received l at-turn rx) k (c .passed) (c .there) in
         record {
           small = a .small;
           room = a .room;

@@ -154,7 +154,7 @@ module _ (start : Loan) (k : ℕ) (seg : List ℕ) (bytes : Bytes seg) (notLong 
     clear : Clear (sizes l) k (configOf image k .tcp)
     clear = done-clear (sizes l) k (configOf image k .tcp) e
 
-    takes : Takes image s rx k
+    takes : Takes image (recordAt s k) rx k
     takes = passed-takes l k (clear .passed) (clear .there)
 
     few : length routes / 16 ≤ 64

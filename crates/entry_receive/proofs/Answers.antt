@@ -1,16 +1,19 @@
 -- The answer before anything is read: what each case says, and what is known when nothing refuses.
-use Prim.Native.Nat.{ℕ, _<_}
-use mathlib.Core.Path.{_≡_, refl, sym, ap, _∙_}
+use Prim.Native.Nat.{ℕ, _%_, _<_}
+use mathlib.Core.Path.{_≡_, refl, sym, ap, ap₂, _∙_}
 use mathlib.Core.Bool.{Bool, true, false, cond, not, _&&_}
+use native.Mathlib.Omega.{arith}
 use borrow.Author.Tests.{not-true, not-false}
 use Rattle.lists.proofs.Both.{impossible}
-use Rattle.table_layout.specs.Layout.{rowsOf}
-use Rattle.table_layout.specs.declared.Kind.the-variants.{Connection as Connections}
+use mathlib.Core.List.{List}
+use Rattle.table_layout.specs.Layout.{rowsOf, bodyOf}
+use Rattle.table_layout.specs.declared.Kind.the-variants.{Group as Groups, Connection as Connections}
+use Rattle.table_rows.specs.Rules.{groupTcp, tcpIn}
 use Rattle.connection.specs.declared.Connection.{Connection}
-use Rattle.connection.specs.declared.Refusal.{Refusal}
 use Rattle.connection.specs.declared.Refusal.the-variants.{Denied}
 use Rattle.connection.specs.Connection.{isOnline}
 use Rattle.state.specs.State.{recordAt}
+use Rattle.state.specs.Fresh.{configOf}
 use Rattle.gate.specs.Lent.{Lent}
 use Rattle.gate.specs.declared.Gate.{Gate}
 use Rattle.gate.specs.declared.Gate.the-variants as Gated
@@ -19,7 +22,8 @@ use Rattle.gate.proofs.Pass.{gate-at-passed}
 use Rattle.connection.specs.Event.{receiving}
 use Rattle.entry_receive.specs.declared.Answer.{Answer}
 use Rattle.entry_receive.specs.declared.Answer.the-variants.{Done, Refused, NotReceiving}
-use Rattle.entry_receive.specs.Answer.{isDone, judgedOf, judgedAnswer}
+use Rattle.entry_receive.specs.Answer.{isDone, judgedOf, answerPast, judgedAnswer}
+use Rattle.entry_receive.proofs.Past.{below-sixteen}
 
 -- WHAT IS KNOWN WHEN NOTHING REFUSES
 pub record Clear (l : Lent) (n : ℕ) (allowed : Bool) : Type 0 where
@@ -49,6 +53,12 @@ done-clear l n allowed p = go (gateAt l n) refl p
         record { passed = g .0; there = g .1; allows = j .0; receives = j .1 }
     go (Gated.Refused r) e q = impossible q
 
+-- an answer that is done is no other
+pub is-done : (a : Answer) → isDone a ≡ true → a ≡ Done
+is-done Done e = refl
+is-done (Refused r) e = impossible e
+is-done NotReceiving e = impossible e
+
 -- the three cases past the gate
 module _ (allowed : Bool) (c : Connection) where
   pub judged-denied : not allowed ≡ true → Refused Denied ≡ judgedOf allowed c
@@ -68,15 +78,26 @@ module _ (allowed : Bool) (c : Connection) where
       let r : receiving c ≡ false = ap (λ (b : Bool). b && not (c .«close_wanted»)) (sym e) ∙ q in
       rw (not-false allowed p, r)
 
--- the gate refuses, or passes
-module _ (l : Lent) (n : ℕ) (allowed : Bool) (asked : Gate) (ea : asked ≡ gateAt l n) where
-  pub answer-refused : (r : Refusal) → asked ≡ Gated.Refused r → Refused r ≡ judgedAnswer l n allowed
-  unfolding judgedAnswer
-  answer-refused r e = ap (λ (g : Gate). through g Refused (judgedOf allowed (recordAt (l .state) n))) (sym e ∙ ea)
+-- the gate passes only numbers below sixteen: the record of the number modulo 16 is the connection's own
+module _ (l : Lent) (n : ℕ) (allowed : Bool) where
+  pub own-record : gateAt l n ≡ Gated.Pass → n % 16 ≡ n
+  own-record e =
+      let p : Passed l × (n < rowsOf (l .image) Connections) = gate-at-passed l n e in
+      let small : n < 16 = below-sixteen (l .image) (p .0 .table) n (p .1) in
+      omega arith
 
-  pub answer-judged : (a : Answer) → asked ≡ Gated.Pass → a ≡ judgedOf allowed (recordAt (l .state) n) → a ≡ judgedAnswer l n allowed
-  unfolding judgedAnswer
-  answer-judged a e j = j ∙ ap (λ (g : Gate). through g Refused (judgedOf allowed (recordAt (l .state) n))) (sym e ∙ ea)
+  past-is : (g : Gate) → gateAt l n ≡ g → answerPast g allowed (recordAt (l .state) (n % 16)) ≡ answerPast g allowed (recordAt (l .state) n)
+  past-is Gated.Pass e = ap (λ (k : ℕ). judgedOf allowed (recordAt (l .state) k)) (own-record e)
+  past-is (Gated.Refused r) e = refl
 
-  pub asked-there : asked ≡ Gated.Pass → Passed l × (n < rowsOf (l .image) Connections)
-  asked-there e = gate-at-passed l n (sym ea ∙ e)
+  pub answer-is : (asked : Gate) → asked ≡ gateAt l n → (c : Connection) → c ≡ recordAt (l .state) (n % 16)
+      → (a : Answer) → a ≡ answerPast asked allowed c → a ≡ judgedAnswer l n allowed
+  unfolding judgedAnswer
+  answer-is asked ea c ec a e =
+      e ∙ ap₂ (λ (g : Gate) (x : Connection). answerPast g allowed x) ea ec ∙ past-is (gateAt l n) refl
+
+-- a connection's protocol, out of the bodies of connections and groups
+pub stream-is : (image : List ℕ) (n : ℕ) (connections : List ℕ) → connections ≡ bodyOf image Connections → (groups : List ℕ) → groups ≡ bodyOf image Groups
+    → (b : Bool) → b ≡ tcpIn 2 groups 16 connections n → b ≡ configOf image n .tcp
+unfolding configOf tcpIn groupTcp
+stream-is image n connections ec groups eg b e = e ∙ ap₂ (λ (g cs : List ℕ). tcpIn 2 g 16 cs n) eg ec

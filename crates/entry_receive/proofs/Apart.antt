@@ -40,7 +40,7 @@ count-tcp Met.End s = refl
 count-tcp (Met.Pdu route id at n) s = refl
 count-tcp (Met.Drop reason id n) s = refl
 
-take-apart : (image : List ℕ) (s : State) (rx : List ℕ) (k : ℕ) (segment : List ℕ) → ((i : ℕ) → getD segment i 0 < 256) → Takes image s rx k
+take-apart : (image : List ℕ) (s : State) (rx : List ℕ) (k : ℕ) (segment : List ℕ) → ((i : ℕ) → getD segment i 0 < 256) → Takes image (recordAt s k) rx k
     → Apart k s (takeOn image s rx k segment .state) rx (memoryOn image s rx k segment)
 unfolding takeOn memoryOn
 take-apart image s rx k segment bytes takes =

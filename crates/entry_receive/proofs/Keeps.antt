@@ -82,7 +82,7 @@ module _ (l : Loan) (k : ℕ) (segment : List ℕ) (bytes : (i : ℕ) → getD s
   abbrev after : Connection
   after = withPart (takenAt image s rx k segment .part) (recordAt s k)
 
-  takes : Takes image s rx k
+  takes : Takes image (recordAt s k) rx k
   takes = passed-takes l k (clear .passed) (clear .there)
 
   sound-before : soundAt image k (recordAt s k) ≡ true

@@ -97,7 +97,7 @@ pub stretch-length : (n : ℕ) (rx : List ℕ) → n < 16 → length rx ≡ 2342
 stretch-length n rx h e = length-take-le 1464 (drop (n * 1464) rx) (omega (arith, length-drop (n * 1464) rx))
 
 -- SO A TAKE MAY BE MADE
-pub passed-takes : (l : Loan) (n : ℕ) → Passed (sizes l) → n < rowsOf (l .image) Connections → Takes (l .image) (l .state) (l .rx) n
+pub passed-takes : (l : Loan) (n : ℕ) → Passed (sizes l) → n < rowsOf (l .image) Connections → Takes (l .image) (recordAt (l .state) n) (l .rx) n
 passed-takes l n passed there =
     let w : SoundPart (recordAt (l .state) n .part) = part-whole (sizes l) passed n there in
     let h : n < 16 = below-sixteen (l .image) (passed .table) n there in

@@ -1,12 +1,12 @@
 -- The take of a segment at each of its returns, and a stretch of receive memory.
-use Prim.Native.Nat.{ℕ, _+_, _-_, _*_, _<_}
-use mathlib.Core.Path.{_≡_, sym, ap, ap₂, _∙_, subst}
-use mathlib.Core.Bool.{Bool, true, false}
+use Prim.Native.Nat.{ℕ, _+_, _-_, _*_, _%_, _<_}
+use mathlib.Core.Path.{_≡_, refl, sym, ap, ap₂, _∙_, subst}
+use mathlib.Core.Bool.{Bool, true, false, cond}
 use mathlib.Core.List.{List, [], _++_, append-assoc}
 use native.Mathlib.Nat.{add-sub-cancel-left}
 use native.Mathlib.Omega.{arith}
 use lib.ListN.{length, getD, take, drop, length-drop, drop-of-length-le}
-use lib.Seq.{take-all}
+use lib.Seq.{take-all, set-getD}
 use borrow.Rule.Slice.PartMut.{putMid, post-is}
 use Rattle.wire.specs.Place.{behind, fromAt}
 use Rattle.wire.specs.Lay.{lay}
@@ -14,25 +14,27 @@ use Rattle.wire.proofs.Lay.{lay-fits}
 use Rattle.table_layout.specs.Layout.{bodyOf}
 use Rattle.table_layout.specs.declared.Kind.the-variants.{Route as Routes}
 use Rattle.connection.specs.declared.Connection.{Connection}
-use Rattle.connection.specs.Connection.{withPart}
+use Rattle.connection.specs.Connection.{zeroRecord, withPart}
 use Rattle.state.specs.declared.State.{State}
-use Rattle.state.specs.State.{recordAt, withRecord, countOf, withCount}
+use Rattle.state.specs.State.{recordAt, withRecords, withRecord, withCount}
 use Rattle.state.specs.Fresh.{configOf}
 use Rattle.receive_stream.specs.declared.Outcome.{Outcome}
-use Rattle.receive_stream.specs.declared.Outcome.the-variants.{Pdu}
+use Rattle.receive_stream.specs.declared.Outcome.the-variants.{More, Pdu}
 use Rattle.receive_stream.specs.declared.Taken.{Taken}
 use Rattle.receive_stream.specs.Stream.{takenOf, rxAfter, payloadAt, payloadPlace, Fit}
 use Rattle.receive_stream.proofs.Leaves.{leaves-length}
 use Rattle.state.specs.Memory.{stretch}
 use Rattle.entry_receive.specs.declared.Answer.{Answer}
-use Rattle.entry_receive.specs.declared.Answer.the-variants.{Done}
 use Rattle.entry_receive.specs.declared.SegmentTaken.{SegmentTaken}
+use Rattle.entry_receive.specs.declared.TakeStep.{TakeStep}
 use Rattle.gate.specs.Lent.{Loan, sizes}
-use Rattle.entry_receive.specs.Answer.{isDone}
-use Rattle.entry_receive.specs.Segment.{dropsAfter, countTake, takenAt, stretchAt, takeOn, memoryOn, Takes}
-use Rattle.entry_receive.specs.Segment.{noneTaken, segmentAnswer, segmentOf, memoryOf, payloadOf, payloadStands}
-use Rattle.entry_receive.proofs.Answers.{Clear, done-clear}
-use Rattle.entry_receive.proofs.Past.{passed-takes}
+use Rattle.gate.specs.declared.Gate.{Gate}
+use Rattle.gate.specs.Gate.{gateAt}
+use Rattle.entry_receive.specs.Answer.{isDone, answerPast, judgedAnswer}
+use Rattle.entry_receive.specs.Segment.{dropsAfter, takenBy, stretchBy, stepMemory, stepTaken, takeOn, memoryOn}
+use Rattle.entry_receive.specs.Segment.{Takes, noneTaken, segmentAnswer, segmentOf, memoryOf, payloadOf, payloadStands}
+use Rattle.entry_receive.proofs.Answers.{Clear, done-clear, is-done, answer-is}
+use Rattle.entry_receive.proofs.Past.{below-sixteen, passed-takes}
 
 -- what there is of a stretch: nothing, less than all, all of it
 module _ (n : ℕ) (rx : List ℕ) where
@@ -74,62 +76,137 @@ payload-there p segment q rx n outcome route id inside at size eo own ew o ep r 
     rw eo (er ∙ ap₂ (λ (x : ℕ × ℕ) (l : List ℕ). payloadPlace p segment x l inside at size) ep ew)
 
 -- PAST ALL REFUSALS: the take on the part part of receive memory
-module _ (image : List ℕ) (s : State) (rx : List ℕ) (n : ℕ) (segment : List ℕ)
-    (takes : Takes image s rx n) (routes : List ℕ) (er : routes ≡ bodyOf image Routes) where
+module _ (image : List ℕ) (c : Connection) (rx : List ℕ) (n : ℕ) (segment : List ℕ)
+    (takes : Takes image c rx n) (routes : List ℕ) (er : routes ≡ bodyOf image Routes) where
   abbrev part : List ℕ
   part = take (n * 1464 + 1464 - n * 1464) (drop (n * 1464) rx)
 
-  pub part-fit : Fit routes (recordAt s n .part) part
+  pub part-fit : Fit routes (c .part) part
   part-fit =
-      subst (λ (l : List ℕ). Fit l (recordAt s n .part) part) (sym er)
-      (subst (Fit (bodyOf image Routes) (recordAt s n .part)) (sym (stretch-all n rx)) (takes .fit))
+      subst (λ (l : List ℕ). Fit l (c .part) part) (sym er)
+      (subst (Fit (bodyOf image Routes) (c .part)) (sym (stretch-all n rx)) (takes .fit))
 
-  pub take-is : (t : Taken) (c : Connection) (drops : ℕ) → t ≡ takenOf routes n (recordAt s n .switches) (recordAt s n .part) part segment
-      → c ≡ withPart (t .part) (recordAt s n) → drops ≡ dropsAfter (t .outcome) (countOf true s)
-      → record { answer = Done; read = t .read; outcome = t .outcome; state = withCount true drops (withRecord n c s) } ≡ takeOn image s rx n segment
-  unfolding takeOn
-  take-is t c drops et ec ed =
-      let same : t ≡ takenAt image s rx n segment =
-      et ∙ ap₂ (λ (l m : List ℕ). takenOf l n (recordAt s n .switches) (recordAt s n .part) m segment) er (stretch-all n rx) in
-      ap₂ (λ (d : ℕ) (x : Connection). record { answer = Done; read = t .read; outcome = t .outcome; state = withCount true d (withRecord n x s) }) ed ec
-      ∙ ap
-      (λ (u : Taken).
-      record { answer = Done; read = u .read; outcome = u .outcome; state = countTake (u .outcome) (withRecord n (withPart (u .part) (recordAt s n)) s) })
-      same
+  module _ (answer : Answer) (done : isDone answer ≡ true) where
+    pub step-done : (t : Taken) (next : Connection) (drops after : ℕ) → t ≡ takenOf routes n (c .switches) (c .part) part segment
+        → next ≡ withPart (t .part) c → after ≡ dropsAfter (t .outcome) drops
+        → record { connection = next; drops = after; read = t .read; outcome = t .outcome } ≡ stepTaken image c drops rx n segment answer
+    unfolding stepTaken
+    step-done t next drops after et en ed =
+        let same : t ≡ takenBy image c rx n segment = et ∙ ap₂ (λ (l m : List ℕ). takenOf l n (c .switches) (c .part) m segment) er (stretch-all n rx) in
+        rw done
+        (ap₂ (λ (d : ℕ) (x : Connection). record { connection = x; drops = d; read = t .read; outcome = t .outcome }) ed en
+        ∙ ap
+        (λ (u : Taken). record { connection = withPart (u .part) c; drops = dropsAfter (u .outcome) drops; read = u .read; outcome = u .outcome })
+        same)
 
-  pub memory-is : ((i : ℕ) → getD segment i 0 < 256) → (m : List ℕ) → m ≡ rxAfter routes n (recordAt s n .switches) (recordAt s n .part) part segment
-      → putMid (n * 1464) (n * 1464 + 1464 - n * 1464) rx m ≡ memoryOn image s rx n segment
-  unfolding memoryOn
-  memory-is bytes m em =
-      let same : m ≡ stretchAt image s rx n segment =
-      em ∙ ap₂ (λ (l z : List ℕ). rxAfter l n (recordAt s n .switches) (recordAt s n .part) z segment) er (stretch-all n rx) in
-      let l : length (stretchAt image s rx n segment) ≡ 1464 =
-      leaves-length (bodyOf image Routes) n (recordAt s n .switches) (recordAt s n .part) (stretch 1464 n rx) segment (takes .fit) bytes ∙ takes .fit .room in
-      ap (putMid (n * 1464) (n * 1464 + 1464 - n * 1464) rx) same ∙ mid-laid n rx (stretchAt image s rx n segment) (takes .small) (takes .room) l
+    pub memory-done : ((i : ℕ) → getD segment i 0 < 256) → (m : List ℕ) → m ≡ rxAfter routes n (c .switches) (c .part) part segment
+        → putMid (n * 1464) (n * 1464 + 1464 - n * 1464) rx m ≡ stepMemory image c rx n segment answer
+    unfolding stepMemory
+    memory-done bytes m em =
+        let same : m ≡ stretchBy image c rx n segment = em ∙ ap₂ (λ (l z : List ℕ). rxAfter l n (c .switches) (c .part) z segment) er (stretch-all n rx) in
+        let l : length (stretchBy image c rx n segment) ≡ 1464 =
+        leaves-length (bodyOf image Routes) n (c .switches) (c .part) (stretch 1464 n rx) segment (takes .fit) bytes ∙ takes .fit .room in
+        rw done (ap (putMid (n * 1464) (n * 1464 + 1464 - n * 1464) rx) same ∙ mid-laid n rx (stretchBy image c rx n segment) (takes .small) (takes .room) l)
 
--- THE ENTRY: done, or refused
-module _ (l : Loan) (n : ℕ) (segment : List ℕ)
-    (answer : Answer) (ea : answer ≡ segmentAnswer (sizes l) n) (done : Bool) (ed : done ≡ isDone answer) where
-  same-done : {b : Bool} → done ≡ b → isDone (segmentAnswer (sizes l) n) ≡ b
-  same-done p = ap isDone (sym ea) ∙ sym ed ∙ p
+-- refused: nothing is read
+module _ (image : List ℕ) (c : Connection) (rx : List ℕ) (n : ℕ) (segment : List ℕ) (answer : Answer) (done : isDone answer ≡ false) where
+  pub step-none : (drops : ℕ) → record { connection = c; drops = drops; read = 0; outcome = More } ≡ stepTaken image c drops rx n segment answer
+  unfolding stepTaken
+  step-none drops = rw done
 
-  pub may-take : done ≡ true → Takes (l .image) (l .state) (l .rx) n
+  pub memory-none : rx ≡ stepMemory image c rx n segment answer
+  unfolding stepMemory
+  memory-none = rw done
+
+pub segment-answer : (l : Loan) (n : ℕ) (tcp : Bool) → tcp ≡ configOf (l .image) n .tcp → (asked : Gate) → asked ≡ gateAt (sizes l) n
+    → (c : Connection) → c ≡ recordAt (l .state) (n % 16) → (a : Answer) → a ≡ answerPast asked tcp c → a ≡ segmentAnswer (sizes l) n
+segment-answer l n tcp et asked eg c ec a e = answer-is (sizes l) n tcp asked eg c ec a e ∙ ap (judgedAnswer (sizes l) n) et
+
+-- THE ENTRY: record n modulo 16 is replaced, in a refusal by itself
+module _ (l : Loan) (n : ℕ) (segment : List ℕ) (c : Connection) (ec : c ≡ recordAt (l .state) (n % 16))
+    (answer : Answer) (ea : answer ≡ segmentAnswer (sizes l) n) where
+  cleared : isDone answer ≡ true → Clear (sizes l) n (configOf (l .image) n .tcp)
+  cleared p = done-clear (sizes l) n (configOf (l .image) n .tcp) (ap isDone (sym ea) ∙ p)
+
+  within : isDone answer ≡ true → n % 16 ≡ n
+  within p = let k : Clear (sizes l) n (configOf (l .image) n .tcp) = cleared p in
+      let small : n < 16 = below-sixteen (l .image) (k .passed .table) n (k .there) in
+      omega arith
+
+  own : isDone answer ≡ true → c ≡ recordAt (l .state) n
+  own p = ec ∙ ap (recordAt (l .state)) (within p)
+
+  pub may-take : isDone answer ≡ true → Takes (l .image) c (l .rx) n
   may-take p =
-      let k : Clear (sizes l) n (configOf (l .image) n .tcp) = done-clear (sizes l) n (configOf (l .image) n .tcp) (same-done p) in
-      passed-takes l n (k .passed) (k .there)
+      let k : Clear (sizes l) n (configOf (l .image) n .tcp) = cleared p in
+      subst (λ (x : Connection). Takes (l .image) x (l .rx) n) (sym (own p)) (passed-takes l n (k .passed) (k .there))
 
-  pub segment-done : done ≡ true → (t : SegmentTaken) → t ≡ takeOn (l .image) (l .state) (l .rx) n segment → t ≡ segmentOf l n segment
-  unfolding segmentOf
-  segment-done p t e = rw (same-done p) e
+  -- what is told of a step, its record put back at a number
+  abbrev told : Answer → TakeStep → ℕ → SegmentTaken
+  told a u k = record { state = withCount true (u .drops) (withRecord k (u .connection) (l .state)); answer = a; read = u .read; outcome = u .outcome }
 
-  pub memory-done : done ≡ true → (m : List ℕ) → m ≡ memoryOn (l .image) (l .state) (l .rx) n segment → m ≡ memoryOf l n segment
-  unfolding memoryOf
-  memory-done p m e = rw (same-done p) e
+  abbrev taken : Connection → TakeStep
+  taken x =
+      record {
+        connection = withPart (takenBy (l .image) x (l .rx) n segment .part) x;
+        drops = dropsAfter (takenBy (l .image) x (l .rx) n segment .outcome) (l .state .«tcp_drops»);
+        read = takenBy (l .image) x (l .rx) n segment .read;
+        outcome = takenBy (l .image) x (l .rx) n segment .outcome;
+      }
 
-  pub segment-none : done ≡ false → noneTaken (l .state) answer ≡ segmentOf l n segment
-  unfolding segmentOf
-  segment-none p = rw (same-done p) (ap (noneTaken (l .state)) ea)
+  abbrev stays : TakeStep
+  stays = record { connection = c; drops = l .state .«tcp_drops»; read = 0; outcome = More }
 
-  pub memory-none : done ≡ false → l .rx ≡ memoryOf l n segment
-  unfolding memoryOf
-  memory-none p = rw (same-done p)
+  module _ (t : TakeStep) (et : t ≡ stepTaken (l .image) c (l .state .«tcp_drops») (l .rx) n segment answer) where
+    segment-done : isDone answer ≡ true → told answer t (n % 16) ≡ segmentOf l n segment
+    unfolding segmentOf stepTaken takeOn
+    segment-done p =
+        let steps : t ≡ taken c = et ∙ ap (λ (b : Bool). cond b (taken c) stays) p in
+        ap (λ (u : TakeStep). told answer u (n % 16)) steps
+        ∙ ap₂ (λ (x : Connection) (k : ℕ). told answer (taken x) k) (own p) (within p)
+        ∙ ap (λ (a : Answer). told a (taken (recordAt (l .state) n)) n) (is-done answer p)
+        ∙ sym
+        (ap (λ (b : Bool). cond b (takeOn (l .image) (l .state) (l .rx) n segment) (noneTaken (l .state) (segmentAnswer (sizes l) n)))
+        (ap isDone (sym ea) ∙ p))
+
+    segment-stays : isDone answer ≡ false → told answer t (n % 16) ≡ segmentOf l n segment
+    unfolding segmentOf stepTaken
+    segment-stays p =
+        let steps : t ≡ stays = et ∙ ap (λ (b : Bool). cond b (taken c) stays) p in
+        ap (λ (u : TakeStep). told answer u (n % 16)) steps
+        ∙ ap (λ (x : Connection). told answer (record { connection = x; drops = l .state .«tcp_drops»; read = 0; outcome = More }) (n % 16)) ec
+        ∙ ap (λ (cs : List Connection). noneTaken (withRecords cs (l .state)) answer) (set-getD (l .state .connections) (n % 16) zeroRecord)
+        ∙ ap (noneTaken (l .state)) ea
+        ∙ sym
+        (ap (λ (b : Bool). cond b (takeOn (l .image) (l .state) (l .rx) n segment) (noneTaken (l .state) (segmentAnswer (sizes l) n)))
+        (ap isDone (sym ea) ∙ p))
+
+    pub segment-is : told answer t (n % 16) ≡ segmentOf l n segment
+    segment-is = go (isDone answer) refl
+      where
+        go : (b : Bool) → isDone answer ≡ b → told answer t (n % 16) ≡ segmentOf l n segment
+        go true p = segment-done p
+        go false p = segment-stays p
+
+  module _ (m : List ℕ) (em : m ≡ stepMemory (l .image) c (l .rx) n segment answer) where
+    memory-taken : isDone answer ≡ true → m ≡ memoryOf l n segment
+    unfolding memoryOf stepMemory memoryOn
+    memory-taken p =
+        em
+        ∙ ap (λ (b : Bool). cond b (lay (l .rx) (n * 1464) (stretchBy (l .image) c (l .rx) n segment)) (l .rx)) p
+        ∙ ap (λ (x : Connection). lay (l .rx) (n * 1464) (stretchBy (l .image) x (l .rx) n segment)) (own p)
+        ∙ sym (ap (λ (b : Bool). cond b (memoryOn (l .image) (l .state) (l .rx) n segment) (l .rx)) (ap isDone (sym ea) ∙ p))
+
+    memory-stays : isDone answer ≡ false → m ≡ memoryOf l n segment
+    unfolding memoryOf stepMemory
+    memory-stays p =
+        em
+        ∙ ap (λ (b : Bool). cond b (lay (l .rx) (n * 1464) (stretchBy (l .image) c (l .rx) n segment)) (l .rx)) p
+        ∙ sym (ap (λ (b : Bool). cond b (memoryOn (l .image) (l .state) (l .rx) n segment) (l .rx)) (ap isDone (sym ea) ∙ p))
+
+    pub memory-is : m ≡ memoryOf l n segment
+    memory-is = go (isDone answer) refl
+      where
+        go : (b : Bool) → isDone answer ≡ b → m ≡ memoryOf l n segment
+        go true p = memory-taken p
+        go false p = memory-stays p

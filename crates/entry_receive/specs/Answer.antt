@@ -6,6 +6,7 @@ use Rattle.connection.specs.declared.Refusal.the-variants.{Denied}
 use Rattle.connection.specs.Event.{receiving, refusalNumber}
 use Rattle.state.specs.State.{recordAt}
 use Rattle.gate.specs.Lent.{Lent}
+use Rattle.gate.specs.declared.Gate.{Gate}
 use Rattle.gate.specs.Gate.{gateAt, through}
 use Rattle.entry_receive.specs.declared.Answer.{Answer}
 use Rattle.entry_receive.specs.declared.Answer.the-variants.{Done, Refused, NotReceiving}
@@ -24,6 +25,10 @@ isDone NotReceiving = false
 -- past the gate: 3, not allowed for this protocol or argument; then 4, not online or with close wanted
 unfoldable pub judgedOf : Bool → Connection → Answer
 judgedOf allowed c = cond allowed (cond (receiving c) Done NotReceiving) (Refused Denied)
+
+-- the gate's refusal, or past the gate that of the record
+abbrev pub answerPast : Gate → Bool → Connection → Answer
+answerPast asked allowed c = through asked Refused (judgedOf allowed c)
 
 -- R4.2, the checks in their order
 unfoldable pub judgedAnswer : Lent → ℕ → Bool → Answer

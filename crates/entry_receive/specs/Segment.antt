@@ -9,6 +9,7 @@ use Rattle.wire.specs.Lay.{lay}
 use Rattle.wire.specs.Place.{behind, fromAt}
 use Rattle.table_layout.specs.Layout.{bodyOf, partOf, partAt}
 use Rattle.table_layout.specs.declared.Kind.the-variants.{Route as Routes}
+use Rattle.connection.specs.declared.Connection.{Connection}
 use Rattle.connection.specs.Connection.{withPart}
 use Rattle.state.specs.declared.State.{State}
 use Rattle.state.specs.State.{recordAt, withRecord, countOf, withCount, counted}
@@ -22,6 +23,7 @@ use Rattle.gate.specs.Lent.{Lent, Loan, sizes}
 use Rattle.entry_receive.specs.declared.Answer.{Answer}
 use Rattle.entry_receive.specs.declared.Answer.the-variants.{Done}
 use Rattle.entry_receive.specs.declared.SegmentTaken.{SegmentTaken}
+use Rattle.entry_receive.specs.declared.TakeStep.{TakeStep}
 use Rattle.entry_receive.specs.Answer.{isDone, judgedAnswer}
 
 -- R5.6: a drop adds 1 to its protocol's count, TCP's; a transfer's start and its pieces add none
@@ -58,11 +60,35 @@ module _ (image : List ℕ) (s : State) (rx : List ℕ) (connection : ℕ) (segm
   unfoldable pub memoryOn : List ℕ
   memoryOn = lay rx (connection * 1464) stretchAt
 
--- what the take asks, and the gate has shown
-pub record Takes (image : List ℕ) (s : State) (rx : List ℕ) (connection : ℕ) : Type 0 where
+-- what the take on a record asks, and the gate has shown
+pub record Takes (image : List ℕ) (c : Connection) (rx : List ℕ) (connection : ℕ) : Type 0 where
   pub small : connection < 16
   pub room : length rx ≡ 23424
-  pub fit : Fit (bodyOf image Routes) (recordAt s connection .part) (stretch 1464 connection rx)
+  pub fit : Fit (bodyOf image Routes) (c .part) (stretch 1464 connection rx)
+
+module _ (image : List ℕ) (c : Connection) (rx : List ℕ) (connection : ℕ) (segment : List ℕ) where
+  -- the same take, of a record alone
+  abbrev pub takenBy : Taken
+  takenBy = takenOf (bodyOf image Routes) connection (c .switches) (c .part) (stretch 1464 connection rx) segment
+
+  abbrev pub stretchBy : List ℕ
+  stretchBy = rxAfter (bodyOf image Routes) connection (c .switches) (c .part) (stretch 1464 connection rx) segment
+
+  -- receive memory after an answer
+  unfoldable pub stepMemory : Answer → List ℕ
+  stepMemory answer = cond (isDone answer) (lay rx (connection * 1464) stretchBy) rx
+
+-- what changes after an answer, and what is told: in a refusal nothing is read, and record and count stay
+unfoldable pub stepTaken : List ℕ → Connection → ℕ → List ℕ → ℕ → List ℕ → Answer → TakeStep
+stepTaken image c drops rx connection segment answer =
+    cond (isDone answer)
+    (record {
+      connection = withPart (takenBy image c rx connection segment .part) c;
+      drops = dropsAfter (takenBy image c rx connection segment .outcome) drops;
+      read = takenBy image c rx connection segment .read;
+      outcome = takenBy image c rx connection segment .outcome;
+    })
+    (record { connection = c; drops = drops; read = 0; outcome = More })
 
 -- a refusal: nothing is read, and the state stays
 abbrev pub noneTaken : State → Answer → SegmentTaken

@@ -7,7 +7,7 @@ use lib.ListN.{length}
 use Rattle.table_layout.specs.Layout.{bodyOf}
 use Rattle.table_layout.specs.declared.Kind.the-variants.{Route as Routes}
 use Rattle.state.specs.declared.State.{State}
-use Rattle.state.specs.State.{recordAt, droppedOf}
+use Rattle.state.specs.State.{recordAt, counted, droppedOf}
 use Rattle.state.specs.Fresh.{configOf}
 use Rattle.receive_datagram.specs.declared.Outcome.{Outcome}
 use Rattle.receive_datagram.specs.declared.Outcome.the-variants.{End, Pdu, Drop}
@@ -17,6 +17,7 @@ use Rattle.gate.specs.Lent.{Lent}
 use Rattle.entry_receive.specs.declared.Answer.{Answer}
 use Rattle.entry_receive.specs.declared.Answer.the-variants.{Done}
 use Rattle.entry_receive.specs.declared.DatagramWalked.{DatagramWalked}
+use Rattle.entry_receive.specs.declared.WalkStep.{WalkStep}
 use Rattle.entry_receive.specs.Answer.{isDone, judgedAnswer}
 
 -- R7.11: a drop adds 1 to its protocol's count, UDP's
@@ -24,6 +25,22 @@ abbrev pub countWalk : Outcome → State → State
 countWalk End s = s
 countWalk (Pdu route id at n) s = s
 countWalk (Drop reason id n) s = droppedOf false s
+
+abbrev pub walkDrops : Outcome → ℕ → ℕ
+walkDrops End drops = drops
+walkDrops (Pdu route id at n) drops = drops
+walkDrops (Drop reason id n) drops = counted drops
+
+-- what changes after an answer, the UDP count, and what is told: in a refusal the end, the place as it was given, and the count stays
+unfoldable pub stepWalked : List ℕ → ℕ → ℕ → ℕ → List ℕ → ℕ → Answer → WalkStep
+stepWalked image switches drops connection datagram place answer =
+    cond (isDone answer)
+    (record {
+      drops = walkDrops (walkedOf datagram place (bodyOf image Routes) connection switches .outcome) drops;
+      outcome = walkedOf datagram place (bodyOf image Routes) connection switches .outcome;
+      next = walkedOf datagram place (bodyOf image Routes) connection switches .next;
+    })
+    (record { drops = drops; outcome = End; next = place })
 
 module _ (image : List ℕ) (s : State) (connection : ℕ) (datagram : List ℕ) (place : ℕ) where
   -- the walk with the record's switches and the table's routes

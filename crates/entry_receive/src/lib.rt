@@ -4,9 +4,11 @@
 ghost use denote.Ref.{ptr};
 ghost use Rattle.wire.specs.Place.{behind, fromAt};
 ghost use mathlib.Core.Path.{_≡_};
-ghost use Prim.Native.Nat.{_*_, _<_};
+ghost use mathlib.Core.Bool.{true};
+ghost use Prim.Native.Nat.{_*_};
 ghost use lib.ListN.{length};
 ghost use Rattle.state.specs.Memory.{stretch};
+ghost use Rattle.state.specs.Fresh.{configOf};
 ghost use Rattle.entry_receive.specs.Answer as Is;
 ghost use Rattle.entry_receive.specs.Segment as Seg;
 ghost use Rattle.entry_receive.specs.Walk as Wk;
@@ -18,11 +20,11 @@ use gate::Gate;
 use gate::ask_at;
 use receive_stream::Outcome;
 use state::State;
-use state::config_of;
 use state::counted_once;
 use table_layout::Kind;
 use table_layout::body_of;
 use table_layout::part_of;
+use table_rows::is_tcp;
 
 // 0; 11, 12, 2, 3; 4.
 pub enum Answer {
@@ -45,6 +47,21 @@ pub struct DatagramWalked {
     pub answer: Answer,
     pub outcome: receive_datagram::Outcome,
     pub next: usize,
+}
+
+// What a take changes, its record and the TCP count, and what it tells.
+struct TakeStep {
+    connection: Connection,
+    drops: u32,
+    read: usize,
+    outcome: Outcome,
+}
+
+// What a walk changes, the UDP count, and what it tells.
+struct WalkStep {
+    drops: u32,
+    outcome: receive_datagram::Outcome,
+    next: usize,
 }
 
 fn is_done(answer: Answer) -> bool
@@ -72,6 +89,16 @@ fn judge(allowed: bool, c: Connection) -> Answer
     Answer::NotReceiving
 }
 
+// The gate's refusal; past the gate, of the record: 3, then 4.
+fn answer_past(asked: Gate, allowed: bool, c: Connection) -> Answer
+    ensures { λ r. ⌜ r ≡ Is.answerPast asked allowed c ⌝ }
+{
+    match asked {
+        Gate::Refused(reason) => Answer::Refused(reason),
+        Gate::Pass => judge(allowed, c),
+    }
+}
+
 // The gate (11, 12, 2), then 3, then 4. The state is taken apart once, into the copy that the gate is lent and the record is read from.
 fn answer_at(image: &[u8], state: State, rx: usize, tx: usize, n: usize, allowed: bool) -> Answer
     ensures { λ r. ⌜ r ≡ Is.judgedAnswer (lent (now (image .entry)) state rx tx) n allowed ⌝ }
@@ -82,14 +109,18 @@ fn answer_at(image: &[u8], state: State, rx: usize, tx: usize, n: usize, allowed
         udp_drops: state.udp_drops,
         tcp_drops: state.tcp_drops,
     };
+    let c = given.connections[n % 16];
     let asked = ask_at(image, given, rx, tx, n);
-    match asked {
-        Gate::Refused(reason) => Answer::Refused(reason),
-        Gate::Pass => {
-            let c = given.connections[n];
-            judge(allowed, c)
-        }
-    }
+    answer_past(asked, allowed, c)
+}
+
+// Whether connection n is a TCP connection: its row's group is asked for, and no more.
+fn is_stream(image: &[u8], n: usize) -> bool
+    ensures { λ r. ⌜ r ≡ configOf (now (image .entry)) n .tcp ⌝ }
+{
+    let connections = body_of(image, Kind::Connection);
+    let groups = body_of(image, Kind::Group);
+    is_tcp(connections, groups, n)
 }
 
 // What a take on a connection is answered.
@@ -97,8 +128,7 @@ pub fn may_take(image: &[u8], state: State, rx: usize, tx: usize, connection: u8
     ensures { λ r. ⌜ r ≡ Seg.segmentAnswer (lent (now (image .entry)) state rx tx) connection ⌝ }
 {
     let n = connection as usize;
-    let config = config_of(image, n);
-    answer_at(image, state, rx, tx, n, config.tcp)
+    answer_at(image, state, rx, tx, n, is_stream(image, n))
 }
 
 // The TCP count after a take: a drop adds to it.
@@ -135,23 +165,32 @@ pub fn drops_after(outcome: Outcome, drops: u32) -> u32
     }
 }
 
-// Past all refusals: the take over the record's part and its stretch of receive memory.
-fn take_on(
+// Where nothing refuses it, the take over the record's part and its stretch of receive memory; else the record and the count as they were.
+fn take_step(
     image: &[u8],
-    mut state: State,
+    c: Connection,
+    drops: u32,
     rx: &mut [u8],
     connection: u8,
     segment: &[u8],
-) -> SegmentTaken
-    requires { ⌜ Seg.Takes (now image) state (now rx) connection ⌝ }
-    ensures { λ r. ⌜ r ≡ Seg.takeOn (now (image .entry)) state (now (rx .entry)) connection (now (segment .entry)) ⌝ }
-    ensures { λ _. ⌜ now (rx .exit) ≡ Seg.memoryOn (now (image .entry)) state (now (rx .entry)) connection (now (segment .entry)) ⌝ }
+    answer: Answer,
+) -> TakeStep
+    requires { ⌜ (Is.isDone answer ≡ true → Seg.Takes (now image) c (now rx) connection) ⌝ }
+    ensures { λ r. ⌜ r ≡ Seg.stepTaken (now (image .entry)) c drops (now (rx .entry)) connection (now (segment .entry)) answer ⌝ }
+    ensures { λ _. ⌜ now (rx .exit) ≡ Seg.stepMemory (now (image .entry)) c (now (rx .entry)) connection (now (segment .entry)) answer ⌝ }
 {
-    let n = connection as usize;
-    let c = state.connections[n];
+    let done = is_done(answer);
+    if !done {
+        return TakeStep {
+            connection: c,
+            drops: drops,
+            read: 0,
+            outcome: Outcome::More,
+        };
+    }
     let part = c.part;
     let routes = body_of(image, Kind::Route);
-    let start = n * 1464;
+    let start = connection as usize * 1464;
     let end = start + 1464;
     let taken = receive_stream::take(
         routes,
@@ -163,17 +202,17 @@ fn take_on(
     );
     let left = taken.part;
     let outcome = taken.outcome;
-    state.connections[n] = c.with_part(left);
-    state.tcp_drops = drops_after(outcome, state.tcp_drops);
-    SegmentTaken {
-        answer: Answer::Done,
+    TakeStep {
+        connection: c.with_part(left),
+        drops: drops_after(outcome, drops),
         read: taken.read,
         outcome: outcome,
-        state: state,
     }
 }
 
-// A take of a segment: up to the end of its first complete PDU, dropped header or transfer's start; or a piece of a running transfer.
+// A take of a segment: up to the end of its first complete PDU, dropped header or transfer's start; or a piece of a running transfer. The
+// state is taken apart once, into the copy that the gate is lent and the record is replaced in; a refusal puts the same record back, so
+// that there is one way out, and one copy.
 pub fn segment_take(
     image: &[u8],
     state: State,
@@ -185,16 +224,28 @@ pub fn segment_take(
     ensures { λ r. ⌜ r ≡ Seg.segmentOf (loan (now (image .entry)) state (now (rx .entry)) (now (tx .entry))) connection (now (segment .entry)) ⌝ }
     ensures { λ _. ⌜ now (rx .exit) ≡ Seg.memoryOf (loan (now (image .entry)) state (now (rx .entry)) (now (tx .entry))) connection (now (segment .entry)) ⌝ }
 {
-    let answer = may_take(image, state, rx.len(), tx.len(), connection);
-    let done = is_done(answer);
-    if done {
-        return take_on(image, state, rx, connection, segment);
-    }
+    let n = connection as usize;
+    let k = n % 16;
+    let records = state.connections;
+    let mut after = State {
+        connections: records,
+        udp_drops: state.udp_drops,
+        tcp_drops: state.tcp_drops,
+    };
+    let c = after.connections[k];
+    let tcp = is_stream(image, n);
+    let asked = ask_at(image, after, rx.len(), tx.len(), n);
+    let answer = answer_past(asked, tcp, c);
+    let step = take_step(image, c, after.tcp_drops, rx, connection, segment, answer);
+    let next = step.connection;
+    let outcome = step.outcome;
+    after.connections[k] = next;
+    after.tcp_drops = step.drops;
     SegmentTaken {
+        state: after,
         answer: answer,
-        read: 0,
-        outcome: Outcome::More,
-        state: state,
+        read: step.read,
+        outcome: outcome,
     }
 }
 
@@ -255,47 +306,53 @@ pub fn segment_payload<'a>(
     }
 }
 
-// A drop adds to the UDP count.
-fn count_walk(outcome: receive_datagram::Outcome, state: State) -> State
-    ensures { λ r. ⌜ r ≡ Wk.countWalk outcome state ⌝ }
+// The UDP count after a step of a walk: a drop adds to it.
+fn walk_drops(outcome: receive_datagram::Outcome, drops: u32) -> u32
+    ensures { λ r. ⌜ r ≡ Wk.walkDrops outcome drops ⌝ }
 {
     match outcome {
-        receive_datagram::Outcome::End => state,
+        receive_datagram::Outcome::End => drops,
         receive_datagram::Outcome::Pdu {
             route: _,
             id: _,
             at: _,
             length: _,
-        } => state,
+        } => drops,
         receive_datagram::Outcome::Drop {
             reason: _,
             id: _,
             length: _,
-        } => state.dropped(false),
+        } => counted_once(drops),
     }
 }
 
-// Past all refusals: the walk with the record's switches.
-fn walk_on(
+// Where nothing refuses it, the walk with the record's switches; else the end, the place as it was given and the count as it was.
+fn walk_step(
     image: &[u8],
-    state: State,
+    switches: u32,
+    drops: u32,
     connection: u8,
     datagram: &[u8],
     place: usize,
-) -> DatagramWalked
-    requires { ⌜ connection < 16 ⌝ }
-    ensures { λ r. ⌜ r ≡ Wk.walkOn (now (image .entry)) state connection (now (datagram .entry)) place ⌝ }
+    answer: Answer,
+) -> WalkStep
+    ensures { λ r. ⌜ r ≡ Wk.stepWalked (now (image .entry)) switches drops connection (now (datagram .entry)) place answer ⌝ }
 {
-    let c = state.connections[connection as usize];
+    let done = is_done(answer);
+    if !done {
+        return WalkStep {
+            drops: drops,
+            outcome: receive_datagram::Outcome::End,
+            next: place,
+        };
+    }
     let routes = body_of(image, Kind::Route);
-    let walked = receive_datagram::walk(datagram, place, routes, connection, c.switches);
+    let walked = receive_datagram::walk(datagram, place, routes, connection, switches);
     let outcome = walked.outcome;
-    let after = count_walk(outcome, state);
-    DatagramWalked {
-        answer: Answer::Done,
+    WalkStep {
+        drops: walk_drops(outcome, drops),
         outcome: outcome,
         next: walked.next,
-        state: after,
     }
 }
 
@@ -312,17 +369,32 @@ pub fn walk_datagram(
     ensures { λ r. ⌜ r ≡ Wk.walkOf (lentBy (now (image .entry)) state (now (rx .entry)) (now (tx .entry))) connection (now (datagram .entry)) place ⌝ }
 {
     let n = connection as usize;
-    let config = config_of(image, n);
-    let allowed = !config.tcp & (place <= datagram.len());
-    let answer = answer_at(image, state, rx.len(), tx.len(), n, allowed);
-    let done = is_done(answer);
-    if done {
-        return walk_on(image, state, connection, datagram, place);
-    }
+    let records = state.connections;
+    let mut after = State {
+        connections: records,
+        udp_drops: state.udp_drops,
+        tcp_drops: state.tcp_drops,
+    };
+    let c = after.connections[n % 16];
+    let tcp = is_stream(image, n);
+    let allowed = !tcp & (place <= datagram.len());
+    let asked = ask_at(image, after, rx.len(), tx.len(), n);
+    let answer = answer_past(asked, allowed, c);
+    let step = walk_step(
+        image,
+        c.switches,
+        after.udp_drops,
+        connection,
+        datagram,
+        place,
+        answer,
+    );
+    let outcome = step.outcome;
+    after.udp_drops = step.drops;
     DatagramWalked {
+        state: after,
         answer: answer,
-        outcome: receive_datagram::Outcome::End,
-        next: place,
-        state: state,
+        outcome: outcome,
+        next: step.next,
     }
 }

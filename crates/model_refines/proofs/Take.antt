@@ -87,7 +87,7 @@ module _ (image : List ℕ) (k : ℕ) (m : Machine) (segment : List ℕ) (o : Op
   abbrev c′ : Connection
   c′ = withPart (partFrom (tookAt .to)) c
 
-  takes : Takes image s rx k
+  takes : Takes image (recordAt s k) rx k
   takes = passed-takes (loanTo image m) k (o .passed) (o .there)
 
   -- nothing refuses it

@@ -1,5 +1,5 @@
 -- Rows that share what they may not have one mark; so a row whose mark no earlier row has is clear of them all.
-use Prim.Native.Nat.{ℕ, _+_, _/_, _%_, _<_, _≤_}
+use Prim.Native.Nat.{ℕ, _+_, _*_, _/_, _%_, _<_, _≤_}
 use mathlib.Core.Path.{_≡_, refl, sym, ap, _∙_}
 use mathlib.Core.Bool.{Bool, true, false, not}
 use mathlib.Core.List.{List}
@@ -9,7 +9,7 @@ use borrow.Author.Tests.{eqb-true}
 use lib.Dec.{eqb}
 use lib.ListN.{length, getD, set, length-set}
 use lib.Seq.{getD-set-same, getD-set-other}
-use Rattle.wire.specs.Be.{be}
+use Rattle.wire.specs.Be.{byteAt, be, Number}
 use Rattle.lists.specs.Search.{every, firstBad}
 use Rattle.lists.proofs.Both.{and-left, and-right, impossible}
 use Rattle.lists.proofs.Search.{every-all, search-start, search-ended}
@@ -19,11 +19,28 @@ use Rattle.table_layout.specs.declared.Kind.the-variants.{Route, Destination}
 use Rattle.table_rows.specs.Rows.{routeRow, destinationRow}
 use Rattle.table_rows.specs.Rules.{routesShare, destinationsShare}
 use Rattle.table_scan.specs.Scan.{share, clearIn, goodIn}
-use Rattle.table_scan.specs.Marks.{routeMark, destinationMark, Come, Struck}
+use Rattle.table_scan.specs.Marks.{turnedPair, routeMark, destinationMark, Come, Struck}
 use Rattle.table_scan.proofs.Rows.{bad-row, shared-row, good-row}
 
 pub mark-small : (x : ℕ) → x % 4294967296 / 2097152 < 2048
 mark-small x = omega arith
+
+-- two bytes read one by one, the second the higher
+pub pair-turned : (row : List ℕ) (hi lo : ℕ) → Number 1 row 8 hi → Number 1 row 9 lo → lo * 256 + hi ≡ turnedPair (be 2 row 8)
+unfolding be
+pair-turned row hi lo h l =
+    let first : hi ≡ 0 * 256 + byteAt row 8 = h .is in
+    let second : lo ≡ 0 * 256 + byteAt row 9 = l .is in
+    let high : hi < 256 = h .small in
+    let low : lo < 256 = l .small in
+    let pair : be 2 row 8 ≡ (0 * 256 + byteAt row 8) * 256 + byteAt row 9 = refl in
+    omega arith
+
+pub pair-small : (row : List ℕ) (hi lo : ℕ) → Number 1 row 8 hi → Number 1 row 9 lo → lo * 256 + hi < 65536
+pair-small row hi lo h l =
+    let high : hi < 256 = h .small in
+    let low : lo < 256 = l .small in
+    omega arith
 
 pub routes-marked : (a b : List ℕ) → share Route a b ≡ true → routeMark a ≡ routeMark b
 unfolding share routesShare routeMark routeRow

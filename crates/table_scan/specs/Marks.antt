@@ -1,6 +1,6 @@
 -- A small number of what two rows may not share: rows with different numbers do not share it. It makes the search quick,
--- and says nothing of its answer. It is a multiplicative hash (the factor is 2^32 over the golden ratio) of the key with the
--- connection at its top: rising and stepped keys spread well.
+-- and says nothing of its answer. It is a multiplicative hash of the key (2^32 less the factor is 2^32 over the golden ratio), with seven
+-- times the connection added at its top: rising and stepped keys spread well.
 use Prim.Native.Nat.{ℕ, _+_, _-_, _*_, _/_, _%_, _<_, _≤_}
 use mathlib.Core.Path.{_≡_}
 use mathlib.Core.Bool.{Bool, true}
@@ -14,13 +14,17 @@ use Rattle.table_scan.specs.Scan.{share, goodIn, badIn}
 
 -- of a connection and the key beside it
 unfoldable pub markOf : ℕ → ℕ → ℕ
-markOf connection key = (key + connection * 268435456) % 4294967296 * 2654435769 % 4294967296 / 2097152
+markOf connection key = (key * 1640531527 + connection * 1879048192) % 4294967296 / 2097152
 
 unfoldable pub routeMark : List ℕ → ℕ
 routeMark row = markOf (routeRow row .connection) (routeRow row .id)
 
+-- a number of two bytes with its bytes in the other order: so one load reads it
+abbrev pub turnedPair : ℕ → ℕ
+turnedPair x = x % 256 * 256 + x / 256
+
 unfoldable pub destinationMark : List ℕ → ℕ
-destinationMark row = markOf (destinationRow row .connection) (destinationRow row .pdu)
+destinationMark row = markOf (destinationRow row .connection) (turnedPair (destinationRow row .pdu))
 
 module _ (good : List ℕ → Bool) (k : Kind) (mark : List ℕ → ℕ) (tag : ℕ) (body seen : List ℕ) (i : ℕ) where
   -- a search that has come to row i: what is left of it has the whole one's answer, and the rows before i have left the tag at their marks

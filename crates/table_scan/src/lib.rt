@@ -5,9 +5,10 @@ ghost use Prim.Native.Nat.{ℕ, _/_, _<_, _≤_};
 ghost use lib.ListN.{length};
 ghost use Rattle.lists.specs.Search.{every};
 ghost use Rattle.table_layout.specs.Layout.{rowWidth};
+ghost use Rattle.table_rows.specs.Rows.{destinationRow};
 ghost use Rattle.table_rows.specs.Rules.{routeRule, destinationRule};
 ghost use Rattle.table_scan.specs.Scan.{share, clearIn, badGroup, badConnection, badRoute, badDestination, badRows};
-ghost use Rattle.table_scan.specs.Marks.{markOf, routeMark, destinationMark, Come, Struck};
+ghost use Rattle.table_scan.specs.Marks.{markOf, turnedPair, routeMark, destinationMark, Come, Struck};
 use table_layout::Kind;
 use table_rows::connection_good;
 use table_rows::destination_good;
@@ -16,7 +17,7 @@ use table_rows::group_good;
 use table_rows::owner_of;
 use table_rows::route_good;
 use table_rows::routes_share;
-use wire::be16;
+use wire::be8;
 use wire::be32;
 
 // The first bad row of two kinds.
@@ -95,7 +96,7 @@ fn mark_of(connection: usize, key: usize) -> usize
     requires { ⌜ (connection < 256) × (key < 4294967296) ⌝ }
     ensures { λ r. ⌜ (r ≡ markOf connection key) × (r < 2048) ⌝ }
 {
-    (key + connection * 268435456) % 4294967296 * 2654435769 % 4294967296 / 2097152
+    (key * 1640531527 + connection * 1879048192) % 4294967296 / 2097152
 }
 
 fn route_mark(row: &[u8]) -> usize
@@ -104,10 +105,17 @@ fn route_mark(row: &[u8]) -> usize
     mark_of(owner_of(row), be32(row, 4))
 }
 
+// The PDU's two bytes, the second the higher: of this form the compiler makes one load.
+fn turned_pdu(row: &[u8]) -> usize
+    ensures { λ r. ⌜ (r ≡ turnedPair (destinationRow (now (row .entry)) .pdu)) × (r < 65536) ⌝ }
+{
+    be8(row, 9) * 256 + be8(row, 8)
+}
+
 fn destination_mark(row: &[u8]) -> usize
     ensures { λ r. ⌜ (r ≡ destinationMark (now (row .entry))) × (r < 2048) ⌝ }
 {
-    mark_of(owner_of(row), be16(row, 8))
+    mark_of(owner_of(row), turned_pdu(row))
 }
 
 // From row `from` on, the first route that is bad by itself or whose mark was met. `seen` holds 1 at each mark met.

@@ -44,7 +44,7 @@ module _ (image : List ℕ) (k : ℕ) where
       clear : Clear (lentTo image m) k (configOf image k .tcp)
       clear = done-clear (lentTo image m) k (configOf image k .tcp) done
 
-      pub takes-here : Takes image s (m .rx) k
+      pub takes-here : Takes image (recordAt s k) (m .rx) k
       takes-here = passed-takes (loanTo image m) k (clear .passed) (clear .there)
 
       abbrev pub connectionAfter : Connection

@@ -1,8 +1,12 @@
 -- `dispatch_events::own` meets its contract.
-use mathlib.Core.Path.{ap}
+use Prim.Native.Nat.{_%_}
+use mathlib.Core.Path.{refl, ap}
 use Rattle.event_answer.proofs.Short.{refuses, replies}
+use Rattle.state.specs.State.{recordAt}
+use Rattle.gate.specs.Lent.{lentBy}
 use Rattle.entry_events.specs.declared.Told.{Told}
 use Rattle.dispatch_events.specs.Events.{toldBytes, ownEffect}
+use Rattle.dispatch_events.proofs.Replaced.{own-is}
 use borrow.Author.Needs.{needs}
 use Rattle.dispatch_events.proofs.own.Statement.{statement}
 use Rattle.dispatch_events.proofs.own.Tie as tie
@@ -11,8 +15,23 @@ returns : tie.Need-returns
 unfolding ownEffect
 returns c = refuses _ _ _ _ _ (c .if1 .taken)
 
-happen-requires : tie.Need-happen-requires
-happen-requires c κs = search needs
+mul-before : tie.Need-mul-before
+mul-before c = search needs
+
+element-copy-out-before : tie.Need-element-copy-out-before
+element-copy-out-before c = search needs
+
+ask-at-requires : tie.Need-ask-at-requires
+ask-at-requires c κs = search needs
+
+step-past-requires : tie.Need-step-past-requires
+step-past-requires c κs = search needs
+
+mul-next : tie.Need-mul-next
+mul-next c = search needs
+
+element-set-from-next : tie.Need-element-set-from-next
+element-set-from-next c = search needs
 
 put-told-requires : tie.Need-put-told-requires
 put-told-requires c κs = search needs
@@ -23,12 +42,29 @@ same-length c = search needs
 returns-2 : tie.Need-returns-2
 unfolding ownEffect
 returns-2 c =
-    let i = c .before .before .before .before .before .before in
+    let p = c .before .before in
+    let t = p .before .before .before in
+    let g = t .before in
+    let i = g .before .before .before in
     let a = i .before .before .before .before .before .args in
-    let h = c .before .before .before .before .before .happen .ensures in
-    let p = c .before .before .put-told .ensures in
-    replies (a .state) (a .rx .now) (a .tx .now) (a .out .now) (i .if1 .left) (p .0) (p .1) (ap (λ (t : Told). toldBytes (t .answer)) h)
-    (ap (λ (t : Told). t .state) h)
+    let h =
+    own-is (lentBy (a .image .now) (a .state) (a .rx .now) (a .tx .now)) (a .connection) (a .event) (g .ask-at .result) (g .ask-at .ensures)
+    (recordAt (a .state) (a .connection % 16)) refl (t .step-past .result) (t .step-past .ensures) in
+    replies (a .state) (a .rx .now) (a .tx .now) (a .out .now) (i .if1 .left)
+    (p .put-told .ensures .0) (p .put-told .ensures .1) (ap (λ (u : Told). toldBytes (u .answer)) h)
+    (ap (λ (u : Told). u .state) h)
 
 pub own-spec : {M : Type 1} → statement M
-own-spec = tie.close (tie.spec returns happen-requires put-told-requires same-length returns-2)
+own-spec =
+    tie.close
+    (tie.spec
+    returns
+    mul-before
+    element-copy-out-before
+    ask-at-requires
+    step-past-requires
+    mul-next
+    element-set-from-next
+    put-told-requires
+    same-length
+    returns-2)

@@ -1,60 +1,79 @@
 -- `entry_receive::segment_take` meets its contract.
+use Prim.Native.Nat.{_%_}
+use mathlib.Core.Path.{refl}
+use Rattle.state.specs.State.{recordAt}
 use Rattle.gate.specs.Lent.{loan}
-use Rattle.entry_receive.proofs.Taking.{may-take, segment-done, memory-done, segment-none, memory-none}
+use Rattle.entry_receive.proofs.Taking.{segment-answer, may-take, segment-is, memory-is}
 use borrow.Author.Needs.{needs}
 use Rattle.entry_receive.proofs.segment_take.Statement.{statement}
 use Rattle.entry_receive.proofs.segment_take.Tie as tie
 
-may-take-requires : tie.Need-may-take-requires
-may-take-requires c κs = search needs
+mul-c : tie.Need-mul-c
+mul-c c = search needs
 
-is-done-requires : tie.Need-is-done-requires
-is-done-requires c κs = search needs
+element-copy-out-c : tie.Need-element-copy-out-c
+element-copy-out-c c = search needs
 
-take-on-requires : tie.Need-take-on-requires
-take-on-requires c κs =
-    let h = c .before in
-    let d = h .before in
-    let n = d .before in
-    let a = n .before .before .before .before .before .args in
-    may-take (loan (a .image .now) (a .state) (a .rx .now) (a .tx .now)) (a .connection) (a .segment .now)
-    (n .may-take .result) (n .may-take .ensures) (d .is-done .result) (d .is-done .ensures) (h .if1 .taken)
+is-stream-requires : tie.Need-is-stream-requires
+is-stream-requires c κs = search needs
+
+ask-at-requires : tie.Need-ask-at-requires
+ask-at-requires c κs = search needs
+
+answer-past-requires : tie.Need-answer-past-requires
+answer-past-requires c κs = search needs
+
+take-step-requires : tie.Need-take-step-requires
+take-step-requires c κs =
+    let r = c .before in
+    let g = r .before in
+    let i = g .before in
+    let a = i .before .before .before .before .before .before .before .args in
+    may-take (loan (a .image .now) (a .state) (a .rx .now) (a .tx .now)) (a .connection)
+    (a .segment .now) (recordAt (a .state) (a .connection % 16)) refl (r .answer-past .result)
+    (segment-answer (loan (a .image .now) (a .state) (a .rx .now) (a .tx .now)) (a .connection)
+    (i .is-stream .result) (i .is-stream .ensures) (g .ask-at .result) (g .ask-at .ensures)
+    (recordAt (a .state) (a .connection % 16)) refl (r .answer-past .result) (r .answer-past .ensures))
+
+mul-next : tie.Need-mul-next
+mul-next c = search needs
+
+element-set-from-next : tie.Need-element-set-from-next
+element-set-from-next c = search needs
 
 same-length : tie.Need-same-length
 same-length c = search needs
 
 returns : tie.Need-returns
 returns c =
-    let o = c .before .before in
-    let h = o .before .before in
-    let d = h .before in
-    let n = d .before in
-    let a = n .before .before .before .before .before .args in (
-      segment-done (loan (a .image .now) (a .state) (a .rx .now) (a .tx .now)) (a .connection) (a .segment .now)
-          (n .may-take .result) (n .may-take .ensures) (d .is-done .result) (d .is-done .ensures) (h .if1 .taken) (o .take-on .result) (o .take-on .ensures .0),
-      memory-done (loan (a .image .now) (a .state) (a .rx .now) (a .tx .now)) (a .connection) (a .segment .now)
-          (n .may-take .result) (n .may-take .ensures) (d .is-done .result) (d .is-done .ensures)
-          (h .if1 .taken) (o .take-on .last .1 .1 .0) (o .take-on .ensures .1),
-    )
-
-returns-2 : tie.Need-returns-2
-returns-2 c =
-    let d = c .before in
-    let n = d .before in
-    let a = n .before .before .before .before .before .args in (
-      segment-none (loan (a .image .now) (a .state) (a .rx .now) (a .tx .now)) (a .connection) (a .segment .now)
-          (n .may-take .result) (n .may-take .ensures) (d .is-done .result) (d .is-done .ensures) (c .if1 .left),
-      memory-none (loan (a .image .now) (a .state) (a .rx .now) (a .tx .now)) (a .connection) (a .segment .now)
-          (n .may-take .result) (n .may-take .ensures) (d .is-done .result) (d .is-done .ensures) (c .if1 .left),
+    let t = c .before .before .before in
+    let r = t .before .before in
+    let g = r .before in
+    let i = g .before in
+    let a = i .before .before .before .before .before .before .before .args in
+    let e =
+    segment-answer (loan (a .image .now) (a .state) (a .rx .now) (a .tx .now)) (a .connection)
+    (i .is-stream .result) (i .is-stream .ensures) (g .ask-at .result) (g .ask-at .ensures)
+    (recordAt (a .state) (a .connection % 16)) refl (r .answer-past .result) (r .answer-past .ensures) in (
+      segment-is (loan (a .image .now) (a .state) (a .rx .now) (a .tx .now)) (a .connection)
+          (a .segment .now) (recordAt (a .state) (a .connection % 16)) refl (r .answer-past .result) e
+          (t .take-step .result) (t .take-step .ensures .0),
+      memory-is (loan (a .image .now) (a .state) (a .rx .now) (a .tx .now)) (a .connection)
+          (a .segment .now) (recordAt (a .state) (a .connection % 16)) refl (r .answer-past .result) e
+          (t .take-step .last .1 .1 .1 .0) (t .take-step .ensures .1),
     )
 
 pub segment-take-spec : {M : Type 1} → statement M
 segment-take-spec =
     tie.close
     (tie.spec
-    may-take-requires
-    is-done-requires
-    take-on-requires
+    mul-c
+    element-copy-out-c
+    is-stream-requires
+    ask-at-requires
+    answer-past-requires
+    take-step-requires
+    mul-next
+    element-set-from-next
     same-length
-    returns
-    returns-2)
+    returns)

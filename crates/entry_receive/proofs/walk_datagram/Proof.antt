@@ -1,57 +1,52 @@
 -- `entry_receive::walk_datagram` meets its contract.
+use Prim.Native.Nat.{_%_}
+use mathlib.Core.Path.{refl}
+use Rattle.state.specs.State.{recordAt}
 use Rattle.gate.specs.Lent.{lentBy}
-use Rattle.entry_receive.proofs.Walking.{may-walk, walk-done, walk-none}
+use Rattle.entry_receive.proofs.Walking.{walk-answer, walk-is}
 use borrow.Author.Needs.{needs}
 use Rattle.entry_receive.proofs.walk_datagram.Statement.{statement}
 use Rattle.entry_receive.proofs.walk_datagram.Tie as tie
 
-config-of-requires : tie.Need-config-of-requires
-config-of-requires c κs = search needs
+mul-c : tie.Need-mul-c
+mul-c c = search needs
 
-answer-at-requires : tie.Need-answer-at-requires
-answer-at-requires c κs = search needs
+element-copy-out-c : tie.Need-element-copy-out-c
+element-copy-out-c c = search needs
 
-is-done-requires : tie.Need-is-done-requires
-is-done-requires c κs = search needs
+is-stream-requires : tie.Need-is-stream-requires
+is-stream-requires c κs = search needs
 
-walk-on-requires : tie.Need-walk-on-requires
-walk-on-requires c κs =
-    let d = c .before in
-    let n = d .before in
-    let g = n .before .before in
-    let a = g .before .before .before .before .before .args in
-    may-walk (lentBy (a .image .now) (a .state) (a .rx .now) (a .tx .now)) (a .connection)
-    (a .datagram .now) (a .place) (g .config-of .result) (g .config-of .ensures)
-    (n .answer-at .result) (n .answer-at .ensures) (d .is-done .result) (d .is-done .ensures) (c .if1 .taken)
+ask-at-requires : tie.Need-ask-at-requires
+ask-at-requires c κs = search needs
+
+answer-past-requires : tie.Need-answer-past-requires
+answer-past-requires c κs = search needs
+
+walk-step-requires : tie.Need-walk-step-requires
+walk-step-requires c κs = search needs
 
 returns : tie.Need-returns
 returns c =
-    let h = c .before in
-    let d = h .before in
-    let n = d .before in
-    let g = n .before .before in
-    let a = g .before .before .before .before .before .args in
-    walk-done (lentBy (a .image .now) (a .state) (a .rx .now) (a .tx .now)) (a .connection)
-    (a .datagram .now) (a .place) (g .config-of .result) (g .config-of .ensures)
-    (n .answer-at .result) (n .answer-at .ensures) (d .is-done .result) (d .is-done .ensures) (h .if1 .taken) (c .walk-on .result) (c .walk-on .ensures)
-
-returns-2 : tie.Need-returns-2
-returns-2 c =
-    let d = c .before in
-    let n = d .before in
-    let g = n .before .before in
-    let a = g .before .before .before .before .before .args in
-    walk-none (lentBy (a .image .now) (a .state) (a .rx .now) (a .tx .now)) (a .connection)
-    (a .datagram .now) (a .place) (g .config-of .result) (g .config-of .ensures)
-    (n .answer-at .result) (n .answer-at .ensures) (d .is-done .result) (d .is-done .ensures) (c .if1 .left)
+    let r = c .before in
+    let g = r .before in
+    let i = g .before in
+    let a = i .before .before .before .before .before .before .before .args in
+    walk-is (lentBy (a .image .now) (a .state) (a .rx .now) (a .tx .now)) (a .connection)
+    (a .datagram .now) (a .place) (recordAt (a .state) (a .connection % 16)) refl (r .answer-past .result)
+    (walk-answer (lentBy (a .image .now) (a .state) (a .rx .now) (a .tx .now)) (a .connection)
+    (a .datagram .now) (a .place) (i .is-stream .result) (i .is-stream .ensures)
+    (g .ask-at .result) (g .ask-at .ensures) (recordAt (a .state) (a .connection % 16)) refl (r .answer-past .result) (r .answer-past .ensures))
+    (c .walk-step .result) (c .walk-step .ensures)
 
 pub walk-datagram-spec : {M : Type 1} → statement M
 walk-datagram-spec =
     tie.close
     (tie.spec
-    config-of-requires
-    answer-at-requires
-    is-done-requires
-    walk-on-requires
-    returns
-    returns-2)
+    mul-c
+    element-copy-out-c
+    is-stream-requires
+    ask-at-requires
+    answer-past-requires
+    walk-step-requires
+    returns)

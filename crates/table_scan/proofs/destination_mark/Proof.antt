@@ -8,8 +8,8 @@ use Rattle.table_scan.proofs.destination_mark.Tie as tie
 owner-of-requires : tie.Need-owner-of-requires
 owner-of-requires c κs = search needs
 
-be16-requires : tie.Need-be16-requires
-be16-requires c κs = search needs
+turned-pdu-requires : tie.Need-turned-pdu-requires
+turned-pdu-requires c κs = search needs
 
 mark-of-requires : tie.Need-mark-of-requires
 mark-of-requires c κs = search needs
@@ -20,4 +20,4 @@ returns c = (cc, c .mark-of .ensures .1)
 
 pub destination-mark-spec : {M : Type 1} → statement M
 destination-mark-spec =
-    tie.close (tie.spec owner-of-requires be16-requires mark-of-requires returns)
+    tie.close (tie.spec owner-of-requires turned-pdu-requires mark-of-requires returns)
