@@ -628,6 +628,9 @@ static uint16_t fails(const struct record *c, size_t i)
     return (uint16_t)((c->close_wanted && c->part == TRANSFER_BYTES) << i);
 }
 
+/* Online, not to be closed, and no timer runs: no tick changes it. */
+static bool rests(const struct record *c) { return c->mode == ONLINE && !c->close_wanted && c->timer == 0 && c->alive == 0; }
+
 uint32_t twin_tick(const struct lent *lent, uint16_t *failed)
 {
     struct layout table;
@@ -637,6 +640,8 @@ uint32_t twin_tick(const struct lent *lent, uint16_t *failed)
         return answer;
     for (size_t i = 0; i < table.rows[CONNECTION]; i++) {
         struct record *c = &lent->state->connections[i];
+        if (rests(c))
+            continue;
         *failed |= fails(c, i);
         tick_record(c, config_of(&table, i));
     }
@@ -675,6 +680,8 @@ size_t twin_ticks(const struct lent *lent, uint32_t count, uint8_t *out)
         return put_refusal(out, answer);
     for (size_t i = 0; i < table.rows[CONNECTION]; i++) {
         struct record *c = &lent->state->connections[i];
+        if (rests(c))
+            continue;
         if (count > 0)
             failed |= fails(c, i);
         tick_many(c, config_of(&table, i), count);

@@ -253,15 +253,28 @@ def until(line, *words, where):
     return said
 
 
-def loaded(program):
-    """The sections of an ELF program that are loaded when it runs: its code and data, by name. The linker's number of the build (over notes that say
-    who compiled it, too) is left out."""
+def sections(program):
+    """(name, kind, flags, bytes or their number, link) of each section of an ELF program."""
     start, = struct.unpack_from("<Q", program, 40)
     size, count, names = struct.unpack_from("<HHH", program, 58)
-    heads = [struct.unpack_from("<IIQQQQ", program, start + i * size) for i in range(count)]
-    text = heads[names][4]
-    sections = {program[text + name:program.index(b"\0", text + name)].decode(): (kind, at, length) for name, kind, flags, _, at, length in heads if flags & 2}
-    return {name: length if kind == 8 else program[at:at + length] for name, (kind, at, length) in sections.items() if name != ".note.gnu.build-id"}
+    heads = [struct.unpack_from("<IIQQQQI", program, start + i * size) for i in range(count)]
+    for name, kind, flags, _, at, length, link in heads:
+        at_name = heads[names][4] + name
+        yield program[at_name:program.index(b"\0", at_name)].decode(), kind, flags, length if kind == 8 else program[at:at + length], link
+
+
+def loaded(program):
+    """The sections that are loaded when a program runs, its code and data. The linker's number of the build, over notes that say who compiled it, too,
+    is left out."""
+    return {name: data for name, _, flags, data, _ in sections(program) if flags & 2 and name != ".note.gnu.build-id"}
+
+
+def functions(program):
+    """The functions of a program: names and sizes, in no order."""
+    every = [*sections(program)]
+    (data, names), = [(data, every[link][3]) for _, kind, _, data, link in every if kind == 2]
+    symbols = [struct.unpack_from("<IBBHQQ", data, at) for at in range(0, len(data), 24)]
+    return sorted((names[name:names.index(b"\0", name)].decode(), size) for name, info, _, _, _, size in symbols if info & 15 == 2)
 
 
 def sources():
@@ -280,10 +293,17 @@ def sources():
     same((status, out), soad("check", TABLE)[:2], "./soad check, built from sources")
     same(error.split("\n")[0], "soad: building check_image from sources as proved by the gate at this sum; ./soad prove checks them here", "what is said of it")
     true(error.endswith(f"; sources {sums['sources']}\n"), f"the sum is said: {error}")
-    with open(os.path.join(new, "target/sources/check_image"), "rb") as built:
-        ours, theirs = loaded(built.read()), loaded(contents("target", "bin", "check_image"))
+    same(shell('./soad "$@"', "run", TABLE, SHIFT, where=new)[:2], soad("run", TABLE, SHIFT)[:2], "./soad run, built from sources")
+    built = {}
+    for name in ("check_image", "run"):
+        with open(os.path.join(new, "target/sources", name), "rb") as program:
+            built[name] = program.read(), contents("target", "bin", name)
+    ours, theirs = (loaded(program) for program in built["check_image"])
     true(len(ours[".text"]) > 1000, "a program has code")
-    same([name for name in {**ours, **theirs} if ours.get(name) != theirs.get(name)], [], "the program built from sources is the one that the proof builds: sections")
+    same([name for name in {**ours, **theirs} if ours.get(name) != theirs.get(name)], [], "check_image built from sources is the one that the proof builds: sections")
+    ours, theirs = (functions(program) for program in built["run"])
+    true(len(ours) > 10, "a program has functions")
+    same(ours, theirs, "run built from sources has the functions that the proof builds, in another order")
     same(shell('./soad "$@"', "check", TABLE, where=new)[2], "", "./soad check, built before")
     true(shell("./soad --version", where=new)[1].endswith(f"sources: as proved by the gate at this sum, {sums['sources']}\n"), "./soad --version of that sum")
     for what, change in (("another source", "echo >>crates/wire/src/lib.rt"), ("a file more", "touch crates/wire/src/more"), ("a file less", "rm crates/wire/specs/Lib.antt"),
