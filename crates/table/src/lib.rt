@@ -21,6 +21,7 @@ ghost use Rattle.table.specs.Table.{
   bodyAnswerAt,
 };
 use table_layout::Kind;
+use table_layout::body_laid;
 use table_layout::body_of;
 use table_layout::end_of;
 use table_layout::entry_at;
@@ -112,10 +113,10 @@ fn after_connections(image: &[u8]) -> TableAnswer
     requires { ⌜ Laid (now image) ⌝ }
     ensures { λ r. ⌜ r ≡ thenCheck (rowsPlace (now (image .entry)) Kind.Route) (rowsPlace (now (image .entry)) Kind.Destination) ⌝ }
 {
-    let routes = body_of(image, Kind::Route);
-    let destinations = body_of(image, Kind::Destination);
-    let connections = body_of(image, Kind::Connection);
-    let groups = body_of(image, Kind::Group);
+    let routes = body_laid(image, Kind::Route);
+    let destinations = body_laid(image, Kind::Destination);
+    let connections = body_laid(image, Kind::Connection);
+    let groups = body_laid(image, Kind::Group);
     let bad = first_bad_rows(routes, destinations, connections, groups);
     let route = place_of(image, Kind::Route, bad.route);
     let destination = place_of(image, Kind::Destination, bad.destination);
@@ -128,8 +129,8 @@ fn after_groups(image: &[u8]) -> TableAnswer
         (thenCheck (rowsPlace (now (image .entry)) Kind.Route) (rowsPlace (now (image .entry)) Kind.Destination)) ⌝ }
 {
     let bad = first_bad_connection(
-        body_of(image, Kind::Connection),
-        body_of(image, Kind::Group),
+        body_laid(image, Kind::Connection),
+        body_laid(image, Kind::Group),
     );
     let connections = place_of(image, Kind::Connection, bad);
     match connections {
@@ -142,7 +143,7 @@ fn all_rows_place(image: &[u8]) -> TableAnswer
     requires { ⌜ Laid (now image) ⌝ }
     ensures { λ r. ⌜ r ≡ allRowsPlace (now (image .entry)) ⌝ }
 {
-    let bad = first_bad_group(body_of(image, Kind::Group));
+    let bad = first_bad_group(body_laid(image, Kind::Group));
     let groups = place_of(image, Kind::Group, bad);
     match groups {
         TableAnswer::Refused(p) => TableAnswer::Refused(p),

@@ -9,7 +9,7 @@ use native.Mathlib.Omega.{arith}
 use borrow.Author.Tests.{le-leb, lt-leb, lt-ltb, le-ltb}
 use lib.ListN.{length, take, drop, length-drop}
 use lib.Seq.{length-take-le}
-use Rattle.table_layout.specs.Layout.{rowBytes, rowsOf, bodyBytes, startOf, endOf, partOf, partAt, bodyOf, rowIn, rowInAt, Laid}
+use Rattle.table_layout.specs.Layout.{rowBytes, rowsOf, bodyBytes, startOf, endOf, partOf, partAt, bodyOf, bodyAt, rowIn, rowInAt, Laid}
 use Rattle.table_layout.specs.declared.Kind.{Kind}
 use Rattle.table_layout.specs.declared.Kind.the-variants.{Group, Connection, Route, Destination}
 
@@ -84,6 +84,19 @@ module _ (s : List ℕ) (l : Laid s) where
   body-within Connection = omega (arith, l .whole)
   body-within Route = omega (arith, l .whole)
   body-within Destination = omega (arith, l .whole)
+
+  -- by its numbers: it ends within the image, `&image[at..at + n]` is the body, and where it stands
+  module _ (k : Kind) (at n : ℕ) (ea : at ≡ startOf s k) (en : n ≡ bodyBytes s k) where
+    pub body-ends : at + n ≤ length s
+    body-ends = omega (arith, body-within k)
+
+    pub body-range : take (at + n - at) (drop at s) ≡ bodyOf s k
+    unfolding bodyOf
+    body-range = part-range s at n body-ends ∙ ap (λ (x : ℕ). partOf s x n) ea ∙ ap (partOf s (startOf s k)) en
+
+    pub body-there : (p : ℕ × ℕ) → (p .0, at + p .1) ≡ behind p (bodyAt s k)
+    unfolding bodyAt
+    body-there p = part-there s at n p body-ends ∙ ap (λ (x : ℕ). behind p (partAt s x n)) ea ∙ ap (λ (x : ℕ). behind p (partAt s (startOf s k) x)) en
 
   pub body-length : (k : Kind) → length (bodyOf s k) ≡ bodyBytes s k
   unfolding bodyOf

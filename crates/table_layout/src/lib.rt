@@ -1,5 +1,5 @@
 // The table image's layout: what the contents say, where each body stands, and rows as parts of a body.
-// Everything is total: a number past the end is 0, a part that does not fit is empty.
+// A number past the end is 0, a part that does not fit is empty. Everything is total but `body_laid`.
 ghost use mathlib.Core.Path.{_≡_};
 ghost use Prim.Native.Nat.{_+_, _*_, _≤_, _<_};
 ghost use denote.Ref.{ptr};
@@ -19,6 +19,7 @@ ghost use Rattle.table_layout.specs.Layout.{
   bodyAt,
   rowIn,
   rowInAt,
+  Laid,
 };
 use wire::be16;
 
@@ -128,6 +129,17 @@ pub fn body_of(image: &[u8], k: Kind) -> &[u8]
     ensures place { λ r. ⌜ ptr r ≡ behind (ptr (image .entry)) (bodyAt (now (image .entry)) k) ⌝ }
 {
     part_of(image, start_of(image, k), body_bytes(image, k))
+}
+
+// As `body_of`, without its tests: in an image that is laid out as its contents say, every body fits.
+pub fn body_laid(image: &[u8], k: Kind) -> &[u8]
+    requires { ⌜ Laid (now image) ⌝ }
+    ensures bytes { λ r. ⌜ now r ≡ bodyOf (now (image .entry)) k ⌝ }
+    ensures place { λ r. ⌜ ptr r ≡ behind (ptr (image .entry)) (bodyAt (now (image .entry)) k) ⌝ }
+{
+    let at = start_of(image, k);
+    let end = at + body_bytes(image, k);
+    &image[at..end]
 }
 
 // Row i of a body whose rows have n bytes; an empty part where there is no such row.

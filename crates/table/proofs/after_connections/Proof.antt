@@ -4,17 +4,17 @@ use borrow.Author.Needs.{needs}
 use Rattle.table.proofs.after_connections.Statement.{statement}
 use Rattle.table.proofs.after_connections.Tie as tie
 
-body-of-requires : tie.Need-body-of-requires
-body-of-requires c κs = search needs
+body-laid-requires : tie.Need-body-laid-requires
+body-laid-requires c κs = search needs
 
-body-of-requires-2 : tie.Need-body-of-requires-2
-body-of-requires-2 c κs = search needs
+body-laid-requires-2 : tie.Need-body-laid-requires-2
+body-laid-requires-2 c κs = search needs
 
-body-of-requires-3 : tie.Need-body-of-requires-3
-body-of-requires-3 c κs = search needs
+body-laid-requires-3 : tie.Need-body-laid-requires-3
+body-laid-requires-3 c κs = search needs
 
-body-of-requires-4 : tie.Need-body-of-requires-4
-body-of-requires-4 c κs = search needs
+body-laid-requires-4 : tie.Need-body-laid-requires-4
+body-laid-requires-4 c κs = search needs
 
 first-bad-rows-requires : tie.Need-first-bad-rows-requires
 first-bad-rows-requires c κs = search needs
@@ -34,18 +34,18 @@ returns c =
     let x = p .before .before in
     let b = x .before .before .before .before .before .before in
     last-places (b .args .image .now) (b .pre) _ _ _ _ _ _ _ _
-    (x .before .before .before .before .body-of .ensures .0) (x .before .before .before .body-of2 .ensures .0)
-    (x .before .before .body-of3 .ensures .0) (x .before .body-of4 .ensures .0)
+    (x .before .before .before .before .body-laid .ensures .0) (x .before .before .before .body-laid2 .ensures .0)
+    (x .before .before .body-laid3 .ensures .0) (x .before .body-laid4 .ensures .0)
     (x .first-bad-rows .ensures) (p .before .place-of .ensures) (p .place-of2 .ensures) (c .first-refusal .ensures)
 
 pub after-connections-spec : {M : Type 1} → statement M
 after-connections-spec =
     tie.close
     (tie.spec
-    body-of-requires
-    body-of-requires-2
-    body-of-requires-3
-    body-of-requires-4
+    body-laid-requires
+    body-laid-requires-2
+    body-laid-requires-3
+    body-laid-requires-4
     first-bad-rows-requires
     place-of-requires
     place-of-requires-2

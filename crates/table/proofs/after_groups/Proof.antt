@@ -8,11 +8,11 @@ use borrow.Author.Needs.{needs}
 use Rattle.table.proofs.after_groups.Statement.{statement}
 use Rattle.table.proofs.after_groups.Tie as tie
 
-body-of-requires : tie.Need-body-of-requires
-body-of-requires c κs = search needs
+body-laid-requires : tie.Need-body-laid-requires
+body-laid-requires c κs = search needs
 
-body-of-requires-2 : tie.Need-body-of-requires-2
-body-of-requires-2 c κs = search needs
+body-laid-requires-2 : tie.Need-body-laid-requires-2
+body-laid-requires-2 c κs = search needs
 
 first-bad-connection-requires : tie.Need-first-bad-connection-requires
 first-bad-connection-requires c κs = search needs
@@ -35,7 +35,7 @@ returns c =
     let b = p .before .before .before .before .before in
     let s = b .args .image .now in
     then-refused (rowsPlace s Connection) _ _
-    (sym (connections-place s (b .pre) _ _ _ _ (p .before .before .before .body-of .ensures .0) (p .before .before .body-of2 .ensures .0)
+    (sym (connections-place s (b .pre) _ _ _ _ (p .before .before .before .body-laid .ensures .0) (p .before .before .body-laid2 .ensures .0)
     (p .before .first-bad-connection .ensures) (p .place-of .ensures)) ∙ c .before .connections .given .1)
 
 returns-2 : tie.Need-returns-2
@@ -44,7 +44,7 @@ returns-2 c =
     let b = p .before .before .before .before .before in
     let s = b .args .image .now in
     then-accepted (rowsPlace s Connection) _ _
-    (sym (connections-place s (b .pre) _ _ _ _ (p .before .before .before .body-of .ensures .0) (p .before .before .body-of2 .ensures .0)
+    (sym (connections-place s (b .pre) _ _ _ _ (p .before .before .before .body-laid .ensures .0) (p .before .before .body-laid2 .ensures .0)
     (p .before .first-bad-connection .ensures) (p .place-of .ensures)) ∙ c .before .enum-told .given .1)
     (c .after-connections .ensures)
 
@@ -52,8 +52,8 @@ pub after-groups-spec : {M : Type 1} → statement M
 after-groups-spec =
     tie.close
     (tie.spec
-    body-of-requires
-    body-of-requires-2
+    body-laid-requires
+    body-laid-requires-2
     first-bad-connection-requires
     place-of-requires
     enum-known-connections

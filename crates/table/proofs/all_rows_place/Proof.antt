@@ -8,8 +8,8 @@ use borrow.Author.Needs.{needs}
 use Rattle.table.proofs.all_rows_place.Statement.{statement}
 use Rattle.table.proofs.all_rows_place.Tie as tie
 
-body-of-requires : tie.Need-body-of-requires
-body-of-requires c κs = search needs
+body-laid-requires : tie.Need-body-laid-requires
+body-laid-requires c κs = search needs
 
 first-bad-group-requires : tie.Need-first-bad-group-requires
 first-bad-group-requires c κs = search needs
@@ -33,7 +33,7 @@ returns c =
     let b = p .before .before .before .before in
     let s = b .args .image .now in
     then-refused (rowsPlace s Group) _ _
-    (sym (groups-place s (b .pre) _ _ _ (p .before .before .body-of .ensures .0) (p .before .first-bad-group .ensures) (p .place-of .ensures))
+    (sym (groups-place s (b .pre) _ _ _ (p .before .before .body-laid .ensures .0) (p .before .first-bad-group .ensures) (p .place-of .ensures))
     ∙ c .before .groups .given .1)
 
 returns-2 : tie.Need-returns-2
@@ -43,7 +43,7 @@ returns-2 c =
     let b = p .before .before .before .before in
     let s = b .args .image .now in
     then-accepted (rowsPlace s Group) _ _
-    (sym (groups-place s (b .pre) _ _ _ (p .before .before .body-of .ensures .0) (p .before .first-bad-group .ensures) (p .place-of .ensures))
+    (sym (groups-place s (b .pre) _ _ _ (p .before .before .body-laid .ensures .0) (p .before .first-bad-group .ensures) (p .place-of .ensures))
     ∙ c .before .enum-told .given .1)
     (c .after-groups .ensures)
 
@@ -51,7 +51,7 @@ pub all-rows-place-spec : {M : Type 1} → statement M
 all-rows-place-spec =
     tie.close
     (tie.spec
-    body-of-requires
+    body-laid-requires
     first-bad-group-requires
     place-of-requires
     enum-known-groups
