@@ -1,5 +1,5 @@
 // What is asked before any event: 11 for lent memory of another length, 12 for a table or state that is not sound, and 2 for
-// a connection that is not there. Every function is total.
+// a connection that is not there. Every public function is total.
 ghost use mathlib.Core.Path.{_≡_};
 ghost use mathlib.Core.Bool.{true};
 ghost use Prim.Native.Nat.{_≤_};
@@ -9,7 +9,7 @@ ghost use Rattle.state.specs.Fresh.{configIn};
 ghost use Rattle.gate.specs.Sound.{routed, recordsSound};
 ghost use Rattle.gate.specs.Inner.{rulesFrom, rulesIn, soundIn, idle, idleSound, quietSound};
 ghost use Rattle.gate.specs.Lent.{lent};
-ghost use Rattle.table_layout.specs.Layout.{rowWidth};
+ghost use Rattle.table_layout.specs.Layout.{rowWidth, Laid};
 ghost use Rattle.table_rows.specs.Rules.{sizeIn};
 ghost use Rattle.gate.specs.Gate.{gateOf, gateAt};
 use connection::Config;
@@ -23,7 +23,7 @@ use state::State;
 use table::TableAnswer;
 use table::check_table;
 use table_layout::Kind;
-use table_layout::body_of;
+use table_layout::body_laid;
 use table_layout::rows_of;
 use table_rows::ConnectionBrief;
 use table_rows::GroupRow;
@@ -216,12 +216,13 @@ fn each_sound(rows: usize, connections: &[u8], groups: &[u8], routes: &[u8], sta
 }
 
 // Whether every record is sound (R3.1); the bodies of the image are asked for once.
-pub fn are_sound(image: &[u8], state: State) -> bool
+fn are_sound(image: &[u8], state: State) -> bool
+    requires { ⌜ Laid (now image) ⌝ }
     ensures { λ r. ⌜ r ≡ recordsSound (now (image .entry)) (state .connections) ⌝ }
 {
-    let connections = body_of(image, Kind::Connection);
-    let groups = body_of(image, Kind::Group);
-    let routes = body_of(image, Kind::Route);
+    let connections = body_laid(image, Kind::Connection);
+    let groups = body_laid(image, Kind::Group);
+    let routes = body_laid(image, Kind::Route);
     each_sound(
         rows_of(image, Kind::Connection),
         connections,

@@ -5,14 +5,14 @@ use borrow.Author.Needs.{needs}
 use Rattle.gate.proofs.are_sound.Statement.{statement}
 use Rattle.gate.proofs.are_sound.Tie as tie
 
-body-of-requires : tie.Need-body-of-requires
-body-of-requires c κs = search needs
+body-laid-requires : tie.Need-body-laid-requires
+body-laid-requires c κs = search needs
 
-body-of-requires-2 : tie.Need-body-of-requires-2
-body-of-requires-2 c κs = search needs
+body-laid-requires-2 : tie.Need-body-laid-requires-2
+body-laid-requires-2 c κs = search needs
 
-body-of-requires-3 : tie.Need-body-of-requires-3
-body-of-requires-3 c κs = search needs
+body-laid-requires-3 : tie.Need-body-laid-requires-3
+body-laid-requires-3 c κs = search needs
 
 rows-of-requires : tie.Need-rows-of-requires
 rows-of-requires c κs = search needs
@@ -25,15 +25,15 @@ returns c =
     let r = c .before in
     let b = r .before .before in
     c .each-sound .ensures ∙ records-in _ _ _ _ _ _ (r .rows-of .ensures .0)
-    (b .before .body-of .ensures .0) (b .body-of2 .ensures .0) (r .before .body-of3 .ensures .0)
+    (b .before .body-laid .ensures .0) (b .body-laid2 .ensures .0) (r .before .body-laid3 .ensures .0)
 
 pub are-sound-spec : {M : Type 1} → statement M
 are-sound-spec =
     tie.close
     (tie.spec
-    body-of-requires
-    body-of-requires-2
-    body-of-requires-3
+    body-laid-requires
+    body-laid-requires-2
+    body-laid-requires-3
     rows-of-requires
     each-sound-requires
     returns)

@@ -1,4 +1,6 @@
 -- `gate::ask` meets its contract.
+use mathlib.Core.Path.{sym, _∙_}
+use Rattle.table.proofs.Facts.{accepted-laid}
 use Rattle.gate.specs.Gate.{gateOf}
 use Rattle.gate.specs.Sound.{soundState}
 use Rattle.gate.proofs.Pass.{gate-memory}
@@ -19,7 +21,7 @@ enum-told-2 : tie.Need-enum-told-2
 enum-told-2 c = search needs
 
 are-sound-requires : tie.Need-are-sound-requires
-are-sound-requires c κs = search needs
+are-sound-requires c κs = accepted-laid _ (sym (c .before .before .check-table .ensures) ∙ c .enum-told2 .given .1)
 
 returns-2 : tie.Need-returns-2
 unfolding gateOf soundState
