@@ -6,9 +6,10 @@ use native.Mathlib.Omega.{arith}
 use borrow.Author.Tests.{not-true, not-false}
 use Rattle.lists.proofs.Both.{impossible}
 use mathlib.Core.List.{List}
-use Rattle.table_layout.specs.Layout.{rowsOf, bodyOf}
+use Rattle.table_layout.specs.Layout.{rowsOf, bodyOf, Laid}
 use Rattle.table_layout.specs.declared.Kind.the-variants.{Group as Groups, Connection as Connections}
 use Rattle.table_rows.specs.Rules.{groupTcp, tcpIn}
+use Rattle.table.proofs.Facts.{accepted-laid}
 use Rattle.connection.specs.declared.Connection.{Connection}
 use Rattle.connection.specs.declared.Refusal.the-variants.{Denied}
 use Rattle.connection.specs.Connection.{isOnline}
@@ -22,7 +23,7 @@ use Rattle.gate.proofs.Pass.{gate-at-passed}
 use Rattle.connection.specs.Event.{receiving}
 use Rattle.entry_receive.specs.declared.Answer.{Answer}
 use Rattle.entry_receive.specs.declared.Answer.the-variants.{Done, Refused, NotReceiving}
-use Rattle.entry_receive.specs.Answer.{isDone, judgedOf, answerPast, judgedAnswer}
+use Rattle.entry_receive.specs.Answer.{isDone, judgedOf, answerPast, streamPast, judgedAnswer}
 use Rattle.entry_receive.proofs.Past.{below-sixteen}
 
 -- WHAT IS KNOWN WHEN NOTHING REFUSES
@@ -95,6 +96,16 @@ module _ (l : Lent) (n : ℕ) (allowed : Bool) where
   unfolding judgedAnswer
   answer-is asked ea c ec a e =
       e ∙ ap₂ (λ (g : Gate) (x : Connection). answerPast g allowed x) ea ec ∙ past-is (gateAt l n) refl
+
+-- past the gate the image is laid out
+pub gate-laid : (l : Lent) (n : ℕ) (asked : Gate) → asked ≡ gateAt l n → asked ≡ Gated.Pass → Laid (l .image)
+gate-laid l n asked e p = accepted-laid (l .image) (gate-at-passed l n (sym e ∙ p) .0 .table)
+
+-- what the gate refuses is refused whatever the protocol: it may be asked for past the gate
+pub past-stream : (asked : Gate) (allows : Bool → Bool) (tcp : Bool) (c : Connection)
+    → answerPast asked (allows (streamPast asked tcp)) c ≡ answerPast asked (allows tcp) c
+past-stream Gated.Pass allows tcp c = refl
+past-stream (Gated.Refused r) allows tcp c = refl
 
 -- a connection's protocol, out of the bodies of connections and groups
 pub stream-is : (image : List ℕ) (n : ℕ) (connections : List ℕ) → connections ≡ bodyOf image Connections → (groups : List ℕ) → groups ≡ bodyOf image Groups

@@ -18,7 +18,7 @@ use Rattle.table_rows.specs.Rows.{routeRow, routeIn}
 use Rattle.table.specs.declared.TableAnswer.the-variants.{Accepted}
 use Rattle.table.specs.Table.{checkTable}
 use Rattle.table.specs.Accepts.{Accepts}
-use Rattle.table.proofs.Facts.{accepted-facts}
+use Rattle.table.proofs.Facts.{accepted-facts, accepted-laid}
 use Rattle.receive_part.specs.declared.Part.{Part}
 use Rattle.receive_part.specs.declared.Part.the-variants.{Header, Payload, Skip, Transfer}
 use Rattle.receive_part.specs.Part.{shaped}
@@ -102,6 +102,7 @@ passed-takes l n passed there =
     let w : SoundPart (recordAt (l .state) n .part) = part-whole (sizes l) passed n there in
     let h : n < 16 = below-sixteen (l .image) (passed .table) n there in
     record {
+      laid = accepted-laid (l .image) (passed .table);
       small = h;
       room = passed .receive;
       fit = record { shape = w .shape; fits = w .fits; room = stretch-length n (l .rx) h (passed .receive); limits = limits (l .image) (passed .table) };

@@ -27,13 +27,13 @@ use Rattle.state.specs.Memory.{stretch}
 use Rattle.entry_receive.specs.declared.Answer.{Answer}
 use Rattle.entry_receive.specs.declared.SegmentTaken.{SegmentTaken}
 use Rattle.entry_receive.specs.declared.TakeStep.{TakeStep}
-use Rattle.gate.specs.Lent.{Loan, sizes}
+use Rattle.gate.specs.Lent.{Lent, Loan, sizes}
 use Rattle.gate.specs.declared.Gate.{Gate}
 use Rattle.gate.specs.Gate.{gateAt}
-use Rattle.entry_receive.specs.Answer.{isDone, answerPast, judgedAnswer}
+use Rattle.entry_receive.specs.Answer.{isDone, answerPast, streamPast}
 use Rattle.entry_receive.specs.Segment.{dropsAfter, takenBy, stretchBy, stepMemory, stepTaken, takeOn, memoryOn}
 use Rattle.entry_receive.specs.Segment.{Takes, noneTaken, segmentAnswer, segmentOf, memoryOf, payloadOf, payloadStands}
-use Rattle.entry_receive.proofs.Answers.{Clear, done-clear, is-done, answer-is}
+use Rattle.entry_receive.proofs.Answers.{Clear, done-clear, is-done, answer-is, past-stream}
 use Rattle.entry_receive.proofs.Past.{below-sixteen, passed-takes}
 
 -- what there is of a stretch: nothing, less than all, all of it
@@ -118,9 +118,11 @@ module _ (image : List ℕ) (c : Connection) (rx : List ℕ) (n : ℕ) (segment 
   unfolding stepMemory
   memory-none = rw done
 
-pub segment-answer : (l : Loan) (n : ℕ) (tcp : Bool) → tcp ≡ configOf (l .image) n .tcp → (asked : Gate) → asked ≡ gateAt (sizes l) n
-    → (c : Connection) → c ≡ recordAt (l .state) (n % 16) → (a : Answer) → a ≡ answerPast asked tcp c → a ≡ segmentAnswer (sizes l) n
-segment-answer l n tcp et asked eg c ec a e = answer-is (sizes l) n tcp asked eg c ec a e ∙ ap (judgedAnswer (sizes l) n) et
+pub segment-answer : (l : Lent) (n : ℕ) (asked : Gate) → asked ≡ gateAt l n → (tcp : Bool) → tcp ≡ streamPast asked (configOf (l .image) n .tcp)
+    → (c : Connection) → c ≡ recordAt (l .state) (n % 16) → (a : Answer) → a ≡ answerPast asked tcp c → a ≡ segmentAnswer l n
+segment-answer l n asked eg tcp et c ec a e =
+    let t : Bool = configOf (l .image) n .tcp in
+    answer-is l n t asked eg c ec a (e ∙ ap (λ (b : Bool). answerPast asked b c) et ∙ past-stream asked (λ (b : Bool). b) t c)
 
 -- THE ENTRY: record n modulo 16 is replaced, in a refusal by itself
 module _ (l : Loan) (n : ℕ) (segment : List ℕ) (c : Connection) (ec : c ≡ recordAt (l .state) (n % 16))

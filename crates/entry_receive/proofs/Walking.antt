@@ -6,8 +6,9 @@ use mathlib.Core.List.{List}
 use native.Mathlib.Omega.{arith}
 use lib.Dec.{leb}
 use lib.ListN.{length}
-use Rattle.table_layout.specs.Layout.{bodyOf}
+use Rattle.table_layout.specs.Layout.{bodyOf, Laid}
 use Rattle.table_layout.specs.declared.Kind.the-variants.{Route as Routes}
+use Rattle.table.proofs.Facts.{accepted-laid}
 use Rattle.connection.specs.declared.Connection.{Connection}
 use Rattle.state.specs.declared.State.{State}
 use Rattle.state.specs.State.{recordAt, withCount}
@@ -23,9 +24,9 @@ use Rattle.entry_receive.specs.declared.Answer.{Answer}
 use Rattle.entry_receive.specs.declared.Answer.the-variants.{Done}
 use Rattle.entry_receive.specs.declared.DatagramWalked.{DatagramWalked}
 use Rattle.entry_receive.specs.declared.WalkStep.{WalkStep}
-use Rattle.entry_receive.specs.Answer.{isDone, answerPast, judgedAnswer}
+use Rattle.entry_receive.specs.Answer.{isDone, answerPast, streamPast}
 use Rattle.entry_receive.specs.Walk.{countWalk, walkDrops, stepWalked, walkedAt, walkOn, noneWalked, walkAllowed, walkAnswer, walkOf}
-use Rattle.entry_receive.proofs.Answers.{Clear, done-clear, is-done, answer-is}
+use Rattle.entry_receive.proofs.Answers.{Clear, done-clear, is-done, answer-is, past-stream}
 use Rattle.entry_receive.proofs.Past.{below-sixteen}
 
 -- A STEP: where nothing refuses it, the walk
@@ -50,18 +51,27 @@ count-is End s = refl
 count-is (Pdu route id at n) s = refl
 count-is (Drop reason id n) s = refl
 
-pub walk-answer : (l : Lent) (n : ℕ) (datagram : List ℕ) (place : ℕ) (tcp : Bool) → tcp ≡ configOf (l .image) n .tcp → (asked : Gate) → asked ≡ gateAt l n
+pub walk-answer : (l : Lent) (n : ℕ) (datagram : List ℕ) (place : ℕ) (asked : Gate) → asked ≡ gateAt l n
+    → (tcp : Bool) → tcp ≡ streamPast asked (configOf (l .image) n .tcp)
     → (c : Connection) → c ≡ recordAt (l .state) (n % 16) → (a : Answer)
     → a ≡ answerPast asked (not tcp && leb place (length datagram)) c → a ≡ walkAnswer l n datagram place
-walk-answer l n datagram place tcp et asked eg c ec a e =
-    answer-is l n (not tcp && leb place (length datagram)) asked eg c ec a e ∙ ap (λ (b : Bool). judgedAnswer l n (not b && leb place (length datagram))) et
+walk-answer l n datagram place asked eg tcp et c ec a e =
+    let t : Bool = configOf (l .image) n .tcp in
+    let allows : Bool → Bool = λ (b : Bool). not b && leb place (length datagram) in
+    answer-is l n (allows t) asked eg c ec a (e ∙ ap (λ (b : Bool). answerPast asked (allows b) c) et ∙ past-stream asked allows t c)
 
 -- THE ENTRY
 module _ (l : Lent) (n : ℕ) (datagram : List ℕ) (place : ℕ) (c : Connection) (ec : c ≡ recordAt (l .state) (n % 16))
     (answer : Answer) (ea : answer ≡ walkAnswer l n datagram place) where
+  cleared : isDone answer ≡ true → Clear l n (walkAllowed (l .image) n datagram place)
+  cleared p = done-clear l n (walkAllowed (l .image) n datagram place) (ap isDone (sym ea) ∙ p)
+
+  pub may-walk : isDone answer ≡ true → Laid (l .image)
+  may-walk p = accepted-laid (l .image) (cleared p .passed .table)
+
   own : isDone answer ≡ true → c ≡ recordAt (l .state) n
   own p =
-      let k : Clear l n (walkAllowed (l .image) n datagram place) = done-clear l n (walkAllowed (l .image) n datagram place) (ap isDone (sym ea) ∙ p) in
+      let k : Clear l n (walkAllowed (l .image) n datagram place) = cleared p in
       let small : n < 16 = below-sixteen (l .image) (k .passed .table) n (k .there) in
       let same : n % 16 ≡ n = omega arith in
       ec ∙ ap (recordAt (l .state)) same

@@ -2,6 +2,7 @@
 use Prim.Native.Nat.{ℕ}
 use mathlib.Core.Bool.{Bool, true, false, cond}
 use Rattle.connection.specs.declared.Connection.{Connection}
+use Rattle.connection.specs.declared.Refusal.{Refusal}
 use Rattle.connection.specs.declared.Refusal.the-variants.{Denied}
 use Rattle.connection.specs.Event.{receiving, refusalNumber}
 use Rattle.state.specs.State.{recordAt}
@@ -29,6 +30,10 @@ judgedOf allowed c = cond allowed (cond (receiving c) Done NotReceiving) (Refuse
 -- the gate's refusal, or past the gate that of the record
 abbrev pub answerPast : Gate → Bool → Connection → Answer
 answerPast asked allowed c = through asked Refused (judgedOf allowed c)
+
+-- a connection's protocol, asked for past the gate
+abbrev pub streamPast : Gate → Bool → Bool
+streamPast asked tcp = through asked (λ (r : Refusal). false) tcp
 
 -- R4.2, the checks in their order
 unfoldable pub judgedAnswer : Lent → ℕ → Bool → Answer

@@ -7,7 +7,7 @@ use mathlib.Core.List.{List, []}
 use lib.ListN.{length}
 use Rattle.wire.specs.Lay.{lay}
 use Rattle.wire.specs.Place.{behind, fromAt}
-use Rattle.table_layout.specs.Layout.{bodyOf, partOf, partAt}
+use Rattle.table_layout.specs.Layout.{bodyOf, partOf, partAt, Laid}
 use Rattle.table_layout.specs.declared.Kind.the-variants.{Route as Routes}
 use Rattle.connection.specs.declared.Connection.{Connection}
 use Rattle.connection.specs.Connection.{withPart}
@@ -62,6 +62,7 @@ module _ (image : List ℕ) (s : State) (rx : List ℕ) (connection : ℕ) (segm
 
 -- what the take on a record asks, and the gate has shown
 pub record Takes (image : List ℕ) (c : Connection) (rx : List ℕ) (connection : ℕ) : Type 0 where
+  pub laid : Laid image
   pub small : connection < 16
   pub room : length rx ≡ 23424
   pub fit : Fit (bodyOf image Routes) (c .part) (stretch 1464 connection rx)

@@ -7,6 +7,7 @@ ghost use mathlib.Core.Path.{_≡_};
 ghost use mathlib.Core.Bool.{true};
 ghost use Prim.Native.Nat.{_*_};
 ghost use lib.ListN.{length};
+ghost use Rattle.table_layout.specs.Layout.{Laid};
 ghost use Rattle.state.specs.Memory.{stretch};
 ghost use Rattle.state.specs.Fresh.{configOf};
 ghost use Rattle.entry_receive.specs.Answer as Is;
@@ -22,7 +23,7 @@ use receive_stream::Outcome;
 use state::State;
 use state::counted_once;
 use table_layout::Kind;
-use table_layout::body_of;
+use table_layout::body_laid;
 use table_layout::part_of;
 use table_rows::is_tcp;
 
@@ -99,10 +100,26 @@ fn answer_past(asked: Gate, allowed: bool, c: Connection) -> Answer
     }
 }
 
-// The gate (11, 12, 2), then 3, then 4. The state is taken apart once, into the copy that the gate is lent and the record is read from.
-fn answer_at(image: &[u8], state: State, rx: usize, tx: usize, n: usize, allowed: bool) -> Answer
-    ensures { λ r. ⌜ r ≡ Is.judgedAnswer (lent (now (image .entry)) state rx tx) n allowed ⌝ }
+// Past the gate, whether connection n is a TCP connection: its row's group is asked for, and no more.
+fn is_stream(asked: Gate, image: &[u8], n: usize) -> bool
+    requires { ⌜ (asked ≡ Gate.Pass → Laid (now image)) ⌝ }
+    ensures { λ r. ⌜ r ≡ Is.streamPast asked (configOf (now (image .entry)) n .tcp) ⌝ }
 {
+    match asked {
+        Gate::Refused(_) => false,
+        Gate::Pass => {
+            let connections = body_laid(image, Kind::Connection);
+            let groups = body_laid(image, Kind::Group);
+            is_tcp(connections, groups, n)
+        }
+    }
+}
+
+// What a take on a connection is answered. The state is taken apart once, into the copy that the gate is lent and the record is read from.
+pub fn may_take(image: &[u8], state: State, rx: usize, tx: usize, connection: u8) -> Answer
+    ensures { λ r. ⌜ r ≡ Seg.segmentAnswer (lent (now (image .entry)) state rx tx) connection ⌝ }
+{
+    let n = connection as usize;
     let records = state.connections;
     let given = State {
         connections: records,
@@ -111,24 +128,8 @@ fn answer_at(image: &[u8], state: State, rx: usize, tx: usize, n: usize, allowed
     };
     let c = given.connections[n % 16];
     let asked = ask_at(image, given, rx, tx, n);
-    answer_past(asked, allowed, c)
-}
-
-// Whether connection n is a TCP connection: its row's group is asked for, and no more.
-fn is_stream(image: &[u8], n: usize) -> bool
-    ensures { λ r. ⌜ r ≡ configOf (now (image .entry)) n .tcp ⌝ }
-{
-    let connections = body_of(image, Kind::Connection);
-    let groups = body_of(image, Kind::Group);
-    is_tcp(connections, groups, n)
-}
-
-// What a take on a connection is answered.
-pub fn may_take(image: &[u8], state: State, rx: usize, tx: usize, connection: u8) -> Answer
-    ensures { λ r. ⌜ r ≡ Seg.segmentAnswer (lent (now (image .entry)) state rx tx) connection ⌝ }
-{
-    let n = connection as usize;
-    answer_at(image, state, rx, tx, n, is_stream(image, n))
+    let tcp = is_stream(asked, image, n);
+    answer_past(asked, tcp, c)
 }
 
 // The TCP count after a take: a drop adds to it.
@@ -189,7 +190,7 @@ fn take_step(
         };
     }
     let part = c.part;
-    let routes = body_of(image, Kind::Route);
+    let routes = body_laid(image, Kind::Route);
     let start = connection as usize * 1464;
     let end = start + 1464;
     let taken = receive_stream::take(
@@ -233,8 +234,8 @@ pub fn segment_take(
         tcp_drops: state.tcp_drops,
     };
     let c = after.connections[k];
-    let tcp = is_stream(image, n);
     let asked = ask_at(image, after, rx.len(), tx.len(), n);
+    let tcp = is_stream(asked, image, n);
     let answer = answer_past(asked, tcp, c);
     let step = take_step(image, c, after.tcp_drops, rx, connection, segment, answer);
     let next = step.connection;
@@ -336,6 +337,7 @@ fn walk_step(
     place: usize,
     answer: Answer,
 ) -> WalkStep
+    requires { ⌜ (Is.isDone answer ≡ true → Laid (now image)) ⌝ }
     ensures { λ r. ⌜ r ≡ Wk.stepWalked (now (image .entry)) switches drops connection (now (datagram .entry)) place answer ⌝ }
 {
     let done = is_done(answer);
@@ -346,7 +348,7 @@ fn walk_step(
             next: place,
         };
     }
-    let routes = body_of(image, Kind::Route);
+    let routes = body_laid(image, Kind::Route);
     let walked = receive_datagram::walk(datagram, place, routes, connection, switches);
     let outcome = walked.outcome;
     WalkStep {
@@ -376,9 +378,9 @@ pub fn walk_datagram(
         tcp_drops: state.tcp_drops,
     };
     let c = after.connections[n % 16];
-    let tcp = is_stream(image, n);
-    let allowed = !tcp & (place <= datagram.len());
     let asked = ask_at(image, after, rx.len(), tx.len(), n);
+    let tcp = is_stream(asked, image, n);
+    let allowed = !tcp & (place <= datagram.len());
     let answer = answer_past(asked, allowed, c);
     let step = walk_step(
         image,

@@ -1,22 +1,46 @@
 -- `entry_receive::may_take` meets its contract.
-use mathlib.Core.Path.{ap, _∙_}
-use mathlib.Core.Bool.{Bool}
+use Prim.Native.Nat.{_%_}
+use mathlib.Core.Path.{refl}
+use Rattle.state.specs.State.{recordAt}
 use Rattle.gate.specs.Lent.{lent}
-use Rattle.entry_receive.specs.Answer.{judgedAnswer}
+use Rattle.entry_receive.proofs.Answers.{gate-laid}
+use Rattle.entry_receive.proofs.Taking.{segment-answer}
 use borrow.Author.Needs.{needs}
 use Rattle.entry_receive.proofs.may_take.Statement.{statement}
 use Rattle.entry_receive.proofs.may_take.Tie as tie
 
-is-stream-requires : tie.Need-is-stream-requires
-is-stream-requires c κs = search needs
+mul-c : tie.Need-mul-c
+mul-c c = search needs
 
-answer-at-requires : tie.Need-answer-at-requires
-answer-at-requires c κs = search needs
+element-copy-out-c : tie.Need-element-copy-out-c
+element-copy-out-c c = search needs
+
+ask-at-requires : tie.Need-ask-at-requires
+ask-at-requires c κs = search needs
+
+is-stream-requires : tie.Need-is-stream-requires
+is-stream-requires c κs =
+    let a = c .before .before .before .before .args in
+    gate-laid (lent (a .image .now) (a .state) (a .rx) (a .tx)) (a .connection) (c .ask-at .result) (c .ask-at .ensures)
+
+answer-past-requires : tie.Need-answer-past-requires
+answer-past-requires c κs = search needs
 
 returns : tie.Need-returns
 returns c =
-    let a = c .before .before .before .args in
-    c .answer-at .ensures ∙ ap (judgedAnswer (lent (a .image .now) (a .state) (a .rx) (a .tx)) (a .connection)) (c .before .is-stream .ensures)
+    let i = c .before in
+    let g = i .before in
+    let a = g .before .before .before .before .args in
+    segment-answer (lent (a .image .now) (a .state) (a .rx) (a .tx)) (a .connection) (g .ask-at .result) (g .ask-at .ensures)
+    (i .is-stream .result) (i .is-stream .ensures) (recordAt (a .state) (a .connection % 16)) refl (c .answer-past .result) (c .answer-past .ensures)
 
 pub may-take-spec : {M : Type 1} → statement M
-may-take-spec = tie.close (tie.spec is-stream-requires answer-at-requires returns)
+may-take-spec =
+    tie.close
+    (tie.spec
+    mul-c
+    element-copy-out-c
+    ask-at-requires
+    is-stream-requires
+    answer-past-requires
+    returns)

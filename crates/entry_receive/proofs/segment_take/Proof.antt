@@ -2,7 +2,8 @@
 use Prim.Native.Nat.{_%_}
 use mathlib.Core.Path.{refl}
 use Rattle.state.specs.State.{recordAt}
-use Rattle.gate.specs.Lent.{loan}
+use Rattle.gate.specs.Lent.{loan, sizes}
+use Rattle.entry_receive.proofs.Answers.{gate-laid}
 use Rattle.entry_receive.proofs.Taking.{segment-answer, may-take, segment-is, memory-is}
 use borrow.Author.Needs.{needs}
 use Rattle.entry_receive.proofs.segment_take.Statement.{statement}
@@ -14,11 +15,13 @@ mul-c c = search needs
 element-copy-out-c : tie.Need-element-copy-out-c
 element-copy-out-c c = search needs
 
-is-stream-requires : tie.Need-is-stream-requires
-is-stream-requires c κs = search needs
-
 ask-at-requires : tie.Need-ask-at-requires
 ask-at-requires c κs = search needs
+
+is-stream-requires : tie.Need-is-stream-requires
+is-stream-requires c κs =
+    let a = c .before .before .before .before .before .before .before .args in
+    gate-laid (sizes (loan (a .image .now) (a .state) (a .rx .now) (a .tx .now))) (a .connection) (c .ask-at .result) (c .ask-at .ensures)
 
 answer-past-requires : tie.Need-answer-past-requires
 answer-past-requires c κs = search needs
@@ -26,13 +29,13 @@ answer-past-requires c κs = search needs
 take-step-requires : tie.Need-take-step-requires
 take-step-requires c κs =
     let r = c .before in
-    let g = r .before in
-    let i = g .before in
-    let a = i .before .before .before .before .before .before .before .args in
+    let i = r .before in
+    let g = i .before in
+    let a = g .before .before .before .before .before .before .before .args in
     may-take (loan (a .image .now) (a .state) (a .rx .now) (a .tx .now)) (a .connection)
     (a .segment .now) (recordAt (a .state) (a .connection % 16)) refl (r .answer-past .result)
-    (segment-answer (loan (a .image .now) (a .state) (a .rx .now) (a .tx .now)) (a .connection)
-    (i .is-stream .result) (i .is-stream .ensures) (g .ask-at .result) (g .ask-at .ensures)
+    (segment-answer (sizes (loan (a .image .now) (a .state) (a .rx .now) (a .tx .now))) (a .connection)
+    (g .ask-at .result) (g .ask-at .ensures) (i .is-stream .result) (i .is-stream .ensures)
     (recordAt (a .state) (a .connection % 16)) refl (r .answer-past .result) (r .answer-past .ensures))
 
 mul-next : tie.Need-mul-next
@@ -48,12 +51,12 @@ returns : tie.Need-returns
 returns c =
     let t = c .before .before .before in
     let r = t .before .before in
-    let g = r .before in
-    let i = g .before in
-    let a = i .before .before .before .before .before .before .before .args in
+    let i = r .before in
+    let g = i .before in
+    let a = g .before .before .before .before .before .before .before .args in
     let e =
-    segment-answer (loan (a .image .now) (a .state) (a .rx .now) (a .tx .now)) (a .connection)
-    (i .is-stream .result) (i .is-stream .ensures) (g .ask-at .result) (g .ask-at .ensures)
+    segment-answer (sizes (loan (a .image .now) (a .state) (a .rx .now) (a .tx .now))) (a .connection)
+    (g .ask-at .result) (g .ask-at .ensures) (i .is-stream .result) (i .is-stream .ensures)
     (recordAt (a .state) (a .connection % 16)) refl (r .answer-past .result) (r .answer-past .ensures) in (
       segment-is (loan (a .image .now) (a .state) (a .rx .now) (a .tx .now)) (a .connection)
           (a .segment .now) (recordAt (a .state) (a .connection % 16)) refl (r .answer-past .result) e
@@ -69,8 +72,8 @@ segment-take-spec =
     (tie.spec
     mul-c
     element-copy-out-c
-    is-stream-requires
     ask-at-requires
+    is-stream-requires
     answer-past-requires
     take-step-requires
     mul-next

@@ -20,14 +20,14 @@ returns c =
     let e = sym (d .is-done .ensures) ∙ not-true _ (c .if1 .taken) in
     (step-none _ _ _ _ _ _ e _, memory-none _ _ _ _ _ _ e)
 
-body-of-requires : tie.Need-body-of-requires
-body-of-requires c κs = search needs
+body-laid-requires : tie.Need-body-laid-requires
+body-laid-requires c κs = c .before .before .before .before .before .pre (sym (c .before .is-done .ensures) ∙ not-false _ (c .if1 .left)) .laid
 
 -- nothing refuses it
-done : (c : tie.After-body-of) → isDone (c .before .before .before .before .before .before .args .answer) ≡ true
+done : (c : tie.After-body-laid) → isDone (c .before .before .before .before .before .before .args .answer) ≡ true
 done c = sym (c .before .before .is-done .ensures) ∙ not-false _ (c .before .if1 .left)
 
-takes : (c : tie.After-body-of) → let a = c .before .before .before .before .before .before .args in Takes (a .image .now) (a .c) (a .rx .now) (a .connection)
+takes : (c : tie.After-body-laid) → let a = c .before .before .before .before .before .before .args in Takes (a .image .now) (a .c) (a .rx .now) (a .connection)
 takes c = c .before .before .before .before .before .before .pre (done c)
 
 mul-start : tie.Need-mul-start
@@ -48,7 +48,7 @@ part-take-end c = omega (arith, takes c .small, takes c .room)
 take-requires : tie.Need-take-requires
 take-requires c κs =
     let b = c .before in
-    part-fit _ _ _ _ (b .before .before .before .before .before .before .args .segment .now) (takes b) (b .body-of .result .now) (b .body-of .ensures .0)
+    part-fit _ _ _ _ (b .before .before .before .before .before .before .args .segment .now) (takes b) (b .body-laid .result .now) (b .body-laid .ensures .0)
 
 with-part-requires : tie.Need-with-part-requires
 with-part-requires c κs = search needs
@@ -67,10 +67,10 @@ returns-2 c =
     let k = b .before .before .before in
     let a = k .before .before .before .args in (
       step-done (a .image .now) (a .c) (a .rx .now) (a .connection) (a .segment .now)
-          (takes b) (b .body-of .result .now) (b .body-of .ensures .0) (a .answer) (done b)
+          (takes b) (b .body-laid .result .now) (b .body-laid .ensures .0) (a .answer) (done b)
           (t .take .result) (w .with-part .result) (a .drops) (c .drops-after .result) (t .take .ensures .0) (w .with-part .ensures) (c .drops-after .ensures),
       memory-done (a .image .now) (a .c) (a .rx .now) (a .connection) (a .segment .now)
-          (takes b) (b .body-of .result .now) (b .body-of .ensures .0) (a .answer) (done b)
+          (takes b) (b .body-laid .result .now) (b .body-laid .ensures .0) (a .answer) (done b)
           (λ i. omega (arith, k .shared-slice-known2 .given i)) (t .take .last .1 .1 .1 .1 .0) (t .take .ensures .1),
     )
 
@@ -80,7 +80,7 @@ take-step-spec =
     (tie.spec
     is-done-requires
     returns
-    body-of-requires
+    body-laid-requires
     mul-start
     add-end
     sub-take

@@ -3,7 +3,8 @@ use Prim.Native.Nat.{_%_}
 use mathlib.Core.Path.{refl}
 use Rattle.state.specs.State.{recordAt}
 use Rattle.gate.specs.Lent.{lentBy}
-use Rattle.entry_receive.proofs.Walking.{walk-answer, walk-is}
+use Rattle.entry_receive.proofs.Answers.{gate-laid}
+use Rattle.entry_receive.proofs.Walking.{walk-answer, may-walk, walk-is}
 use borrow.Author.Needs.{needs}
 use Rattle.entry_receive.proofs.walk_datagram.Statement.{statement}
 use Rattle.entry_receive.proofs.walk_datagram.Tie as tie
@@ -14,29 +15,39 @@ mul-c c = search needs
 element-copy-out-c : tie.Need-element-copy-out-c
 element-copy-out-c c = search needs
 
-is-stream-requires : tie.Need-is-stream-requires
-is-stream-requires c κs = search needs
-
 ask-at-requires : tie.Need-ask-at-requires
 ask-at-requires c κs = search needs
+
+is-stream-requires : tie.Need-is-stream-requires
+is-stream-requires c κs =
+    let a = c .before .before .before .before .before .before .before .args in
+    gate-laid (lentBy (a .image .now) (a .state) (a .rx .now) (a .tx .now)) (a .connection) (c .ask-at .result) (c .ask-at .ensures)
 
 answer-past-requires : tie.Need-answer-past-requires
 answer-past-requires c κs = search needs
 
 walk-step-requires : tie.Need-walk-step-requires
-walk-step-requires c κs = search needs
+walk-step-requires c κs =
+    let i = c .before in
+    let g = i .before in
+    let a = g .before .before .before .before .before .before .before .args in
+    may-walk (lentBy (a .image .now) (a .state) (a .rx .now) (a .tx .now)) (a .connection)
+    (a .datagram .now) (a .place) (recordAt (a .state) (a .connection % 16)) refl (c .answer-past .result)
+    (walk-answer (lentBy (a .image .now) (a .state) (a .rx .now) (a .tx .now)) (a .connection)
+    (a .datagram .now) (a .place) (g .ask-at .result) (g .ask-at .ensures) (i .is-stream .result) (i .is-stream .ensures)
+    (recordAt (a .state) (a .connection % 16)) refl (c .answer-past .result) (c .answer-past .ensures))
 
 returns : tie.Need-returns
 returns c =
     let r = c .before in
-    let g = r .before in
-    let i = g .before in
-    let a = i .before .before .before .before .before .before .before .args in
+    let i = r .before in
+    let g = i .before in
+    let a = g .before .before .before .before .before .before .before .args in
     walk-is (lentBy (a .image .now) (a .state) (a .rx .now) (a .tx .now)) (a .connection)
     (a .datagram .now) (a .place) (recordAt (a .state) (a .connection % 16)) refl (r .answer-past .result)
     (walk-answer (lentBy (a .image .now) (a .state) (a .rx .now) (a .tx .now)) (a .connection)
-    (a .datagram .now) (a .place) (i .is-stream .result) (i .is-stream .ensures)
-    (g .ask-at .result) (g .ask-at .ensures) (recordAt (a .state) (a .connection % 16)) refl (r .answer-past .result) (r .answer-past .ensures))
+    (a .datagram .now) (a .place) (g .ask-at .result) (g .ask-at .ensures)
+    (i .is-stream .result) (i .is-stream .ensures) (recordAt (a .state) (a .connection % 16)) refl (r .answer-past .result) (r .answer-past .ensures))
     (c .walk-step .result) (c .walk-step .ensures)
 
 pub walk-datagram-spec : {M : Type 1} → statement M
@@ -45,8 +56,8 @@ walk-datagram-spec =
     (tie.spec
     mul-c
     element-copy-out-c
-    is-stream-requires
     ask-at-requires
+    is-stream-requires
     answer-past-requires
     walk-step-requires
     returns)

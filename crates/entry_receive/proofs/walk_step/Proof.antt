@@ -12,8 +12,8 @@ is-done-requires c κs = search needs
 returns : tie.Need-returns
 returns c = step-none _ _ _ _ _ _ _ (sym (c .before .is-done .ensures) ∙ not-true _ (c .if1 .taken))
 
-body-of-requires : tie.Need-body-of-requires
-body-of-requires c κs = search needs
+body-laid-requires : tie.Need-body-laid-requires
+body-laid-requires c κs = c .before .before .before .before .pre (sym (c .before .is-done .ensures) ∙ not-false _ (c .if1 .left))
 
 walk-requires : tie.Need-walk-requires
 walk-requires c κs = search needs
@@ -26,7 +26,7 @@ returns-2 c =
     let w = c .before in
     let b = w .before in
     let i = b .before in
-    step-done _ _ _ _ _ _ _ (sym (i .before .is-done .ensures) ∙ not-false _ (i .if1 .left)) (b .body-of .result .now) (b .body-of .ensures .0)
+    step-done _ _ _ _ _ _ _ (sym (i .before .is-done .ensures) ∙ not-false _ (i .if1 .left)) (b .body-laid .result .now) (b .body-laid .ensures .0)
     (w .walk .result) (w .walk .ensures) (c .walk-drops .result) (c .walk-drops .ensures)
 
 pub walk-step-spec : {M : Type 1} → statement M
@@ -35,7 +35,7 @@ walk-step-spec =
     (tie.spec
     is-done-requires
     returns
-    body-of-requires
+    body-laid-requires
     walk-requires
     walk-drops-requires
     returns-2)
