@@ -6,7 +6,7 @@ use mathlib.Core.List.{List}
 use lib.ListN.{length}
 use Rattle.reading_lengths.specs.Listed.{Bytes}
 use Rattle.wire.specs.Lay.{lay}
-use Rattle.table_layout.specs.Layout.{bodyOf}
+use Rattle.table_layout.specs.Layout.{bodyOf, Laid}
 use Rattle.table_layout.specs.declared.Kind.the-variants.{Route as Routes}
 use Rattle.connection.specs.declared.Connection.{Connection}
 use Rattle.connection.specs.Connection.{withPart}
@@ -21,7 +21,7 @@ use Rattle.entry_receive.specs.declared.Answer.the-variants.{Done}
 use Rattle.entry_receive.specs.Answer.{isDone}
 use Rattle.entry_receive.specs.declared.SegmentTaken.{SegmentTaken}
 use Rattle.entry_receive.specs.Segment.{Takes, segmentAnswer}
-use Rattle.entry_receive.proofs.Answers.{Clear, done-clear}
+use Rattle.entry_receive.proofs.Answers.{Clear, done-clear, clear-laid}
 use Rattle.entry_receive.proofs.Past.{below-sixteen, passed-takes}
 use Rattle.entry_receive.proofs.Keeps.{in-range}
 use Rattle.gate.specs.Lent.{Lent, Loan, sizes, received}
@@ -31,9 +31,10 @@ use Rattle.dispatch_receive.specs.Turn.{memoryFrom, turnBytes, takeTurn,
 use Rattle.dispatch_receive.proofs.Once.{joined-own, record-joined, turned, turn-taken, turn-memory, turn-bytes}
 use Rattle.dispatch_receive.proofs.Run.{is-done, Going, going-start, going-on, going-end}
 
--- WHERE THE GATE IS OPEN the connection is there
+-- WHERE THE GATE IS OPEN the image is laid out, and the connection is there
 pub record Open (l : Lent) (k : ℕ) : Type 0 where
   pub clear : isDone (segmentAnswer l k) ≡ true
+  pub laid : Laid (l .image)
   pub small : k < 16
   pub there : k < length (l .state .connections)
 
@@ -41,7 +42,7 @@ pub gate-open : {a : Answer} (l : Lent) (k : ℕ) → a ≡ segmentAnswer l k �
 gate-open l k e done =
     let d : isDone (segmentAnswer l k) ≡ true = ap isDone (sym e) ∙ done in
     let c : Clear l k (configOf (l .image) k .tcp) = done-clear l k (configOf (l .image) k .tcp) d in
-    record { clear = d; small = below-sixteen (l .image) (c .passed .table) k (c .there); there = in-range (l .state) k (c .receives) }
+    record { clear = d; laid = clear-laid c; small = below-sixteen (l .image) (c .passed .table) k (c .there); there = in-range (l .state) k (c .receives) }
 
 module _ (l : Loan) (k : ℕ) (segment : List ℕ) (out₀ : List ℕ) where
   abbrev image : List ℕ

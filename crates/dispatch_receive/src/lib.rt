@@ -30,7 +30,7 @@ use receive_part::Part;
 use receive_stream::Outcome;
 use state::State;
 use table_layout::Kind;
-use table_layout::body_of;
+use table_layout::body_laid;
 use wire::copy_in;
 use wire::put8;
 
@@ -390,7 +390,7 @@ fn take_all(
     let n = connection as usize;
     let c = state.connections[n];
     let part = c.part;
-    let routes = body_of(image, Kind::Route);
+    let routes = body_laid(image, Kind::Route);
     let mut turn = Turn {
         part: part,
         drops: state.tcp_drops,

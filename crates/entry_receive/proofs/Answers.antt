@@ -98,6 +98,9 @@ module _ (l : Lent) (n : ℕ) (allowed : Bool) where
       e ∙ ap₂ (λ (g : Gate) (x : Connection). answerPast g allowed x) ea ec ∙ past-is (gateAt l n) refl
 
 -- past the gate the image is laid out
+pub clear-laid : {l : Lent} {n : ℕ} {allowed : Bool} → Clear l n allowed → Laid (l .image)
+clear-laid {l} k = accepted-laid (l .image) (k .passed .table)
+
 pub gate-laid : (l : Lent) (n : ℕ) (asked : Gate) → asked ≡ gateAt l n → asked ≡ Gated.Pass → Laid (l .image)
 gate-laid l n asked e p = accepted-laid (l .image) (gate-at-passed l n (sym e ∙ p) .0 .table)
 

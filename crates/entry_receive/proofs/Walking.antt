@@ -8,7 +8,6 @@ use lib.Dec.{leb}
 use lib.ListN.{length}
 use Rattle.table_layout.specs.Layout.{bodyOf, Laid}
 use Rattle.table_layout.specs.declared.Kind.the-variants.{Route as Routes}
-use Rattle.table.proofs.Facts.{accepted-laid}
 use Rattle.connection.specs.declared.Connection.{Connection}
 use Rattle.state.specs.declared.State.{State}
 use Rattle.state.specs.State.{recordAt, withCount}
@@ -26,7 +25,7 @@ use Rattle.entry_receive.specs.declared.DatagramWalked.{DatagramWalked}
 use Rattle.entry_receive.specs.declared.WalkStep.{WalkStep}
 use Rattle.entry_receive.specs.Answer.{isDone, answerPast, streamPast}
 use Rattle.entry_receive.specs.Walk.{countWalk, walkDrops, stepWalked, walkedAt, walkOn, noneWalked, walkAllowed, walkAnswer, walkOf}
-use Rattle.entry_receive.proofs.Answers.{Clear, done-clear, is-done, answer-is, past-stream}
+use Rattle.entry_receive.proofs.Answers.{Clear, done-clear, clear-laid, is-done, answer-is, past-stream}
 use Rattle.entry_receive.proofs.Past.{below-sixteen}
 
 -- A STEP: where nothing refuses it, the walk
@@ -67,7 +66,7 @@ module _ (l : Lent) (n : ℕ) (datagram : List ℕ) (place : ℕ) (c : Connectio
   cleared p = done-clear l n (walkAllowed (l .image) n datagram place) (ap isDone (sym ea) ∙ p)
 
   pub may-walk : isDone answer ≡ true → Laid (l .image)
-  may-walk p = accepted-laid (l .image) (cleared p .passed .table)
+  may-walk p = clear-laid (cleared p)
 
   own : isDone answer ≡ true → c ≡ recordAt (l .state) n
   own p =

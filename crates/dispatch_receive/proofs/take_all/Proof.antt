@@ -49,8 +49,13 @@ element-copy-out-c c =
     let o = gate-open (lentBy (a .image .now) (a .t2) (a .rx .now) (a .tx .now)) (a .connection) (c .before .before .may-take .ensures) done in
     o .small
 
-body-of-requires : tie.Need-body-of-requires Inv-loop μ-loop
-body-of-requires c κs = search needs
+body-laid-requires : tie.Need-body-laid-requires Inv-loop μ-loop
+body-laid-requires c κs =
+    let e = c .before in
+    let b = e .before .before .before .before .before .before .before .before in
+    let a = b .args in
+    let done = sym (e .before .is-done .ensures) ∙ not-false _ (e .if1 .left) in
+    gate-open (lentBy (a .image .now) (a .t2) (a .rx .now) (a .tx .now)) (a .connection) (e .before .before .may-take .ensures) done .laid
 
 loop-holds : tie.Need-loop-holds Inv-loop μ-loop
 loop-holds c =
@@ -70,7 +75,7 @@ take-once-requires c κs =
     let done = sym (e .before .is-done .ensures) ∙ not-false _ (e .if1 .left) in
     let o = gate-open (lentBy (a .image .now) (a .t2) (a .rx .now) (a .tx .now)) (a .connection) (e .before .before .may-take .ensures) done in
     turn-goes (loan (a .image .now) (a .t2) (a .rx .now) (a .tx .now)) (a .connection) (a .segment .now) (a .out .now)
-    (o .there) (l .loop .turn) (l .loop .rx) (l .loop .out) (l .loop .inv .0) (l .before .body-of .ensures .0)
+    (o .there) (l .loop .turn) (l .loop .rx) (l .loop .out) (l .loop .inv .0) (l .before .body-laid .ensures .0)
 
 with-part-requires : tie.Need-with-part-requires Inv-loop μ-loop
 with-part-requires c κs = search needs
@@ -112,7 +117,7 @@ returns-2 c =
     put-together (loan (a .image .now) (a .t2) (a .rx .now) (a .tx .now)) (a .connection) (a .segment .now) (a .out .now) (t .take-once .result)
     (turn-ends (loan (a .image .now) (a .t2) (a .rx .now) (a .tx .now)) (a .connection) (a .segment .now) (a .out .now)
     (o .there) (l .loop .turn) (l .loop .rx) (l .loop .out) (l .loop .inv .0)
-    (l .before .body-of .ensures .0) (h .0) (h .1 .0) (h .1 .1) (c .before .if2 .taken))
+    (l .before .body-laid .ensures .0) (h .0) (h .1 .0) (h .1 .1) (c .before .if2 .taken))
     done (c .with-part .ensures)
 
 loop-less : tie.Need-loop-less Inv-loop μ-loop
@@ -126,10 +131,10 @@ loop-less c =
     let done = sym (e .before .is-done .ensures) ∙ not-false _ (e .if1 .left) in
     let o = gate-open (lentBy (a .image .now) (a .t2) (a .rx .now) (a .tx .now)) (a .connection) (e .before .before .may-take .ensures) done in
     let g = turn-on (loan (a .image .now) (a .t2) (a .rx .now) (a .tx .now)) (a .connection) (a .segment .now) (a .out .now)
-    (o .there) (l .loop .turn) (l .loop .rx) (l .loop .out) (l .loop .inv .0) (l .before .body-of .ensures .0) (h .0) (h .1 .0)
+    (o .there) (l .loop .turn) (l .loop .rx) (l .loop .out) (l .loop .inv .0) (l .before .body-laid .ensures .0) (h .0) (h .1 .0)
     (h .1 .1) (λ i. e .before .before .before .before .shared-slice-known3 .given i .fits) (omega (arith, c .if2 .left)) in
     let n = turn-count (loan (a .image .now) (a .t2) (a .rx .now) (a .tx .now)) (a .connection) (a .segment .now) (a .out .now)
-    (o .there) (l .loop .turn) (l .loop .rx) (l .loop .out) (l .loop .inv .0) (l .before .body-of .ensures .0) (h .0) (h .1 .0) (h .1 .1) in
+    (o .there) (l .loop .turn) (l .loop .rx) (l .loop .out) (l .loop .inv .0) (l .before .body-laid .ensures .0) (h .0) (h .1 .0) (h .1 .1) in
     omega (arith, l .loop .inv .0 .low, g .low, c .if2 .left, n)
 
 loop-again : tie.Need-loop-again Inv-loop μ-loop
@@ -143,7 +148,7 @@ loop-again c = (
       let done = sym (e .before .is-done .ensures) ∙ not-false _ (e .if1 .left) in
       let o = gate-open (lentBy (a .image .now) (a .t2) (a .rx .now) (a .tx .now)) (a .connection) (e .before .before .may-take .ensures) done in
       turn-on (loan (a .image .now) (a .t2) (a .rx .now) (a .tx .now)) (a .connection) (a .segment .now) (a .out .now)
-      (o .there) (l .loop .turn) (l .loop .rx) (l .loop .out) (l .loop .inv .0) (l .before .body-of .ensures .0) (h .0) (h .1 .0)
+      (o .there) (l .loop .turn) (l .loop .rx) (l .loop .out) (l .loop .inv .0) (l .before .body-laid .ensures .0) (h .0) (h .1 .0)
       (h .1 .1) (λ i. e .before .before .before .before .shared-slice-known3 .given i .fits) (omega (arith, c .if2 .left)),
   (omega arith, omega arith),
 )
@@ -159,7 +164,7 @@ take-all-spec =
     returns
     mul-c
     element-copy-out-c
-    body-of-requires
+    body-laid-requires
     loop-holds
     take-once-requires
     with-part-requires
