@@ -12,7 +12,7 @@ use Rattle.table_layout.specs.declared.Kind.{Kind}
 use Rattle.table_rows.specs.Rows.{routeRow, destinationRow}
 use Rattle.table_scan.specs.Scan.{share, goodIn, badIn}
 
--- of a connection and the key beside it: the upper bits of 32, so many places down
+-- of a connection and the key beside it: 32 bits without the lowest `shift`
 unfoldable pub markOf : ℕ → ℕ → ℕ → ℕ
 markOf shift connection key = (key * 1640531527 + connection * 1879048192) % 4294967296 / 2 ^ shift
 
@@ -26,7 +26,7 @@ turnedPair x = x % 256 * 256 + x / 256
 unfoldable pub destinationMark : ℕ → List ℕ → ℕ
 destinationMark shift row = markOf shift (destinationRow row .connection) (turnedPair (destinationRow row .pdu))
 
--- n is how many values 32 bits have, so many places down
+-- so many marks there are: 32 bits without the lowest `shift` have n values
 abbrev pub Wide : ℕ → ℕ → Type 0
 Wide shift n = (shift < 64) × (n * 2 ^ shift ≡ 4294967296)
 

@@ -91,10 +91,9 @@ fn fresh(body: &[u8], k: Kind, i: usize) -> bool
     true
 }
 
-// A number of what a row may share with no other: the upper bits of 32, `shift` places down.
+// A number of what a row may share with no other: 32 bits without the lowest `shift`.
 fn mark_of(connection: usize, key: usize, shift: usize) -> usize
-    requires { ⌜ (connection < 256) × (key < 4294967296) ⌝ }
-    requires { ⌜ shift < 64 ⌝ }
+    requires { ⌜ (connection < 256) × (key < 4294967296) × (shift < 64) ⌝ }
     ensures { λ r. ⌜ r ≡ markOf shift connection key ⌝ }
 {
     (key * 1640531527 + connection * 1879048192) % 4294967296 >> shift
@@ -242,7 +241,7 @@ fn first_bad_destination<'a>(
     }
 }
 
-// The first bad route and the first bad destination, with one set of marks for both.
+// The first bad route and the first bad destination, each the row count where there is none; one set of marks serves both.
 fn bad_rows<'a>(
     routes: &'a [u8],
     destinations: &'a [u8],
@@ -262,7 +261,7 @@ fn bad_rows<'a>(
     }
 }
 
-// The same, each the row count where there is none. Up to 32 rows of each kind 256 marks will do, which are cleared sooner than 2,048.
+// The same, with as many marks as the table wants: for at most 32 rows of each kind 256 will do, and they are cleared sooner.
 pub fn first_bad_rows<'a>(
     routes: &'a [u8],
     destinations: &'a [u8],
@@ -275,6 +274,6 @@ pub fn first_bad_rows<'a>(
         let mut few = [0u8; 256];
         return bad_rows(routes, destinations, connections, groups, &mut few, 24);
     }
-    let mut seen = [0u8; 2048];
-    bad_rows(routes, destinations, connections, groups, &mut seen, 21)
+    let mut many = [0u8; 2048];
+    bad_rows(routes, destinations, connections, groups, &mut many, 21)
 }

@@ -16,7 +16,8 @@ use Rattle.table_scan.proofs.first_bad_destination.Statement.{statement
 use Rattle.table_scan.proofs.first_bad_destination.Tie as tie
 
 abbrev Inv-loop : tie.InvT-loop
-Inv-loop body connections seen₀ shift n i₀ seen i = (length seen ≡ length seen₀) × Come (destinationRule connections) Destination (destinationMark shift) 2 body seen i
+Inv-loop body connections seen₀ shift n i₀ seen i =
+    (length seen ≡ length seen₀) × Come (destinationRule connections) Destination (destinationMark shift) 2 body seen i
 
 abbrev μ-loop : tie.MeasureT-loop
 μ-loop body connections seen₀ shift n i₀ seen i = length body / 16 - i
@@ -46,10 +47,9 @@ part-row-start : tie.Need-part-row-start Inv-loop μ-loop
 part-row-start c = omega arith
 
 part-row-end : tie.Need-part-row-end Inv-loop μ-loop
-part-row-end c = omega (
-  arith,
-  row-in 16 (c .before .before .before .before .before .before .before .before .before .args .body .now) (c .before .before .before .next-destination .result) (c .if1 .left),
-)
+part-row-end c =
+    let k = c .before .before .before in
+    omega (arith, row-in 16 (k .before .before .before .before .before .before .args .body .now) (k .next-destination .result) (c .if1 .left))
 
 destination-good-requires : tie.Need-destination-good-requires Inv-loop μ-loop
 destination-good-requires c κs = search needs
@@ -93,8 +93,9 @@ loop-again c =
     let s = t .before .before .before .before .before .before .before .before .before .args .body .now in
     let k = t .before .before .before .next-destination in (
       search needs,
-      come-past _ _ _ _ s _ _ _ (row-range 16 s (k .result) (t .if1 .left)) (k .ensures .1) (t .if1 .left) (c .before .before .before .destination-good .ensures)
-          (not-false _ (c .before .before .if2 .left)) (c .before .fresh .ensures) (not-false _ (c .if3 .left)),
+      come-past _ _ _ _ s _ _ _ (row-range 16 s (k .result) (t .if1 .left)) (k .ensures .1) (t .if1 .left)
+          (c .before .before .before .destination-good .ensures) (not-false _ (c .before .before .if2 .left))
+          (c .before .fresh .ensures) (not-false _ (c .if3 .left)),
     )
 
 pub first-bad-destination-spec : {M : Type 1} → statement M

@@ -16,7 +16,8 @@ use Rattle.table_scan.proofs.first_bad_route.Statement.{statement}
 use Rattle.table_scan.proofs.first_bad_route.Tie as tie
 
 abbrev Inv-loop : tie.InvT-loop
-Inv-loop body connections groups seen₀ shift n i₀ seen i = (length seen ≡ length seen₀) × Come (routeRule connections groups) Route (routeMark shift) 1 body seen i
+Inv-loop body connections groups seen₀ shift n i₀ seen i =
+    (length seen ≡ length seen₀) × Come (routeRule connections groups) Route (routeMark shift) 1 body seen i
 
 abbrev μ-loop : tie.MeasureT-loop
 μ-loop body connections groups seen₀ shift n i₀ seen i = length body / 16 - i
@@ -46,10 +47,9 @@ part-row-start : tie.Need-part-row-start Inv-loop μ-loop
 part-row-start c = omega arith
 
 part-row-end : tie.Need-part-row-end Inv-loop μ-loop
-part-row-end c = omega (
-  arith,
-  row-in 16 (c .before .before .before .before .before .before .before .before .before .before .args .body .now) (c .before .before .before .next-route .result) (c .if1 .left),
-)
+part-row-end c =
+    let k = c .before .before .before in
+    omega (arith, row-in 16 (k .before .before .before .before .before .before .before .args .body .now) (k .next-route .result) (c .if1 .left))
 
 route-good-requires : tie.Need-route-good-requires Inv-loop μ-loop
 route-good-requires c κs = search needs
@@ -94,7 +94,8 @@ loop-again c =
     let k = t .before .before .before .next-route in (
       search needs,
       come-past _ _ _ _ s _ _ _ (row-range 16 s (k .result) (t .if1 .left)) (k .ensures .1) (t .if1 .left)
-          (c .before .before .before .route-good .ensures) (not-false _ (c .before .before .if2 .left)) (c .before .fresh .ensures) (not-false _ (c .if3 .left)),
+          (c .before .before .before .route-good .ensures) (not-false _ (c .before .before .if2 .left))
+          (c .before .fresh .ensures) (not-false _ (c .if3 .left)),
     )
 
 pub first-bad-route-spec : {M : Type 1} → statement M

@@ -15,7 +15,8 @@ use Rattle.table_scan.proofs.next_destination.Statement.{statement}
 use Rattle.table_scan.proofs.next_destination.Tie as tie
 
 abbrev Inv-loop : tie.InvT-loop
-Inv-loop body connections seen₀ shift from n i₀ seen i = (from ≤ i) × (length seen ≡ length seen₀) × Come (destinationRule connections) Destination (destinationMark shift) 2 body seen i
+Inv-loop body connections seen₀ shift from n i₀ seen i =
+    (from ≤ i) × (length seen ≡ length seen₀) × Come (destinationRule connections) Destination (destinationMark shift) 2 body seen i
 
 abbrev μ-loop : tie.MeasureT-loop
 μ-loop body connections seen₀ shift from n i₀ seen i = length body / 16 - i
@@ -42,7 +43,7 @@ destination-good-requires : tie.Need-destination-good-requires Inv-loop μ-loop
 destination-good-requires c κs = search needs
 
 same-length : tie.Need-same-length Inv-loop μ-loop
-same-length c = c .before .before .before .before .loop .inv .1
+same-length c = search needs
 
 returns : tie.Need-returns Inv-loop μ-loop
 returns c =
@@ -61,7 +62,7 @@ slice-read-if2 : tie.Need-slice-read-if2 Inv-loop μ-loop
 slice-read-if2 c = rw (c .before .destination-mark .ensures) (c .before .before .before .before .before .before .loop .inv .2 .room _)
 
 same-length-2 : tie.Need-same-length-2 Inv-loop μ-loop
-same-length-2 c = c .before .before .before .before .before .before .before .loop .inv .1
+same-length-2 c = search needs
 
 returns-2 : tie.Need-returns-2 Inv-loop μ-loop
 returns-2 c =
@@ -96,7 +97,7 @@ loop-again c =
     )
 
 same-length-3 : tie.Need-same-length-3 Inv-loop μ-loop
-same-length-3 c = c .before .loop .inv .1
+same-length-3 c = search needs
 
 returns-3 : tie.Need-returns-3 Inv-loop μ-loop
 returns-3 c = (c .before .loop .inv .0, struck-end _ _ _ _ _ _ _ (c .before .loop .inv .2) (c .loop-test .left))
