@@ -261,7 +261,7 @@ fn bad_rows<'a>(
     }
 }
 
-// The same, with as many marks as the table wants: for at most 32 rows of each kind 256 will do, and they are cleared sooner.
+// The same, with as many marks as the table wants: for at most 16 rows of each kind 256 will do, and they are cleared sooner.
 pub fn first_bad_rows<'a>(
     routes: &'a [u8],
     destinations: &'a [u8],
@@ -270,7 +270,7 @@ pub fn first_bad_rows<'a>(
 ) -> BadRows
     ensures { λ r. ⌜ r ≡ badRows (now (routes .entry)) (now (destinations .entry)) (now (connections .entry)) (now (groups .entry)) ⌝ }
 {
-    if (routes.len() <= 512) & (destinations.len() <= 512) {
+    if (routes.len() <= 256) & (destinations.len() <= 256) {
         let mut few = [0u8; 256];
         return bad_rows(routes, destinations, connections, groups, &mut few, 24);
     }
