@@ -1,13 +1,15 @@
 -- Rows that share what they may not have one mark; so a row whose mark no earlier row has is clear of them all.
-use Prim.Native.Nat.{ℕ, _+_, _*_, _/_, _%_, _<_, _≤_}
+use Prim.Native.Nat.{ℕ, _+_, _*_, _/_, _%_, _^_, _<_, _≤_}
 use mathlib.Core.Path.{_≡_, refl, sym, ap, _∙_}
 use mathlib.Core.Bool.{Bool, true, false, not}
 use mathlib.Core.List.{List}
 use native.Mathlib.Omega.{arith}
 use native.Mathlib.Decide.{ℕ-discrete}
+use native.Mathlib.Nat.{div-lt-iff-lt-mul}
 use borrow.Author.Tests.{eqb-true}
 use lib.Dec.{eqb}
 use lib.ListN.{length, getD, set, length-set}
+use lib.Pow.{pow-pos}
 use lib.Seq.{getD-set-same, getD-set-other}
 use Rattle.wire.specs.Be.{byteAt, be, Number}
 use Rattle.lists.specs.Search.{every, firstBad}
@@ -19,11 +21,23 @@ use Rattle.table_layout.specs.declared.Kind.the-variants.{Route, Destination}
 use Rattle.table_rows.specs.Rows.{routeRow, destinationRow}
 use Rattle.table_rows.specs.Rules.{routesShare, destinationsShare}
 use Rattle.table_scan.specs.Scan.{share, clearIn, goodIn}
-use Rattle.table_scan.specs.Marks.{turnedPair, routeMark, destinationMark, Come, Struck}
+use Rattle.table_scan.specs.Marks.{turnedPair, markOf, routeMark, destinationMark, Wide, Come, Struck}
 use Rattle.table_scan.proofs.Rows.{bad-row, shared-row, good-row}
 
-pub mark-small : (x : ℕ) → x % 4294967296 / 2097152 < 2048
-mark-small x = omega arith
+-- every mark is below n
+module _ (shift n : ℕ) (wide : Wide shift n) where
+  mark-in : (x : ℕ) → x % 4294967296 / 2 ^ shift < n
+  mark-in x =
+      let small : x % 4294967296 < 4294967296 = omega arith in
+      div-lt-iff-lt-mul (pow-pos shift) .1 (rw (wide .1) small)
+
+  pub route-in : (row : List ℕ) → routeMark shift row < n
+  unfolding routeMark markOf
+  route-in row = mark-in _
+
+  pub destination-in : (row : List ℕ) → destinationMark shift row < n
+  unfolding destinationMark markOf
+  destination-in row = mark-in _
 
 -- two bytes read one by one, the second the higher
 pub pair-turned : (row : List ℕ) (hi lo : ℕ) → Number 1 row 8 hi → Number 1 row 9 lo → lo * 256 + hi ≡ turnedPair (be 2 row 8)
@@ -42,16 +56,16 @@ pair-small row hi lo h l =
     let low : lo < 256 = l .small in
     omega arith
 
-pub routes-marked : (a b : List ℕ) → share Route a b ≡ true → routeMark a ≡ routeMark b
+pub routes-marked : (shift : ℕ) (a b : List ℕ) → share Route a b ≡ true → routeMark shift a ≡ routeMark shift b
 unfolding share routesShare routeMark routeRow
-routes-marked a b e =
+routes-marked shift a b e =
     let one : be 1 a 0 ≡ be 1 b 0 = eqb-true _ _ (and-left (eqb (be 1 a 0) (be 1 b 0)) (eqb (be 4 a 4) (be 4 b 4)) e) in
     let four : be 4 a 4 ≡ be 4 b 4 = eqb-true _ _ (and-right (eqb (be 1 a 0) (be 1 b 0)) (eqb (be 4 a 4) (be 4 b 4)) e) in
     rw (one, four)
 
-pub destinations-marked : (a b : List ℕ) → share Destination a b ≡ true → destinationMark a ≡ destinationMark b
+pub destinations-marked : (shift : ℕ) (a b : List ℕ) → share Destination a b ≡ true → destinationMark shift a ≡ destinationMark shift b
 unfolding share destinationsShare destinationMark destinationRow
-destinations-marked a b e =
+destinations-marked shift a b e =
     let two : be 2 a 8 ≡ be 2 b 8 = eqb-true _ _ (and-left (eqb (be 2 a 8) (be 2 b 8)) (eqb (be 1 a 0) (be 1 b 0)) e) in
     let one : be 1 a 0 ≡ be 1 b 0 = eqb-true _ _ (and-right (eqb (be 2 a 8) (be 2 b 8)) (eqb (be 1 a 0) (be 1 b 0)) e) in
     rw (two, one)
@@ -88,10 +102,10 @@ module _ (n : ℕ) (shares : List ℕ → List ℕ → Bool) (mark : List ℕ �
 -- the two loops, at the places where they stand
 module _ (good : List ℕ → Bool) (k : Kind) (mark : List ℕ → ℕ) (tag : ℕ) (body : List ℕ) where
   -- before the first row nothing is noted, whatever the marks hold
-  pub come-start : (seen : List ℕ) → length seen ≡ 2048 → Come good k mark tag body seen 0
-  come-start seen size =
+  pub come-start : (seen : List ℕ) → ((row : List ℕ) → mark row < length seen) → Come good k mark tag body seen 0
+  come-start seen room =
       let s = search-start (goodIn good (share k) (rowWidth k) body) (length body / rowWidth k) in
-      record { low = s .0; rest = s .1; size = size; noted = λ j l. absurd (omega arith) }
+      record { low = s .0; rest = s .1; room = room; noted = λ j l. absurd (omega arith) }
 
   pub struck-end : (seen : List ℕ) (i : ℕ) → Come good k mark tag body seen i → length body / rowWidth k ≤ i → Struck good k mark tag body seen i
   struck-end seen i c h = record { come = c; met = λ l g. absurd (omega arith) }
@@ -106,16 +120,16 @@ module _ (good : List ℕ → Bool) (k : Kind) (mark : List ℕ → ℕ) (tag : 
       struck-met c e = record { come = c; met = λ l g. ap (λ (x : ℕ). getD seen x 0) (sym (em ∙ ap mark is)) ∙ e }
 
       pub come-on : ((a b : List ℕ) → share k a b ≡ true → mark a ≡ mark b) → Come good k mark tag body seen i → i < length body / rowWidth k
-          → {ok : Bool} → ok ≡ good row → ok ≡ true → m < 2048 → (getD seen m 0 ≡ tag → ⊥) → Come good k mark tag body (set seen m tag) (i + 1)
-      come-on law c h e t l new =
+          → {ok : Bool} → ok ≡ good row → ok ≡ true → (getD seen m 0 ≡ tag → ⊥) → Come good k mark tag body (set seen m tag) (i + 1)
+      come-on law c h e t new =
           let a = good-row good (share k) (rowWidth k) body i row (c .low, c .rest) h is e t
           (sym (noted-new (rowWidth k) (share k) mark tag body law seen i m row is em (c .noted) new)) refl in
           record {
             low = a .0;
             rest = a .1;
-            size = length-set seen m tag ∙ c .size;
+            room = λ r. rw (length-set seen m tag) (c .room r);
             noted =
-                noted-more (rowWidth k) (share k) mark tag body seen i m row is em (rw (c .size) l) (c .noted);
+                noted-more (rowWidth k) (share k) mark tag body seen i m row is em (rw em (c .room row)) (c .noted);
           }
 
     -- the loop around it, at a row that was struck
@@ -131,7 +145,7 @@ module _ (good : List ℕ → Bool) (k : Kind) (mark : List ℕ → ℕ) (tag : 
           → new ≡ every (clearIn (share k) (rowWidth k) body i) i → new ≡ true → Come good k mark tag body seen (i + 1)
       come-past e t f u =
           let a = good-row good (share k) (rowWidth k) body i row (s .come .low, s .come .rest) h is e t f u in
-          record { low = a .0; rest = a .1; size = s .come .size; noted = λ j l. go j l (ℕ-discrete j i) }
+          record { low = a .0; rest = a .1; room = s .come .room; noted = λ j l. go j l (ℕ-discrete j i) }
         where
           go : (j : ℕ) → j < i + 1 → Dec (j ≡ i) → getD seen (mark (rowIn (rowWidth k) body j)) 0 ≡ tag
           go j l (yes p) = ap (λ (x : ℕ). getD seen (mark (rowIn (rowWidth k) body x)) 0) p ∙ s .met h (ap good (sym is) ∙ sym e ∙ t)

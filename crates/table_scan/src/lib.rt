@@ -8,7 +8,7 @@ ghost use Rattle.table_layout.specs.Layout.{rowWidth};
 ghost use Rattle.table_rows.specs.Rows.{destinationRow};
 ghost use Rattle.table_rows.specs.Rules.{routeRule, destinationRule};
 ghost use Rattle.table_scan.specs.Scan.{share, clearIn, badGroup, badConnection, badRoute, badDestination, badRows};
-ghost use Rattle.table_scan.specs.Marks.{markOf, turnedPair, routeMark, destinationMark, Come, Struck};
+ghost use Rattle.table_scan.specs.Marks.{markOf, turnedPair, routeMark, destinationMark, Wide, Come, Struck};
 use table_layout::Kind;
 use table_rows::connection_good;
 use table_rows::destination_good;
@@ -91,18 +91,19 @@ fn fresh(body: &[u8], k: Kind, i: usize) -> bool
     true
 }
 
-// A number below 2,048 of what a row may share with no other.
-fn mark_of(connection: usize, key: usize) -> usize
-    requires { ⌜ (connection < 256) × (key < 4294967296) ⌝ }
-    ensures { λ r. ⌜ (r ≡ markOf connection key) × (r < 2048) ⌝ }
+// A number of what a row may share with no other: 32 bits without the lowest `shift`.
+fn mark_of(connection: usize, key: usize, shift: usize) -> usize
+    requires { ⌜ (connection < 256) × (key < 4294967296) × (shift < 64) ⌝ }
+    ensures { λ r. ⌜ r ≡ markOf shift connection key ⌝ }
 {
-    (key * 1640531527 + connection * 1879048192) % 4294967296 / 2097152
+    (key * 1640531527 + connection * 1879048192) % 4294967296 >> shift
 }
 
-fn route_mark(row: &[u8]) -> usize
-    ensures { λ r. ⌜ (r ≡ routeMark (now (row .entry))) × (r < 2048) ⌝ }
+fn route_mark(row: &[u8], shift: usize) -> usize
+    requires { ⌜ shift < 64 ⌝ }
+    ensures { λ r. ⌜ r ≡ routeMark shift (now (row .entry)) ⌝ }
 {
-    mark_of(owner_of(row), be32(row, 4))
+    mark_of(owner_of(row), be32(row, 4), shift)
 }
 
 // The PDU's two bytes, the second the higher: of this form the compiler makes one load.
@@ -112,10 +113,11 @@ fn turned_pdu(row: &[u8]) -> usize
     be8(row, 9) * 256 + be8(row, 8)
 }
 
-fn destination_mark(row: &[u8]) -> usize
-    ensures { λ r. ⌜ (r ≡ destinationMark (now (row .entry))) × (r < 2048) ⌝ }
+fn destination_mark(row: &[u8], shift: usize) -> usize
+    requires { ⌜ shift < 64 ⌝ }
+    ensures { λ r. ⌜ r ≡ destinationMark shift (now (row .entry)) ⌝ }
 {
-    mark_of(owner_of(row), turned_pdu(row))
+    mark_of(owner_of(row), turned_pdu(row), shift)
 }
 
 // From row `from` on, the first route that is bad by itself or whose mark was met. `seen` holds 1 at each mark met.
@@ -123,12 +125,14 @@ fn next_route<'a>(
     body: &'a [u8],
     connections: &'a [u8],
     groups: &'a [u8],
-    seen: &mut [u8; 2048],
+    seen: &mut [u8],
+    shift: usize,
     from: usize,
 ) -> usize
-    requires { ⌜ Come (routeRule (now connections) (now groups)) Kind.Route routeMark 1 (now body) (now seen) from ⌝ }
+    requires { ⌜ shift < 64 ⌝ }
+    requires { ⌜ Come (routeRule (now connections) (now groups)) Kind.Route (routeMark shift) 1 (now body) (now seen) from ⌝ }
     ensures { λ r. ⌜ (from ≤ r)
-        × Struck (routeRule (now (connections .entry)) (now (groups .entry))) Kind.Route routeMark 1 (now (body .entry)) (now (seen .exit)) r ⌝ }
+        × Struck (routeRule (now (connections .entry)) (now (groups .entry))) Kind.Route (routeMark shift) 1 (now (body .entry)) (now (seen .exit)) r ⌝ }
 {
     let n = body.len() / 16;
     let mut i = from;
@@ -138,7 +142,7 @@ fn next_route<'a>(
         if !route_good(row, connections, groups) {
             return i;
         }
-        let mark = route_mark(row);
+        let mark = route_mark(row, shift);
         if seen[mark] == 1 {
             return i;
         }
@@ -153,16 +157,16 @@ fn first_bad_route<'a>(
     body: &'a [u8],
     connections: &'a [u8],
     groups: &'a [u8],
-    seen: &mut [u8; 2048],
+    seen: &mut [u8],
+    shift: usize,
 ) -> usize
-    requires { ⌜ length (now seen) ≡ 2048 ⌝ }
+    requires { ⌜ Wide shift (length (now seen)) ⌝ }
     ensures { λ r. ⌜ r ≡ badRoute (now (connections .entry)) (now (groups .entry)) (now (body .entry)) ⌝ }
-    ensures { λ _. ⌜ length (now (seen .exit)) ≡ 2048 ⌝ }
 {
     let n = body.len() / 16;
     let mut i = 0;
     loop {
-        i = next_route(body, connections, groups, seen, i);
+        i = next_route(body, connections, groups, seen, shift, i);
         if n <= i {
             return i;
         }
@@ -182,12 +186,14 @@ fn first_bad_route<'a>(
 fn next_destination<'a>(
     body: &'a [u8],
     connections: &'a [u8],
-    seen: &mut [u8; 2048],
+    seen: &mut [u8],
+    shift: usize,
     from: usize,
 ) -> usize
-    requires { ⌜ Come (destinationRule (now connections)) Kind.Destination destinationMark 2 (now body) (now seen) from ⌝ }
+    requires { ⌜ shift < 64 ⌝ }
+    requires { ⌜ Come (destinationRule (now connections)) Kind.Destination (destinationMark shift) 2 (now body) (now seen) from ⌝ }
     ensures { λ r. ⌜ (from ≤ r)
-        × Struck (destinationRule (now (connections .entry))) Kind.Destination destinationMark 2 (now (body .entry)) (now (seen .exit)) r ⌝ }
+        × Struck (destinationRule (now (connections .entry))) Kind.Destination (destinationMark shift) 2 (now (body .entry)) (now (seen .exit)) r ⌝ }
 {
     let n = body.len() / 16;
     let mut i = from;
@@ -197,7 +203,7 @@ fn next_destination<'a>(
         if !destination_good(row, connections) {
             return i;
         }
-        let mark = destination_mark(row);
+        let mark = destination_mark(row, shift);
         if seen[mark] == 2 {
             return i;
         }
@@ -207,14 +213,19 @@ fn next_destination<'a>(
     i
 }
 
-fn first_bad_destination<'a>(body: &'a [u8], connections: &'a [u8], seen: &mut [u8; 2048]) -> usize
-    requires { ⌜ length (now seen) ≡ 2048 ⌝ }
+fn first_bad_destination<'a>(
+    body: &'a [u8],
+    connections: &'a [u8],
+    seen: &mut [u8],
+    shift: usize,
+) -> usize
+    requires { ⌜ Wide shift (length (now seen)) ⌝ }
     ensures { λ r. ⌜ r ≡ badDestination (now (connections .entry)) (now (body .entry)) ⌝ }
 {
     let n = body.len() / 16;
     let mut i = 0;
     loop {
-        i = next_destination(body, connections, seen, i);
+        i = next_destination(body, connections, seen, shift, i);
         if n <= i {
             return i;
         }
@@ -231,6 +242,26 @@ fn first_bad_destination<'a>(body: &'a [u8], connections: &'a [u8], seen: &mut [
 }
 
 // The first bad route and the first bad destination, each the row count where there is none; one set of marks serves both.
+fn bad_rows<'a>(
+    routes: &'a [u8],
+    destinations: &'a [u8],
+    connections: &'a [u8],
+    groups: &'a [u8],
+    seen: &mut [u8],
+    shift: usize,
+) -> BadRows
+    requires { ⌜ Wide shift (length (now seen)) ⌝ }
+    ensures { λ r. ⌜ r ≡ badRows (now (routes .entry)) (now (destinations .entry)) (now (connections .entry)) (now (groups .entry)) ⌝ }
+{
+    let route = first_bad_route(routes, connections, groups, seen, shift);
+    let destination = first_bad_destination(destinations, connections, seen, shift);
+    BadRows {
+        route: route,
+        destination: destination,
+    }
+}
+
+// The same, with as many marks as the table wants: for at most 16 rows of each kind 256 will do, and they are cleared sooner.
 pub fn first_bad_rows<'a>(
     routes: &'a [u8],
     destinations: &'a [u8],
@@ -239,11 +270,10 @@ pub fn first_bad_rows<'a>(
 ) -> BadRows
     ensures { λ r. ⌜ r ≡ badRows (now (routes .entry)) (now (destinations .entry)) (now (connections .entry)) (now (groups .entry)) ⌝ }
 {
-    let mut seen = [0u8; 2048];
-    let route = first_bad_route(routes, connections, groups, &mut seen);
-    let destination = first_bad_destination(destinations, connections, &mut seen);
-    BadRows {
-        route: route,
-        destination: destination,
+    if (routes.len() <= 256) & (destinations.len() <= 256) {
+        let mut few = [0u8; 256];
+        return bad_rows(routes, destinations, connections, groups, &mut few, 24);
     }
+    let mut many = [0u8; 2048];
+    bad_rows(routes, destinations, connections, groups, &mut many, 21)
 }

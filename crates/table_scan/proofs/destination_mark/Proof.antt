@@ -16,7 +16,7 @@ mark-of-requires c κs = search needs
 
 returns : tie.Need-returns
 unfolding destinationMark destinationRow
-returns c = (cc, c .mark-of .ensures .1)
+returns c = cc
 
 pub destination-mark-spec : {M : Type 1} → statement M
 destination-mark-spec =

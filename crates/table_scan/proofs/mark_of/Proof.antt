@@ -1,5 +1,4 @@
 -- `table_scan::mark_of` meets its contract.
-use Rattle.table_scan.proofs.Marks.{mark-small}
 use Rattle.table_scan.specs.Marks.{markOf}
 use mathlib.Core.Path.{refl}
 use borrow.Author.Needs.{needs}
@@ -15,9 +14,12 @@ mul-result-2 c = search needs
 add-result : tie.Need-add-result
 add-result c = search needs
 
+shr-result : tie.Need-shr-result
+shr-result c = search needs
+
 returns : tie.Need-returns
 unfolding markOf
-returns c = (refl, mark-small _)
+returns c = refl
 
 pub mark-of-spec : {M : Type 1} → statement M
-mark-of-spec = tie.close (tie.spec mul-result mul-result-2 add-result returns)
+mark-of-spec = tie.close (tie.spec mul-result mul-result-2 add-result shr-result returns)

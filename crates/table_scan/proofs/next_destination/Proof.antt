@@ -5,7 +5,8 @@ use Rattle.table_scan.specs.Marks.{destinationMark, Come}
 use Rattle.table_rows.specs.Rules.{destinationRule}
 use Rattle.table_layout.proofs.Parts.{row-in, row-range}
 use Rattle.table_layout.specs.declared.Kind.the-variants.{Destination}
-use lib.ListN.{length}
+use mathlib.Core.Path.{_≡_, refl}
+use lib.ListN.{length, length-set}
 use borrow.Author.Tests.{not-true, not-false}
 use borrow.Author.Needs.{needs}
 use native.Mathlib.Omega.{arith}
@@ -14,13 +15,14 @@ use Rattle.table_scan.proofs.next_destination.Statement.{statement}
 use Rattle.table_scan.proofs.next_destination.Tie as tie
 
 abbrev Inv-loop : tie.InvT-loop
-Inv-loop body connections seen₀ from n i₀ seen i = (from ≤ i) × Come (destinationRule connections) Destination destinationMark 2 body seen i
+Inv-loop body connections seen₀ shift from n i₀ seen i =
+    (from ≤ i) × (length seen ≡ length seen₀) × Come (destinationRule connections) Destination (destinationMark shift) 2 body seen i
 
 abbrev μ-loop : tie.MeasureT-loop
-μ-loop body connections seen₀ from n i₀ seen i = length body / 16 - i
+μ-loop body connections seen₀ shift from n i₀ seen i = length body / 16 - i
 
 loop-holds : tie.Need-loop-holds Inv-loop μ-loop
-loop-holds c = (search needs, c .before .before .pre)
+loop-holds c = (search needs, refl, c .before .before .before .pre .1)
 
 mul-at : tie.Need-mul-at Inv-loop μ-loop
 mul-at c = omega arith
@@ -35,39 +37,45 @@ part-row-start : tie.Need-part-row-start Inv-loop μ-loop
 part-row-start c = omega arith
 
 part-row-end : tie.Need-part-row-end Inv-loop μ-loop
-part-row-end c = omega (arith, row-in 16 (c .before .before .before .before .args .body .now) (c .before .loop .i) (c .loop-test .taken))
+part-row-end c = omega (arith, row-in 16 (c .before .before .before .before .before .args .body .now) (c .before .loop .i) (c .loop-test .taken))
 
 destination-good-requires : tie.Need-destination-good-requires Inv-loop μ-loop
 destination-good-requires c κs = search needs
 
+same-length : tie.Need-same-length Inv-loop μ-loop
+same-length c = search needs
+
 returns : tie.Need-returns Inv-loop μ-loop
 returns c =
     let l = c .before .before .before in
-    let s = l .before .before .before .before .args .body .now in
+    let s = l .before .before .before .before .before .args .body .now in
     let i = l .before .loop .i in (
       l .before .loop .inv .0,
       struck-bad _ _ _ _ s _ i _ (row-range 16 s i (l .loop-test .taken))
-          (l .before .loop .inv .1) (c .before .destination-good .ensures) (not-true _ (c .if1 .taken)),
+          (l .before .loop .inv .2) (c .before .destination-good .ensures) (not-true _ (c .if1 .taken)),
     )
 
 destination-mark-requires : tie.Need-destination-mark-requires Inv-loop μ-loop
 destination-mark-requires c κs = search needs
 
-element-copy-out-if2 : tie.Need-element-copy-out-if2 Inv-loop μ-loop
-element-copy-out-if2 c = search needs
+slice-read-if2 : tie.Need-slice-read-if2 Inv-loop μ-loop
+slice-read-if2 c = rw (c .before .destination-mark .ensures) (c .before .before .before .before .before .before .loop .inv .2 .room _)
+
+same-length-2 : tie.Need-same-length-2 Inv-loop μ-loop
+same-length-2 c = search needs
 
 returns-2 : tie.Need-returns-2 Inv-loop μ-loop
 returns-2 c =
     let m = c .before .before in
     let l = m .before .before .before .before in
-    let s = l .before .before .before .before .args .body .now in
+    let s = l .before .before .before .before .before .args .body .now in
     let i = l .before .loop .i in (
       l .before .loop .inv .0,
-      struck-met _ _ _ _ s _ i _ (row-range 16 s i (l .loop-test .taken)) _ (m .destination-mark .ensures .0) (l .before .loop .inv .1) (c .if2 .taken),
+      struck-met _ _ _ _ s _ i _ (row-range 16 s i (l .loop-test .taken)) _ (m .destination-mark .ensures) (l .before .loop .inv .2) (c .if2 .taken),
     )
 
-element-write-seen : tie.Need-element-write-seen Inv-loop μ-loop
-element-write-seen c = search needs
+slice-write-seen : tie.Need-slice-write-seen Inv-loop μ-loop
+slice-write-seen c = rw (c .before .before .destination-mark .ensures) (c .before .before .before .before .before .before .before .loop .inv .2 .room _)
 
 add-i : tie.Need-add-i Inv-loop μ-loop
 add-i c = omega arith
@@ -79,16 +87,20 @@ loop-again : tie.Need-loop-again Inv-loop μ-loop
 loop-again c =
     let m = c .before .before in
     let l = m .before .before .before .before in
-    let s = l .before .before .before .before .args .body .now in
+    let s = l .before .before .before .before .before .args .body .now in
     let i = l .before .loop .i in (
       search needs,
-      come-on _ _ _ _ s _ i _ (row-range 16 s i (l .loop-test .taken)) _ (m .destination-mark .ensures .0) destinations-marked (l .before .loop .inv .1)
+      simp length-set (l .before .loop .inv .1),
+      come-on _ _ _ _ s _ i _ (row-range 16 s i (l .loop-test .taken)) _ (m .destination-mark .ensures) (destinations-marked _) (l .before .loop .inv .2)
           (l .loop-test .taken) (m .before .before .destination-good .ensures)
-          (not-false _ (m .before .if1 .left)) (m .destination-mark .ensures .1) (c .if2 .left),
+          (not-false _ (m .before .if1 .left)) (c .if2 .left),
     )
 
+same-length-3 : tie.Need-same-length-3 Inv-loop μ-loop
+same-length-3 c = search needs
+
 returns-3 : tie.Need-returns-3 Inv-loop μ-loop
-returns-3 c = (c .before .loop .inv .0, struck-end _ _ _ _ _ _ _ (c .before .loop .inv .1) (c .loop-test .left))
+returns-3 c = (c .before .loop .inv .0, struck-end _ _ _ _ _ _ _ (c .before .loop .inv .2) (c .loop-test .left))
 
 pub next-destination-spec : {M : Type 1} → statement M
 next-destination-spec =
@@ -103,12 +115,15 @@ next-destination-spec =
     part-row-start
     part-row-end
     destination-good-requires
+    same-length
     returns
     destination-mark-requires
-    element-copy-out-if2
+    slice-read-if2
+    same-length-2
     returns-2
-    element-write-seen
+    slice-write-seen
     add-i
     loop-less
     loop-again
+    same-length-3
     returns-3)

@@ -16,7 +16,7 @@ mark-of-requires c κs = search needs
 
 returns : tie.Need-returns
 unfolding routeMark routeRow
-returns c = (cc, c .mark-of .ensures .1)
+returns c = cc
 
 pub route-mark-spec : {M : Type 1} → statement M
 route-mark-spec = tie.close (tie.spec owner-of-requires be32-requires mark-of-requires returns)
