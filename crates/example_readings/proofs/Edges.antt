@@ -20,6 +20,8 @@ unfolding be pieceDone feed takeB takes segmentRan segments headOf splits split 
 reading-edges =
     record {
       no-route = refl;
+      longest-2 = refl;
+      skip-longest = refl;
       take-pdu = refl;
       take-drop = refl;
       take-more = refl;

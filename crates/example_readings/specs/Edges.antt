@@ -109,6 +109,10 @@ pub record LongestTransfer (ss : List (List ℕ)) : Type 0 where
 pub record ReadingEdges : Type 0 where
   -- no route: dropped and skipped, and the next PDU is read
   pub no-route : segmentRan (readingTable 1) ready (frameUnknown ++ frameBar) ≡ ran ready (dropped 20 0x103 2 ∷ pdu 0 (0 ∷ 180 ∷ []) ∷ [])
+  -- too long: dropped and skipped, likewise
+  pub longest-2 : segmentRan (readingTable 1) ready (frameThree ++ frameBar) ≡ ran ready (dropped 22 0x101 3 ∷ pdu 0 (0 ∷ 180 ∷ []) ∷ [])
+  -- R12.8: a length of 4,294,967,295 is to be skipped
+  pub skip-longest : segmentRan (readingTable 1) ready headerLongest ≡ ran (cell 4294967295 skip) (dropped 20 0x103 4294967295 ∷ [])
   -- a take ends at the first PDU, and at a dropped header
   pub take-pdu : takeB (readingTable 1) ready (frameBar ++ frameEmpty) ≡ took ready (pdu 0 (0 ∷ 180 ∷ [])) frameEmpty
   pub take-drop : takeB (readingTable 1) ready frameUnknown ≡ took (cell 2 skip) (dropped 20 0x103 2) (0 ∷ 180 ∷ [])
