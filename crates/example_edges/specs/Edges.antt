@@ -1,18 +1,17 @@
--- THE STARRED EDGES (R12.1 to R12.7), those of transfers (R19.1 to R19.7) and of silent peers (R20.1 to R20.6), as one table: what the
--- definitions give, and what the rules say, both as the rules' numbers. One statement says all of it: `Hold` of the table.
+-- THE EDGES of transfers (R19.1 to R19.7) and of silent peers (R20.1 to R20.6), as one table: what the definitions give, and what the rules
+-- say, both as the rules' numbers. One statement says all of it: `Hold` of the table. The starred edges stand in example_entries, in the same numbers.
 use Prim.Native.Nat.{ℕ}
 use mathlib.Core.Bool.{Bool, true, false, cond, _&&_}
 use mathlib.Core.Path.{_≡_}
 use mathlib.Core.List.{List, [], _∷_}
 use lib.Dec.{eqb}
-use lib.ListN.{length, take, drop}
+use lib.ListN.{length}
 use Rattle.wire.specs.Be.{be}
 use Rattle.table_layout.specs.Layout.{bodyOf}
 use Rattle.table_layout.specs.declared.Kind.the-variants.{Route}
 use Rattle.table_rows.specs.Rows.{routeOf}
 use Rattle.reading.specs.Feed.{Routes, Out, nothing, pdu, dropped, start, piece, ready, segmentRan, segments}
 use Rattle.receive_route.specs.Route.{lookupOf}
-use Rattle.reading_walk.specs.Walk.{walkAt, outsTold}
 use Rattle.table.specs.Table.{checkTable, tableNumber, answerPlace}
 use Rattle.connection.specs.declared.Connection.{Connection}
 use Rattle.connection.specs.declared.Event.the-variants.{SetRemote, Cancel}
@@ -27,16 +26,12 @@ use Rattle.entry_receive.specs.Walk.{walkOf}
 use Rattle.select.specs.declared.Arrival.{Arrival}
 use Rattle.select.specs.declared.Arrival.the-variants.{Met, Refused, Unmatched}
 use Rattle.select.specs.Choose.{oneOf, arriveOf, arrivalNumber}
-use Rattle.send.specs.Verdict.{transmissionNumber}
-use Rattle.send.specs.Send.{checkOf}
 use Rattle.example_edges.specs.Table.{
   image,
   markedUdp,
   markedTwice,
   limitedTcp,
   limitOne,
-  fresh,
-  waitingFor,
   used,
   moving,
   exact,
@@ -115,37 +110,14 @@ framed i n payload = 0 ∷ 0 ∷ 1 ∷ i ∷ 0 ∷ 0 ∷ 0 ∷ n ∷ payload
 abbrev pub bar : List ℕ
 bar = framed 1 2 (0 ∷ 0xB4 ∷ [])
 
+-- a header of an id that no route has, and the longest length
+abbrev pub skipLongest : List ℕ
+skipLongest = 0 ∷ 0 ∷ 1 ∷ 3 ∷ 255 ∷ 255 ∷ 255 ∷ 255 ∷ []
+
 abbrev pub edges : List Edge
 edges =
-    -- the image is accepted
-    edge (tableNumber (checkTable image) ∷ []) (0 ∷ [])
-    -- R12.2: PDU 0x101, payload 180
-    ∷ edge (numbers (segmentRan (routes 2 1) ready bar .list)) (0 ∷ 0 ∷ 0x101 ∷ 180 ∷ 2 ∷ [])
-    -- R12.2: cut after byte 3, and after byte 8, the same PDU
-    ∷ edge (numbers (segments (routes 2 1) ready (take 3 bar ∷ drop 3 bar ∷ []) .list)) (0 ∷ 0 ∷ 0x101 ∷ 180 ∷ 2 ∷ [])
-    ∷ edge (numbers (segments (routes 2 1) ready (take 8 bar ∷ drop 8 bar ∷ []) .list)) (0 ∷ 0 ∷ 0x101 ∷ 180 ∷ 2 ∷ [])
-    -- R12.2: `46 50` as payload is 18,000
-    ∷ edge (numbers (segmentRan (routes 2 1) ready (framed 2 2 (0x46 ∷ 0x50 ∷ [])) .list)) (0 ∷ 1 ∷ 0x102 ∷ 18000 ∷ 2 ∷ [])
-    -- R12.3: length 0
-    ∷ edge (numbers (segmentRan (routes 2 1) ready (framed 1 0 []) .list)) (0 ∷ 0 ∷ 0x101 ∷ 0 ∷ 0 ∷ [])
-    -- R12.3: longest 2 against length 2 and 3
-    ∷ edge (numbers (segmentRan (routes 2 1) ready (framed 1 2 (7 ∷ 8 ∷ [])) .list)) (0 ∷ 0 ∷ 0x101 ∷ 1800 ∷ 2 ∷ [])
-    ∷ edge (numbers (segmentRan (routes 2 1) ready (framed 1 3 (7 ∷ 8 ∷ 9 ∷ [])) .list)) (22 ∷ 0x101 ∷ 3 ∷ [])
-    -- R12.4: groups 0 with all switches off is on; and a route with groups 1, whose switch 0 is off: 21
-    ∷ edge (numbers (segmentRan (routes 2 0) ready (framed 2 1 (5 ∷ [])) .list)) (0 ∷ 1 ∷ 0x102 ∷ 5 ∷ 1 ∷ [])
-    ∷ edge (numbers (segmentRan (routes 2 0) ready bar .list)) (21 ∷ 0x101 ∷ 2 ∷ [])
-    -- R12.5: remote 0:0 against an exact row: the exact row
-    ∷ edge (arrivedNumbers (arriveOf image waitingFor false 0 exact .answer)) (0 ∷ 1 ∷ [])
-    -- R12.5: no member: 10
-    ∷ edge (arrivedNumbers (arriveOf image fresh false 0 exact .answer)) (10 ∷ [])
-    -- R12.6: used 1,462 + 8 + 2 = 1,472 fits; 1,463 gives 8
-    ∷ edge (transmissionNumber (checkOf image (used 1462) 9 2) ∷ []) (0 ∷ [])
-    ∷ edge (transmissionNumber (checkOf image (used 1463) 9 2) ∷ []) (8 ∷ [])
-    -- R12.7: a datagram of 7 bytes is 23; and the whole one
-    ∷ edge (numbers (outsTold (take 7 bar) (walkAt (routes 0 0) (take 7 bar) 0 .found) [])) (23 ∷ 0 ∷ 0 ∷ [])
-    ∷ edge (numbers (outsTold bar (walkAt (routes 0 0) bar 0 .found) [])) (0 ∷ 2 ∷ 0x101 ∷ 180 ∷ 2 ∷ [])
     -- R19.1: the mark on a UDP connection's route, and a mark of 2, are refused at their rows
-    ∷ edge (tableNumbers markedUdp) (1 ∷ 120 ∷ [])
+    edge (tableNumbers markedUdp) (1 ∷ 120 ∷ [])
     ∷ edge (tableNumbers markedTwice) (1 ∷ 88 ∷ [])
     -- R19.5: a start at length 0; R19.3, R19.4: a transfer of one byte, and of two bytes in two segments
     ∷ edge (numbers (segmentRan (routes 2 0) ready (framed 4 0 []) .list)) (3 ∷ 3 ∷ 0x104 ∷ 0 ∷ 1 ∷ [])

@@ -48,8 +48,8 @@ use Rattle.theorems.proofs.Runs.{same-given}
 use Rattle.theorems.proofs.Refusals.{refusal-stays}
 use Rattle.theorems.proofs.Waiting.{event-waits}
 use Rattle.example_edges.specs.Table.{image, fresh, waitingFor, used, exact}
-use Rattle.example_edges.specs.Edges.{framed, bar, numbers, arrivedNumbers, routes}
-use Rattle.example_edges.proofs.Edges.{each-edge}
+use Rattle.example_edges.specs.Edges.{framed, bar, skipLongest, numbers, arrivedNumbers, routes}
+use Rattle.example_edges.proofs.Edges.{each-inside}
 use Rattle.example_entries.specs.Entries.{tcpUp, udpUp, over, segmentsGive, walkGives, datagramGives, transmitGives, AllAsSaid, entryEdges, EntryEdges}
 use Rattle.example_entries.proofs.Given.{reader-given, walker-given}
 
@@ -91,10 +91,10 @@ abbrev Plain : ℕ → List ℕ → Type 0
 Plain w bs = fine (segmentRan (routes 2 w) ready bs .list) ≡ segmentRan (routes 2 w) ready bs .list
 
 no-pieces : Plain 1 bar × Plain 1 (framed 2 2 (0x46 ∷ 0x50 ∷ [])) × Plain 1 (framed 1 0 [])
-    × Plain 1 (framed 1 2 (7 ∷ 8 ∷ [])) × Plain 1 (framed 1 3 (7 ∷ 8 ∷ 9 ∷ [])) × Plain 0 (framed 2 1 (5 ∷ [])) × Plain 0 bar
+    × Plain 1 (framed 1 2 (7 ∷ 8 ∷ [])) × Plain 1 (framed 1 3 (7 ∷ 8 ∷ 9 ∷ [])) × Plain 0 (framed 2 1 (5 ∷ [])) × Plain 0 bar × Plain 1 skipLongest
 unfolding image be badFrom every rowsOf bodyBytes startOf partOf bodyOf rowIn routeRow pieceDone
     feed takeB takes segmentRan isOn rowsIn counts rowFor reasonIn reasonOf decisionOf lookupOf fine
-no-pieces = (refl, refl, refl, refl, refl, refl, refl)
+no-pieces = (refl, refl, refl, refl, refl, refl, refl, refl)
 
 module _ (rx tx : List ℕ) (long : length rx ≡ 23424) (wide : length tx ≡ 23552) where
   good : (s : State) → soundState image s ≡ true → length (s .connections) ≡ 16 → Good image (over rx tx s)
@@ -196,7 +196,7 @@ module _ (rx tx : List ℕ) (long : length rx ≡ 23424) (wide : length tx ≡ 2
       ∙ ap (λ (l : List ℕ). waits (used 1462) tx 2 ++ l) (append-nil (frame 0x202 (0 ∷ 180 ∷ [])))
 
   eight : transmitGives rx tx (used 1463) (0 ∷ 180 ∷ []) ≡ 8 ∷ []
-  eight = transmit-past (used 1463) full-good (0 ∷ 180 ∷ []) ∙ each-edge 13
+  eight = transmit-past (used 1463) full-good (0 ∷ 180 ∷ []) ∙ each-inside 11
 
   first : List ℕ → ℕ
   first [] = 0
@@ -208,34 +208,34 @@ module _ (rx tx : List ℕ) (long : length rx ≡ 23424) (wide : length tx ≡ 2
   entry-edges =
       record {
         rows = (
-          one-segment 1 bar refl ∙ ap numbers (no-pieces .0) ∙ each-edge 1,
+          one-segment 1 bar refl ∙ ap numbers (no-pieces .0) ∙ each-inside 1,
           (
-            two-segments 1 (take 3 bar) (drop 3 bar) refl ∙ one-segment 1 bar refl ∙ ap numbers (no-pieces .0) ∙ each-edge 1,
+            two-segments 1 (take 3 bar) (drop 3 bar) refl ∙ one-segment 1 bar refl ∙ ap numbers (no-pieces .0) ∙ each-inside 1,
             (
-              two-segments 1 (take 8 bar) (drop 8 bar) refl ∙ one-segment 1 bar refl ∙ ap numbers (no-pieces .0) ∙ each-edge 1,
+              two-segments 1 (take 8 bar) (drop 8 bar) refl ∙ one-segment 1 bar refl ∙ ap numbers (no-pieces .0) ∙ each-inside 1,
               (
-                one-segment 1 (framed 2 2 (0x46 ∷ 0x50 ∷ [])) refl ∙ ap numbers (no-pieces .1) ∙ each-edge 4,
+                one-segment 1 (framed 2 2 (0x46 ∷ 0x50 ∷ [])) refl ∙ ap numbers (no-pieces .1) ∙ each-inside 2,
                 (
-                  one-segment 1 (framed 1 0 []) refl ∙ ap numbers (no-pieces .2) ∙ each-edge 5,
+                  one-segment 1 (framed 1 0 []) refl ∙ ap numbers (no-pieces .2) ∙ each-inside 3,
                   (
-                    one-segment 1 (framed 1 2 (7 ∷ 8 ∷ [])) refl ∙ ap numbers (no-pieces .3) ∙ each-edge 6,
+                    one-segment 1 (framed 1 2 (7 ∷ 8 ∷ [])) refl ∙ ap numbers (no-pieces .3) ∙ each-inside 4,
                     (
-                      one-segment 1 (framed 1 3 (7 ∷ 8 ∷ 9 ∷ [])) refl ∙ ap numbers (no-pieces .4) ∙ each-edge 7,
+                      one-segment 1 (framed 1 3 (7 ∷ 8 ∷ 9 ∷ [])) refl ∙ ap numbers (no-pieces .4) ∙ each-inside 5,
                       (
-                        one-segment 0 (framed 2 1 (5 ∷ [])) refl ∙ ap numbers (no-pieces .5) ∙ each-edge 8,
+                        one-segment 0 (framed 2 1 (5 ∷ [])) refl ∙ ap numbers (no-pieces .5) ∙ each-inside 6,
                         (
-                          one-segment 0 bar refl ∙ ap numbers (no-pieces .6) ∙ each-edge 9,
+                          one-segment 0 bar refl ∙ ap numbers (no-pieces .6) ∙ each-inside 7,
                           (
-                            datagram-past waitingFor waiting-good ∙ each-edge 10,
+                            datagram-past waitingFor waiting-good ∙ each-inside 8,
                             (
-                              datagram-past fresh fresh-good ∙ each-edge 11,
+                              datagram-past fresh fresh-good ∙ each-inside 9,
                               (
-                                transmit-past (used 1462) roomy-good (0 ∷ 180 ∷ []) ∙ each-edge 12,
+                                transmit-past (used 1462) roomy-good (0 ∷ 180 ∷ []) ∙ each-inside 10,
                                 (
                                   eight,
                                   (
-                                    one-walk (take 7 bar) ∙ each-edge 14,
-                                    (one-walk bar ∙ each-edge 15, tt),
+                                    one-walk (take 7 bar) ∙ each-inside 12,
+                                    (one-walk bar ∙ each-inside 13, (one-segment 1 skipLongest refl ∙ ap numbers (no-pieces .7) ∙ each-inside 14, tt)),
                                   ),
                                 ),
                               ),

@@ -15,7 +15,7 @@ use Rattle.entry_send.specs.Sending.{sendOf}
 use Rattle.entry_arrivals.specs.Arrivals.{datagramOf}
 use Rattle.law_waits.specs.Waits.{waits}
 use Rattle.example_edges.specs.Table.{image, fresh, waitingFor, used, exact}
-use Rattle.example_edges.specs.Edges.{Edge, edge, numbers, arrivedNumbers, framed, bar}
+use Rattle.example_edges.specs.Edges.{Edge, edge, numbers, arrivedNumbers, framed, bar, skipLongest}
 use Rattle.model.specs.Events.{segment, walk, transmit, Event, on, onWhole}
 use Rattle.model_refines.specs.Machine.{Machine, machine, lentTo, loanTo}
 use Rattle.model_refines.specs.Run.{afterEvent, givenIn}
@@ -74,6 +74,8 @@ module _ (rx tx : List ℕ) where
       -- R12.7: a datagram of 7 bytes is 23; and the whole one
       ∷ edge (walkGives (take 7 bar)) (23 ∷ 0 ∷ 0 ∷ [])
       ∷ edge (walkGives bar) (0 ∷ 2 ∷ 0x101 ∷ 180 ∷ 2 ∷ [])
+      -- R12.8: a length of 4,294,967,295, dropped
+      ∷ edge (segmentsGive 1 (on 2 (segment skipLongest) ∷ [])) (20 ∷ 0x103 ∷ 4294967295 ∷ [])
       ∷ []
 
   -- THE ONE STATEMENT: the table, and which bytes wait after 1,462 + 8 + 2; after 1,463 all is as it was

@@ -19,17 +19,8 @@ pub reading-edges : ReadingEdges
 unfolding be pieceDone feed takeB takes segmentRan segments headOf splits split isOn walkAt listOf rows
 reading-edges =
     record {
-      the-pdu = refl;
-      payload-180 = refl;
-      cut-after-3 = refl;
-      cut-after-8 = refl;
-      payload-18000 = refl;
-      kilopascal = refl;
-      length-0 = refl;
-      longest-2 = refl;
-      groups-0 = refl;
-      switched-off = refl;
       no-route = refl;
+      longest-2 = refl;
       skip-longest = refl;
       take-pdu = refl;
       take-drop = refl;

@@ -9,7 +9,7 @@ use Rattle.reading.specs.Feed.{Routes, Cell, cell, transfer, header, Out, nothi
 use Rattle.reading.specs.Feed.{Ran, takes, segmentRan, compared}
 use Rattle.switches.specs.Switches.{isOn}
 use Rattle.reading_lengths.specs.Listed.{mark, readOut}
-use Rattle.example_readings.specs.Edges.{rows, readingTable, frameBar, headerTwo, frameEmpty, frameUnknown, allFirmware}
+use Rattle.example_readings.specs.Edges.{rows, readingTable, frameBar, frameEmpty, frameUnknown, allFirmware}
 use Rattle.example_readings.specs.Wrong.{TakeReading, SegmentReading, StreamReading, IsTake, IsSegment, IsStream, AlwaysMore, FirstRoute, FreshHeader}
 use Rattle.example_readings.specs.Wrong.{ReadsAll, EmptyPiece, MarkEarly, WaitingPiece, LongestApplied, FirstOnly, Closing, TestedLate}
 
@@ -29,13 +29,17 @@ no-always-more t is wrong =
     ap came (ap (λ (x : Took). x .out) (sym (is (readingTable 1) ready frameBar)) ∙ wrong (readingTable 1) ready frameBar) in
     let z : _≡_ {A = ℕ} 1 0 = e in absurd (omega arith)
 
+-- `00 00 01 02 00 00 00 02 46 50`
+abbrev frameTwo : List ℕ
+frameTwo = 0 ∷ 0 ∷ 1 ∷ 2 ∷ 0 ∷ 0 ∷ 0 ∷ 2 ∷ 0x46 ∷ 0x50 ∷ []
+
 -- at PDU 0x102, whose route is the second row
 pub no-first-route : (t : TakeReading) → IsTake t → FirstRoute t → ⊥
 unfolding takeB feed pieceDone isOn rows
 no-first-route t is wrong =
     let z : _≡_ {A = ℕ} 1 0 =
-    wrong (readingTable 1) ready (headerTwo ++ 0x46 ∷ 0x50 ∷ []) 1 (0x46 ∷ 0x50 ∷ [])
-    (ap (λ (x : Took). x .out) (is (readingTable 1) ready (headerTwo ++ 0x46 ∷ 0x50 ∷ []))) in
+    wrong (readingTable 1) ready frameTwo 1 (0x46 ∷ 0x50 ∷ [])
+    (ap (λ (x : Took). x .out) (is (readingTable 1) ready frameTwo)) in
     absurd (omega arith)
 
 -- at the ten bytes cut after byte 3: the seven that follow are no header

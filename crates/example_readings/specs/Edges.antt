@@ -1,11 +1,11 @@
--- THE EDGES OF READING (section 12 of the rules): each as an equation over the definitions, with a table of a few rows for the routes.
+-- EDGES OF READING beside the starred ones (example_entries), and those of transfers: each as an equation over the definitions, with a table of a few
+-- rows for the routes.
 use Prim.Native.Nat.{ℕ, suc}
 use mathlib.Core.Path.{_≡_}
 use mathlib.Core.Bool.{Bool, true, false, cond}
 use mathlib.Core.List.{List, [], _∷_, _++_, flatten}
 use lib.Dec.{eqb, leb}
 use lib.ListN.{take, drop}
-use Rattle.wire.specs.Be.{be}
 use Rattle.reading.specs.declared.Decision.the-variants.{Accept, Refuse, Transfer}
 use Rattle.reading.specs.Feed.{Routes, payload, skip, cell, transfer, pdu, dropped, nothing, start, piece, ready, took, takeB, Ran, ran, segmentRan, segments}
 use Rattle.reading.specs.Feed.{began, middle, finished, compared, middleOf}
@@ -41,9 +41,6 @@ readingTable = rows 0 (readingRow 0x101 2 1 ∷ readingRow 0x102 3 0 ∷ tpRow 0
 -- `00 00 01 01 00 00 00 02 00 B4`
 abbrev pub frameBar : List ℕ
 frameBar = 0 ∷ 0 ∷ 1 ∷ 1 ∷ 0 ∷ 0 ∷ 0 ∷ 2 ∷ 0 ∷ 180 ∷ []
-
-abbrev pub headerTwo : List ℕ
-headerTwo = 0 ∷ 0 ∷ 1 ∷ 2 ∷ 0 ∷ 0 ∷ 0 ∷ 2 ∷ []
 
 abbrev pub frameThree : List ℕ
 frameThree = 0 ∷ 0 ∷ 1 ∷ 1 ∷ 0 ∷ 0 ∷ 0 ∷ 3 ∷ 7 ∷ 8 ∷ 9 ∷ []
@@ -108,26 +105,13 @@ pub record LongestTransfer (ss : List (List ℕ)) : Type 0 where
   pub ends-ready : segments (readingTable 1) ready (allFirmware ∷ ss) .to ≡ ready
   pub all-handed : compared (segments (readingTable 1) ready (allFirmware ∷ ss) .list) ≡ began 2 0x104 4294967295 ∷ middleOf 2 (flatten ss) (finished 2 ∷ [])
 
+-- what the starred edges (example_entries) leave out
 pub record ReadingEdges : Type 0 where
-  -- R12.2: PDU 0x101, payload 180
-  pub the-pdu : segmentRan (readingTable 1) ready frameBar ≡ ran ready (pdu 0 (0 ∷ 180 ∷ []) ∷ [])
-  pub payload-180 : be 2 (0 ∷ 180 ∷ []) 0 ≡ 180
-  -- R12.2: cut after byte 3, and after byte 8, the same PDU
-  pub cut-after-3 : segments (readingTable 1) ready (take 3 frameBar ∷ drop 3 frameBar ∷ []) ≡ ran ready (pdu 0 (0 ∷ 180 ∷ []) ∷ [])
-  pub cut-after-8 : segments (readingTable 1) ready (take 8 frameBar ∷ drop 8 frameBar ∷ []) ≡ ran ready (pdu 0 (0 ∷ 180 ∷ []) ∷ [])
-  -- R12.2: `46 50` as payload is 18,000
-  pub payload-18000 : be 2 (0x46 ∷ 0x50 ∷ []) 0 ≡ 18000
-  pub kilopascal : segmentRan (readingTable 1) ready (headerTwo ++ 0x46 ∷ 0x50 ∷ []) ≡ ran ready (pdu 1 (0x46 ∷ 0x50 ∷ []) ∷ [])
-  -- R12.3: length 0
-  pub length-0 : segmentRan (readingTable 1) ready frameEmpty ≡ ran ready (pdu 0 [] ∷ [])
-  -- R12.3: longest 2 against length 2 and 3: the-pdu, and this drop, whose payload is skipped
-  pub longest-2 : segmentRan (readingTable 1) ready (frameThree ++ frameBar) ≡ ran ready (dropped 22 0x101 3 ∷ pdu 0 (0 ∷ 180 ∷ []) ∷ [])
-  -- R12.4: groups 0 with all switches off is on; and a group that is switched off
-  pub groups-0 : readingTable 0 0x102 2 ≡ Accept 1
-  pub switched-off : segmentRan (readingTable 2) ready frameBar ≡ ran ready (dropped 21 0x101 2 ∷ [])
   -- no route: dropped and skipped, and the next PDU is read
   pub no-route : segmentRan (readingTable 1) ready (frameUnknown ++ frameBar) ≡ ran ready (dropped 20 0x103 2 ∷ pdu 0 (0 ∷ 180 ∷ []) ∷ [])
-  -- a length of 4,294,967,295 is to be skipped
+  -- too long: dropped and skipped, likewise
+  pub longest-2 : segmentRan (readingTable 1) ready (frameThree ++ frameBar) ≡ ran ready (dropped 22 0x101 3 ∷ pdu 0 (0 ∷ 180 ∷ []) ∷ [])
+  -- R12.8: a length of 4,294,967,295 is to be skipped
   pub skip-longest : segmentRan (readingTable 1) ready headerLongest ≡ ran (cell 4294967295 skip) (dropped 20 0x103 4294967295 ∷ [])
   -- a take ends at the first PDU, and at a dropped header
   pub take-pdu : takeB (readingTable 1) ready (frameBar ++ frameEmpty) ≡ took ready (pdu 0 (0 ∷ 180 ∷ [])) frameEmpty
