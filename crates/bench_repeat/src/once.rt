@@ -20,10 +20,12 @@ use recording::front_of;
 use recording::number_in;
 use recording::stamp_in;
 use replay_step::Played;
+use replay_step::Step;
 use replay_step::replay_step;
 use report_count::Run;
 use report_count::begin;
 use report_count::count;
+use report_count::takes_in;
 use select::Arrival;
 use send::Transmission;
 use send_waiting::Taking;
@@ -416,17 +418,11 @@ fn replayed_entry(
     recording: &[u8],
     i: u16,
     at: usize,
-) -> Turn {
+) -> Step {
     let row = entry_row(recording, i);
     let rest = bytes_from(recording, at);
     let before = std::num::wrapping_sub_u32(stamp_in(row), 3);
-    let step = replay_step(image, state, rx, tx, before, row, rest, out);
-    let played = step.played;
-    let now = step.state;
-    Turn {
-        done: is_same(played),
-        state: now,
-    }
+    replay_step(image, state, rx, tx, before, row, rest, out)
 }
 
 fn is_sized(recording: &[u8]) -> bool {
@@ -459,22 +455,16 @@ fn replayed(
     while i < count {
         let this = i;
         i += 1;
-        let turn = replayed_entry(image, now, rx, tx, out, recording, this, at);
-        now = turn.state;
-        all = all & turn.done;
+        let step = replayed_entry(image, now, rx, tx, out, recording, this, at);
+        let played = step.played;
+        now = step.state;
+        all = all & is_same(played);
         at = body_after(recording, this, at);
     }
     Turn {
         done: all,
         state: now,
     }
-}
-
-// A replay that is counted for the foreman's report: the state, the report so far, and whether each answer was the recorded one.
-struct Tallied {
-    state: State,
-    run: Run,
-    done: bool,
 }
 
 fn written(played: Played) -> usize {
@@ -488,40 +478,14 @@ fn written(played: Played) -> usize {
 }
 
 // The report after an entry, out of its arguments, which begin a part of the recording, and today's answer.
-fn run_after(run: Run, row: &[u8], rest: &[u8], played: Played, out: &[u8]) -> Run {
-    let number = number_in(row);
+fn run_after(run: Run, recording: &[u8], i: u16, at: usize, played: Played, out: &[u8]) -> Run {
+    let number = number_in(entry_row(recording, i));
     count(
         run,
         number,
-        arguments_in(number, rest),
+        arguments_in(number, bytes_from(recording, at)),
         front(out, written(played)),
     )
-}
-
-// `replayed_entry`, counted.
-fn counted_entry(
-    image: &[u8],
-    state: State,
-    run: Run,
-    rx: &mut [u8],
-    tx: &mut [u8],
-    out: &mut [u8],
-    recording: &[u8],
-    i: u16,
-    at: usize,
-) -> Tallied {
-    let row = entry_row(recording, i);
-    let rest = bytes_from(recording, at);
-    let before = std::num::wrapping_sub_u32(stamp_in(row), 3);
-    let step = replay_step(image, state, rx, tx, before, row, rest, out);
-    let played = step.played;
-    let now = step.state;
-    let sums = run_after(run, row, rest, played, out);
-    Tallied {
-        state: now,
-        run: sums,
-        done: is_same(played),
-    }
 }
 
 // `replayed`, counted.
@@ -542,10 +506,14 @@ fn counted(
     while i < count {
         let this = i;
         i += 1;
-        let turn = counted_entry(image, now, run, rx, tx, out, recording, this, at);
-        now = turn.state;
-        run = turn.run;
-        all = all & turn.done;
+        let step = replayed_entry(image, now, rx, tx, out, recording, this, at);
+        let played = step.played;
+        now = step.state;
+        let number = number_in(entry_row(recording, this));
+        if takes_in(number, front(out, written(played))) != 0 {
+            run = run_after(run, recording, this, at, played, out);
+        }
+        all = all & is_same(played);
         at = body_after(recording, this, at);
     }
     Turn {

@@ -177,8 +177,9 @@ fn takes_counted(before: Counting, connection: usize, count: u16, s: &[u8]) -> C
     }
 }
 
-// How many takes the answer of an event has: of a walk one, of any other event none.
-fn takes_in(number: u16, answer: &[u8]) -> u16
+// How many takes the answer of an event has: of a walk one, of any other event none. Where there are none `count` leaves the report, and a
+// caller need not hand it over.
+pub fn takes_in(number: u16, answer: &[u8]) -> u16
     ensures { λ r. ⌜ r ≡ Is.takesIn number (now (answer .entry)) ⌝ }
 {
     if be16(answer, 0) != 0 {

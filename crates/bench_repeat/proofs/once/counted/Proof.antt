@@ -38,8 +38,29 @@ loop-holds c = (refl, (refl, refl))
 add-i : tie.Need-add-i Inv-loop μ-loop
 add-i c = omega arith
 
-counted-entry-requires : tie.Need-counted-entry-requires Inv-loop μ-loop
-counted-entry-requires c κs = search needs
+replayed-entry-requires : tie.Need-replayed-entry-requires Inv-loop μ-loop
+replayed-entry-requires c κs = search needs
+
+entry-row-requires : tie.Need-entry-row-requires Inv-loop μ-loop
+entry-row-requires c κs = search needs
+
+number-in-requires : tie.Need-number-in-requires Inv-loop μ-loop
+number-in-requires c κs = search needs
+
+written-requires : tie.Need-written-requires Inv-loop μ-loop
+written-requires c κs = search needs
+
+front-requires : tie.Need-front-requires Inv-loop μ-loop
+front-requires c κs = search needs
+
+takes-in-requires : tie.Need-takes-in-requires Inv-loop μ-loop
+takes-in-requires c κs = search needs
+
+run-after-requires : tie.Need-run-after-requires Inv-loop μ-loop
+run-after-requires c κs = search needs
+
+is-same-requires : tie.Need-is-same-requires Inv-loop μ-loop
+is-same-requires c κs = search needs
 
 body-after-requires : tie.Need-body-after-requires Inv-loop μ-loop
 body-after-requires c κs = search needs
@@ -76,7 +97,14 @@ counted-spec =
     add-at
     loop-holds
     add-i
-    counted-entry-requires
+    replayed-entry-requires
+    entry-row-requires
+    number-in-requires
+    written-requires
+    front-requires
+    takes-in-requires
+    run-after-requires
+    is-same-requires
     body-after-requires
     loop-less
     loop-again

@@ -38,6 +38,9 @@ add-i c = omega arith
 replayed-entry-requires : tie.Need-replayed-entry-requires Inv-loop μ-loop
 replayed-entry-requires c κs = search needs
 
+is-same-requires : tie.Need-is-same-requires Inv-loop μ-loop
+is-same-requires c κs = search needs
+
 body-after-requires : tie.Need-body-after-requires Inv-loop μ-loop
 body-after-requires c κs = search needs
 
@@ -73,6 +76,7 @@ replayed-spec =
     loop-holds
     add-i
     replayed-entry-requires
+    is-same-requires
     body-after-requires
     loop-less
     loop-again
