@@ -1,10 +1,10 @@
--- `replay::replay` meets its contract; the length of a long array by its law, not by counting.
+-- `input_replay::replay` meets its contract; the length of a long array by its law, not by counting.
 use Prim.Native.Nat.{ℕ}
 use mathlib.Core.Path.{sym}
 use lib.ListN.{length-replicate}
 use borrow.Author.Needs.{needs}
-use Rattle.replay.proofs.replay.Statement.{statement}
-use Rattle.replay.proofs.replay.Tie as tie
+use Rattle.input_replay.proofs.replay.Statement.{statement}
+use Rattle.input_replay.proofs.replay.Tie as tie
 
 slice-aggregate-replayed : tie.Need-slice-aggregate-replayed
 slice-aggregate-replayed c = sym (length-replicate {A = ℕ} 23424 0)

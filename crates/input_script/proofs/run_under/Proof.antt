@@ -1,10 +1,10 @@
--- `run::run` meets its contract; the length of a long array by its law, not by counting.
+-- `input_script::run_under` meets its contract; the length of a long array by its law, not by counting.
 use Prim.Native.Nat.{ℕ}
 use mathlib.Core.Path.{sym}
 use lib.ListN.{length-replicate}
 use borrow.Author.Needs.{needs}
-use Rattle.run.proofs.run.Statement.{statement}
-use Rattle.run.proofs.run.Tie as tie
+use Rattle.input_script.proofs.run_under.Statement.{statement}
+use Rattle.input_script.proofs.run_under.Tie as tie
 
 slice-aggregate-run-script : tie.Need-slice-aggregate-run-script
 slice-aggregate-run-script c = sym (length-replicate {A = ℕ} 23424 0)
@@ -27,8 +27,8 @@ run-script-requires c κs = search needs
 returns : tie.Need-returns
 returns c = search needs
 
-pub run-spec : {M : Type 1} → statement M
-run-spec =
+pub run-under-spec : {M : Type 1} → statement M
+run-under-spec =
     tie.close
     (tie.spec
     slice-aggregate-run-script
