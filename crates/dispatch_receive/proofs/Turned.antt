@@ -21,10 +21,11 @@ use Rattle.entry_receive.specs.declared.Answer.the-variants.{Done}
 use Rattle.entry_receive.specs.Answer.{isDone}
 use Rattle.entry_receive.specs.declared.SegmentTaken.{SegmentTaken}
 use Rattle.entry_receive.specs.Segment.{Takes, segmentAnswer}
-use Rattle.entry_receive.proofs.Answers.{Clear, done-clear, clear-laid}
+use Rattle.entry_receive.proofs.Answers.{Clear, done-clear}
 use Rattle.entry_receive.proofs.Past.{below-sixteen, passed-takes}
 use Rattle.entry_receive.proofs.Keeps.{in-range}
 use Rattle.gate.specs.Lent.{Lent, Loan, sizes, received}
+use Rattle.gate.proofs.Pass.{passed-laid}
 use Rattle.dispatch_receive.specs.declared.Turn.{Turn}
 use Rattle.dispatch_receive.specs.Segment.{Progress, takeAt, memoryAt, bytesAt, allTakes, answerRoom}
 use Rattle.dispatch_receive.specs.Turn.{memoryFrom, turnBytes, takeTurn, Goes, putBack, takenBytes, takesOf}
@@ -42,7 +43,12 @@ pub gate-open : {a : Answer} (l : Lent) (k : ℕ) → a ≡ segmentAnswer l k �
 gate-open l k e done =
     let d : isDone (segmentAnswer l k) ≡ true = ap isDone (sym e) ∙ done in
     let c : Clear l k (configOf (l .image) k .tcp) = done-clear l k (configOf (l .image) k .tcp) d in
-    record { clear = d; laid = clear-laid c; small = below-sixteen (l .image) (c .passed .table) k (c .there); there = in-range (l .state) k (c .receives) }
+    record {
+      clear = d;
+      laid = passed-laid l (c .passed);
+      small = below-sixteen (l .image) (c .passed .table) k (c .there);
+      there = in-range (l .state) k (c .receives);
+    }
 
 module _ (l : Loan) (k : ℕ) (segment : List ℕ) (out₀ : List ℕ) where
   abbrev image : List ℕ

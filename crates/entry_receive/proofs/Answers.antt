@@ -6,10 +6,9 @@ use native.Mathlib.Omega.{arith}
 use borrow.Author.Tests.{not-true, not-false}
 use Rattle.lists.proofs.Both.{impossible}
 use mathlib.Core.List.{List}
-use Rattle.table_layout.specs.Layout.{rowsOf, bodyOf, Laid}
+use Rattle.table_layout.specs.Layout.{rowsOf, bodyOf}
 use Rattle.table_layout.specs.declared.Kind.the-variants.{Group as Groups, Connection as Connections}
 use Rattle.table_rows.specs.Rules.{groupTcp, tcpIn}
-use Rattle.table.proofs.Facts.{accepted-laid}
 use Rattle.connection.specs.declared.Connection.{Connection}
 use Rattle.connection.specs.declared.Refusal.the-variants.{Denied}
 use Rattle.connection.specs.Connection.{isOnline}
@@ -96,13 +95,6 @@ module _ (l : Lent) (n : ℕ) (allowed : Bool) where
   unfolding judgedAnswer
   answer-is asked ea c ec a e =
       e ∙ ap₂ (λ (g : Gate) (x : Connection). answerPast g allowed x) ea ec ∙ past-is (gateAt l n) refl
-
--- past the gate the image is laid out
-pub clear-laid : {l : Lent} {n : ℕ} {allowed : Bool} → Clear l n allowed → Laid (l .image)
-clear-laid {l} k = accepted-laid (l .image) (k .passed .table)
-
-pub gate-laid : (l : Lent) (n : ℕ) (asked : Gate) → asked ≡ gateAt l n → asked ≡ Gated.Pass → Laid (l .image)
-gate-laid l n asked e p = accepted-laid (l .image) (gate-at-passed l n (sym e ∙ p) .0 .table)
 
 -- what the gate refuses is refused whatever the protocol: it may be asked for past the gate
 pub past-stream : (asked : Gate) (allows : Bool → Bool) (tcp : Bool) (c : Connection)

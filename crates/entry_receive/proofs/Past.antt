@@ -18,7 +18,7 @@ use Rattle.table_rows.specs.Rows.{routeRow, routeIn}
 use Rattle.table.specs.declared.TableAnswer.the-variants.{Accepted}
 use Rattle.table.specs.Table.{checkTable}
 use Rattle.table.specs.Accepts.{Accepts}
-use Rattle.table.proofs.Facts.{accepted-facts, accepted-laid}
+use Rattle.table.proofs.Facts.{accepted-facts}
 use Rattle.receive_part.specs.declared.Part.{Part}
 use Rattle.receive_part.specs.declared.Part.the-variants.{Header, Payload, Skip, Transfer}
 use Rattle.receive_part.specs.Part.{shaped}
@@ -30,6 +30,7 @@ use Rattle.receive_stream.specs.Stream.{lengthOf, Limits}
 use Rattle.gate.specs.Lent.{Lent, Loan, sizes}
 use Rattle.gate.specs.Sound.{routed, soundAt}
 use Rattle.gate.specs.Gate.{Passed}
+use Rattle.gate.proofs.Pass.{passed-laid}
 use Rattle.gate.proofs.Records.{row-sound, row-routed, record-at}
 use Rattle.state.specs.Memory.{stretch}
 use Rattle.entry_receive.specs.Segment.{Takes}
@@ -102,7 +103,7 @@ passed-takes l n passed there =
     let w : SoundPart (recordAt (l .state) n .part) = part-whole (sizes l) passed n there in
     let h : n < 16 = below-sixteen (l .image) (passed .table) n there in
     record {
-      laid = accepted-laid (l .image) (passed .table);
+      laid = passed-laid (sizes l) passed;
       small = h;
       room = passed .receive;
       fit = record { shape = w .shape; fits = w .fits; room = stretch-length n (l .rx) h (passed .receive); limits = limits (l .image) (passed .table) };

@@ -19,13 +19,14 @@ use Rattle.receive_datagram.specs.Datagram.{walkedOf}
 use Rattle.gate.specs.Lent.{Lent}
 use Rattle.gate.specs.declared.Gate.{Gate}
 use Rattle.gate.specs.Gate.{gateAt}
+use Rattle.gate.proofs.Pass.{passed-laid}
 use Rattle.entry_receive.specs.declared.Answer.{Answer}
 use Rattle.entry_receive.specs.declared.Answer.the-variants.{Done}
 use Rattle.entry_receive.specs.declared.DatagramWalked.{DatagramWalked}
 use Rattle.entry_receive.specs.declared.WalkStep.{WalkStep}
 use Rattle.entry_receive.specs.Answer.{isDone, answerPast, streamPast}
 use Rattle.entry_receive.specs.Walk.{countWalk, walkDrops, stepWalked, walkedAt, walkOn, noneWalked, walkAllowed, walkAnswer, walkOf}
-use Rattle.entry_receive.proofs.Answers.{Clear, done-clear, clear-laid, is-done, answer-is, past-stream}
+use Rattle.entry_receive.proofs.Answers.{Clear, done-clear, is-done, answer-is, past-stream}
 use Rattle.entry_receive.proofs.Past.{below-sixteen}
 
 -- A STEP: where nothing refuses it, the walk
@@ -66,7 +67,7 @@ module _ (l : Lent) (n : ℕ) (datagram : List ℕ) (place : ℕ) (c : Connectio
   cleared p = done-clear l n (walkAllowed (l .image) n datagram place) (ap isDone (sym ea) ∙ p)
 
   pub may-walk : isDone answer ≡ true → Laid (l .image)
-  may-walk p = clear-laid (cleared p)
+  may-walk p = passed-laid l (cleared p .passed)
 
   own : isDone answer ≡ true → c ≡ recordAt (l .state) n
   own p =

@@ -36,6 +36,7 @@ connection-there image a i h = a .there i (counted image a i h)
 pub ready-from : (image : List ℕ) → Accepts image → Ready image
 ready-from image a =
     record {
+      laid = a .laid;
       there = λ i h. omega (arith, connection-there image a i h, a .most Connections);
       sized = λ i h. a .sized (destinationOf image i .connection) (connection-there image a i h) .1;
       apart = λ i j l h. a .destinationsApart i j l (counted image a j h);

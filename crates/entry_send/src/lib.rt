@@ -67,7 +67,7 @@ pub fn take_waiting(
         }
         Gate::Pass => {
             let c = after.connections[n];
-            let config = state::config_of(image, n);
+            let config = state::config_laid(image, n);
             let waiting = send_waiting::waiting_of(tx, connection, c.used);
             let drained = send_waiting::take(c, config, waiting, out);
             let answer = drained.answer;

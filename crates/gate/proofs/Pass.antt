@@ -7,13 +7,13 @@ use mathlib.Core.List.{List}
 use lib.Dec.{eqb, ltb}
 use lib.ListN.{length}
 use borrow.Author.Tests.{eqb-true, eq-eqb, ltb-true, lt-ltb}
-use Rattle.table_layout.specs.Layout.{rowsOf}
+use Rattle.table_layout.specs.Layout.{rowsOf, Laid}
 use Rattle.table_layout.specs.declared.Kind.the-variants.{Connection as Connections}
 use Rattle.table.specs.declared.TableAnswer.{TableAnswer}
 use Rattle.table.specs.declared.TableAnswer.the-variants.{Accepted}
 use Rattle.table.specs.declared.TableAnswer.the-variants as Table
 use Rattle.table.specs.Table.{checkTable}
-use Rattle.table.proofs.Facts.{accepted-facts}
+use Rattle.table.proofs.Facts.{accepted-facts, accepted-laid}
 use Rattle.connection.specs.declared.Refusal.{Refusal}
 use Rattle.connection.specs.declared.Refusal.the-variants.{Memory, Unsound, Missing}
 use Rattle.lists.proofs.Both.{and-left, and-right}
@@ -84,6 +84,17 @@ module _ (l : Lent) where
   pub passed-gate-at : (n : ℕ) → Passed l → n < rowsOf (l .image) Connections → gateAt l n ≡ Pass
   unfolding gateAt
   passed-gate-at n p h = rw (passed-gate p, lt-ltb _ _ h)
+
+-- past the gate the image is laid out
+module _ (l : Lent) where
+  pub passed-laid : Passed l → Laid (l .image)
+  passed-laid p = accepted-laid (l .image) (p .table)
+
+  pub gate-laid : gateOf l ≡ Pass → Laid (l .image)
+  gate-laid p = passed-laid (gate-passed l p)
+
+  pub gate-at-laid : (n : ℕ) → gateAt l n ≡ Pass → Laid (l .image)
+  gate-at-laid n p = passed-laid (gate-at-passed l n p .0)
 
 -- either memory of another length: 11
 pub gate-memory : (image : List ℕ) (s : State) (rx tx : ℕ) → (not (eqb rx 23424) || not (eqb tx 23552)) ≡ true → Refused Memory ≡ gateOf (lent image s rx tx)

@@ -1,14 +1,15 @@
 // Which member of a group a source belongs to: one pass over the records, the best match first (both fields, the address, the port,
-// neither), then the lowest number. Every function is total.
+// neither), then the lowest number. Assumes of the table that it is laid out as its contents say: the gate has shown it.
 ghost use mathlib.Core.Path.{_≡_};
 ghost use Prim.Native.Nat.{_≤_, _<_};
+ghost use Rattle.table_layout.specs.Layout.{Laid};
 ghost use Rattle.select.specs.Choose as Is;
 use connection::Connection;
 use connection::Fields;
 use connection::Refusal;
 use connection::Remote;
 use state::State;
-use state::config_of;
+use state::config_laid;
 use table_layout::Kind;
 
 pub enum Chosen {
@@ -65,10 +66,11 @@ fn score(accept: bool, source: Remote, member: bool, c: Connection) -> u8
 }
 
 fn choose(image: &[u8], s: State, accept: bool, group: u8, source: Remote) -> Chosen
+    requires { ⌜ Laid (now image) ⌝ }
     ensures { λ r. ⌜ r ≡ Is.chosenIn (now (image .entry)) s accept group source ⌝ }
 {
     let rows = table_layout::rows_of(image, Kind::Connection);
-    let body = table_layout::body_of(image, Kind::Connection);
+    let body = table_layout::body_laid(image, Kind::Connection);
     let mut best: u8 = 0;
     let mut at: usize = 0;
     let mut i: usize = 0;
@@ -107,6 +109,7 @@ fn protocol_of(accept: bool) -> u8
 
 // A datagram (accept false) or an accept (accept true) for a group, from a source.
 pub fn arrive(image: &[u8], mut s: State, accept: bool, group: u8, source: Remote) -> Arrived
+    requires { ⌜ Laid (now image) ⌝ }
     ensures { λ r. ⌜ r ≡ Is.arriveOf (now (image .entry)) s accept group source ⌝ }
 {
     let groups = table_layout::rows_of(image, Kind::Group);
@@ -132,7 +135,7 @@ pub fn arrive(image: &[u8], mut s: State, accept: bool, group: u8, source: Remot
         },
         Chosen::At(k) => {
             let c = s.connections[k];
-            let config = config_of(image, k);
+            let config = config_laid(image, k);
             let met = c.met(config, source);
             s.connections[k] = met;
             Arrived {

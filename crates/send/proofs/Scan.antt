@@ -11,9 +11,11 @@ use Rattle.send_destination.specs.Destination.{lookOf}
 use Rattle.lists.specs.Search.{firstBad, every}
 use Rattle.lists.proofs.Both.{and-left, and-right, neither}
 use Rattle.lists.proofs.Search.{Searched, search-start, search-on, search-found, search-ended, GoodTo, pass-start, pass-on, pass-failed, every-at, every-all}
-use Rattle.table_rows.specs.declared.ConnectionRow.{ConnectionRow}
+use Rattle.table_layout.specs.Layout.{bodyOf}
+use Rattle.table_layout.specs.declared.Kind.the-variants.{Connection as Connections}
+use Rattle.table_rows.specs.declared.ConnectionBrief.{ConnectionBrief}
 use Rattle.table_rows.specs.declared.DestinationRow.{DestinationRow}
-use Rattle.table_rows.specs.Rows.{connectionOf, destinationOf}
+use Rattle.table_rows.specs.Rows.{briefIn, connectionOf, destinationOf}
 use Rattle.state.specs.declared.State.{State}
 use Rattle.state.specs.State.{recordAt}
 use Rattle.send.specs.declared.Transmission.the-variants.{Stored, NoDestination, SwitchedOff, RefusedAt}
@@ -131,11 +133,12 @@ module _ (image : List ℕ) (s : State) (pdu len i : ℕ) (d : DestinationRow) (
   unfolding lookAt
   look-other ne = sym (ap lookFrom e) ∙ rw (ne-eqb _ _ ne)
 
-  pub look-own : d .pdu ≡ pdu → (row : ConnectionRow) (found : ℕ) → row ≡ connectionOf image (d .connection)
+  pub look-own : d .pdu ≡ pdu → (connections : List ℕ) → connections ≡ bodyOf image Connections
+      → (row : ConnectionBrief) (found : ℕ) → row ≡ briefIn connections (d .connection)
       → found ≡ lookOf len (row .size) d (recordAt s (d .connection)) → found ≡ lookAt image s pdu len i
   unfolding lookAt
-  look-own same row found p q =
+  look-own same connections eb row found p q =
       q
-      ∙ ap (λ (r : ConnectionRow). lookOf len (r .size) d (recordAt s (d .connection))) p
+      ∙ ap (λ (r : ConnectionBrief). lookOf len (r .size) d (recordAt s (d .connection))) (p ∙ ap (λ (b : List ℕ). briefIn b (d .connection)) eb)
       ∙ sym (ap (λ (b : Bool). cond (not b) 5 (lookOf len (connectionOf image (d .connection) .size) d (recordAt s (d .connection)))) (eq-eqb _ _ same))
       ∙ ap lookFrom e

@@ -7,7 +7,7 @@ use mathlib.Core.List.{List}
 use lib.Dec.{eqb}
 use lib.ListN.{length}
 use Rattle.frame.specs.Frame.{frame}
-use Rattle.table_layout.specs.Layout.{rowBytes, bodyOf}
+use Rattle.table_layout.specs.Layout.{rowBytes, bodyOf, Laid}
 use Rattle.table_layout.specs.declared.Kind.the-variants.{Destination}
 use Rattle.lists.specs.Fold.{foldFrom}
 use Rattle.switches.specs.Switches.{isOn}
@@ -72,9 +72,10 @@ abbrev pub transmittedOf : List ℕ → State → ℕ → List ℕ → List ℕ 
 transmittedOf image s pdu payload tx =
     record { answer = checkOf image s pdu (length payload); state = transmitOf image s pdu payload tx .state }
 
--- what the store rests on, of the table: the numbers exist, the sizes are within a stretch, and no two destinations share PDU
--- and connection
+-- what check and store rest on, of the table: its bodies are there, the numbers exist, the sizes are within a stretch, and no two
+-- destinations share PDU and connection
 pub record Ready (image : List ℕ) : Type 0 where
+  pub laid : Laid image
   pub there : (i : ℕ) → i < destinations image → destinationOf image i .connection < 16
   pub sized : (i : ℕ) → i < destinations image → connectionOf image (destinationOf image i .connection) .size ≤ 1472
   pub apart : (i j : ℕ) → i < j → j < destinations image

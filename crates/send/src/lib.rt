@@ -71,7 +71,8 @@ fn check_all(image: &[u8], s: State, pdu: u16, len: usize) -> Transmission
     requires { ⌜ Ready (now image) ⌝ }
     ensures { λ r. ⌜ r ≡ checkOf (now (image .entry)) s pdu len ⌝ }
 {
-    let body = table_layout::body_of(image, Kind::Destination);
+    let body = table_layout::body_laid(image, Kind::Destination);
+    let connections = table_layout::body_laid(image, Kind::Connection);
     let n = body.len() / 16;
     let mut seen: u8 = 5;
     let mut i: usize = 0;
@@ -83,7 +84,7 @@ fn check_all(image: &[u8], s: State, pdu: u16, len: usize) -> Transmission
         let d = table_rows::destination_in(body, i);
         let k = d.connection as usize;
         let c = s.connections[k];
-        let row = table_rows::connection_row(image, k);
+        let row = table_rows::brief_in(connections, k);
         let found = send_destination::look(d, c, row.size, len);
         let refuses = !((found == 0) | ((found == 5) | (found == 6)));
         if refuses {
@@ -104,7 +105,7 @@ fn store_all(image: &[u8], s: State, tx: &mut [u8], pdu: u16, payload: &[u8]) ->
     ensures { λ r. ⌜ r ≡ storeAll (now (image .entry)) s pdu (now (payload .entry)) (now (tx .entry)) .state ⌝ }
     ensures { λ _. ⌜ now (tx .exit) ≡ storeAll (now (image .entry)) s pdu (now (payload .entry)) (now (tx .entry)) .memory ⌝ }
 {
-    let body = table_layout::body_of(image, Kind::Destination);
+    let body = table_layout::body_laid(image, Kind::Destination);
     let n = body.len() / 16;
     let mut next = s;
     let mut i: usize = 0;

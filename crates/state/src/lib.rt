@@ -1,6 +1,7 @@
 // Sixteen connection records and two drop counts in one state, by value; what the table says of a connection; the fresh
-// state. Every function is total.
+// state. Every function but `config_laid` is total.
 ghost use mathlib.Core.Path.{_≡_};
+ghost use Rattle.table_layout.specs.Layout.{Laid};
 ghost use Rattle.state.specs.State.{countOf, counted, droppedOf, withCount};
 ghost use Rattle.state.specs.Fresh.{configFrom, configIn, configOf, freshState, emptyState};
 use connection::Config;
@@ -9,8 +10,10 @@ use connection::Remote;
 use table_rows::ConnectionRow;
 use table_rows::GroupRow;
 use table_rows::connection_in;
+use table_rows::connection_laid;
 use table_rows::connection_row;
 use table_rows::group_in;
+use table_rows::group_laid;
 use table_rows::group_row;
 
 pub struct State {
@@ -91,6 +94,16 @@ pub fn config_of(image: &[u8], i: usize) -> Config
 {
     let row = connection_row(image, i);
     let group = group_row(image, row.group as usize);
+    config_from(row, group)
+}
+
+// The same, of an image that is laid out as its contents say.
+pub fn config_laid(image: &[u8], i: usize) -> Config
+    requires { ⌜ Laid (now image) ⌝ }
+    ensures { λ r. ⌜ r ≡ configOf (now (image .entry)) i ⌝ }
+{
+    let row = connection_laid(image, i);
+    let group = group_laid(image, row.group as usize);
     config_from(row, group)
 }
 

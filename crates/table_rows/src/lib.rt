@@ -1,8 +1,8 @@
 // Rows of the table image: each kind's row as a value, read by its number, and each kind's rule as a test on a row's
-// bytes. Everything is total: a row that is not there is the zero row.
+// bytes. A row that is not there is the zero row. Everything is total but `group_laid` and `connection_laid`.
 ghost use mathlib.Core.Path.{_≡_};
 ghost use Rattle.wire.specs.Be.{be, Number};
-ghost use Rattle.table_layout.specs.Layout.{rowWidth};
+ghost use Rattle.table_layout.specs.Layout.{rowWidth, Laid};
 ghost use Rattle.table_rows.specs.Rows.{
   groupRow,
   connectionRow,
@@ -30,6 +30,7 @@ ghost use Rattle.table_rows.specs.Rules.{
   destinationsShare,
 };
 use table_layout::Kind;
+use table_layout::body_laid;
 use table_layout::body_of;
 use table_layout::row_bytes;
 use table_layout::row_in;
@@ -191,11 +192,22 @@ pub fn group_row(image: &[u8], i: usize) -> GroupRow
 pub fn connection_row(image: &[u8], i: usize) -> ConnectionRow
     ensures { λ r. ⌜ r ≡ connectionOf (now (image .entry)) i ⌝ }
 {
-    connection_value(row_in(
-        body_of(image, Kind::Connection),
-        row_bytes(image, Kind::Connection),
-        i,
-    ))
+    connection_in(body_of(image, Kind::Connection), i)
+}
+
+// The same two, of an image that is laid out as its contents say.
+pub fn group_laid(image: &[u8], i: usize) -> GroupRow
+    requires { ⌜ Laid (now image) ⌝ }
+    ensures { λ r. ⌜ r ≡ groupOf (now (image .entry)) i ⌝ }
+{
+    group_in(body_laid(image, Kind::Group), i)
+}
+
+pub fn connection_laid(image: &[u8], i: usize) -> ConnectionRow
+    requires { ⌜ Laid (now image) ⌝ }
+    ensures { λ r. ⌜ r ≡ connectionOf (now (image .entry)) i ⌝ }
+{
+    connection_in(body_laid(image, Kind::Connection), i)
 }
 
 // Of a body of routes.

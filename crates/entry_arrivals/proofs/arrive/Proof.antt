@@ -1,4 +1,6 @@
 -- `entry_arrivals::arrive` meets its contract.
+use mathlib.Core.Path.{sym, _∙_}
+use Rattle.gate.proofs.Pass.{gate-laid}
 use Rattle.entry_arrivals.specs.Arrivals.{arrivalOf}
 use borrow.Author.Needs.{needs}
 use Rattle.entry_arrivals.proofs.arrive.Statement.{statement}
@@ -14,7 +16,7 @@ enum-told : tie.Need-enum-told
 enum-told c = search needs
 
 arrive-requires : tie.Need-arrive-requires
-arrive-requires c κs = search needs
+arrive-requires c κs = gate-laid _ (sym (c .before .before .ask .ensures) ∙ c .enum-told .given .1)
 
 returns : tie.Need-returns
 unfolding arrivalOf

@@ -1,9 +1,9 @@
 -- `entry_receive::segment_take` meets its contract.
 use Prim.Native.Nat.{_%_}
-use mathlib.Core.Path.{refl}
+use mathlib.Core.Path.{refl, sym, _∙_}
 use Rattle.state.specs.State.{recordAt}
 use Rattle.gate.specs.Lent.{loan, sizes}
-use Rattle.entry_receive.proofs.Answers.{gate-laid}
+use Rattle.gate.proofs.Pass.{gate-at-laid}
 use Rattle.entry_receive.proofs.Taking.{segment-answer, may-take, segment-is, memory-is}
 use borrow.Author.Needs.{needs}
 use Rattle.entry_receive.proofs.segment_take.Statement.{statement}
@@ -21,7 +21,7 @@ ask-at-requires c κs = search needs
 is-stream-requires : tie.Need-is-stream-requires
 is-stream-requires c κs =
     let a = c .before .before .before .before .before .before .before .args in
-    gate-laid (sizes (loan (a .image .now) (a .state) (a .rx .now) (a .tx .now))) (a .connection) (c .ask-at .result) (c .ask-at .ensures)
+    λ p. gate-at-laid (sizes (loan (a .image .now) (a .state) (a .rx .now) (a .tx .now))) (a .connection) (sym (c .ask-at .ensures) ∙ p)
 
 answer-past-requires : tie.Need-answer-past-requires
 answer-past-requires c κs = search needs

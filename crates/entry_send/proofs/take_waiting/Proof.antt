@@ -7,7 +7,7 @@ use denote.Ref.{now}
 use Rattle.state.specs.State.{recordAt}
 use Rattle.send_waiting.specs.Waiting.{outOf}
 use Rattle.entry_send.specs.Sending.{takenWaiting, takenOut}
-use Rattle.gate.proofs.Pass.{in-sixteen}
+use Rattle.gate.proofs.Pass.{in-sixteen, gate-at-laid}
 use Rattle.entry_send.proofs.Past.{taken-is, not-taken}
 use borrow.Author.Needs.{needs}
 use Rattle.entry_send.proofs.take_waiting.Statement.{statement}
@@ -32,8 +32,8 @@ mul-c c = search needs
 element-copy-out-c : tie.Need-element-copy-out-c
 element-copy-out-c c = small c
 
-config-of-requires : tie.Need-config-of-requires
-config-of-requires c κs = search needs
+config-laid-requires : tie.Need-config-laid-requires
+config-laid-requires c κs = gate-at-laid _ _ (sym (c .before .before .before .ask-at .ensures) ∙ c .before .enum-told .given .1)
 
 waiting-of-requires : tie.Need-waiting-of-requires
 waiting-of-requires c κs = search needs
@@ -60,7 +60,7 @@ returns-2 c =
     let g = t .before .before .before in
     let e = g .before .before in
     let a = e .before .before .before .before .before .before .before .before .args in (
-      rw (← e .before .before .ask-at .ensures, e .enum-told .given .1) (taken-is _ (a .state) _ _ _ _ (g .config-of .ensures) (t .take .ensures .0)),
+      rw (← e .before .before .ask-at .ensures, e .enum-told .given .1) (taken-is _ (a .state) _ _ _ _ (g .config-laid .ensures) (t .take .ensures .0)),
       rw (← e .before .before .ask-at .ensures, e .enum-told .given .1)
           (t .take .ensures .1 ∙ ap (λ (w : List ℕ). outOf (recordAt (a .state) (a .connection)) w (now (a .out))) (t .before .before .waiting-of .ensures .0)),
     )
@@ -75,7 +75,7 @@ take-waiting-spec =
     enum-told
     mul-c
     element-copy-out-c
-    config-of-requires
+    config-laid-requires
     waiting-of-requires
     take-requires
     mul-next

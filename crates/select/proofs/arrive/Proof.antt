@@ -31,7 +31,7 @@ returns-2 c =
     (k .before .before .before .group-row .ensures) _ (k .before .before .protocol-of .ensures) _ (k .has-wildcard .ensures) (c .if2 .taken)
 
 choose-requires : tie.Need-choose-requires
-choose-requires c κs = search needs
+choose-requires c κs = c .before .before .before .before .before .before .before .before .pre
 
 enum-told : tie.Need-enum-told
 enum-told c = search needs
@@ -49,8 +49,8 @@ mul-c c = omega (arith, small c)
 element-copy-out-c : tie.Need-element-copy-out-c
 element-copy-out-c c = small c
 
-config-of-requires : tie.Need-config-of-requires
-config-of-requires c κs = search needs
+config-laid-requires : tie.Need-config-laid-requires
+config-laid-requires c κs = c .before .before .before .before .before .before .before .before .before .before .before .before .before .pre
 
 met-requires : tie.Need-met-requires
 met-requires c κs = search needs
@@ -80,7 +80,7 @@ returns-4 c =
     let r = k .before .before .before .before .before in
     arrive-met _ _ _ _ _ _ (r .rows-of .ensures .0) (k .before .before .before .before .if1 .left) _ (k .before .before .before .group-row .ensures) _
     (k .before .before .protocol-of .ensures) _ (k .has-wildcard .ensures) (x .before .if2 .left) _
-    (x .choose .ensures) _ _ _ (m .chosen .given .1) (c .before .config-of .ensures) (c .met .ensures)
+    (x .choose .ensures) _ _ _ (m .chosen .given .1) (c .before .config-laid .ensures) (c .met .ensures)
 
 pub arrive-spec : {M : Type 1} → statement M
 arrive-spec =
@@ -97,7 +97,7 @@ arrive-spec =
     enum-known-chosen
     mul-c
     element-copy-out-c
-    config-of-requires
+    config-laid-requires
     met-requires
     mul-met
     element-set-from-met

@@ -23,8 +23,8 @@ abbrev μ-loop : tie.MeasureT-loop
 rows-of-requires : tie.Need-rows-of-requires Inv-loop μ-loop
 rows-of-requires c κs = search needs
 
-body-of-requires : tie.Need-body-of-requires Inv-loop μ-loop
-body-of-requires c κs = search needs
+body-laid-requires : tie.Need-body-laid-requires Inv-loop μ-loop
+body-laid-requires c κs = c .before .before .pre
 
 loop-holds : tie.Need-loop-holds Inv-loop μ-loop
 loop-holds c = fold-start _ _ _
@@ -44,7 +44,7 @@ loop-again c =
     let a = l .before .before .before .before .args in
     pass-no _ _ _ _ _ (l .loop .i) _ _ 0 (l .loop .inv) (omega arith)
     (score-out (now (a .image)) (a .t2) (a .accept) (a .group) (a .source) _ _ (l .loop .i) (l .before .before .rows-of .ensures .0)
-    (c .before .before .brief-in .ensures ∙ ap (λ (b : List ℕ). briefIn b (l .loop .i)) (l .before .body-of .ensures .0)) (not-true _ (c .if1 .taken)))
+    (c .before .before .brief-in .ensures ∙ ap (λ (b : List ℕ). briefIn b (l .loop .i)) (l .before .body-laid .ensures .0)) (not-true _ (c .if1 .taken)))
     (omega arith)
 
 mul-c : tie.Need-mul-c Inv-loop μ-loop
@@ -72,7 +72,7 @@ A c = L c .before .before .before .before
 scored : (c : tie.After-score Inv-loop μ-loop)
     → c .score .result ≡ scoreAt (now (A c .args .image)) (A c .args .t2) (A c .args .accept) (A c .args .group) (A c .args .source) (L c .loop .i)
 scored c = score-at _ (A c .args .t2) _ _ _ _ _ (L c .loop .i) _ (L c .before .before .rows-of .ensures .0)
-    (c .before .before .before .before .brief-in .ensures ∙ ap (λ (b : List ℕ). briefIn b (L c .loop .i)) (L c .before .body-of .ensures .0))
+    (c .before .before .before .before .brief-in .ensures ∙ ap (λ (b : List ℕ). briefIn b (L c .loop .i)) (L c .before .body-laid .ensures .0))
     (c .score .ensures)
 
 loop-again-2 : tie.Need-loop-again-2 Inv-loop μ-loop
@@ -100,7 +100,7 @@ choose-spec =
     Inv-loop
     μ-loop
     rows-of-requires
-    body-of-requires
+    body-laid-requires
     loop-holds
     brief-in-requires
     add-i

@@ -18,13 +18,16 @@ use Rattle.send.proofs.check_all.Statement.{statement}
 use Rattle.send.proofs.check_all.Tie as tie
 
 abbrev Inv-loop : tie.InvT-loop
-Inv-loop image pdu len s body n seen₀ i₀ seen i = Scanned (lookAt image s pdu len) (destinations image) i seen
+Inv-loop image pdu len s body connections n seen₀ i₀ seen i = Scanned (lookAt image s pdu len) (destinations image) i seen
 
 abbrev μ-loop : tie.MeasureT-loop
-μ-loop image pdu len s body n seen₀ i₀ seen i = n - i
+μ-loop image pdu len s body connections n seen₀ i₀ seen i = n - i
 
-body-of-requires : tie.Need-body-of-requires Inv-loop μ-loop
-body-of-requires c κs = search needs
+body-laid-requires : tie.Need-body-laid-requires Inv-loop μ-loop
+body-laid-requires c κs = c .before .pre .laid
+
+body-laid-requires-2 : tie.Need-body-laid-requires-2 Inv-loop μ-loop
+body-laid-requires-2 c κs = c .before .before .pre .laid
 
 loop-holds : tie.Need-loop-holds Inv-loop μ-loop
 loop-holds c = scan-start _ _
@@ -43,16 +46,16 @@ abbrev L : tie.In-loop Inv-loop μ-loop → tie.At-loop Inv-loop μ-loop
 L c = c .before
 
 abbrev S : tie.In-loop Inv-loop μ-loop → tie.Start Inv-loop μ-loop
-S c = L c .before .before .before
+S c = L c .before .before .before .before
 
 -- row i of the body is the image's
 there : (c : tie.In-loop Inv-loop μ-loop)
-    → destinationIn (now (L c .before .body-of .result)) (L c .loop .i) ≡ destinationOf (now (S c .args .image)) (L c .loop .i)
-there c = ap (λ (b : List ℕ). destinationIn b (L c .loop .i)) (L c .before .body-of .ensures .0)
+    → destinationIn (now (L c .before .before .body-laid .result)) (L c .loop .i) ≡ destinationOf (now (S c .args .image)) (L c .loop .i)
+there c = ap (λ (b : List ℕ). destinationIn b (L c .loop .i)) (L c .before .before .body-laid .ensures .0)
 
 inside : (c : tie.In-loop Inv-loop μ-loop) → L c .loop .i < destinations (now (S c .args .image))
 inside c =
-    let e = ap (λ (b : List ℕ). length b / 16) (L c .before .body-of .ensures .0) in
+    let e = ap (λ (b : List ℕ). length b / 16) (L c .before .before .body-laid .ensures .0) in
     rw e at (c .loop-test .taken)
 
 loop-again : tie.Need-loop-again Inv-loop μ-loop
@@ -85,8 +88,8 @@ element-copy-out-c c =
     let k = c .before in
     rw (row k) (S (T k) .pre .there (L (T k) .loop .i) (inside (T k)))
 
-connection-row-requires : tie.Need-connection-row-requires Inv-loop μ-loop
-connection-row-requires c κs = search needs
+brief-in-requires : tie.Need-brief-in-requires Inv-loop μ-loop
+brief-in-requires c κs = search needs
 
 look-requires : tie.Need-look-requires Inv-loop μ-loop
 look-requires c κs = search needs
@@ -96,7 +99,7 @@ said : (c : tie.After-look Inv-loop μ-loop) → let k = c .before .before .befo
     c .look .result ≡ lookAt (now (S (T k) .args .image)) (S (T k) .args .t2) (S (T k) .args .pdu) (S (T k) .args .len) (L (T k) .loop .i)
 said c =
     let k = c .before .before .before .before in
-    look-own _ _ _ _ (L (T k) .loop .i) _ (row k) (own k) _ _ (c .before .connection-row .ensures) (c .look .ensures)
+    look-own _ _ _ _ (L (T k) .loop .i) _ (row k) (own k) _ (L (T k) .before .body-laid2 .ensures .0) _ _ (c .before .brief-in .ensures) (c .look .ensures)
 
 returns : tie.Need-returns Inv-loop μ-loop
 unfolding checkOf
@@ -131,7 +134,7 @@ returns-2 : tie.Need-returns-2 Inv-loop μ-loop
 unfolding checkOf
 returns-2 c =
     let l = c .before .before in
-    let e = ap (λ (b : List ℕ). length b / 16) (l .before .body-of .ensures .0) in
+    let e = ap (λ (b : List ℕ). length b / 16) (l .before .before .body-laid .ensures .0) in
     c .outcome .ensures ∙ scan-ended _ _ (l .loop .i) _ (l .loop .inv) (rw e at (c .before .loop-test .left))
 
 pub check-all-spec : {M : Type 1} → statement M
@@ -140,7 +143,8 @@ check-all-spec =
     (tie.spec
     Inv-loop
     μ-loop
-    body-of-requires
+    body-laid-requires
+    body-laid-requires-2
     loop-holds
     is-for-requires
     add-i
@@ -150,7 +154,7 @@ check-all-spec =
     cast-k
     mul-c
     element-copy-out-c
-    connection-row-requires
+    brief-in-requires
     look-requires
     returns
     join-requires

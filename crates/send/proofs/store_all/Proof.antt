@@ -26,8 +26,8 @@ Inv-loop image tx₀ pdu payload body n next₀ i₀ tx next i = Storing image n
 abbrev μ-loop : tie.MeasureT-loop
 μ-loop image tx₀ pdu payload body n next₀ i₀ tx next i = n - i
 
-body-of-requires : tie.Need-body-of-requires Inv-loop μ-loop
-body-of-requires c κs = search needs
+body-laid-requires : tie.Need-body-laid-requires Inv-loop μ-loop
+body-laid-requires c κs = c .before .before .before .pre .0 .laid
 
 loop-holds : tie.Need-loop-holds Inv-loop μ-loop
 loop-holds c = store-start _ _ _ _ _
@@ -54,12 +54,12 @@ S c = L c .before .before .before .before .before
 
 -- row i of the body is the image's
 there : (c : tie.In-loop Inv-loop μ-loop)
-    → destinationIn (now (L c .before .body-of .result)) (L c .loop .i) ≡ destinationOf (now (S c .args .image)) (L c .loop .i)
-there c = ap (λ (b : List ℕ). destinationIn b (L c .loop .i)) (L c .before .body-of .ensures .0)
+    → destinationIn (now (L c .before .body-laid .result)) (L c .loop .i) ≡ destinationOf (now (S c .args .image)) (L c .loop .i)
+there c = ap (λ (b : List ℕ). destinationIn b (L c .loop .i)) (L c .before .body-laid .ensures .0)
 
 inside : (c : tie.In-loop Inv-loop μ-loop) → L c .loop .i < destinations (now (S c .args .image))
 inside c =
-    let e = ap (λ (b : List ℕ). length b / 16) (L c .before .body-of .ensures .0) in
+    let e = ap (λ (b : List ℕ). length b / 16) (L c .before .body-laid .ensures .0) in
     rw e at (c .loop-test .taken)
 
 loop-again : tie.Need-loop-again Inv-loop μ-loop
@@ -181,7 +181,7 @@ same-length c = c .before .loop .inv .long
 returns : tie.Need-returns Inv-loop μ-loop
 returns c =
     let l = c .before in
-    let e = ap (λ (b : List ℕ). length b / 16) (l .before .body-of .ensures .0) in
+    let e = ap (λ (b : List ℕ). length b / 16) (l .before .body-laid .ensures .0) in
     let w = store-end _ _ _ _ _ _ _ (l .loop .i) (l .loop .inv) (rw e at (c .loop-test .left)) in
     (ap (λ (x : Sending). x .state) w, ap (λ (x : Sending). x .memory) w)
 
@@ -191,7 +191,7 @@ store-all-spec =
     (tie.spec
     Inv-loop
     μ-loop
-    body-of-requires
+    body-laid-requires
     loop-holds
     is-for-requires
     add-i
