@@ -9,7 +9,7 @@ use receive_datagram::walk;
 use table::TableAnswer;
 use table::check_table;
 use table_layout::Kind;
-use table_layout::body_of;
+use table_layout::body_laid;
 use table_layout::rows_of;
 use table_rows::is_tcp;
 
@@ -74,15 +74,15 @@ fn walk_accepted(
     if rows_of(image, Kind::Connection) <= connection {
         return TableWalk::Refused(2);
     }
-    let connections = body_of(image, Kind::Connection);
-    let groups = body_of(image, Kind::Group);
+    let connections = body_laid(image, Kind::Connection);
+    let groups = body_laid(image, Kind::Group);
     if is_tcp(connections, groups, connection) {
         return TableWalk::Refused(3);
     }
     if datagram.len() < place {
         return TableWalk::Refused(3);
     }
-    let routes = body_of(image, Kind::Route);
+    let routes = body_laid(image, Kind::Route);
     TableWalk::Step(walk(datagram, place, routes, connection as u8, switches))
 }
 

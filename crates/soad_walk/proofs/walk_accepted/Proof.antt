@@ -14,11 +14,11 @@ returns c =
     let a = c .before .before .before .before .args in
     not-there (a .image .now) (a .connection) (a .switches) (a .datagram .now) (a .place) _ (c .before .rows-of .ensures .0) (c .if1 .taken)
 
-body-of-requires : tie.Need-body-of-requires
-body-of-requires c κs = search needs
+body-laid-requires : tie.Need-body-laid-requires
+body-laid-requires c κs = c .before .before .before .before .pre .laid
 
-body-of-requires-2 : tie.Need-body-of-requires-2
-body-of-requires-2 c κs = search needs
+body-laid-requires-2 : tie.Need-body-laid-requires-2
+body-laid-requires-2 c κs = c .before .before .before .before .before .pre .laid
 
 is-tcp-requires : tie.Need-is-tcp-requires
 is-tcp-requires c κs = search needs
@@ -30,7 +30,7 @@ returns-2 c =
     let n = f .before in
     let a = n .before .before .before .args in
     a-tcp (a .image .now) (a .connection) (a .switches) (a .datagram .now) (a .place) _ (n .rows-of .ensures .0) (f .if1 .left) _
-    (tcp-is _ _ _ _ _ (t .before .before .body-of .ensures .0) (t .before .body-of2 .ensures .0) (t .is-tcp .ensures)) (c .if2 .taken)
+    (tcp-is _ _ _ _ _ (t .before .before .body-laid .ensures .0) (t .before .body-laid2 .ensures .0) (t .is-tcp .ensures)) (c .if2 .taken)
 
 returns-3 : tie.Need-returns-3
 returns-3 c =
@@ -39,10 +39,11 @@ returns-3 c =
     let n = f .before in
     let a = n .before .before .before .args in
     past-the-end (a .image .now) (a .connection) (a .switches) (a .datagram .now) (a .place) _ (n .rows-of .ensures .0) (f .if1 .left) _
-    (tcp-is _ _ _ _ _ (t .before .before .body-of .ensures .0) (t .before .body-of2 .ensures .0) (t .is-tcp .ensures)) (c .before .if2 .left) (c .if3 .taken)
+    (tcp-is _ _ _ _ _ (t .before .before .body-laid .ensures .0) (t .before .body-laid2 .ensures .0) (t .is-tcp .ensures))
+    (c .before .if2 .left) (c .if3 .taken)
 
-body-of-requires-3 : tie.Need-body-of-requires-3
-body-of-requires-3 c κs = search needs
+body-laid-requires-3 : tie.Need-body-laid-requires-3
+body-laid-requires-3 c κs = c .before .before .before .before .before .before .before .before .before .pre .laid
 
 cast-walk : tie.Need-cast-walk
 cast-walk c =
@@ -61,8 +62,8 @@ returns-4 c =
     let n = f .before in
     let a = n .before .before .before .args in
     a-step (a .image .now) (a .connection) (a .switches) (a .datagram .now) (a .place) _ (n .rows-of .ensures .0) (f .if1 .left) _
-    (tcp-is _ _ _ _ _ (t .before .before .body-of .ensures .0) (t .before .body-of2 .ensures .0) (t .is-tcp .ensures))
-    (b .before .before .if2 .left) (b .before .if3 .left) _ _ (b .body-of3 .ensures .0) (c .walk .ensures)
+    (tcp-is _ _ _ _ _ (t .before .before .body-laid .ensures .0) (t .before .body-laid2 .ensures .0) (t .is-tcp .ensures))
+    (b .before .before .if2 .left) (b .before .if3 .left) _ _ (b .body-laid3 .ensures .0) (c .walk .ensures)
 
 pub walk-accepted-spec : {M : Type 1} → statement M
 walk-accepted-spec =
@@ -70,12 +71,12 @@ walk-accepted-spec =
     (tie.spec
     rows-of-requires
     returns
-    body-of-requires
-    body-of-requires-2
+    body-laid-requires
+    body-laid-requires-2
     is-tcp-requires
     returns-2
     returns-3
-    body-of-requires-3
+    body-laid-requires-3
     cast-walk
     walk-requires
     returns-4)
