@@ -1,7 +1,7 @@
 -- A datagram and an accept, as the code has them: the answer is found first, and then the record put back at its place.
 use Prim.Native.Nat.{ℕ}
-use mathlib.Core.Path.{_≡_, refl, sym, ap, ap₂, _∙_, subst}
-use mathlib.Core.Bool.{Bool, true, false}
+use mathlib.Core.Path.{_≡_, refl, sym, ap, _∙_}
+use mathlib.Core.Bool.{Bool, true}
 use native.Mathlib.Omega.{arith}
 use Rattle.table_layout.specs.Layout.{Laid}
 use Rattle.connection.specs.declared.Connection.{Connection}
@@ -15,7 +15,7 @@ use Rattle.gate.proofs.Pass.{gate-laid}
 use Rattle.select.specs.declared.Arrival.{Arrival}
 use Rattle.select.specs.declared.Arrival.the-variants.{Refused}
 use Rattle.select.specs.declared.Arrived.{Arrived}
-use Rattle.select.specs.Choose.{isMet, placeOf, nextOf, arrivalRefused, arriveOf}
+use Rattle.select.specs.Choose.{isMet, metPlace, metNext, arrivalRefused, arriveOf}
 use Rattle.select.proofs.Arrivals.{landed, landed-refused, landed-is}
 use Rattle.entry_arrivals.specs.Arrivals.{arrivalOf}
 
@@ -38,12 +38,12 @@ module _ (l : Lent) (accept : Bool) (group : ℕ) (source : Remote) where
     met-laid p = gate-laid l (sym eg ∙ met-past asked (ap isMet (sym ea) ∙ p))
 
     -- THE EVENT
-    pub arrival-is : (k : ℕ) → k ≡ placeOf answer → (next : Connection) → next ≡ nextOf (l .image) source answer (recordAt (l .state) k)
+    pub arrival-is : (k : ℕ) → k ≡ metPlace answer → (next : Connection) → next ≡ metNext (l .image) source answer (recordAt (l .state) k)
         → _≡_ {A = Arrived} (record { answer = answer; state = withRecord k next (l .state) }) (arrivalOf l accept group source)
     unfolding arrivalOf
     arrival-is k ek next en =
         ap (λ (c : Connection). record { answer = answer; state = withRecord k c (l .state) }) en
         ∙ ap
-        (λ (n : ℕ). record { answer = answer; state = withRecord n (nextOf (l .image) source answer (recordAt (l .state) n)) (l .state) }) ek
+        (λ (n : ℕ). record { answer = answer; state = withRecord n (metNext (l .image) source answer (recordAt (l .state) n)) (l .state) }) ek
         ∙ ap (landed (l .image) (l .state) source) (ea ∙ ap past eg)
         ∙ at-gate (gateOf l)

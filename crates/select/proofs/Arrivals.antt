@@ -24,7 +24,7 @@ use Rattle.select.specs.declared.Chosen.the-variants.{Nobody, At}
 use Rattle.select.specs.declared.Arrival.{Arrival}
 use Rattle.select.specs.declared.Arrival.the-variants.{Met, Refused, Unmatched}
 use Rattle.select.specs.declared.Arrived.{Arrived}
-use Rattle.select.specs.Choose.{chosenIn, meet, arrivalRefused, protocolOf, deniedOf, arriveOf, placeOf, nextOf}
+use Rattle.select.specs.Choose.{chosenIn, meet, arrivalRefused, protocolOf, deniedOf, arriveOf, metPlace, metNext}
 use Rattle.select.proofs.Pass.{chosen-small}
 
 module _ (image : List ℕ) (s : State) (accept : Bool) (group : ℕ) (source : Remote) (groups : ℕ) (eg : groups ≡ rowsOf image Group) where
@@ -52,7 +52,7 @@ module _ (image : List ℕ) (s : State) (accept : Bool) (group : ℕ) (source : 
 
 -- THE RECORD PUT BACK at the place of the answer
 abbrev pub landed : List ℕ → State → Remote → Arrival → Arrived
-landed image s source a = record { answer = a; state = withRecord (placeOf a) (nextOf image source a (recordAt s (placeOf a))) s }
+landed image s source a = record { answer = a; state = withRecord (metPlace a) (metNext image source a (recordAt s (metPlace a))) s }
 
 module _ (image : List ℕ) (s : State) (source : Remote) where
   -- where the answer names no connection it is the record that stood there

@@ -87,16 +87,16 @@ isMet (Met k) = true
 isMet (Refused r) = false
 isMet Unmatched = false
 
--- THE SAME BY ITS ANSWER: the record that is replaced is that of the connection which the answer names; where it names none, record 0, by itself
-abbrev pub placeOf : Arrival → ℕ
-placeOf (Met k) = k % 16
-placeOf (Refused r) = 0
-placeOf Unmatched = 0
+-- the same, by the answer: which record is put back, that of the connection that the answer names, or record 0 as it was
+abbrev pub metPlace : Arrival → ℕ
+metPlace (Met k) = k % 16
+metPlace (Refused r) = 0
+metPlace Unmatched = 0
 
-abbrev pub nextOf : List ℕ → Remote → Arrival → Connection → Connection
-nextOf image source (Met k) c = metOf (configOf image k) source c
-nextOf image source (Refused r) c = c
-nextOf image source Unmatched c = c
+abbrev pub metNext : List ℕ → Remote → Arrival → Connection → Connection
+metNext image source (Met k) c = metOf (configOf image k) source c
+metNext image source (Refused r) c = c
+metNext image source Unmatched c = c
 
 -- R4.1: the number of an answer
 abbrev pub arrivalNumber : Arrival → ℕ

@@ -129,9 +129,9 @@ pub fn answer_of(image: &[u8], s: State, accept: bool, group: u8, source: Remote
     }
 }
 
-// Where the record that an answer replaces stands: record 0 where it names no connection, which stays as it is.
+// Which record an answer replaces: that of the connection that it names, or record 0, by itself.
 pub fn place_of(answer: Arrival) -> usize
-    ensures { λ r. ⌜ (r ≡ Is.placeOf answer) × (r < 16) ⌝ }
+    ensures { λ r. ⌜ (r ≡ Is.metPlace answer) × (r < 16) ⌝ }
 {
     match answer {
         Arrival::Met(k) => k as usize % 16,
@@ -140,10 +140,10 @@ pub fn place_of(answer: Arrival) -> usize
     }
 }
 
-// The record there afterwards.
+// That record afterwards.
 pub fn next_of(answer: Arrival, image: &[u8], c: Connection, source: Remote) -> Connection
     requires { ⌜ (Is.isMet answer ≡ true → Laid (now image)) ⌝ }
-    ensures { λ r. ⌜ r ≡ Is.nextOf (now (image .entry)) source answer c ⌝ }
+    ensures { λ r. ⌜ r ≡ Is.metNext (now (image .entry)) source answer c ⌝ }
 {
     match answer {
         Arrival::Met(k) => c.met(config_laid(image, k as usize), source),
