@@ -3,12 +3,28 @@
 ghost use mathlib.Core.Path.{_≡_};
 ghost use Rattle.entry_arrivals.specs.Arrivals.{arrivalOf, datagramOf, acceptOf};
 ghost use Rattle.gate.specs.Lent.{lent, lentBy};
+ghost use Rattle.gate.specs.Gate.{through};
+ghost use Rattle.select.specs.Choose.{arriveOf};
+ghost use Rattle.table_layout.specs.Layout.{Laid};
 use connection::Remote;
 use gate::Gate;
 use select::Arrival;
 use select::Arrived;
 use state::State;
 
+// The gate's refusal, or past the gate what the event is answered.
+fn past(asked: Gate, image: &[u8], state: State, accept: bool, group: u8, source: Remote) -> Arrival
+    requires { ⌜ (asked ≡ Gate.Pass → Laid (now image)) ⌝ }
+    ensures { λ r. ⌜ r ≡ through asked Arrival.Refused (arriveOf (now (image .entry)) state accept group source .answer) ⌝ }
+{
+    match asked {
+        Gate::Refused(reason) => Arrival::Refused(reason),
+        Gate::Pass => select::answer_of(image, state, accept, group, source),
+    }
+}
+
+// The state is taken apart once, into the copy that the gate is lent and the record is replaced in; where nobody is met the same record
+// is put back, so that there is one way out, and one copy.
 fn arrive(
     image: &[u8],
     state: State,
@@ -20,13 +36,21 @@ fn arrive(
 ) -> Arrived
     ensures { λ r. ⌜ r ≡ arrivalOf (lent (now (image .entry)) state rx tx) accept group source ⌝ }
 {
-    let asked = gate::ask(image, state, rx, tx);
-    match asked {
-        Gate::Refused(reason) => Arrived {
-            answer: Arrival::Refused(reason),
-            state: state,
-        },
-        Gate::Pass => select::arrive(image, state, accept, group, source),
+    let records = state.connections;
+    let mut after = State {
+        connections: records,
+        udp_drops: state.udp_drops,
+        tcp_drops: state.tcp_drops,
+    };
+    let asked = gate::ask(image, after, rx, tx);
+    let answer = past(asked, image, after, accept, group, source);
+    let k = select::place_of(answer);
+    let c = after.connections[k];
+    let next = select::next_of(answer, image, c, source);
+    after.connections[k] = next;
+    Arrived {
+        state: after,
+        answer: answer,
     }
 }
 

@@ -1,32 +1,36 @@
--- Each answer of an arrival, as the code gives it.
-use Prim.Native.Nat.{ℕ, _<_, _≤_}
-use mathlib.Core.Path.{_≡_, ap, ap₂, sym, _∙_}
-use mathlib.Core.Bool.{Bool, true, false, not, _||_}
+-- Each answer of an arrival, as the code gives it; and the state after it, of the answer alone.
+use Prim.Native.Nat.{ℕ, _%_, _<_, _≤_}
+use mathlib.Core.Path.{_≡_, refl, ap, ap₂, sym, _∙_}
+use mathlib.Core.Bool.{Bool, true, false, cond, not, _||_}
 use mathlib.Core.List.{List}
-use lib.Dec.{eqb}
+use native.Mathlib.Omega.{arith}
+use lib.Dec.{eqb, leb}
+use lib.Seq.{set-getD}
 use borrow.Author.Tests.{le-leb, lt-leb}
 use Rattle.table_layout.specs.Layout.{rowsOf}
 use Rattle.table_layout.specs.declared.Kind.the-variants.{Group}
 use Rattle.table_rows.specs.declared.GroupRow.{GroupRow}
 use Rattle.table_rows.specs.Rows.{groupOf}
 use Rattle.connection.specs.declared.Connection.{Connection}
-use Rattle.connection.specs.declared.Config.{Config}
 use Rattle.connection.specs.declared.Remote.{Remote}
+use Rattle.connection.specs.declared.Refusal.{Refusal}
 use Rattle.connection.specs.declared.Refusal.the-variants.{Missing, Denied}
-use Rattle.connection.specs.Connection.{wildcard, metOf}
+use Rattle.connection.specs.Connection.{zeroRecord, wildcard, metOf}
 use Rattle.state.specs.declared.State.{State}
-use Rattle.state.specs.State.{recordAt, withRecord}
+use Rattle.state.specs.State.{recordAt, withRecords, withRecord}
 use Rattle.state.specs.Fresh.{configOf}
 use Rattle.select.specs.declared.Chosen.{Chosen}
 use Rattle.select.specs.declared.Chosen.the-variants.{Nobody, At}
-use Rattle.select.specs.declared.Arrival.the-variants.{Met, Unmatched}
+use Rattle.select.specs.declared.Arrival.{Arrival}
+use Rattle.select.specs.declared.Arrival.the-variants.{Met, Refused, Unmatched}
 use Rattle.select.specs.declared.Arrived.{Arrived}
-use Rattle.select.specs.Choose.{chosenIn, meet, arrivalRefused, protocolOf, deniedOf, arriveOf}
+use Rattle.select.specs.Choose.{chosenIn, meet, arrivalRefused, protocolOf, deniedOf, arriveOf, metPlace, metNext}
+use Rattle.select.proofs.Pass.{chosen-small}
 
 module _ (image : List ℕ) (s : State) (accept : Bool) (group : ℕ) (source : Remote) (groups : ℕ) (eg : groups ≡ rowsOf image Group) where
-  pub arrive-missing : groups ≤ group → arrivalRefused s Missing ≡ arriveOf image s accept group source
+  pub answer-missing : groups ≤ group → Refused Missing ≡ arriveOf image s accept group source .answer
   unfolding arriveOf
-  arrive-missing h = rw (← eg, le-leb _ _ h)
+  answer-missing h = rw (← eg, le-leb _ _ h)
 
   module _ (there : group < groups) (row : GroupRow) (er : row ≡ groupOf image group) (protocol : ℕ) (ep : protocol ≡ protocolOf accept)
       (wild : Bool) (ew : wild ≡ wildcard source) where
@@ -36,20 +40,44 @@ module _ (image : List ℕ) (s : State) (accept : Bool) (group : ℕ) (source : 
         ap₂ (λ (r : GroupRow) (w : Bool). not (eqb (r .protocol) protocol) || w) er ew
         ∙ ap (λ (n : ℕ). not (eqb (groupOf image group .protocol) n) || wildcard source) ep
 
-    pub arrive-denied : (not (eqb (row .protocol) protocol) || wild) ≡ true → arrivalRefused s Denied ≡ arriveOf image s accept group source
+    pub answer-denied : (not (eqb (row .protocol) protocol) || wild) ≡ true → Refused Denied ≡ arriveOf image s accept group source .answer
     unfolding arriveOf
-    arrive-denied t = rw (← eg, lt-leb _ _ there, ← denied-is, t)
+    answer-denied t = rw (← eg, lt-leb _ _ there, ← denied-is, t)
 
-    module _ (t : (not (eqb (row .protocol) protocol) || wild) ≡ false) (x : Chosen) (ex : x ≡ chosenIn image s accept group source) where
-      past : meet image s source x ≡ arriveOf image s accept group source
-      unfolding arriveOf
-      past = rw (← eg, lt-leb _ _ there, ← denied-is, t, ex)
+    -- past both, the choice's
+    pub answer-chosen : (not (eqb (row .protocol) protocol) || wild) ≡ false → (x y : Chosen) → x ≡ chosenIn image s accept group source → x ≡ y
+        → meet image s source y .answer ≡ arriveOf image s accept group source .answer
+    unfolding arriveOf
+    answer-chosen t x y ex e = rw (← eg, lt-leb _ _ there, ← denied-is, t) (ap (λ (z : Chosen). meet image s source z .answer) (sym e ∙ ex))
 
-      pub arrive-nobody : x ≡ Nobody → _≡_ {A = Arrived} (record { answer = Unmatched; state = s }) (arriveOf image s accept group source)
-      arrive-nobody e = sym (ap (meet image s source) e) ∙ past
+-- THE RECORD PUT BACK at the place of the answer
+abbrev pub landed : List ℕ → State → Remote → Arrival → Arrived
+landed image s source a = record { answer = a; state = withRecord (metPlace a) (metNext image source a (recordAt s (metPlace a))) s }
 
-      pub arrive-met : (k : ℕ) (g : Config) (c : Connection) → x ≡ At k → g ≡ configOf image k → c ≡ metOf g source (recordAt s k)
-          → _≡_ {A = Arrived} (record { answer = Met k; state = withRecord k c s }) (arriveOf image s accept group source)
-      arrive-met k g c e f m =
-          ap (λ (d : Connection). record { answer = Met k; state = withRecord k d s }) (m ∙ ap (λ (h : Config). metOf h source (recordAt s k)) f)
-          ∙ sym (ap (meet image s source) e) ∙ past
+module _ (image : List ℕ) (s : State) (source : Remote) where
+  -- where the answer names no connection it is the record that stood there
+  pub landed-refused : (r : Refusal) → landed image s source (Refused r) ≡ arrivalRefused s r
+  landed-refused r = ap (λ (cs : List Connection). arrivalRefused (withRecords cs s) r) (set-getD (s .connections) 0 zeroRecord)
+
+  landed-meets : (x : Chosen) → ((k : ℕ) → x ≡ At k → k < 16) → landed image s source (meet image s source x .answer) ≡ meet image s source x
+  landed-meets Nobody h =
+      ap (λ (cs : List Connection). record { answer = Unmatched; state = withRecords cs s }) (set-getD (s .connections) 0 zeroRecord)
+  landed-meets (At k) h =
+      let small : k < 16 = h k refl in
+      let same : k % 16 ≡ k = omega arith in
+      ap (λ (n : ℕ). record { answer = Met k; state = withRecord n (metOf (configOf image k) source (recordAt s n)) s }) same
+
+  pub landed-is : (accept : Bool) (group : ℕ) → landed image s source (arriveOf image s accept group source .answer) ≡ arriveOf image s accept group source
+  unfolding arriveOf
+  landed-is accept group = go (leb (rowsOf image Group) group) (deniedOf image accept group source)
+    where
+      chosen : Arrived
+      chosen = meet image s source (chosenIn image s accept group source)
+
+      by : Bool → Bool → Arrived
+      by a b = cond a (arrivalRefused s Missing) (cond b (arrivalRefused s Denied) chosen)
+
+      go : (a b : Bool) → landed image s source (by a b .answer) ≡ by a b
+      go true b = landed-refused Missing
+      go false true = landed-refused Denied
+      go false false = landed-meets (chosenIn image s accept group source) (chosen-small image s accept group source)

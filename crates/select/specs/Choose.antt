@@ -1,5 +1,5 @@
 -- Which member of a group a source belongs to, and what becomes of it: R7.1 to R7.6 (requirement 00525 of the standard).
-use Prim.Native.Nat.{ℕ, _+_, _*_}
+use Prim.Native.Nat.{ℕ, _+_, _*_, _%_}
 use mathlib.Core.Bool.{Bool, true, false, cond, not, _&&_, _||_}
 use mathlib.Core.List.{List}
 use lib.Dec.{eqb, leb, ltb}
@@ -81,6 +81,22 @@ arriveOf image s accept group source =
     cond (leb (rowsOf image Group) group) (arrivalRefused s Missing)
     (cond (deniedOf image accept group source) (arrivalRefused s Denied)
     (meet image s source (chosenIn image s accept group source)))
+
+abbrev pub isMet : Arrival → Bool
+isMet (Met k) = true
+isMet (Refused r) = false
+isMet Unmatched = false
+
+-- the same, by the answer: which record is put back, that of the connection that the answer names, or record 0 as it was
+abbrev pub metPlace : Arrival → ℕ
+metPlace (Met k) = k % 16
+metPlace (Refused r) = 0
+metPlace Unmatched = 0
+
+abbrev pub metNext : List ℕ → Remote → Arrival → Connection → Connection
+metNext image source (Met k) c = metOf (configOf image k) source c
+metNext image source (Refused r) c = c
+metNext image source Unmatched c = c
 
 -- R4.1: the number of an answer
 abbrev pub arrivalNumber : Arrival → ℕ

@@ -1,6 +1,7 @@
 // Which member of a group a source belongs to: one pass over the records, the best match first (both fields, the address, the port,
 // neither), then the lowest number. Assumes of the table that it is laid out as its contents say: the gate has shown it.
 ghost use mathlib.Core.Path.{_≡_};
+ghost use mathlib.Core.Bool.{true};
 ghost use Prim.Native.Nat.{_≤_, _<_};
 ghost use Rattle.table_layout.specs.Layout.{Laid};
 ghost use Rattle.select.specs.Choose as Is;
@@ -107,41 +108,46 @@ fn protocol_of(accept: bool) -> u8
     1
 }
 
-// A datagram (accept false) or an accept (accept true) for a group, from a source.
-pub fn arrive(image: &[u8], mut s: State, accept: bool, group: u8, source: Remote) -> Arrived
+// What a datagram (accept false) or an accept (accept true) for a group, from a source, is answered.
+pub fn answer_of(image: &[u8], s: State, accept: bool, group: u8, source: Remote) -> Arrival
     requires { ⌜ Laid (now image) ⌝ }
-    ensures { λ r. ⌜ r ≡ Is.arriveOf (now (image .entry)) s accept group source ⌝ }
+    ensures { λ r. ⌜ r ≡ Is.arriveOf (now (image .entry)) s accept group source .answer ⌝ }
 {
     let groups = table_layout::rows_of(image, Kind::Group);
     if groups <= group as usize {
-        return Arrived {
-            answer: Arrival::Refused(Refusal::Missing),
-            state: s,
-        };
+        return Arrival::Refused(Refusal::Missing);
     }
     let row = table_rows::group_row(image, group as usize);
     let denied = !(row.protocol == protocol_of(accept)) | connection::has_wildcard(source);
     if denied {
-        return Arrived {
-            answer: Arrival::Refused(Refusal::Denied),
-            state: s,
-        };
+        return Arrival::Refused(Refusal::Denied);
     }
     let chosen = choose(image, s, accept, group, source);
     match chosen {
-        Chosen::Nobody => Arrived {
-            answer: Arrival::Unmatched,
-            state: s,
-        },
-        Chosen::At(k) => {
-            let c = s.connections[k];
-            let config = config_laid(image, k);
-            let met = c.met(config, source);
-            s.connections[k] = met;
-            Arrived {
-                answer: Arrival::Met(k as u8),
-                state: s,
-            }
-        }
+        Chosen::Nobody => Arrival::Unmatched,
+        Chosen::At(k) => Arrival::Met(k as u8),
+    }
+}
+
+// Which record an answer replaces: that of the connection that it names, or record 0, by itself.
+pub fn place_of(answer: Arrival) -> usize
+    ensures { λ r. ⌜ (r ≡ Is.metPlace answer) × (r < 16) ⌝ }
+{
+    match answer {
+        Arrival::Met(k) => k as usize % 16,
+        Arrival::Refused(_) => 0,
+        Arrival::Unmatched => 0,
+    }
+}
+
+// That record afterwards.
+pub fn next_of(answer: Arrival, image: &[u8], c: Connection, source: Remote) -> Connection
+    requires { ⌜ (Is.isMet answer ≡ true → Laid (now image)) ⌝ }
+    ensures { λ r. ⌜ r ≡ Is.metNext (now (image .entry)) source answer c ⌝ }
+{
+    match answer {
+        Arrival::Met(k) => c.met(config_laid(image, k as usize), source),
+        Arrival::Refused(_) => c,
+        Arrival::Unmatched => c,
     }
 }
