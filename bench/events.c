@@ -671,22 +671,29 @@ static void tick_many(struct record *c, struct config config, uint32_t count)
     c->timer = c->due ? 0 : (uint16_t)(c->timer - count);
 }
 
-size_t twin_ticks(const struct lent *lent, uint32_t count, uint8_t *out)
+uint32_t twin_many_ticks(const struct lent *lent, uint32_t count, uint16_t *failed)
 {
     struct layout table;
     uint32_t answer = ask(lent, &table);
-    uint16_t failed = 0;
+    *failed = 0;
     if (answer != 0)
-        return put_refusal(out, answer);
+        return answer;
     for (size_t i = 0; i < table.rows[CONNECTION]; i++) {
         struct record *c = &lent->state->connections[i];
         if (rests(c))
             continue;
         if (count > 0)
-            failed |= fails(c, i);
+            *failed |= fails(c, i);
         tick_many(c, config_of(&table, i), count);
     }
-    return (size_t)(put(out, failed, 4) - out);
+    return 0;
+}
+
+size_t twin_ticks(const struct lent *lent, uint32_t count, uint8_t *out)
+{
+    uint16_t failed;
+    uint32_t answer = twin_many_ticks(lent, count, &failed);
+    return answer != 0 ? put_refusal(out, answer) : (size_t)(put(out, failed, 4) - out);
 }
 
 /* The best member of a group of this protocol; one that is online counts or does not. */

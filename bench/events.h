@@ -74,6 +74,7 @@ uint32_t twin_take_waiting(const struct lent *lent, uint8_t connection, uint8_t 
                            struct remote *remote);
 /* The bit worth 2 to the k: a transfer on connection k failed. */
 uint32_t twin_tick(const struct lent *lent, uint16_t *failed);
+uint32_t twin_many_ticks(const struct lent *lent, uint32_t count, uint16_t *failed);
 /* Events with their answers written as docs/EVENTS.md has them; each gives the length of the answer. An out buffer has 16,384 bytes. */
 size_t twin_segment(const struct lent *lent, uint8_t connection, const uint8_t *segment, size_t length, uint8_t *out);
 size_t twin_ticks(const struct lent *lent, uint32_t count, uint8_t *out);

@@ -9,7 +9,8 @@
  * which leave the state as they find it (lost and connected; lost and accept; lost, set remote and connected; close, tick, open,
  * tick); idle: none of them; piece: a take of LENGTH bytes inside a transfer; begun: what it does besides the call; replay: the recording of ten
  * events, answers and all (shift.h); tally: the same, counted for the foreman's report;
- * wound: an event of LENGTH ticks before which every timer is started, under a table with alive limits; wind: what it does besides the call.
+ * wound: LENGTH ticks before which every timer is started, under a table with alive limits; wind: what it does besides the call;
+ * own-switch to own-close, own-ticks: what the words behind `own-` name, by calls of the entry points and not of the dispatcher.
  * With a `+` before it: under a state in which each connection holds bytes to send.
  */
 #include "image.h"
@@ -22,12 +23,14 @@ extern int strcmp(const char *one, const char *other);
 static const char *const names[] = {"nothing", "gate",    "take",  "cut",     "walk",    "transmit", "waiting", "tick", "datagram",
                                     "segment", "ticks",   "first", "middle",  "last",    "none",     "empty",   "emptied", "holding",
                                     "switch",  "all",     "clear", "lost",    "accept",  "remote",   "close",   "idle",
-                                    "replay",  "tally",   "piece", "begun",   "wound",   "wind"};
+                                    "replay",  "tally",   "piece", "begun",   "wound",   "wind",
+                                    "own-switch", "own-all", "own-clear", "own-lost", "own-accept", "own-remote", "own-close", "own-ticks"};
 enum {
     NOTHING, GATE, TAKE, CUT, WALK, TRANSMIT, WAITING, TICK, DATAGRAM, SEGMENT, TICKS, FIRST, MIDDLE, LAST, NONE, EMPTY, EMPTIED, HOLDING,
-    SWITCH, ALL, CLEAR, LOST, ACCEPT, REMOTE, CLOSE, IDLE, REPLAY, TALLY, PIECE, BEGUN, WOUND, WIND, WHATS
+    SWITCH, ALL, CLEAR, LOST, ACCEPT, REMOTE, CLOSE, IDLE, REPLAY, TALLY, PIECE, BEGUN, WOUND, WIND,
+    OWN_SWITCH, OWN_ALL, OWN_CLEAR, OWN_LOST, OWN_ACCEPT, OWN_REMOTE, OWN_CLOSE, OWN_TICKS, WHATS
 };
-static const uint8_t numbers[] = {0, 1, 2, 3, 4, 5, 6, 7, 8, 9, 9, 2, 2, 2, 10, 11, 69, 70, 12, 12, 12, 12, 12, 12, 12, 12, 13, 16, 14, 71, 15, 72};
+static const uint8_t numbers[] = {0, 1, 2, 3, 4, 5, 6, 7, 8, 9, 9, 2, 2, 2, 10, 11, 69, 70, 12, 12, 12, 12, 12, 12, 12, 12, 13, 16, 14, 71, 15, 72, 17, 18, 19, 20, 21, 22, 23, 24};
 enum { EVENT_TICKS = 0, EVENT_SEGMENT = 7, PDU_BYTES = 10, BUSY = 128 };
 
 static uint8_t head[16], bytes[2944];
@@ -52,7 +55,10 @@ static unsigned route_of(unsigned what, unsigned rows)
     case NONE:
         return rows;
     default:
-        return rows - (what == TAKE || what == CUT || what == SEGMENT || what == LOST || what == ACCEPT || what == REMOTE || what == PIECE || what == BEGUN ? 1 : 2);
+        return rows - (what == TAKE || what == CUT || what == SEGMENT || what == LOST || what == ACCEPT || what == REMOTE || what == PIECE || what == BEGUN ||
+                               (what >= OWN_LOST && what <= OWN_REMOTE)
+                           ? 1
+                           : 2);
     }
 }
 
@@ -139,9 +145,9 @@ int main(int count, char **words)
     }
     if (what == PIECE || what == BEGUN) /* its route is marked */
         image[36 + 2 * (2 * quarters) + 16 * (4 * quarters) + 16 * route + 1] = 1;
-    for (unsigned i = 0; what >= WOUND && i < 4 * quarters; i += 2) /* every other connection is UDP: alive limits that end one after the other */
+    for (unsigned i = 0; (what == WOUND || what == WIND) && i < 4 * quarters; i += 2) /* every other connection is UDP: alive limits that end one after the other */
         set(image + 36 + 2 * (2 * quarters) + 16 * i + 10, 30000 + 1000 * i, 2);
-    if (what == TICKS || what == WOUND)
+    if (what == TICKS || what == WOUND || what == OWN_TICKS)
         set(bytes, length, given = 4);
     if (what >= SWITCH && what <= IDLE)
         given = add_events(what, connection, connection % (2 * quarters));
@@ -149,7 +155,7 @@ int main(int count, char **words)
         given = make_shift(bytes, quarters);
     set(head, numbers[what] + (name != words[1] ? BUSY : 0), 1);
     set(head + 1, connection, 1);
-    set(head + 2, what == SEGMENT ? EVENT_SEGMENT : what == TICKS || what == WOUND ? EVENT_TICKS : what == PIECE || what == BEGUN ? route : 8 * quarters - 1, 2);
+    set(head + 2, what == SEGMENT ? EVENT_SEGMENT : what == TICKS ? EVENT_TICKS : what == PIECE || what == BEGUN ? route : 8 * quarters - 1, 2);
     set(head + 4, (uint64_t)atoi(words[4]), 4);
     set(head + 8, 36 + 2 * (2 * quarters) + 16 * (4 * quarters) + 9, 2); /* the first route's upper PDU */
     set(head + 10, length, 2);

@@ -119,6 +119,28 @@ static bool some_events(void)
     return done;
 }
 
+static bool accepted(uint8_t connection)
+{
+    const uint8_t *row = image + 36 + image[7] * 2 + connection * 16;
+    uint8_t met;
+    struct remote source = state.connections[connection].remote;
+    return twin_accept(&lent, row[0], source, &met) == 0 && met == connection;
+}
+
+static bool lost(uint8_t connection)
+{
+    bool failed;
+    return twin_lost(&lent, connection, &failed) == 0;
+}
+
+/* So many ticks, by the entry point. */
+static bool many_ticks(void)
+{
+    uint16_t failed;
+    uint32_t count = (uint32_t)bytes[0] << 24 | (uint32_t)bytes[1] << 16 | (uint32_t)bytes[2] << 8 | bytes[3];
+    return twin_many_ticks(&lent, count, &failed) == 0;
+}
+
 /* The call that a number names. */
 static bool once(size_t what, uint8_t connection, uint16_t pdu, uint16_t used)
 {
@@ -156,9 +178,25 @@ static bool once(size_t what, uint8_t connection, uint16_t pdu, uint16_t used)
         return piece(connection, (uint8_t)pdu);
     case 15:
         wind();
-        return dispatched(pdu, bytes);
+        return many_ticks();
     case 16:
         return tallied();
+    case 17:
+        return twin_switch(&lent, connection, 0, true) == 0;
+    case 18:
+        return twin_switch_all(&lent, 0, true) == 0;
+    case 19:
+        return twin_read_and_clear(&lent, 1, &value) == 0;
+    case 20:
+        return lost(connection) && twin_connected(&lent, connection) == 0;
+    case 21:
+        return lost(connection) && accepted(connection);
+    case 22:
+        return lost(connection) && twin_set_remote(&lent, connection, (struct remote){0x0A000001, 30490}) == 0 && twin_connected(&lent, connection) == 0;
+    case 23:
+        return twin_close(&lent, connection) == 0 && tick() && twin_open(&lent, connection) == 0 && tick();
+    case 24:
+        return many_ticks();
     case 69:
         hold(connection, 0);
         hold(connection + 1u, 0);

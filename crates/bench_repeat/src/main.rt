@@ -19,13 +19,17 @@
 //   what 12 up to four events through the dispatcher: the bytes are of each its number 2, the length of its body 2, and the body
 //   what 13 a replay of the bytes as a recording, each entry three ticks after the one before
 //   what 14 a take of the bytes inside a transfer of 4,294,967,295 bytes on the connection, on the route that the PDU's number names
-//   what 15 what 9 does, and before each call every connection is online with ten bytes to send, its timer at 65,535 ticks and its alive
-//           timer at its row's limit (the remotes of the table have no wildcard)
+//   what 15 so many ticks as the first four bytes say, and before each call every connection is online with ten bytes to send, its timer at
+//           65,535 ticks and its alive timer at its row's limit (the remotes of the table have no wildcard)
 //   what 16 what 13 does, each entry counted for the foreman's report
+//   what 17 a switch of the connection; 18 a switch on all connections; 19 a read of the UDP count that clears it
+//   what 20 lost and connected; 21 lost and accept; 22 lost, set remote and connected; 23 close, tick, open and tick: of the connection
+//   what 24 so many ticks as the first four bytes say
 //   what 69, 70, 71, 72  what 5, 6, 14 and 15 do besides the call
 // 128 more: under a state in which each connection holds ten bytes to send, half of them due, half with a timer that runs.
 // Last word: OK when every call did what it names, REFUSED when one did not, CUT when the input is not what it says.
 mod once;
+mod own;
 mod up;
 
 use input::read_part;

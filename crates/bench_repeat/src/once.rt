@@ -1,7 +1,7 @@
 // One call of an entry point, by what it is (main.rt lists them), with the state as the next call is to find it.
+use crate::own;
 use crate::up::wound;
 use connection::Answer;
-use connection::Remote;
 use entry_events::CountAnswer;
 use entry_receive::segment_take;
 use entry_receive::walk_datagram;
@@ -26,13 +26,13 @@ use report_count::Run;
 use report_count::begin;
 use report_count::count;
 use report_count::takes_in;
-use select::Arrival;
 use send::Transmission;
 use send_waiting::Taking;
 use send_waiting::waiting_of;
 use state::State;
 use wire::be8;
 use wire::be16;
+use wire::be32;
 
 // Whether the call did what it names, and the state for the next.
 pub struct Turn {
@@ -283,26 +283,6 @@ fn tick(image: &[u8], state: State, rx: &[u8], tx: &[u8]) -> Turn {
     }
 }
 
-fn arrive(image: &[u8], state: State, rx: &[u8], tx: &[u8], connection: u8) -> Turn {
-    let row = table_rows::connection_row(image, connection as usize);
-    let source = Remote {
-        address: row.address,
-        port: row.port,
-    };
-    let arrived = entry_arrivals::datagram(image, state, rx, tx, row.group, source);
-    let answer = arrived.answer;
-    let after = arrived.state;
-    let done = if let Arrival::Met(met) = answer {
-        met == connection
-    } else {
-        false
-    };
-    Turn {
-        done: done,
-        state: after,
-    }
-}
-
 // An event through the dispatcher, which writes its answer to the out buffer.
 fn dispatched(
     image: &[u8],
@@ -325,20 +305,6 @@ fn dispatched(
         done: whole & (be16(out, 0) == 0),
         state: after,
     }
-}
-
-// An event through the dispatcher, before which every timer is started.
-fn dispatched_wound(
-    image: &[u8],
-    state: State,
-    rx: &mut [u8],
-    tx: &mut [u8],
-    out: &mut [u8],
-    number: u16,
-    body: &[u8],
-) -> Turn {
-    let before = wound(image, state);
-    dispatched(image, before, rx, tx, out, number, body)
 }
 
 // The next event of some, each a number 2, a length 2 and a body, through the dispatcher; where none is left, nothing.
@@ -547,15 +513,23 @@ pub fn once(
         5 => transmit(image, state, rx, tx, connection, pdu, bytes),
         6 => take_waiting(image, state, rx, tx, out, connection, used),
         7 => tick(image, state, rx, tx),
-        8 => arrive(image, state, rx, tx, connection),
+        8 => own::arrive(image, state, rx, tx, connection),
         9 => dispatched(image, state, rx, tx, out, pdu, bytes),
         10 => take(image, state, rx, tx, connection, bytes, 2),
         11 => take(image, state, rx, tx, connection, front(bytes, 0), 0),
         12 => some_events(image, state, rx, tx, out, bytes),
         13 => replayed(image, state, rx, tx, out, bytes),
         14 => take_piece(image, state, rx, tx, connection, pdu, bytes),
-        15 => dispatched_wound(image, state, rx, tx, out, pdu, bytes),
+        15 => own::ticks_wound(image, state, rx, tx, be32(bytes, 0) as u32),
         16 => counted(image, state, rx, tx, out, bytes),
+        17 => own::switch(image, state, rx, tx, connection),
+        18 => own::switch_all(image, state, rx, tx),
+        19 => own::clear(image, state, rx, tx),
+        20 => own::lost(image, state, rx, tx, connection),
+        21 => own::accept(image, state, rx, tx, connection),
+        22 => own::set_remote(image, state, rx, tx, connection),
+        23 => own::close(image, state, rx, tx, connection),
+        24 => own::ticks(image, state, rx, tx, be32(bytes, 0) as u32),
         69 => Turn {
             done: true,
             state: emptied(state, connection as usize),

@@ -1,0 +1,179 @@
+// Calls of the entry points of arrivals, of record events, of switches, counts and many ticks, by what they are (main.rt lists them). Each
+// leaves a state that the next call of it may begin from.
+use crate::once::Turn;
+use crate::up::wound;
+use connection::Answer;
+use connection::Remote;
+use entry_events::CountAnswer;
+use select::Arrival;
+use state::State;
+use wire::be8;
+use wire::be16;
+use wire::be32;
+
+fn is_done(answer: Answer) -> bool {
+    if let Answer::Done = answer {
+        true
+    } else {
+        false
+    }
+}
+
+fn is_met(answer: Arrival, connection: u8) -> bool {
+    if let Arrival::Met(met) = answer {
+        met == connection
+    } else {
+        false
+    }
+}
+
+// Where the row of a connection begins.
+fn row_at(image: &[u8], connection: u8) -> usize {
+    36 + be8(image, 7) * 2 + connection as usize * 16
+}
+
+// The group of a connection, and its configured remote.
+fn group_of(image: &[u8], connection: u8) -> u8 {
+    be8(image, row_at(image, connection)) as u8
+}
+
+fn remote_of(image: &[u8], connection: u8) -> Remote {
+    let at = row_at(image, connection);
+    Remote {
+        address: be32(image, at + 2) as u32,
+        port: be16(image, at + 6) as u16,
+    }
+}
+
+pub fn arrive(image: &[u8], state: State, rx: &[u8], tx: &[u8], connection: u8) -> Turn {
+    let source = remote_of(image, connection);
+    let group = group_of(image, connection);
+    let arrived = entry_arrivals::datagram(image, state, rx, tx, group, source);
+    let answer = arrived.answer;
+    let after = arrived.state;
+    Turn {
+        done: is_met(answer, connection),
+        state: after,
+    }
+}
+
+pub fn switch(image: &[u8], state: State, rx: &[u8], tx: &[u8], connection: u8) -> Turn {
+    let told = entry_events::switch(image, state, rx, tx, connection, 0, true);
+    let answer = told.answer;
+    let after = told.state;
+    Turn {
+        done: is_done(answer),
+        state: after,
+    }
+}
+
+pub fn switch_all(image: &[u8], state: State, rx: &[u8], tx: &[u8]) -> Turn {
+    let told = entry_events::switch_all(image, state, rx, tx, 0, true);
+    let answer = told.answer;
+    let after = told.state;
+    Turn {
+        done: is_done(answer),
+        state: after,
+    }
+}
+
+pub fn clear(image: &[u8], state: State, rx: &[u8], tx: &[u8]) -> Turn {
+    let counted = entry_events::clear_count(image, state, rx, tx, 1);
+    let answer = counted.answer;
+    let after = counted.state;
+    let done = if let CountAnswer::Count(_) = answer {
+        true
+    } else {
+        false
+    };
+    Turn {
+        done: done,
+        state: after,
+    }
+}
+
+// Lost, and connected.
+pub fn lost(image: &[u8], state: State, rx: &[u8], tx: &[u8], connection: u8) -> Turn {
+    let first = entry_events::lost(image, state, rx, tx, connection);
+    let one = first.answer;
+    let between = first.state;
+    let second = entry_events::connected(image, between, rx, tx, connection);
+    let two = second.answer;
+    let after = second.state;
+    Turn {
+        done: is_done(one) & is_done(two),
+        state: after,
+    }
+}
+
+// Lost, and an accept from the configured remote.
+pub fn accept(image: &[u8], state: State, rx: &[u8], tx: &[u8], connection: u8) -> Turn {
+    let first = entry_events::lost(image, state, rx, tx, connection);
+    let one = first.answer;
+    let between = first.state;
+    let source = remote_of(image, connection);
+    let group = group_of(image, connection);
+    let second = entry_arrivals::accept(image, between, rx, tx, group, source);
+    let two = second.answer;
+    let after = second.state;
+    Turn {
+        done: is_done(one) & is_met(two, connection),
+        state: after,
+    }
+}
+
+// Lost, a remote set, and connected.
+pub fn set_remote(image: &[u8], state: State, rx: &[u8], tx: &[u8], connection: u8) -> Turn {
+    let source = Remote {
+        address: 167772161,
+        port: 30490,
+    };
+    let first = entry_events::lost(image, state, rx, tx, connection);
+    let one = first.answer;
+    let between = first.state;
+    let second = entry_events::set_remote(image, between, rx, tx, connection, source);
+    let two = second.answer;
+    let later = second.state;
+    let third = entry_events::connected(image, later, rx, tx, connection);
+    let three = third.answer;
+    let after = third.state;
+    Turn {
+        done: is_done(one) & is_done(two) & is_done(three),
+        state: after,
+    }
+}
+
+// Close, a tick, open, a tick.
+pub fn close(image: &[u8], state: State, rx: &[u8], tx: &[u8], connection: u8) -> Turn {
+    let first = entry_events::close(image, state, rx, tx, connection);
+    let one = first.answer;
+    let wanted = first.state;
+    let second = entry_ticks::tick(image, wanted, rx, tx);
+    let two = second.answer;
+    let closed = second.state;
+    let third = entry_events::open(image, closed, rx, tx, connection);
+    let three = third.answer;
+    let asked = third.state;
+    let fourth = entry_ticks::tick(image, asked, rx, tx);
+    let four = fourth.answer;
+    let after = fourth.state;
+    Turn {
+        done: is_done(one) & is_done(two) & is_done(three) & is_done(four),
+        state: after,
+    }
+}
+
+pub fn ticks(image: &[u8], state: State, rx: &[u8], tx: &[u8], count: u32) -> Turn {
+    let ticked = entry_ticks::ticks(image, state, rx, tx, count);
+    let answer = ticked.answer;
+    let after = ticked.state;
+    Turn {
+        done: is_done(answer),
+        state: after,
+    }
+}
+
+// Many ticks, before which every timer is started.
+pub fn ticks_wound(image: &[u8], state: State, rx: &[u8], tx: &[u8], count: u32) -> Turn {
+    ticks(image, wound(image, state), rx, tx, count)
+}
