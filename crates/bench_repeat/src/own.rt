@@ -5,6 +5,7 @@ use crate::up::wound;
 use connection::Answer;
 use connection::Remote;
 use entry_events::CountAnswer;
+use event_decode::bytes_from;
 use select::Arrival;
 use state::State;
 use wire::be8;
@@ -27,21 +28,21 @@ fn is_met(answer: Arrival, connection: u8) -> bool {
     }
 }
 
-// Where the row of a connection begins.
-fn row_at(image: &[u8], connection: u8) -> usize {
-    36 + be8(image, 7) * 2 + connection as usize * 16
+// The image from the row of a connection on.
+fn row_of(image: &[u8], connection: u8) -> &[u8] {
+    bytes_from(image, 36 + be8(image, 7) * 2 + connection as usize * 16)
 }
 
 // The group of a connection, and its configured remote.
 fn group_of(image: &[u8], connection: u8) -> u8 {
-    be8(image, row_at(image, connection)) as u8
+    be8(row_of(image, connection), 0) as u8
 }
 
 fn remote_of(image: &[u8], connection: u8) -> Remote {
-    let at = row_at(image, connection);
+    let row = row_of(image, connection);
     Remote {
-        address: be32(image, at + 2) as u32,
-        port: be16(image, at + 6) as u16,
+        address: be32(row, 2) as u32,
+        port: be16(row, 6) as u16,
     }
 }
 
