@@ -172,9 +172,9 @@ pub fn compare_scripts(part: &str, words: &Words) -> Outcome {
     let times = |kind: &str| met.get(kind).copied().unwrap_or(0);
     match part {
         "runs" => {
-            often_enough(runs::TO_MEET, words.count / 5, times)?;
-            often_enough(runs::ALSO_TO_MEET, words.count / 50, times)?;
-            often_enough(silences::ALSO_TO_MEET, words.count / 50, times)
+            often_enough(runs::TO_MEET, 100, times)?;
+            often_enough(runs::ALSO_TO_MEET, 10, times)?;
+            often_enough(silences::ALSO_TO_MEET, 10, times)
         }
         "selections" => floors(runs::HALVES_TO_MEET, times),
         "transfers" => floors(runs::TRANSFERS_TO_MEET, times),
