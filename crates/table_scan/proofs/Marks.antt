@@ -2,7 +2,7 @@
 use Prim.Native.Nat.{ℕ, _+_, _*_, _/_, _%_, _^_, _<_, _≤_}
 use mathlib.Core.Path.{_≡_, refl, sym, ap, _∙_}
 use mathlib.Core.Bool.{Bool, true, false, not}
-use mathlib.Core.List.{List}
+use mathlib.Core.List.{List, [], _∷_}
 use native.Mathlib.Omega.{arith}
 use native.Mathlib.Decide.{ℕ-discrete}
 use native.Mathlib.Nat.{div-lt-iff-lt-mul}
@@ -11,7 +11,8 @@ use lib.Dec.{eqb}
 use lib.ListN.{length, getD, set, length-set}
 use lib.Pow.{pow-pos}
 use lib.Seq.{getD-set-same, getD-set-other}
-use Rattle.wire.specs.Be.{byteAt, be, Number}
+use Rattle.wire.specs.Be.{byteAt, be, Number, turn}
+use Rattle.wire.proofs.Join.{turned-number}
 use Rattle.lists.specs.Search.{every, firstBad}
 use Rattle.lists.proofs.Both.{and-left, and-right, impossible}
 use Rattle.lists.proofs.Search.{every-all, search-start, search-ended}
@@ -38,6 +39,28 @@ module _ (shift n : ℕ) (wide : Wide shift n) where
   pub destination-in : (row : List ℕ) → destinationMark shift row < n
   unfolding destinationMark markOf
   destination-in row = mark-in _
+
+-- four bytes read one by one, the last the highest
+module _ (row : List ℕ) (a b d e : ℕ) (ha : Number 1 row 4 a) (hb : Number 1 row 5 b) (hd : Number 1 row 6 d) (he : Number 1 row 7 e) where
+  -- the turned number is that of the bytes in the other order
+  turned-four : Number 4 (e ∷ d ∷ b ∷ a ∷ []) 0 (turn (be 4 row 4))
+  unfolding be
+  turned-four =
+      let first : a ≡ 0 * 256 + byteAt row 4 = ha .is in
+      let second : b ≡ 0 * 256 + byteAt row 5 = hb .is in
+      let third : d ≡ 0 * 256 + byteAt row 6 = hd .is in
+      let fourth : e ≡ 0 * 256 + byteAt row 7 = he .is in
+      let four : be 4 row 4 ≡ (((0 * 256 + byteAt row 4) * 256 + byteAt row 5) * 256 + byteAt row 6) * 256 + byteAt row 7 = refl in
+      turned-number (record { is = omega arith; first = he .small; second = hd .small; third = hb .small; fourth = ha .small }) refl
+
+  pub four-turned : ((e * 256 + d) * 256 + b) * 256 + a ≡ turn (be 4 row 4)
+  unfolding be
+  four-turned =
+      let is : turn (be 4 row 4) ≡ (((0 * 256 + e) * 256 + d) * 256 + b) * 256 + a = turned-four .is in
+      omega arith
+
+  pub four-small : ((e * 256 + d) * 256 + b) * 256 + a < 4294967296
+  four-small = rw four-turned (turned-four .small)
 
 -- two bytes read one by one, the second the higher
 pub pair-turned : (row : List ℕ) (hi lo : ℕ) → Number 1 row 8 hi → Number 1 row 9 lo → lo * 256 + hi ≡ turnedPair (be 2 row 8)

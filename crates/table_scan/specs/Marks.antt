@@ -6,6 +6,7 @@ use mathlib.Core.Path.{_≡_}
 use mathlib.Core.Bool.{Bool, true}
 use mathlib.Core.List.{List}
 use lib.ListN.{length, getD}
+use Rattle.wire.specs.Be.{turn}
 use Rattle.lists.specs.Search.{badFrom}
 use Rattle.table_layout.specs.Layout.{rowWidth, rowIn}
 use Rattle.table_layout.specs.declared.Kind.{Kind}
@@ -16,10 +17,11 @@ use Rattle.table_scan.specs.Scan.{share, goodIn, badIn}
 unfoldable pub markOf : ℕ → ℕ → ℕ → ℕ
 markOf shift connection key = (key * 1640531527 + connection * 1879048192) % 4294967296 / 2 ^ shift
 
+-- the id is read with its bytes in the other order: so one load reads it
 unfoldable pub routeMark : ℕ → List ℕ → ℕ
-routeMark shift row = markOf shift (routeRow row .connection) (routeRow row .id)
+routeMark shift row = markOf shift (routeRow row .connection) (turn (routeRow row .id))
 
--- a number of two bytes with its bytes in the other order: so one load reads it
+-- a number of two bytes with its bytes in the other order: a PDU is read so
 abbrev pub turnedPair : ℕ → ℕ
 turnedPair x = x % 256 * 256 + x / 256
 

@@ -3,9 +3,10 @@
 ghost use mathlib.Core.Path.{_≡_};
 ghost use Prim.Native.Nat.{ℕ, _/_, _<_, _≤_};
 ghost use lib.ListN.{length};
+ghost use Rattle.wire.specs.Be.{turn};
 ghost use Rattle.lists.specs.Search.{every};
 ghost use Rattle.table_layout.specs.Layout.{rowWidth};
-ghost use Rattle.table_rows.specs.Rows.{destinationRow};
+ghost use Rattle.table_rows.specs.Rows.{routeRow, destinationRow};
 ghost use Rattle.table_rows.specs.Rules.{routeRule, destinationRule};
 ghost use Rattle.table_scan.specs.Scan.{share, clearIn, badGroup, badConnection, badRoute, badDestination, badRows};
 ghost use Rattle.table_scan.specs.Marks.{markOf, turnedPair, routeMark, destinationMark, Wide, Come, Struck};
@@ -18,7 +19,6 @@ use table_rows::owner_of;
 use table_rows::route_good;
 use table_rows::routes_share;
 use wire::be8;
-use wire::be32;
 
 // The first bad row of two kinds.
 pub struct BadRows {
@@ -99,11 +99,18 @@ fn mark_of(connection: usize, key: usize, shift: usize) -> usize
     (key * 1640531527 + connection * 1879048192) % 4294967296 >> shift
 }
 
+// The id's four bytes, the last the highest: of this form the compiler makes one load.
+fn turned_id(row: &[u8]) -> usize
+    ensures { λ r. ⌜ (r ≡ turn (routeRow (now (row .entry)) .id)) × (r < 4294967296) ⌝ }
+{
+    ((be8(row, 7) * 256 + be8(row, 6)) * 256 + be8(row, 5)) * 256 + be8(row, 4)
+}
+
 fn route_mark(row: &[u8], shift: usize) -> usize
     requires { ⌜ shift < 64 ⌝ }
     ensures { λ r. ⌜ r ≡ routeMark shift (now (row .entry)) ⌝ }
 {
-    mark_of(owner_of(row), be32(row, 4), shift)
+    mark_of(owner_of(row), turned_id(row), shift)
 }
 
 // The PDU's two bytes, the second the higher: of this form the compiler makes one load.

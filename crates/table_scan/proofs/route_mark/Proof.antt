@@ -8,8 +8,8 @@ use Rattle.table_scan.proofs.route_mark.Tie as tie
 owner-of-requires : tie.Need-owner-of-requires
 owner-of-requires c κs = search needs
 
-be32-requires : tie.Need-be32-requires
-be32-requires c κs = search needs
+turned-id-requires : tie.Need-turned-id-requires
+turned-id-requires c κs = search needs
 
 mark-of-requires : tie.Need-mark-of-requires
 mark-of-requires c κs = search needs
@@ -19,4 +19,4 @@ unfolding routeMark routeRow
 returns c = cc
 
 pub route-mark-spec : {M : Type 1} → statement M
-route-mark-spec = tie.close (tie.spec owner-of-requires be32-requires mark-of-requires returns)
+route-mark-spec = tie.close (tie.spec owner-of-requires turned-id-requires mark-of-requires returns)
