@@ -1,12 +1,14 @@
 -- The first bad row of a body is the first bad row of its kind, in an image that is laid out.
-use Prim.Native.Nat.{ℕ, _+_, _*_, _<_, _≤_}
-use mathlib.Core.Path.{_≡_, ap, _∙_}
+use Prim.Native.Nat.{ℕ, _+_, _*_, _/_, _<_, _≤_}
+use mathlib.Core.Path.{_≡_, sym, ap, _∙_}
 use mathlib.Core.List.{List}
 use native.Mathlib.Omega.{arith}
 use lib.Dec.{leb}
-use borrow.Author.Tests.{le-leb, lt-leb}
+use lib.ListN.{length}
+use borrow.Author.Tests.{le-leb, lt-leb, leb-true}
 use Rattle.lists.specs.Search.{firstBad}
-use Rattle.table_layout.specs.Layout.{rowBytes, rowsOf, startOf, rowAt, bodyOf, Laid}
+use Rattle.law_lists.proofs.First.{bad-most}
+use Rattle.table_layout.specs.Layout.{rowWidth, rowBytes, rowsOf, startOf, rowAt, bodyOf, Laid}
 use Rattle.table_layout.proofs.Parts.{body-rows}
 use Rattle.table_layout.specs.declared.Kind.{Kind}
 use Rattle.table_layout.specs.declared.Kind.the-variants.{Group, Connection, Route, Destination}
@@ -16,6 +18,7 @@ use Rattle.table_scan.specs.Scan.{badIn, badGroup, badConnection, badRoute, bad
 use Rattle.table.specs.Table.{groupTcpOf, tcpOf, sizeOf, rule, rowGood, demand, thenCheck, rowsPlace}
 use Rattle.table.specs.declared.TableAnswer.{TableAnswer}
 use Rattle.table.specs.declared.TableAnswer.the-variants.{Accepted, Refused}
+use Rattle.table.proofs.Answers.{demand-held}
 
 -- the place of row `bad`
 module _ (s : List ℕ) (k : Kind) (rows bad start size : ℕ) (er : rows ≡ rowsOf s k) where
@@ -69,6 +72,18 @@ module _ (s : List ℕ) (l : Laid s) (r : TableAnswer) (bad : ℕ) where
       ∙ ap (λ (x : List ℕ). badDestination x (bodyOf s Destination)) c
       ∙ ap (λ (n : ℕ). badIn (destinationGood n (sizeOf s)) Destination (bodyOf s Destination)) (body-rows s l Connection))
       f
+
+-- connections that are accepted: none is bad
+pub connections-none : (s : List ℕ) (l : Laid s) (body groups : List ℕ) (r : TableAnswer) (bad place : ℕ)
+    → body ≡ bodyOf s Connection → groups ≡ bodyOf s Group → bad ≡ badConnection groups body
+    → r ≡ demand (leb (rowsOf s Connection) bad) place → r ≡ Accepted
+    → badConnection (bodyOf s Group) (bodyOf s Connection) ≡ length (bodyOf s Connection) / rowWidth Connection
+connections-none s l body groups r bad place b g e f accepted =
+    let is : bad ≡ badConnection (bodyOf s Group) (bodyOf s Connection) =
+    e ∙ ap (badConnection groups) b ∙ ap (λ (x : List ℕ). badConnection x (bodyOf s Connection)) g in
+    let low : rowsOf s Connection ≤ bad = leb-true _ _ (demand-held (leb (rowsOf s Connection) bad) place (sym f ∙ accepted)) in
+    let most : badConnection (bodyOf s Group) (bodyOf s Connection) ≤ length (bodyOf s Connection) / rowWidth Connection = bad-most _ _ in
+    omega (arith, is, low, most, body-rows s l Connection)
 
 -- the last two kinds, by what one search gives
 pub last-places : (s : List ℕ) (l : Laid s) (routes destinations connections groups : List ℕ) (x : BadRows) (a b r : TableAnswer)

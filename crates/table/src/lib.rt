@@ -2,10 +2,13 @@
 // it occupies. Everything public is total.
 ghost use mathlib.Core.Path.{_≡_};
 ghost use mathlib.Core.List.{[]};
+ghost use Prim.Native.Nat.{_/_};
 ghost use lib.Dec.{leb};
+ghost use lib.ListN.{length};
 ghost use denote.Ref.{ptr};
 ghost use Rattle.wire.specs.Place.{behind};
-ghost use Rattle.table_layout.specs.Layout.{rowsOf, rowAt, bodyOf, bodyAt, Laid};
+ghost use Rattle.table_layout.specs.Layout.{rowWidth, rowsOf, rowAt, bodyOf, bodyAt, Laid};
+ghost use Rattle.table_scan.specs.Scan.{badConnection};
 ghost use Rattle.table.specs.Table.{
   headGood,
   entryGood,
@@ -109,8 +112,11 @@ fn place_of(image: &[u8], k: Kind, bad: usize) -> TableAnswer
     }
 }
 
+// Asked only where no connection is bad.
 fn after_connections(image: &[u8]) -> TableAnswer
     requires { ⌜ Laid (now image) ⌝ }
+    requires { ⌜ badConnection (bodyOf (now image) Kind.Group) (bodyOf (now image) Kind.Connection)
+        ≡ length (bodyOf (now image) Kind.Connection) / rowWidth Kind.Connection ⌝ }
     ensures { λ r. ⌜ r ≡ thenCheck (rowsPlace (now (image .entry)) Kind.Route) (rowsPlace (now (image .entry)) Kind.Destination) ⌝ }
 {
     let routes = body_laid(image, Kind::Route);

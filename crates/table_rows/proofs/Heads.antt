@@ -5,7 +5,7 @@ use mathlib.Core.Bool.{Bool, true, false, not, _&&_, _||_}
 use mathlib.Core.List.{List}
 use native.Mathlib.Nat.{pow-suc}
 use native.Mathlib.Omega.{arith}
-use native.Mathlib.Decide.{ℕ-discrete, decLe}
+use native.Mathlib.Decide.{decLe}
 use borrow.Author.Tests.{eq-eqb, ne-eqb, le-leb, lt-leb, lt-ltb, le-ltb}
 use lib.Arith.{digits-lt}
 use lib.Dec.{eqb, leb, ltb}
@@ -80,38 +80,15 @@ module _ (b l : ℕ) (a t z : Bool) (h : l < 65536) where
       let one : b ≡ 1 = omega arith in
       rw (le-leb b 1 (omega arith), eq-eqb b 1 one, le-leb l 1464 (omega arith)) (turned a t z)
 
--- "trigger 1 (0 or 1), longest payload 2"
-pub trigger-and-longest : (b l : ℕ) → l < 65536
-    → (leb (b * 65536 + l) 1464 || (leb 65536 (b * 65536 + l) && leb (b * 65536 + l) 67000)) ≡ (leb b 1 && leb l 1464)
-trigger-and-longest b l h = go (ℕ-discrete b 0) (ℕ-discrete b 1) (decLe l 1464)
+-- "trigger 1 (0 or 1), longest payload 2", and 8 more than it within a send size of at most 1,472
+pub trigger-and-longest : (b l z : ℕ) → l < 65536 → z ≤ 1472
+    → (ltb (b * 65536 + l) 131072 && leb (l + 8) z) ≡ (leb b 1 && leb l 1464 && leb (l + 8) z)
+trigger-and-longest b l z h k = go (decLe b 1) (decLe l 1464)
   where
-    go : Dec (b ≡ 0) → Dec (b ≡ 1) → Dec (l ≤ 1464)
-        → (leb (b * 65536 + l) 1464 || (leb 65536 (b * 65536 + l) && leb (b * 65536 + l) 67000)) ≡ (leb b 1 && leb l 1464)
-    go (yes e) p (yes q) = rw (le-leb (b * 65536 + l) 1464 (omega arith), le-leb b 1 (omega arith), le-leb l 1464 q)
-    go (yes e) p (no q) = rw
-        (lt-leb (b * 65536 + l) 1464 (omega arith), lt-leb 65536 (b * 65536 + l) (omega arith), le-leb b 1 (omega arith), lt-leb l 1464 (omega arith))
-    go (no n) (yes e) (yes q) =
-        rw (
-          lt-leb (b * 65536 + l) 1464 (omega arith),
-          le-leb 65536 (b * 65536 + l) (omega arith),
-          le-leb (b * 65536 + l) 67000 (omega arith),
-          le-leb b 1 (omega arith),
-          le-leb l 1464 q,
-        )
-    go (no n) (yes e) (no q) =
-        rw (
-          lt-leb (b * 65536 + l) 1464 (omega arith),
-          lt-leb (b * 65536 + l) 67000 (omega arith),
-          le-leb b 1 (omega arith),
-          lt-leb l 1464 (omega arith),
-          le-leb 65536 (b * 65536 + l) (omega arith),
-        )
-    go (no n) (no m) p = rw (
-      lt-leb (b * 65536 + l) 1464 (omega arith),
-      lt-leb (b * 65536 + l) 67000 (omega arith),
-      lt-leb b 1 (omega arith),
-      le-leb 65536 (b * 65536 + l) (omega arith),
-    )
+    go : Dec (b ≤ 1) → Dec (l ≤ 1464) → (ltb (b * 65536 + l) 131072 && leb (l + 8) z) ≡ (leb b 1 && leb l 1464 && leb (l + 8) z)
+    go (yes e) (yes q) = rw (lt-ltb (b * 65536 + l) 131072 (omega arith), le-leb b 1 e, le-leb l 1464 q)
+    go (yes e) (no q) = rw (lt-ltb (b * 65536 + l) 131072 (omega arith), le-leb b 1 e, lt-leb l 1464 (omega arith), lt-leb (l + 8) z (omega arith))
+    go (no n) p = rw (le-ltb (b * 65536 + l) 131072 (omega arith), lt-leb b 1 (omega arith))
 
 -- the rules by the numbers that the code reads
 module _ (s : List ℕ) (bytes : (i : ℕ) → byteAt s i < 256) (h : ℕ) (is : h ≡ be 4 s 0) where
@@ -157,12 +134,13 @@ module _ (s : List ℕ) (bytes : (i : ℕ) → byteAt s i < 256) (h : ℕ) (is :
         let g : n ≤ be 1 s 0 = rw (is, first-byte s bytes 0) at l in
         rw (le-ltb (be 1 s 0) n g)
 
-    pub destination-by-head : (owner : List ℕ) (size : ℕ) → h / 16777216 < n → owner ≡ rowIn 16 connections (h / 16777216) → size ≡ be 2 owner 8
-        → (leb (h % 16777216) 1464 || (leb 65536 (h % 16777216) && leb (h % 16777216) 67000))
-        && leb (h % 65536 + 8) size ≡ destinationGood n (sizeIn 16 connections) s
+    pub destination-by-head : (owner : List ℕ) (size : ℕ) → ((c : ℕ) → c < n → sizeIn 16 connections c ≤ 1472)
+        → h / 16777216 < n → owner ≡ rowIn 16 connections (h / 16777216) → size ≡ be 2 owner 8
+        → ltb (h % 16777216) 131072 && leb (h % 65536 + 8) size ≡ destinationGood n (sizeIn 16 connections) s
     unfolding destinationGood destinationRow sizeIn connectionRow
-    destination-by-head owner size l o z =
+    destination-by-head owner size sized l o z =
         let g : be 1 s 0 < n = rw (is, first-byte s bytes 0) at l in
         let w : size ≡ be 2 (rowIn 16 connections (be 1 s 0)) 8 =
         z ∙ ap (λ (x : List ℕ). be 2 x 8) o ∙ ap (λ (k : ℕ). be 2 (rowIn 16 connections k) 8) (ap (λ (x : ℕ). x / 16777216) is ∙ first-byte s bytes 0) in
-        rw (is, low-bytes s bytes 0, last-bytes s bytes 0, w, lt-ltb (be 1 s 0) n g, trigger-and-longest (be 1 s 1) (be 2 s 2) (be-small s bytes 2 2))
+        rw (is, low-bytes s bytes 0, last-bytes s bytes 0, w, lt-ltb (be 1 s 0) n g)
+        (trigger-and-longest (be 1 s 1) (be 2 s 2) (be 2 (rowIn 16 connections (be 1 s 0)) 8) (be-small s bytes 2 2) (sized (be 1 s 0) g))

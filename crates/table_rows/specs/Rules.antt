@@ -1,5 +1,5 @@
 -- When a row is good (R1.6): values in their ranges, zero bytes 0, and R1.7, R1.8, R1.9. Its fields are read as Rows reads them.
-use Prim.Native.Nat.{ℕ, _+_, _/_}
+use Prim.Native.Nat.{ℕ, _+_, _/_, _<_, _≤_}
 use mathlib.Core.Bool.{Bool, not, _&&_, _||_}
 use mathlib.Core.List.{List}
 use lib.Dec.{leb, ltb, eqb}
@@ -81,3 +81,7 @@ routeRule connections groups =
 -- a destination by itself, under a body of connections
 abbrev pub destinationRule : List ℕ → List ℕ → Bool
 destinationRule connections = destinationGood (length connections / rowWidth Connection) (sizeIn (rowWidth Connection) connections)
+
+-- each connection of a body has a send size of at most 1,472, as one has that is good by itself
+abbrev pub Sized : List ℕ → Type 0
+Sized connections = (c : ℕ) → c < length connections / rowWidth Connection → sizeIn (rowWidth Connection) connections c ≤ 1472

@@ -1,5 +1,6 @@
 // Rows of the table image: each kind's row as a value, read by its number, and each kind's rule as a test on a row's
-// bytes. A row that is not there is the zero row. Everything is total but `group_laid` and `connection_laid`.
+// bytes. A row that is not there is the zero row. Everything is total but `group_laid`, `connection_laid` and
+// `destination_good`.
 ghost use mathlib.Core.Path.{_≡_};
 ghost use Rattle.wire.specs.Be.{be, Number};
 ghost use Rattle.table_layout.specs.Layout.{rowWidth, Laid};
@@ -26,6 +27,7 @@ ghost use Rattle.table_rows.specs.Rules.{
   connectionRule,
   routeRule,
   destinationRule,
+  Sized,
   routesShare,
   destinationsShare,
 };
@@ -307,8 +309,10 @@ pub fn size_in(connections: &[u8], c: usize) -> usize
     be16(row_in(connections, 16, c), 8)
 }
 
-// The same, with the trigger in the place of the transfer mark.
+// The same, with the trigger in the place of the transfer mark. A longest payload that fits a send size with 8 more is at most 1,464,
+// and is not tested by itself.
 pub fn destination_good(row: &[u8], connections: &[u8]) -> bool
+    requires { ⌜ Sized (now connections) ⌝ }
     ensures { λ r. ⌜ r ≡ destinationRule (now (connections .entry)) (now (row .entry)) ⌝ }
 {
     let head = be32(row, 0);
@@ -319,8 +323,7 @@ pub fn destination_good(row: &[u8], connections: &[u8]) -> bool
     let at = connection * 16;
     let owner = &connections[at..at + 16];
     let low = head % 16777216;
-    let allowed = (low <= 1464) | ((65536 <= low) & (low <= 67000));
-    allowed & (head % 65536 + 8 <= be16(owner, 8))
+    (low < 131072) & (head % 65536 + 8 <= be16(owner, 8))
 }
 
 // ---- rows two by two

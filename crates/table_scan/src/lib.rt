@@ -7,7 +7,7 @@ ghost use Rattle.wire.specs.Be.{turn};
 ghost use Rattle.lists.specs.Search.{every};
 ghost use Rattle.table_layout.specs.Layout.{rowWidth};
 ghost use Rattle.table_rows.specs.Rows.{routeRow, destinationRow};
-ghost use Rattle.table_rows.specs.Rules.{routeRule, destinationRule};
+ghost use Rattle.table_rows.specs.Rules.{routeRule, destinationRule, Sized};
 ghost use Rattle.table_scan.specs.Scan.{share, clearIn, badGroup, badConnection, badRoute, badDestination, badRows};
 ghost use Rattle.table_scan.specs.Marks.{markOf, turnedPair, routeMark, destinationMark, Wide, Come, Struck};
 use table_layout::Kind;
@@ -198,6 +198,7 @@ fn next_destination<'a>(
     from: usize,
 ) -> usize
     requires { ⌜ shift < 64 ⌝ }
+    requires { ⌜ Sized (now connections) ⌝ }
     requires { ⌜ Come (destinationRule (now connections)) Kind.Destination (destinationMark shift) 2 (now body) (now seen) from ⌝ }
     ensures { λ r. ⌜ (from ≤ r)
         × Struck (destinationRule (now (connections .entry))) Kind.Destination (destinationMark shift) 2 (now (body .entry)) (now (seen .exit)) r ⌝ }
@@ -227,6 +228,7 @@ fn first_bad_destination<'a>(
     shift: usize,
 ) -> usize
     requires { ⌜ Wide shift (length (now seen)) ⌝ }
+    requires { ⌜ Sized (now connections) ⌝ }
     ensures { λ r. ⌜ r ≡ badDestination (now (connections .entry)) (now (body .entry)) ⌝ }
 {
     let n = body.len() / 16;
@@ -258,6 +260,7 @@ fn bad_rows<'a>(
     shift: usize,
 ) -> BadRows
     requires { ⌜ Wide shift (length (now seen)) ⌝ }
+    requires { ⌜ Sized (now connections) ⌝ }
     ensures { λ r. ⌜ r ≡ badRows (now (routes .entry)) (now (destinations .entry)) (now (connections .entry)) (now (groups .entry)) ⌝ }
 {
     let route = first_bad_route(routes, connections, groups, seen, shift);
@@ -268,13 +271,15 @@ fn bad_rows<'a>(
     }
 }
 
-// The same, with as many marks as the table wants: for at most 16 rows of each kind 256 will do, and they are cleared sooner.
+// The same, where no connection is bad, with as many marks as the table wants: for at most 16 rows of each kind 256 will do, and
+// they are cleared sooner.
 pub fn first_bad_rows<'a>(
     routes: &'a [u8],
     destinations: &'a [u8],
     connections: &'a [u8],
     groups: &'a [u8],
 ) -> BadRows
+    requires { ⌜ badConnection (now groups) (now connections) ≡ length (now connections) / rowWidth Kind.Connection ⌝ }
     ensures { λ r. ⌜ r ≡ badRows (now (routes .entry)) (now (destinations .entry)) (now (connections .entry)) (now (groups .entry)) ⌝ }
 {
     if (routes.len() <= 256) & (destinations.len() <= 256) {

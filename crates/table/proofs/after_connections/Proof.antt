@@ -17,7 +17,8 @@ body-laid-requires-4 : tie.Need-body-laid-requires-4
 body-laid-requires-4 c κs = search needs
 
 first-bad-rows-requires : tie.Need-first-bad-rows-requires
-first-bad-rows-requires c κs = search needs
+first-bad-rows-requires c κs =
+    rw (c .before .body-laid3 .ensures .0, c .body-laid4 .ensures .0) (c .before .before .before .before .before .pre .1)
 
 place-of-requires : tie.Need-place-of-requires
 place-of-requires c κs = search needs
@@ -33,7 +34,7 @@ returns c =
     let p = c .before in
     let x = p .before .before in
     let b = x .before .before .before .before .before .before in
-    last-places (b .args .image .now) (b .pre) _ _ _ _ _ _ _ _
+    last-places (b .args .image .now) (b .pre .0) _ _ _ _ _ _ _ _
     (x .before .before .before .before .body-laid .ensures .0) (x .before .before .before .body-laid2 .ensures .0)
     (x .before .before .body-laid3 .ensures .0) (x .before .body-laid4 .ensures .0)
     (x .first-bad-rows .ensures) (p .before .place-of .ensures) (p .place-of2 .ensures) (c .first-refusal .ensures)

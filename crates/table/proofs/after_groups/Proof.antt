@@ -1,6 +1,6 @@
 -- `table::after_groups` meets its contract.
 use Rattle.table.proofs.Answers.{then-refused, then-accepted}
-use Rattle.table.proofs.Places.{connections-place}
+use Rattle.table.proofs.Places.{connections-place, connections-none}
 use Rattle.table.specs.Table.{rowsPlace}
 use Rattle.table_layout.specs.declared.Kind.the-variants.{Connection}
 use mathlib.Core.Path.{sym, _∙_}
@@ -27,7 +27,13 @@ enum-told : tie.Need-enum-told
 enum-told c = search needs
 
 after-connections-requires : tie.Need-after-connections-requires
-after-connections-requires c κs = search needs
+after-connections-requires c κs =
+    let p = c .before .before in
+    let b = p .before .before .before .before .before in (
+      b .pre,
+      connections-none (b .args .image .now) (b .pre) _ _ _ _ _ (p .before .before .before .body-laid .ensures .0) (p .before .before .body-laid2 .ensures .0)
+          (p .before .first-bad-connection .ensures) (p .place-of .ensures) (c .enum-told .given .1),
+    )
 
 returns : tie.Need-returns
 returns c =

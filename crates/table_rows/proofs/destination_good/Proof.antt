@@ -39,9 +39,9 @@ returns-2 : tie.Need-returns-2
 returns-2 c =
     let e = c .before .before in
     let h = e .before .be32 in
-    let a = e .before .before .before .before .args in
+    let b = e .before .before .before .before in
     destination-by-head _ (λ i. e .before .before .before .shared-slice-known .given i .fits) _ (h .ensures .is) _ _ _ _
-    (e .if1 .left) (row-range 16 (a .connections .now) (h .result / 16777216) (e .if1 .left)) (c .be16 .ensures .is)
+    (b .pre) (e .if1 .left) (row-range 16 (b .args .connections .now) (h .result / 16777216) (e .if1 .left)) (c .be16 .ensures .is)
 
 pub destination-good-spec : {M : Type 1} → statement M
 destination-good-spec =

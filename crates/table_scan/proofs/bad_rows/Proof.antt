@@ -11,7 +11,7 @@ first-bad-route-requires c κs = search needs
 first-bad-destination-requires : tie.Need-first-bad-destination-requires
 first-bad-destination-requires c κs =
     let b = c .before .before .before .before .before .before .before .before .before .before in
-    subst (Wide (b .args .shift)) (sym (c .before .before .seen .given)) (b .pre)
+    (subst (Wide (b .args .shift)) (sym (c .before .before .seen .given)) (b .pre .0), b .pre .1)
 
 same-length : tie.Need-same-length
 same-length c = search needs

@@ -23,7 +23,7 @@ abbrev μ-loop : tie.MeasureT-loop
 μ-loop body connections seen₀ shift n i₀ seen i = length body / 16 - i
 
 loop-holds : tie.Need-loop-holds Inv-loop μ-loop
-loop-holds c = (refl, come-start _ _ _ _ _ _ (destination-in _ _ (c .before .before .before .pre)))
+loop-holds c = (refl, come-start _ _ _ _ _ _ (destination-in _ _ (c .before .before .before .pre .0)))
 
 next-destination-requires : tie.Need-next-destination-requires Inv-loop μ-loop
 next-destination-requires c κs = search needs
