@@ -1,20 +1,22 @@
 // The entry points of selection: a datagram for a UDP group, an accept for a TCP group. Each is lent image, state and both
 // memories, and answers any of them. Assumes nothing: no entry relies on its caller.
 ghost use mathlib.Core.Path.{_≡_};
+ghost use Prim.Native.Nat.{_≤_};
 ghost use Rattle.entry_arrivals.specs.Arrivals.{arrivalOf, datagramOf, acceptOf};
 ghost use Rattle.gate.specs.Lent.{lent, lentBy};
 ghost use Rattle.gate.specs.Gate.{through};
 ghost use Rattle.select.specs.Choose.{arriveOf};
-ghost use Rattle.table_layout.specs.Layout.{Laid};
+ghost use Rattle.table_layout.specs.Layout.{rowsOf, Laid};
 use connection::Remote;
 use gate::Gate;
 use select::Arrival;
 use select::Arrived;
 use state::State;
+use table_layout::Kind;
 
 // The gate's refusal, or past the gate what the event is answered.
 fn past(asked: Gate, image: &[u8], state: State, accept: bool, group: u8, source: Remote) -> Arrival
-    requires { ⌜ (asked ≡ Gate.Pass → Laid (now image)) ⌝ }
+    requires { ⌜ (asked ≡ Gate.Pass → Laid (now image) × (rowsOf (now image) Kind.Connection ≤ 16)) ⌝ }
     ensures { λ r. ⌜ r ≡ through asked Arrival.Refused (arriveOf (now (image .entry)) state accept group source .answer) ⌝ }
 {
     match asked {

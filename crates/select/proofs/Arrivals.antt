@@ -1,16 +1,17 @@
 -- Each answer of an arrival, as the code gives it; and the state after it, of the answer alone.
-use Prim.Native.Nat.{ℕ, _%_, _<_, _≤_}
+use Prim.Native.Nat.{ℕ, _/_, _%_, _<_, _≤_}
 use mathlib.Core.Path.{_≡_, refl, ap, ap₂, sym, _∙_}
 use mathlib.Core.Bool.{Bool, true, false, cond, not, _||_}
 use mathlib.Core.List.{List}
 use native.Mathlib.Omega.{arith}
 use lib.Dec.{eqb, leb}
+use lib.ListN.{length}
 use lib.Seq.{set-getD}
 use borrow.Author.Tests.{le-leb, lt-leb}
-use Rattle.table_layout.specs.Layout.{rowsOf}
+use Rattle.table_layout.specs.Layout.{rowsOf, bodyOf, Laid}
 use Rattle.table_layout.specs.declared.Kind.the-variants.{Group}
 use Rattle.table_rows.specs.declared.GroupRow.{GroupRow}
-use Rattle.table_rows.specs.Rows.{groupOf}
+use Rattle.table_rows.specs.Rows.{groupIn, groupOf}
 use Rattle.connection.specs.declared.Connection.{Connection}
 use Rattle.connection.specs.declared.Remote.{Remote}
 use Rattle.connection.specs.declared.Refusal.{Refusal}
@@ -25,30 +26,34 @@ use Rattle.select.specs.declared.Arrival.{Arrival}
 use Rattle.select.specs.declared.Arrival.the-variants.{Met, Refused, Unmatched}
 use Rattle.select.specs.declared.Arrived.{Arrived}
 use Rattle.select.specs.Choose.{chosenIn, meet, arrivalRefused, protocolOf, deniedOf, arriveOf, metPlace, metNext}
+use Rattle.select.proofs.Scores.{rows-are}
 use Rattle.select.proofs.Pass.{chosen-small}
 
-module _ (image : List ℕ) (s : State) (accept : Bool) (group : ℕ) (source : Remote) (groups : ℕ) (eg : groups ≡ rowsOf image Group) where
-  pub answer-missing : groups ≤ group → Refused Missing ≡ arriveOf image s accept group source .answer
-  unfolding arriveOf
-  answer-missing h = rw (← eg, le-leb _ _ h)
+module _ (image : List ℕ) (s : State) (accept : Bool) (group : ℕ) (source : Remote) (l : Laid image) (groups : List ℕ) (eg : groups ≡ bodyOf image Group) where
+  counted : length groups / 2 ≡ rowsOf image Group
+  counted = rows-are image l Group groups eg
 
-  module _ (there : group < groups) (row : GroupRow) (er : row ≡ groupOf image group) (protocol : ℕ) (ep : protocol ≡ protocolOf accept)
+  pub answer-missing : length groups / 2 ≤ group → Refused Missing ≡ arriveOf image s accept group source .answer
+  unfolding arriveOf
+  answer-missing h = rw (← counted, le-leb _ _ h)
+
+  module _ (there : group < length groups / 2) (row : GroupRow) (er : row ≡ groupIn groups group) (protocol : ℕ) (ep : protocol ≡ protocolOf accept)
       (wild : Bool) (ew : wild ≡ wildcard source) where
     denied-is : (not (eqb (row .protocol) protocol) || wild) ≡ deniedOf image accept group source
     unfolding deniedOf
     denied-is =
-        ap₂ (λ (r : GroupRow) (w : Bool). not (eqb (r .protocol) protocol) || w) er ew
+        ap₂ (λ (r : GroupRow) (w : Bool). not (eqb (r .protocol) protocol) || w) (er ∙ ap (λ (b : List ℕ). groupIn b group) eg) ew
         ∙ ap (λ (n : ℕ). not (eqb (groupOf image group .protocol) n) || wildcard source) ep
 
     pub answer-denied : (not (eqb (row .protocol) protocol) || wild) ≡ true → Refused Denied ≡ arriveOf image s accept group source .answer
     unfolding arriveOf
-    answer-denied t = rw (← eg, lt-leb _ _ there, ← denied-is, t)
+    answer-denied t = rw (← counted, lt-leb _ _ there, ← denied-is, t)
 
     -- past both, the choice's
     pub answer-chosen : (not (eqb (row .protocol) protocol) || wild) ≡ false → (x y : Chosen) → x ≡ chosenIn image s accept group source → x ≡ y
         → meet image s source y .answer ≡ arriveOf image s accept group source .answer
     unfolding arriveOf
-    answer-chosen t x y ex e = rw (← eg, lt-leb _ _ there, ← denied-is, t) (ap (λ (z : Chosen). meet image s source z .answer) (sym e ∙ ex))
+    answer-chosen t x y ex e = rw (← counted, lt-leb _ _ there, ← denied-is, t) (ap (λ (z : Chosen). meet image s source z .answer) (sym e ∙ ex))
 
 -- THE RECORD PUT BACK at the place of the answer
 abbrev pub landed : List ℕ → State → Remote → Arrival → Arrived

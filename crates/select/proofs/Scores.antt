@@ -1,20 +1,24 @@
 -- A member's score, as the code finds it.
-use Prim.Native.Nat.{ℕ, _+_}
-use mathlib.Core.Path.{_≡_, refl, ap₂, _∙_}
+use Prim.Native.Nat.{ℕ, _+_, _/_, _<_, _≤_}
+use mathlib.Core.Path.{_≡_, refl, ap, _∙_}
 use mathlib.Core.Bool.{Bool, true, false, not, _&&_, _||_}
 use mathlib.Core.List.{List}
-use lib.Dec.{eqb, ltb}
-use Rattle.table_layout.specs.Layout.{rowsOf, bodyOf}
+use lib.Dec.{eqb}
+use lib.ListN.{length}
+use borrow.Author.Tests.{lt-ltb, le-ltb}
+use Rattle.wire.specs.Be.{be}
+use Rattle.table_layout.specs.Layout.{rowWidth, rowsOf, bodyOf, rowIn, Laid}
+use Rattle.table_layout.specs.declared.Kind.{Kind}
 use Rattle.table_layout.specs.declared.Kind.the-variants.{Connection as KConnection}
-use Rattle.table_rows.specs.declared.ConnectionBrief.{ConnectionBrief}
-use Rattle.table_rows.specs.Rows.{briefIn}
+use Rattle.table_layout.proofs.Parts.{body-rows}
+use Rattle.table_rows.specs.Rows.{connectionRow, connectionOf}
 use Rattle.connection.specs.declared.Connection.{Connection}
 use Rattle.connection.specs.declared.Remote.{Remote}
 use Rattle.state.specs.declared.State.{State}
 use Rattle.connection.specs.declared.Fields.{Fields}
 use Rattle.connection.specs.Connection.{isReconnect, isOnline, equalFields, wildFields}
 use Rattle.state.specs.State.{recordAt}
-use Rattle.select.specs.Choose.{rankOf, scoreOf, scoreAt}
+use Rattle.select.specs.Choose.{rankOf, scoreOf, member, scoreAt}
 
 module _ (accept member : Bool) (source : Remote) (c : Connection) (waits up : Bool) (equal wild : Fields)
     (w : waits ≡ isReconnect (c .mode)) (u : up ≡ isOnline (c .mode)) (e : equal ≡ equalFields (c .remote) source) (f : wild ≡ wildFields (c .remote)) where
@@ -33,20 +37,36 @@ no-member : (accept : Bool) (source : Remote) (c : Connection) → 0 ≡ scoreOf
 unfolding scoreOf
 no-member accept source c = refl
 
--- the score of record i, as the loop finds it
-pub score-at : (image : List ℕ) (s : State) (accept : Bool) (group : ℕ) (source : Remote) (rows : ℕ) (row : ConnectionBrief) (i found : ℕ)
-    → rows ≡ rowsOf image KConnection → row ≡ briefIn (bodyOf image KConnection) i
-    → found ≡ scoreOf accept source (ltb i rows && eqb (row .group) group) (recordAt s i)
-    → found ≡ scoreAt image s accept group source i
-unfolding scoreAt
-score-at image s accept group source rows row i found p q r =
-    r ∙ ap₂ (λ (n : ℕ) (x : ConnectionBrief). scoreOf accept source (ltb i n && eqb (x .group) group) (recordAt s i)) p q
+-- how many rows there are of a kind, by its body
+pub rows-are : (image : List ℕ) → Laid image → (k : Kind) (body : List ℕ) → body ≡ bodyOf image k → length body / rowWidth k ≡ rowsOf image k
+rows-are image l k body e = ap (λ (b : List ℕ). length b / rowWidth k) e ∙ body-rows image l k
 
--- a record that is no member scores nothing
-pub score-out : (image : List ℕ) (s : State) (accept : Bool) (group : ℕ) (source : Remote) (rows : ℕ) (row : ConnectionBrief) (i : ℕ)
-    → rows ≡ rowsOf image KConnection → row ≡ briefIn (bodyOf image KConnection) i → (ltb i rows && eqb (row .group) group) ≡ false
-    → 0 ≡ scoreAt image s accept group source i
-score-out image s accept group source rows row i p q f = score-at image s accept group source rows row i 0 p q (none (ltb i rows && eqb (row .group) group) f)
-  where
-    none : (b : Bool) → b ≡ false → 0 ≡ scoreOf accept source b (recordAt s i)
-    none b e = rw e (no-member accept source (recordAt s i))
+module _ (image : List ℕ) (s : State) (accept : Bool) (group : ℕ) (source : Remote) where
+  -- past the rows nobody scores
+  pub score-past : (i : ℕ) → rowsOf image KConnection ≤ i → 0 ≡ scoreAt image s accept group source i
+  unfolding scoreAt
+  score-past i h = rw (le-ltb _ _ h) (no-member accept source (recordAt s i))
+
+  -- row i, as the loop reads it: the bytes of the body's row, of which the first names the group
+  module _ (l : Laid image) (body : List ℕ) (eb : body ≡ bodyOf image KConnection) (i : ℕ) (h : i < length body / 16) (row : List ℕ)
+      (er : row ≡ rowIn 16 body i) (first : ℕ) (ef : first ≡ be 1 row 0) where
+    first-is : first ≡ connectionOf image i .group
+    unfolding connectionRow
+    first-is = ef ∙ ap (λ (r : List ℕ). be 1 r 0) (er ∙ ap (λ (b : List ℕ). rowIn 16 b i) eb)
+
+    member-is : eqb first group ≡ member image s accept group source i
+    member-is =
+        let there : i < rowsOf image KConnection = rw (rows-are image l KConnection body eb) at h in
+        rw (lt-ltb _ _ there, first-is)
+
+    -- the score of record i
+    pub score-at : (found : ℕ) → found ≡ scoreOf accept source (eqb first group) (recordAt s i) → found ≡ scoreAt image s accept group source i
+    unfolding scoreAt
+    score-at found r = r ∙ ap (λ (b : Bool). scoreOf accept source b (recordAt s i)) member-is
+
+    -- a record that is no member scores nothing
+    pub score-out : eqb first group ≡ false → 0 ≡ scoreAt image s accept group source i
+    score-out f = score-at 0 (none (eqb first group) f)
+      where
+        none : (b : Bool) → b ≡ false → 0 ≡ scoreOf accept source b (recordAt s i)
+        none b e = rw e (no-member accept source (recordAt s i))

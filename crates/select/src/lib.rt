@@ -1,9 +1,10 @@
-// Which member of a group a source belongs to: one pass over the records, the best match first (both fields, the address, the port,
-// neither), then the lowest number. Assumes of the table that it is laid out as its contents say: the gate has shown it.
+// Which member of a group a source belongs to: one pass over the rows of the connections, the best match first (both fields, the address,
+// the port, neither), then the lowest number. Assumes of the table that it is laid out as its contents say and has no more connections than
+// the state has records: the gate has shown it.
 ghost use mathlib.Core.Path.{_≡_};
 ghost use mathlib.Core.Bool.{true};
 ghost use Prim.Native.Nat.{_≤_, _<_};
-ghost use Rattle.table_layout.specs.Layout.{Laid};
+ghost use Rattle.table_layout.specs.Layout.{rowsOf, Laid};
 ghost use Rattle.select.specs.Choose as Is;
 use connection::Connection;
 use connection::Fields;
@@ -12,6 +13,8 @@ use connection::Remote;
 use state::State;
 use state::config_laid;
 use table_layout::Kind;
+use table_layout::body_laid;
+use wire::be8;
 
 pub enum Chosen {
     Nobody,
@@ -66,18 +69,20 @@ fn score(accept: bool, source: Remote, member: bool, c: Connection) -> u8
     0
 }
 
+// The best match among the members of the group: the first byte of a connection's row names its group.
 fn choose(image: &[u8], s: State, accept: bool, group: u8, source: Remote) -> Chosen
-    requires { ⌜ Laid (now image) ⌝ }
+    requires { ⌜ Laid (now image) × (rowsOf (now image) Kind.Connection ≤ 16) ⌝ }
     ensures { λ r. ⌜ r ≡ Is.chosenIn (now (image .entry)) s accept group source ⌝ }
 {
-    let rows = table_layout::rows_of(image, Kind::Connection);
-    let body = table_layout::body_laid(image, Kind::Connection);
+    let body = body_laid(image, Kind::Connection);
+    let rows = body.len() / 16;
     let mut best: u8 = 0;
     let mut at: usize = 0;
     let mut i: usize = 0;
-    while i < 16 {
-        let row = table_rows::brief_in(body, i);
-        let member = (i < rows) & (row.group == group);
+    while i < rows {
+        let start = i * 16;
+        let row = &body[start..start + 16];
+        let member = be8(row, 0) == group as usize;
         if !member {
             i += 1;
             continue;
@@ -110,14 +115,14 @@ fn protocol_of(accept: bool) -> u8
 
 // What a datagram (accept false) or an accept (accept true) for a group, from a source, is answered.
 pub fn answer_of(image: &[u8], s: State, accept: bool, group: u8, source: Remote) -> Arrival
-    requires { ⌜ Laid (now image) ⌝ }
+    requires { ⌜ Laid (now image) × (rowsOf (now image) Kind.Connection ≤ 16) ⌝ }
     ensures { λ r. ⌜ r ≡ Is.arriveOf (now (image .entry)) s accept group source .answer ⌝ }
 {
-    let groups = table_layout::rows_of(image, Kind::Group);
-    if groups <= group as usize {
+    let groups = body_laid(image, Kind::Group);
+    if groups.len() / 2 <= group as usize {
         return Arrival::Refused(Refusal::Missing);
     }
-    let row = table_rows::group_row(image, group as usize);
+    let row = table_rows::group_in(groups, group as usize);
     let denied = !(row.protocol == protocol_of(accept)) | connection::has_wildcard(source);
     if denied {
         return Arrival::Refused(Refusal::Denied);

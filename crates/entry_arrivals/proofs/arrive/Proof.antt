@@ -1,7 +1,7 @@
 -- `entry_arrivals::arrive` meets its contract.
 use mathlib.Core.Path.{sym, _∙_}
 use Rattle.gate.specs.Lent.{lent}
-use Rattle.gate.proofs.Pass.{gate-laid}
+use Rattle.gate.proofs.Pass.{gate-laid, rows-in-sixteen}
 use Rattle.entry_arrivals.proofs.Landed.{met-laid, arrival-is}
 use borrow.Author.Needs.{needs}
 use Rattle.entry_arrivals.proofs.arrive.Statement.{statement}
@@ -13,7 +13,8 @@ ask-requires c κs = search needs
 past-requires : tie.Need-past-requires
 past-requires c κs =
     let a = c .before .before .before .args in
-    λ p. gate-laid (lent (a .image .now) (a .state) (a .rx) (a .tx)) (sym (c .ask .ensures) ∙ p)
+    let l = lent (a .image .now) (a .state) (a .rx) (a .tx) in
+    λ p. (gate-laid l (sym (c .ask .ensures) ∙ p), rows-in-sixteen l (sym (c .ask .ensures) ∙ p))
 
 place-of-requires : tie.Need-place-of-requires
 place-of-requires c κs = search needs
