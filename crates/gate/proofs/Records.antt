@@ -1,13 +1,14 @@
 -- The records of a sound state, one by one: from the test and back.
-use Prim.Native.Nat.{ℕ, _+_, _<_, _≤_}
+use Prim.Native.Nat.{ℕ, _+_, _/_, _<_, _≤_}
 use mathlib.Core.Path.{_≡_, refl, sym, ap, _∙_}
 use mathlib.Core.Bool.{Bool, true, false, _&&_}
 use mathlib.Core.List.{List}
 use native.Mathlib.Omega.{arith}
 use lib.ListN.{length, set, getD}
 use borrow.Author.Tests.{lt-ltb, le-ltb}
-use Rattle.table_layout.specs.Layout.{rowsOf, bodyOf}
+use Rattle.table_layout.specs.Layout.{rowsOf, bodyOf, Laid}
 use Rattle.table_layout.specs.declared.Kind.the-variants.{Connection as Connections, Group as Groups, Route as Routes}
+use Rattle.table_layout.proofs.Parts.{body-rows}
 use Rattle.connection.specs.declared.Connection.{Connection}
 use Rattle.connection.specs.Connection.{zeroRecord}
 use Rattle.connection.specs.Sound.{soundOf, zeroOf, Sound}
@@ -72,10 +73,10 @@ all-in : (image : List ℕ) (cs : List Connection)
 unfolding recordsSound soundAt configOf
 all-in image cs = refl
 
-pub records-in : (image : List ℕ) (cs : List Connection) (rows : ℕ) (connections groups routes : List ℕ) → rows ≡ rowsOf image Connections
+pub records-in : (image : List ℕ) → Laid image → (cs : List Connection) (connections groups routes : List ℕ)
     → connections ≡ bodyOf image Connections → groups ≡ bodyOf image Groups → routes ≡ bodyOf image Routes
-    → allFrom (soundIn rows connections groups routes) 0 cs ≡ recordsSound image cs
-records-in image cs rows connections groups routes a b d e = rw (a, b, d, e) (all-in image cs)
+    → allFrom (soundIn (length connections / 16) connections groups routes) 0 cs ≡ recordsSound image cs
+records-in image l cs connections groups routes a b d = rw (a, b, d, body-rows image l Connections) (all-in image cs)
 
 -- the rules ask no more than that
 pub rules-enough : (connections groups : List ℕ) (n : ℕ) (c : Connection) → soundOf (rulesIn connections groups n) c ≡ soundOf (configIn connections groups n) c

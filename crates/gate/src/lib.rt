@@ -1,9 +1,7 @@
 // What is asked before any event: 11 for lent memory of another length, 12 for a table or state that is not sound, and 2 for
 // a connection that is not there. Every public function is total.
 ghost use mathlib.Core.Path.{_≡_};
-ghost use mathlib.Core.Bool.{true};
-ghost use Prim.Native.Nat.{_≤_};
-ghost use Rattle.lists.specs.Each.{allFrom, allTo};
+ghost use Rattle.lists.specs.Each.{allFrom};
 ghost use Rattle.connection.specs.Sound.{onlineRemote, watched};
 ghost use Rattle.state.specs.Fresh.{configIn};
 ghost use Rattle.gate.specs.Sound.{routed, recordsSound};
@@ -24,7 +22,6 @@ use table::TableAnswer;
 use table::check_table;
 use table_layout::Kind;
 use table_layout::body_laid;
-use table_layout::rows_of;
 use table_rows::ConnectionBrief;
 use table_rows::GroupRow;
 use table_rows::brief_in;
@@ -166,30 +163,8 @@ fn is_sound(
     connection.sound(rules) & has_route
 }
 
-// From record `from` on each record of a state, up to the first that is not sound; those before it are.
-fn rest_sound(
-    rows: usize,
-    connections: &[u8],
-    groups: &[u8],
-    routes: &[u8],
-    from: usize,
-    state: State,
-) -> bool
-    requires { ⌜ (from ≤ 16) × (allTo (soundIn rows (now connections) (now groups) (now routes)) 0 from (state .connections) ≡ true) ⌝ }
-    ensures { λ r. ⌜ r ≡ allFrom (soundIn rows (now (connections .entry)) (now (groups .entry)) (now (routes .entry))) 0 (state .connections) ⌝ }
-{
-    let mut i: usize = from;
-    while i < 16 {
-        let connection = state.connections[i];
-        if !is_sound(rows, connections, groups, routes, i, connection) {
-            return false;
-        }
-        i += 1;
-    }
-    true
-}
-
-// Each record of a state, up to the first that is not sound. Most are idle, and the loop is theirs; from the first that is not, another goes on.
+// Each record of a state, up to the first that is not sound. Most are idle, and the first loop is theirs; from the first that is not, the
+// second goes on. It stands here, and not in a function of its own, because a call would copy the state.
 fn each_sound(rows: usize, connections: &[u8], groups: &[u8], routes: &[u8], state: State) -> bool
     ensures { λ r. ⌜ r ≡ allFrom (soundIn rows (now (connections .entry)) (now (groups .entry)) (now (routes .entry))) 0 (state .connections) ⌝ }
 {
@@ -205,9 +180,16 @@ fn each_sound(rows: usize, connections: &[u8], groups: &[u8], routes: &[u8], sta
         }
         let connection = state.connections[i];
         if !is_idle(connection) {
-            return rest_sound(rows, connections, groups, routes, i, state);
+            break;
         }
         if !is_quiet(connections, groups, i, connection) {
+            return false;
+        }
+        i += 1;
+    }
+    while i < 16 {
+        let connection = state.connections[i];
+        if !is_sound(rows, connections, groups, routes, i, connection) {
             return false;
         }
         i += 1;
@@ -223,13 +205,7 @@ fn are_sound(image: &[u8], state: State) -> bool
     let connections = body_laid(image, Kind::Connection);
     let groups = body_laid(image, Kind::Group);
     let routes = body_laid(image, Kind::Route);
-    each_sound(
-        rows_of(image, Kind::Connection),
-        connections,
-        groups,
-        routes,
-        state,
-    )
+    each_sound(connections.len() / 16, connections, groups, routes, state)
 }
 
 // 11, then 12: before every event.
@@ -259,7 +235,8 @@ pub fn ask_at(image: &[u8], state: State, rx: usize, tx: usize, n: usize) -> Gat
     match first {
         Gate::Refused(reason) => Gate::Refused(reason),
         Gate::Pass => {
-            if n < rows_of(image, Kind::Connection) {
+            let connections = body_laid(image, Kind::Connection);
+            if n < connections.len() / 16 {
                 return Gate::Pass;
             }
             Gate::Refused(Refusal::Missing)

@@ -14,18 +14,15 @@ body-laid-requires-2 c κs = search needs
 body-laid-requires-3 : tie.Need-body-laid-requires-3
 body-laid-requires-3 c κs = search needs
 
-rows-of-requires : tie.Need-rows-of-requires
-rows-of-requires c κs = search needs
-
 each-sound-requires : tie.Need-each-sound-requires
 each-sound-requires c κs = search needs
 
 returns : tie.Need-returns
 returns c =
     let r = c .before in
-    let b = r .before .before in
-    c .each-sound .ensures ∙ records-in _ _ _ _ _ _ (r .rows-of .ensures .0)
-    (b .before .body-laid .ensures .0) (b .body-laid2 .ensures .0) (r .before .body-laid3 .ensures .0)
+    let b = r .before in
+    c .each-sound .ensures ∙ records-in _ (b .before .before .before .pre) _ _ _ _
+    (b .before .body-laid .ensures .0) (b .body-laid2 .ensures .0) (r .body-laid3 .ensures .0)
 
 pub are-sound-spec : {M : Type 1} → statement M
 are-sound-spec =
@@ -34,6 +31,5 @@ are-sound-spec =
     body-laid-requires
     body-laid-requires-2
     body-laid-requires-3
-    rows-of-requires
     each-sound-requires
     returns)

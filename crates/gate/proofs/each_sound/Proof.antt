@@ -1,4 +1,4 @@
--- `gate::each_sound` meets its contract. The invariant: the records below i are sound.
+-- `gate::each_sound` meets its contract. The invariant of both loops: the records below i are sound.
 use Prim.Native.Nat.{_-_}
 use mathlib.Core.Path.{sym, _∙_, refl}
 use borrow.Author.Tests.{not-true, not-false}
@@ -15,21 +15,27 @@ Inv-loop rows connections groups routes state i₀ i = SoundTo rows connections 
 abbrev μ-loop : tie.MeasureT-loop
 μ-loop rows connections groups routes state i₀ i = 16 - i
 
-loop-holds : tie.Need-loop-holds Inv-loop μ-loop
+abbrev Inv-loop2 : tie.InvT-loop2
+Inv-loop2 rows connections groups routes state i₀ i = SoundTo rows connections groups routes state i
+
+abbrev μ-loop2 : tie.MeasureT-loop2
+μ-loop2 rows connections groups routes state i₀ i = 16 - i
+
+loop-holds : tie.Need-loop-holds Inv-loop μ-loop Inv-loop2 μ-loop2
 loop-holds c =
     let s = c .before .before .before in
     (search needs, long _ (s .args .t5 .connections) (s .good .1 .1 .1 .1 .0 .1 .1 .0 .1 .0 .1), refl)
 
-mul-past : tie.Need-mul-past Inv-loop μ-loop
+mul-past : tie.Need-mul-past Inv-loop μ-loop Inv-loop2 μ-loop2
 mul-past c = search needs
 
-element-copy-out-past : tie.Need-element-copy-out-past Inv-loop μ-loop
+element-copy-out-past : tie.Need-element-copy-out-past Inv-loop μ-loop Inv-loop2 μ-loop2
 element-copy-out-past c = search needs
 
-is-zero-requires : tie.Need-is-zero-requires Inv-loop μ-loop
+is-zero-requires : tie.Need-is-zero-requires Inv-loop μ-loop Inv-loop2 μ-loop2
 is-zero-requires c κs = search needs
 
-returns : tie.Need-returns Inv-loop μ-loop
+returns : tie.Need-returns Inv-loop μ-loop Inv-loop2 μ-loop2
 returns c =
     let t = c .before .before .before in
     let b = t .before .before in
@@ -37,13 +43,13 @@ returns c =
     sound-not (a .rows) (now (a .connections)) (now (a .groups)) (now (a .routes)) (a .t5) (b .loop .i) (b .loop .inv) (t .before .loop-test .taken)
     (sym (past-in (a .rows) _ _ _ (b .loop .i) _ (t .if1 .taken)) ∙ sym (c .before .is-zero .ensures) ∙ not-true _ (c .if2 .taken))
 
-add-i : tie.Need-add-i Inv-loop μ-loop
+add-i : tie.Need-add-i Inv-loop μ-loop Inv-loop2 μ-loop2
 add-i c = search needs
 
-loop-less : tie.Need-loop-less Inv-loop μ-loop
+loop-less : tie.Need-loop-less Inv-loop μ-loop Inv-loop2 μ-loop2
 loop-less c = search needs
 
-loop-again : tie.Need-loop-again Inv-loop μ-loop
+loop-again : tie.Need-loop-again Inv-loop μ-loop Inv-loop2 μ-loop2
 loop-again c =
     let t = c .before .before .before in
     let b = t .before .before in
@@ -51,26 +57,20 @@ loop-again c =
     sound-turn (a .rows) (now (a .connections)) (now (a .groups)) (now (a .routes)) (a .t5) (b .loop .i) (b .loop .inv) (t .before .loop-test .taken)
     (sym (not-false _ (c .if2 .left)) ∙ c .before .is-zero .ensures ∙ past-in (a .rows) _ _ _ (b .loop .i) _ (t .if1 .taken))
 
-mul-connection : tie.Need-mul-connection Inv-loop μ-loop
+mul-connection : tie.Need-mul-connection Inv-loop μ-loop Inv-loop2 μ-loop2
 mul-connection c = search needs
 
-element-copy-out-connection : tie.Need-element-copy-out-connection Inv-loop μ-loop
+element-copy-out-connection : tie.Need-element-copy-out-connection Inv-loop μ-loop Inv-loop2 μ-loop2
 element-copy-out-connection c = search needs
 
-is-idle-requires : tie.Need-is-idle-requires Inv-loop μ-loop
+is-idle-requires : tie.Need-is-idle-requires Inv-loop μ-loop Inv-loop2 μ-loop2
 is-idle-requires c κs = search needs
 
-rest-sound-requires : tie.Need-rest-sound-requires Inv-loop μ-loop
-rest-sound-requires c κs = let b = c .before .before .before .before .before in (b .loop .inv .0, b .loop .inv .2)
-
-returns-2 : tie.Need-returns-2 Inv-loop μ-loop
-returns-2 c = c .rest-sound .ensures
-
-is-quiet-requires : tie.Need-is-quiet-requires Inv-loop μ-loop
+is-quiet-requires : tie.Need-is-quiet-requires Inv-loop μ-loop Inv-loop2 μ-loop2
 is-quiet-requires c κs = search needs
 
-returns-3 : tie.Need-returns-3 Inv-loop μ-loop
-returns-3 c =
+returns-2 : tie.Need-returns-2 Inv-loop μ-loop Inv-loop2 μ-loop2
+returns-2 c =
     let d = c .before .before in
     let t = d .before .before .before in
     let b = t .before .before in
@@ -79,13 +79,13 @@ returns-3 c =
     sound-not (a .rows) (now (a .connections)) (now (a .groups)) (now (a .routes)) (a .t5) (b .loop .i) (b .loop .inv) (t .before .loop-test .taken)
     (sym (idle-in (a .rows) _ _ _ (b .loop .i) _ (t .if1 .left) idle) ∙ sym (c .before .is-quiet .ensures) ∙ not-true _ (c .if4 .taken))
 
-add-i-2 : tie.Need-add-i-2 Inv-loop μ-loop
+add-i-2 : tie.Need-add-i-2 Inv-loop μ-loop Inv-loop2 μ-loop2
 add-i-2 c = search needs
 
-loop-less-2 : tie.Need-loop-less-2 Inv-loop μ-loop
+loop-less-2 : tie.Need-loop-less-2 Inv-loop μ-loop Inv-loop2 μ-loop2
 loop-less-2 c = search needs
 
-loop-again-2 : tie.Need-loop-again-2 Inv-loop μ-loop
+loop-again-2 : tie.Need-loop-again-2 Inv-loop μ-loop Inv-loop2 μ-loop2
 loop-again-2 c =
     let d = c .before .before in
     let t = d .before .before .before in
@@ -95,11 +95,45 @@ loop-again-2 c =
     sound-turn (a .rows) (now (a .connections)) (now (a .groups)) (now (a .routes)) (a .t5) (b .loop .i) (b .loop .inv) (t .before .loop-test .taken)
     (sym (not-false _ (c .if4 .left)) ∙ c .before .is-quiet .ensures ∙ idle-in (a .rows) _ _ _ (b .loop .i) _ (t .if1 .left) idle)
 
-returns-4 : tie.Need-returns-4 Inv-loop μ-loop
+loop2-holds : tie.Need-loop2-holds Inv-loop μ-loop Inv-loop2 μ-loop2
+loop2-holds c = c .before .loop .inv
+
+mul-connection-2 : tie.Need-mul-connection-2 Inv-loop μ-loop Inv-loop2 μ-loop2
+mul-connection-2 c = search needs
+
+element-copy-out-connection-2 : tie.Need-element-copy-out-connection-2 Inv-loop μ-loop Inv-loop2 μ-loop2
+element-copy-out-connection-2 c = search needs
+
+is-sound-requires : tie.Need-is-sound-requires Inv-loop μ-loop Inv-loop2 μ-loop2
+is-sound-requires c κs = search needs
+
+returns-3 : tie.Need-returns-3 Inv-loop μ-loop Inv-loop2 μ-loop2
+returns-3 c =
+    let t = c .before .before .before in
+    let b = t .before in
+    let a = b .before .before .before .before .before .before .args in
+    sound-not (a .rows) (now (a .connections)) (now (a .groups)) (now (a .routes)) (a .t5) (b .loop2 .i) (b .loop2 .inv) (t .loop2-test .taken)
+    (sym (c .before .is-sound .ensures) ∙ not-true _ (c .if5 .taken))
+
+add-i-3 : tie.Need-add-i-3 Inv-loop μ-loop Inv-loop2 μ-loop2
+add-i-3 c = search needs
+
+loop2-less : tie.Need-loop2-less Inv-loop μ-loop Inv-loop2 μ-loop2
+loop2-less c = search needs
+
+loop2-again : tie.Need-loop2-again Inv-loop μ-loop Inv-loop2 μ-loop2
+loop2-again c =
+    let t = c .before .before .before in
+    let b = t .before in
+    let a = b .before .before .before .before .before .before .args in
+    sound-turn (a .rows) (now (a .connections)) (now (a .groups)) (now (a .routes)) (a .t5) (b .loop2 .i) (b .loop2 .inv) (t .loop2-test .taken)
+    (sym (not-false _ (c .if5 .left)) ∙ c .before .is-sound .ensures)
+
+returns-4 : tie.Need-returns-4 Inv-loop μ-loop Inv-loop2 μ-loop2
 returns-4 c =
     let l = c .before in
-    let a = l .before .before .before .before .args in
-    sound-all (a .rows) (now (a .connections)) (now (a .groups)) (now (a .routes)) (a .t5) (l .loop .i) (l .loop .inv) (c .loop-test .left)
+    let a = l .before .before .before .before .before .before .args in
+    sound-all (a .rows) (now (a .connections)) (now (a .groups)) (now (a .routes)) (a .t5) (l .loop2 .i) (l .loop2 .inv) (c .loop2-test .left)
 
 pub each-sound-spec : {M : Type 1} → statement M
 each-sound-spec =
@@ -107,6 +141,8 @@ each-sound-spec =
     (tie.spec
     Inv-loop
     μ-loop
+    Inv-loop2
+    μ-loop2
     loop-holds
     mul-past
     element-copy-out-past
@@ -118,11 +154,17 @@ each-sound-spec =
     mul-connection
     element-copy-out-connection
     is-idle-requires
-    rest-sound-requires
-    returns-2
     is-quiet-requires
-    returns-3
+    returns-2
     add-i-2
     loop-less-2
     loop-again-2
+    loop2-holds
+    mul-connection-2
+    element-copy-out-connection-2
+    is-sound-requires
+    returns-3
+    add-i-3
+    loop2-less
+    loop2-again
     returns-4)
