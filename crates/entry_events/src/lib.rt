@@ -14,7 +14,7 @@ use connection::Refusal;
 use connection::Remote;
 use gate::Gate;
 use state::State;
-use state::config_of;
+use state::config_laid;
 use table_layout::Kind;
 use table_layout::rows_of;
 
@@ -44,7 +44,7 @@ pub struct Counted {
 }
 
 // Any connection event that concerns the record alone: past the gate the event's own 2 and 3, or the record replaced. The state is taken
-// apart once, into the copy that the gate is lent and the record is replaced in.
+// apart once, into the copy that the gate is lent and the record is put back in; in a refusal it is the one that stood there.
 pub fn happen(
     image: &[u8],
     state: State,
@@ -72,24 +72,14 @@ pub fn happen(
         }
         Gate::Pass => {
             let before = after.connections[n];
-            let stepped = before.step(config_of(image, n), event);
+            let stepped = before.step(config_laid(image, n), event);
             let answer = stepped.answer;
-            match answer {
-                Answer::Refused(reason) => {
-                    return Told {
-                        state: after,
-                        answer: Answer::Refused(reason),
-                    };
-                }
-                Answer::Done => {
-                    let next = stepped.connection;
-                    after.connections[n] = next;
-                    return Told {
-                        state: after,
-                        answer: Answer::Done,
-                    };
-                }
-            }
+            let next = stepped.connection;
+            after.connections[n] = next;
+            return Told {
+                state: after,
+                answer: answer,
+            };
         }
     }
 }
