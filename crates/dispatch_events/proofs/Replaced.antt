@@ -1,24 +1,17 @@
 -- An event of one record, as its entry has it: record n modulo 16 is replaced, in a refusal by itself.
 use Prim.Native.Nat.{ℕ, _%_, _<_}
 use mathlib.Core.Path.{_≡_, refl, sym, ap, ap₂, _∙_}
-use mathlib.Core.Bool.{Bool, true, false, cond, not, _&&_}
-use mathlib.Core.List.{List}
+use mathlib.Core.Bool.{Bool, true, false, not, _&&_}
 use native.Mathlib.Omega.{arith}
-use lib.Seq.{set-getD}
 use Rattle.receive_part.specs.Part.{transferring}
-use Rattle.connection.specs.declared.Config.{Config}
 use Rattle.connection.specs.declared.Connection.{Connection}
-use Rattle.connection.specs.declared.Refusal.{Refusal}
-use Rattle.connection.specs.declared.Refusal.the-variants.{Missing, Denied}
-use Rattle.connection.specs.declared.Answer.{Answer}
-use Rattle.connection.specs.declared.Answer.the-variants.{Done, Refused}
+use Rattle.connection.specs.declared.Answer.the-variants.{Refused}
 use Rattle.connection.specs.declared.Stepped.{Stepped}
 use Rattle.connection.specs.declared.Event.{Event}
 use Rattle.connection.specs.declared.Event.the-variants.{Lost}
-use Rattle.connection.specs.Connection.{zeroRecord, failedOf}
-use Rattle.connection.specs.Event.{known, allowed, recordAfter, refusedBy, stepOf}
-use Rattle.state.specs.declared.State.{State}
-use Rattle.state.specs.State.{recordAt, withRecords, withRecord}
+use Rattle.connection.specs.Connection.{failedOf}
+use Rattle.connection.specs.Event.{stepOf}
+use Rattle.state.specs.State.{recordAt, withRecord}
 use Rattle.state.specs.Fresh.{configOf}
 use Rattle.gate.specs.Lent.{Lent}
 use Rattle.gate.specs.declared.Gate.{Gate}
@@ -26,32 +19,9 @@ use Rattle.gate.specs.declared.Gate.the-variants as Gated
 use Rattle.gate.specs.Gate.{gateAt, through}
 use Rattle.gate.proofs.Pass.{in-sixteen}
 use Rattle.entry_events.specs.declared.Told.{Told}
-use Rattle.entry_events.specs.declared.Loss.{Loss}
-use Rattle.entry_events.specs.Change.{refusedTold, toldOf, changeOf, eventOf, lossFrom, lossOf}
+use Rattle.entry_events.specs.Change.{refusedTold, changeOf, eventOf, lossOf}
+use Rattle.entry_events.proofs.Changes.{told, back, past}
 use Rattle.dispatch_events.specs.Events.{stepPast}
-
--- the record put back at number k
-abbrev pub told : State → ℕ → Stepped → Told
-told s k t = record { answer = t .answer; state = withRecord k (t .connection) s }
-
--- a refusal puts back the record that stood there
-back : (s : State) (k : ℕ) (r : Refusal) → told s k (refusedBy r (recordAt s k)) ≡ refusedTold s r
-back s k r = ap (λ (cs : List Connection). refusedTold (withRecords cs s) r) (set-getD (s .connections) k zeroRecord)
-
--- past the gate
-past : (s : State) (n : ℕ) (e : Event) (g : Config)
-    → told s n (stepOf e g (recordAt s n)) ≡ toldOf s n (stepOf e g (recordAt s n) .answer) (stepOf e g (recordAt s n) .connection)
-unfolding stepOf toldOf
-past s n e g = go (not (known e)) (not (allowed e g (recordAt s n)))
-  where
-    step : Bool → Bool → Stepped
-    step a b = cond a (refusedBy Missing (recordAt s n))
-        (cond b (refusedBy Denied (recordAt s n)) (record { answer = Done; connection = recordAfter e g (recordAt s n) }))
-
-    go : (a b : Bool) → told s n (step a b) ≡ toldOf s n (step a b .answer) (step a b .connection)
-    go true b = back s n Missing
-    go false true = back s n Denied
-    go false false = refl
 
 module _ (l : Lent) (n : ℕ) (e : Event) where
   own-record : gateAt l n ≡ Gated.Pass → n % 16 ≡ n

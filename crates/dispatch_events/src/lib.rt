@@ -1,11 +1,12 @@
 // The events that write no memory, each with its answer written to an out buffer; one that is too short for an answer is refused.
-// Every function is total.
+// Every public function is total.
 ghost use mathlib.Core.Path.{_≡_};
 ghost use lib.ListN.{length};
 ghost use Rattle.wire.specs.Lay.{lay};
 ghost use Rattle.event_answer.specs.Answers.{dispatched};
 ghost use Rattle.dispatch_events.specs.Events as Is;
 ghost use Rattle.state.specs.Fresh.{configOf};
+ghost use Rattle.table_layout.specs.Layout.{Laid};
 ghost use Rattle.gate.specs.Lent.{loan};
 use connection::Answer;
 use connection::Connection;
@@ -23,7 +24,7 @@ use event_answer::put_refusal;
 use gate::Gate;
 use gate::ask_at;
 use state::State;
-use state::config_of;
+use state::config_laid;
 
 fn put_told(out: &mut [u8], answer: Answer) -> usize
     ensures { λ r. ⌜ r ≡ length (Is.toldBytes answer) ⌝ }
@@ -75,6 +76,7 @@ fn put_count(out: &mut [u8], answer: CountAnswer) -> usize
 
 // The gate's refusal, or past the gate the event on the record of connection n.
 fn step_past(asked: Gate, image: &[u8], n: usize, c: Connection, event: Event) -> Stepped
+    requires { ⌜ (asked ≡ Gate.Pass → Laid (now image)) ⌝ }
     ensures { λ r. ⌜ r ≡ Is.stepPast asked (configOf (now (image .entry)) n) c event ⌝ }
 {
     match asked {
@@ -82,7 +84,7 @@ fn step_past(asked: Gate, image: &[u8], n: usize, c: Connection, event: Event) -
             answer: Answer::Refused(reason),
             connection: c,
         },
-        Gate::Pass => c.step(config_of(image, n), event),
+        Gate::Pass => c.step(config_laid(image, n), event),
     }
 }
 

@@ -1,9 +1,10 @@
 -- `dispatch_events::lost` meets its contract.
 use Prim.Native.Nat.{_%_}
-use mathlib.Core.Path.{refl, ap}
+use mathlib.Core.Path.{refl, sym, ap, _∙_}
 use Rattle.event_answer.proofs.Short.{refuses, replies}
 use Rattle.state.specs.State.{recordAt}
 use Rattle.gate.specs.Lent.{lentBy}
+use Rattle.gate.proofs.Pass.{gate-at-laid}
 use Rattle.entry_events.specs.declared.Loss.{Loss}
 use Rattle.dispatch_events.specs.Events.{lossBytes, lostEffect}
 use Rattle.dispatch_events.proofs.Replaced.{loss-is}
@@ -25,7 +26,7 @@ ask-at-requires : tie.Need-ask-at-requires
 ask-at-requires c κs = search needs
 
 step-past-requires : tie.Need-step-past-requires
-step-past-requires c κs = search needs
+step-past-requires c κs = λ p. gate-at-laid _ _ (sym (c .ask-at .ensures) ∙ p)
 
 mul-next : tie.Need-mul-next
 mul-next c = search needs
