@@ -8,7 +8,7 @@ use mathlib.Core.List.{List, [], _∷_}
 use lib.Dec.{eqb, ltb, leb}
 use native.Mathlib.Decide.{decLe}
 use native.Mathlib.Omega.{arith}
-use borrow.Author.Tests.{eqb-true, eq-eqb, ne-eqb, lt-ltb, ltb-true, le-leb, leb-true, leb-false, eqb-false, not-true, not-false}
+use borrow.Author.Tests.{eqb-true, eq-eqb, lt-ltb, ltb-true, le-leb, leb-true, leb-false, eqb-false, not-false}
 use Rattle.connection.specs.declared.Config.{Config}
 use Rattle.connection.specs.declared.Connection.{Connection}
 use Rattle.connection.specs.declared.Mode.the-variants.{Online}
@@ -271,29 +271,15 @@ module _ (g : Config) (n : ℕ) (c : Connection) {t b : Bool} where
 
 -- THE LOOP of single ticks while they turn: the ticks that are left lead to the whole's end
 
-pub some-left : (n : ℕ) (b : Bool) → (eqb n 0 || b) ≡ false → n ≡ 0 → ⊥
-some-left n b h = eqb-false n 0 (neither (eqb n 0) b h .0)
-
 module _ (g : Config) where
+  pub none-left : (n : ℕ) (c : Connection) → n ≡ 0 → c ≡ manyOf g n c
+  unfolding manyOf
+  none-left n c z = sym (ap (λ (k : ℕ). manyOf g k c) z)
+
   pub ticked : (n : ℕ) (c : Connection) → (n ≡ 0 → ⊥) → manyOf g (n - 1) (tickOf g c) ≡ manyOf g n c
   unfolding manyOf
   ticked zero c h = absurd (h refl)
   ticked (suc n) c h = let e : suc n - 1 ≡ n = omega arith in ap (λ (k : ℕ). manyOf g k (tickOf g c)) e
-
-  -- with none left, whatever the next would do
-  settled-none : (c : Connection) → settledOf g 0 c ≡ manyOf g 0 c
-  unfolding settledOf manyOf
-  settled-none c =
-      ap (λ (b : Bool). cond b (laterBy 0 c) (goneOf g 0 c))
-      (stays-early _ (c .watch .«remote_set») (g .tcp) (ends-no 0 (c .watch .alive) (λ q. omega (arith, q .0, q .1))))
-      ∙ sym (later-none c)
-
-  pub ended : (n : ℕ) (c : Connection) (t : Bool) → t ≡ turnsNext g c → (eqb n 0 || not t) ≡ true → settledOf g n c ≡ manyOf g n c
-  ended n c t is h = go (eqb n 0) refl h
-    where
-      go : (b : Bool) → eqb n 0 ≡ b → (b || not t) ≡ true → settledOf g n c ≡ manyOf g n c
-      go true e p = let z : n ≡ 0 = eqb-true _ _ e in subst (λ (k : ℕ). settledOf g k c ≡ manyOf g k c) (sym z) (settled-none c)
-      go false e p = settled-many g c (sym is ∙ not-true t p) n
 
 -- AND THERE ARE AT MOST TWO OF THEM
 

@@ -2,6 +2,7 @@
 ghost use mathlib.Core.Path.{_≡_};
 ghost use lib.Dec.{leb};
 ghost use Prim.Native.Nat.{_-_, _<_, _≤_};
+ghost use Rattle.table_layout.specs.Layout.{Laid};
 ghost use Rattle.gate.specs.Lent.{lentBy};
 ghost use Rattle.entry_ticks.specs.Many.{manyOf, turnsNext, upOf, stillOf, endsIn, staysOf, laterBy, settledOf};
 ghost use Rattle.entry_ticks.specs.Tick.{ticksTo, markedOf, tickedFrom, tickEvent, ticksEvent};
@@ -14,7 +15,7 @@ use connection::is_online;
 use connection::is_reconnect;
 use gate::Gate;
 use state::State;
-use state::config_of;
+use state::config_laid;
 use table_layout::Kind;
 use table_layout::rows_of;
 
@@ -116,7 +117,10 @@ fn tick_many(config: Config, c: Connection, count: u32) -> Connection
     let mut next = c;
     let mut left = count;
     loop {
-        if (left == 0) | !turns_next(config, next) {
+        if left == 0 {
+            return next;
+        }
+        if !turns_next(config, next) {
             return settled(config, next, left);
         }
         next = next.tick(config);
@@ -139,7 +143,7 @@ fn marked(word: u16, k: usize, on: bool) -> u16
 // `count` ticks of the first `rows` connections, in order, and whose transfers they end. Of one that is up the row is asked for only where
 // they may let it go, and its transfer goes on; only of one that is not up the whole record is read.
 fn tick_rows(image: &[u8], rows: usize, state: State, count: u32) -> Ticked
-    requires { ⌜ rows ≤ 16 ⌝ }
+    requires { ⌜ (rows ≤ 16) × Laid (now image) ⌝ }
     ensures { λ r. ⌜ r ≡ tickedFrom rows state (ticksTo (now (image .entry)) rows count state) ⌝ }
 {
     let mut after = state;
@@ -149,7 +153,7 @@ fn tick_rows(image: &[u8], rows: usize, state: State, count: u32) -> Ticked
         let connection = after.connections[i];
         if !is_up(connection) {
             let whole = after.connections[i];
-            let next = tick_many(config_of(image, i), whole, count);
+            let next = tick_many(config_laid(image, i), whole, count);
             after.connections[i] = next;
             failed = marked(failed, i, connection::failed(whole, next));
             i += 1;
@@ -165,7 +169,7 @@ fn tick_rows(image: &[u8], rows: usize, state: State, count: u32) -> Ticked
             i += 1;
             continue;
         }
-        let next = settled(config_of(image, i), connection, count);
+        let next = settled(config_laid(image, i), connection, count);
         after.connections[i] = next;
         i += 1;
     }

@@ -1,6 +1,6 @@
 -- `entry_ticks::tick` meets its contract.
 use mathlib.Core.Path.{_≡_, sym, _∙_}
-use Rattle.gate.proofs.Pass.{rows-in-sixteen}
+use Rattle.gate.proofs.Pass.{rows-in-sixteen, gate-laid}
 use Rattle.entry_ticks.specs.Tick.{tickEvent}
 use Rattle.entry_ticks.proofs.Many.{ticks-one}
 use borrow.Author.Needs.{needs}
@@ -20,7 +20,9 @@ rows-of-requires : tie.Need-rows-of-requires
 rows-of-requires c κs = search needs
 
 tick-rows-requires : tie.Need-tick-rows-requires
-tick-rows-requires c κs = rw (c .rows-of .ensures .0) (rows-in-sixteen _ (sym (c .before .before .before .ask .ensures) ∙ c .before .enum-told .given .1))
+tick-rows-requires c κs =
+    let passed = sym (c .before .before .before .ask .ensures) ∙ c .before .enum-told .given .1 in
+    (rw (c .rows-of .ensures .0) (rows-in-sixteen _ passed), gate-laid _ passed)
 
 returns : tie.Need-returns
 unfolding tickEvent

@@ -41,8 +41,8 @@ mul-whole c = search needs
 element-copy-out-whole : tie.Need-element-copy-out-whole Inv-loop μ-loop
 element-copy-out-whole c = search needs
 
-config-of-requires : tie.Need-config-of-requires Inv-loop μ-loop
-config-of-requires c κs = search needs
+config-laid-requires : tie.Need-config-laid-requires Inv-loop μ-loop
+config-laid-requires c κs = c .before .before .before .before .before .before .before .pre .1
 
 tick-many-requires : tie.Need-tick-many-requires Inv-loop μ-loop
 tick-many-requires c κs = search needs
@@ -71,7 +71,7 @@ loop-again c =
     let t = m .before .before .before .before .before .before in
     let b = t .before in
     let h : b .loop .i < length (b .before .before .args .state .connections) = omega (arith, t .loop-test .taken) in
-    let config = m .before .config-of .ensures in (
+    let config = m .before .config-laid .ensures in (
       omega (arith, t .loop-test .taken),
       b .loop .inv .1,
       b .loop .inv .2,
@@ -136,8 +136,8 @@ loop-again-3 c =
       up-mark _ _ _ _ _ _ _ (t .loop-test .taken) h (b .loop .inv .3) (b .loop .inv .4) up,
     )
 
-config-of-requires-2 : tie.Need-config-of-requires-2 Inv-loop μ-loop
-config-of-requires-2 c κs = search needs
+config-laid-requires-2 : tie.Need-config-laid-requires-2 Inv-loop μ-loop
+config-laid-requires-2 c κs = c .before .before .before .before .before .before .before .before .before .before .pre .1
 
 settled-requires : tie.Need-settled-requires Inv-loop μ-loop
 settled-requires c κs = search needs
@@ -165,7 +165,7 @@ loop-again-4 c =
       omega (arith, t .loop-test .taken),
       b .loop .inv .1,
       b .loop .inv .2,
-      up-turn _ _ _ _ _ h (b .loop .inv .3) _ _ up (c .before .config-of2 .ensures) (c .settled .ensures),
+      up-turn _ _ _ _ _ h (b .loop .inv .3) _ _ up (c .before .config-laid2 .ensures) (c .settled .ensures),
       up-mark _ _ _ _ _ _ _ (t .loop-test .taken) h (b .loop .inv .3) (b .loop .inv .4) up,
     )
 
@@ -188,7 +188,7 @@ tick-rows-spec =
     is-up-requires
     mul-whole
     element-copy-out-whole
-    config-of-requires
+    config-laid-requires
     tick-many-requires
     mul-next
     element-set-from-next
@@ -208,7 +208,7 @@ tick-rows-spec =
     add-i-3
     loop-less-3
     loop-again-3
-    config-of-requires-2
+    config-laid-requires-2
     settled-requires
     mul-next-3
     element-set-from-next-3
