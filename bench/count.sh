@@ -4,7 +4,7 @@
 #
 #   ready_ours, ready_twins    build what is counted: ours out of libsoad.a and the program bench_repeat; the twins
 #   per_call SIDE WORD ..      of a function of libsoad.a (ours) or its twin, by bench.c's words
-#   per_event SIDE WHAT QUARTERS LENGTH    of an entry point, by input.c's words
+#   per_event SIDE WHAT QUARTERS LENGTH    of an entry point, by input.c's words; of some entry points that make a round, of all its calls
 #
 # A cost is the difference between a short and a long run, per call. What the loop does besides the call is taken off on both sides:
 # `nothing`, or for a call that the loop makes ready or clears up after, the same without the call.
@@ -35,21 +35,21 @@ count() {
 
 per_call() { echo $((($(count "$work/bench" "$@" 70 </dev/null) - $(count "$work/bench" "$@" 20 </dev/null)) / 50)); }
 
-# repeated PROGRAM WHAT QUARTERS LENGTH: the calls of a short run, 20, and of a long one, 70; 1 and 3 of what is long by itself; of a replay of 10
-# entries 1 and 401, which are 4,000 entries more.
+# repeated PROGRAM WHAT QUARTERS LENGTH: the calls of a short run, 20, and of a long one, 80, so that whole rounds lie between them; 1 and 3 of
+# what is long by itself; of a replay of 10 entries 1 and 401, which are 4,000 entries more. What a call costs, or ROUND calls.
 repeated() {
-    local short=20 long=70 less more
+    local short=20 long=80 less more
     case $2 in
     *segment | *ticks) short=1 long=3 ;;
     *replay | *tally) short=1 long=401 ;;
     esac
     less=$("${start[@]}" "$work/input" "${@:2}" "$short" | count "$1") || return
     more=$("${start[@]}" "$work/input" "${@:2}" "$long" | count "$1") || return
-    echo $(((more - less) / (long - short)))
+    echo $(((more - less) * ROUND / (long - short)))
 }
 
 per_event() {
-    local program=$repeat busy='' besides
+    local program=$repeat busy='' besides ROUND=1
     [ "$1" = ours ] || program=$work/twins
     case $2 in +*) busy=+ ;; esac
     case ${2#+} in
@@ -59,6 +59,11 @@ per_event() {
     wound) besides=wind ;;
     switch | all | clear | lost | accept | remote | close) besides=idle ;;
     *) besides=nothing ;;
+    esac
+    case ${2#+} in
+    lost | accept | own-lost | own-accept) ROUND=2 ;;
+    remote | own-remote) ROUND=3 ;;
+    close | own-close) ROUND=4 ;;
     esac
     echo $(($(repeated "$program" "${@:2}") - $(repeated "$program" "$busy$besides" "$3" "$4")))
 }

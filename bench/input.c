@@ -5,9 +5,9 @@
  * WHAT: nothing, gate, take, cut, walk, transmit, waiting, tick, datagram; segment: an event of LENGTH PDUs of 10 bytes in all;
  * ticks: an event of LENGTH ticks; emptied, holding: what transmit and waiting do besides the call; first, middle, last: a take under
  * a table whose groups are all TCP, with the first, the middle or the last row for its route; none: the same with an id that no row
- * has, and no payload; empty: a take of no bytes there; switch, all, clear, lost, accept, remote, close: events through the dispatcher,
- * which leave the state as they find it (lost and connected; lost and accept; lost, set remote and connected; close, tick, open,
- * tick); idle: none of them; piece: a take of LENGTH bytes inside a transfer; begun: what it does besides the call; replay: the recording of ten
+ * has, and no payload; empty: a take of no bytes there; switch, all, clear, lost, accept, remote, close: events through the dispatcher, in
+ * rounds that leave the state as they find it (lost, connected; lost, accept; lost, set remote, connected; close, tick, open, tick), one
+ * event a call; idle: none of them; piece: a take of LENGTH bytes inside a transfer; begun: what it does besides the call; replay: the recording of ten
  * events, answers and all (shift.h); tally: the same, counted for the foreman's report;
  * wound: LENGTH ticks before which every timer is started, under a table with alive limits; wind: what it does besides the call;
  * own-switch to own-close, own-ticks: what the words behind `own-` name, by calls of the entry points and not of the dispatcher.
@@ -30,8 +30,8 @@ enum {
     SWITCH, ALL, CLEAR, LOST, ACCEPT, REMOTE, CLOSE, IDLE, REPLAY, TALLY, PIECE, BEGUN, WOUND, WIND,
     OWN_SWITCH, OWN_ALL, OWN_CLEAR, OWN_LOST, OWN_ACCEPT, OWN_REMOTE, OWN_CLOSE, OWN_TICKS, WHATS
 };
-static const uint8_t numbers[] = {0, 1, 2, 3, 4, 5, 6, 7, 8, 9, 9, 2, 2, 2, 10, 11, 69, 70, 12, 12, 12, 12, 12, 12, 12, 12, 13, 16, 14, 71, 15, 72, 17, 18, 19, 20, 21, 22, 23, 24};
-enum { EVENT_TICKS = 0, EVENT_SEGMENT = 7, PDU_BYTES = 10, BUSY = 128 };
+static const uint8_t numbers[] = {0, 1, 2, 3, 4, 5, 6, 7, 8, 9, 9, 2, 2, 2, 10, 11, 69, 70, 12, 12, 12, 12, 12, 12, 12, 12, 13, 16, 14, 71, 15, 72, 17, 18, 19, 32, 33, 34, 35, 24};
+enum { EVENT_TICKS = 0, EVENT_SEGMENT = 7, PDU_BYTES = 10, SLOT = 28, BUSY = 128 };
 
 static uint8_t head[16], bytes[2944];
 
@@ -62,27 +62,29 @@ static unsigned route_of(unsigned what, unsigned rows)
     }
 }
 
-/* Adds an event of so many bytes of body behind the party, which is 0: what it names, then its other bytes. */
-static unsigned add_event(unsigned at, unsigned event, unsigned named, const uint8_t *more, unsigned extra)
+/* Adds an event, in a slot behind so many, of so many bytes of body behind the party, which is 0: what it names, then its other bytes. */
+static unsigned add_event(unsigned slots, unsigned event, unsigned named, const uint8_t *more, unsigned extra)
 {
-    set(bytes + at, event, 2);
-    set(bytes + at + 2, 2 + extra, 2);
-    set(bytes + at + 5, named, 1);
+    uint8_t *at = bytes + slots * SLOT;
+    set(at, event, 2);
+    set(at + 2, 2 + extra, 2);
+    set(at + 5, named, 1);
     for (unsigned i = 0; i < extra; i++)
-        bytes[at + 6 + i] = more[i];
-    return at + 6 + extra;
+        at[6 + i] = more[i];
+    return slots + 1;
 }
 
 /* One tick: its body has no party. */
-static unsigned add_tick(unsigned at)
+static unsigned add_tick(unsigned slots)
 {
-    set(bytes + at, 0, 2);
-    set(bytes + at + 2, 4, 2);
-    set(bytes + at + 4, 1, 4);
-    return at + 8;
+    uint8_t *at = bytes + slots * SLOT;
+    set(at, 0, 2);
+    set(at + 2, 4, 2);
+    set(at + 4, 1, 4);
+    return slots + 1;
 }
 
-/* The events of a call, on a connection of a group; how many bytes they are. */
+/* The events of a round, on a connection of a group; how many they are. */
 static unsigned add_events(unsigned what, unsigned connection, unsigned group)
 {
     static const uint8_t on[] = {0, 1};
@@ -149,8 +151,11 @@ int main(int count, char **words)
         set(image + 36 + 2 * (2 * quarters) + 16 * i + 10, 30000 + 1000 * i, 2);
     if (what == TICKS || what == WOUND || what == OWN_TICKS)
         set(bytes, length, given = 4);
-    if (what >= SWITCH && what <= IDLE)
-        given = add_events(what, connection, connection % (2 * quarters));
+    unsigned used = length;
+    if (what >= SWITCH && what <= IDLE) {
+        used = add_events(what, connection, connection % (2 * quarters));
+        given = used * SLOT;
+    }
     if (what == REPLAY || what == TALLY)
         given = make_shift(bytes, quarters);
     set(head, numbers[what] + (name != words[1] ? BUSY : 0), 1);
@@ -158,7 +163,7 @@ int main(int count, char **words)
     set(head + 2, what == SEGMENT ? EVENT_SEGMENT : what == TICKS ? EVENT_TICKS : what == PIECE || what == BEGUN ? route : 8 * quarters - 1, 2);
     set(head + 4, (uint64_t)atoi(words[4]), 4);
     set(head + 8, 36 + 2 * (2 * quarters) + 16 * (4 * quarters) + 9, 2); /* the first route's upper PDU */
-    set(head + 10, length, 2);
+    set(head + 10, used, 2);
     set(head + 12, image_length, 2);
     set(head + 14, given, 2);
     long told = write(1, head, sizeof head);

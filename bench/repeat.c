@@ -110,13 +110,11 @@ static bool tallied(void)
     return twin_replay(&lent, bytes, length, out, &report) && report.fits;
 }
 
-/* Up to four events, each a number 2, a length 2 and a body. */
-static bool some_events(void)
+/* The event whose turn it is, out of so many slots of 28 bytes, each a number 2, a length 2 and a body. */
+static bool event_of(size_t turn, size_t count)
 {
-    bool done = true;
-    for (size_t at = 0, i = 0; i < 4 && length - at >= 4; i++, at += 4 + (size_t)(bytes[at + 2] << 8 | bytes[at + 3]))
-        done &= dispatched((size_t)(bytes[at] << 8 | bytes[at + 1]), bytes + at + 4);
-    return done;
+    const uint8_t *slot = bytes + (count == 0 ? 0 : turn % count * 28);
+    return count == 0 || dispatched((size_t)(slot[0] << 8 | slot[1]), slot + 4);
 }
 
 static bool accepted(uint8_t connection)
@@ -141,8 +139,26 @@ static bool many_ticks(void)
     return twin_many_ticks(&lent, count, &failed) == 0;
 }
 
+/* Which call's turn it is, of a round: lost, connected; lost, accept; lost, set remote, connected; close, tick, open, tick. */
+static size_t in_turn(size_t what, size_t turn)
+{
+    static const uint8_t three[] = {20, 23, 21}, four[] = {25, 7, 26, 7};
+    switch (what) {
+    case 32:
+        return turn % 2 == 0 ? 20 : 21;
+    case 33:
+        return turn % 2 == 0 ? 20 : 22;
+    case 34:
+        return three[turn % 3];
+    case 35:
+        return four[turn % 4];
+    default:
+        return what;
+    }
+}
+
 /* The call that a number names. */
-static bool once(size_t what, uint8_t connection, uint16_t pdu, uint16_t used)
+static bool once(size_t what, size_t turn, uint8_t connection, uint16_t pdu, uint16_t used)
 {
     uint32_t value;
     switch (what) {
@@ -171,7 +187,7 @@ static bool once(size_t what, uint8_t connection, uint16_t pdu, uint16_t used)
     case 11:
         return take(connection, bytes, 0, MORE);
     case 12:
-        return some_events();
+        return event_of(turn, used);
     case 13:
         return twin_replay(&lent, bytes, length, out, 0);
     case 14:
@@ -188,15 +204,19 @@ static bool once(size_t what, uint8_t connection, uint16_t pdu, uint16_t used)
     case 19:
         return twin_read_and_clear(&lent, 1, &value) == 0;
     case 20:
-        return lost(connection) && twin_connected(&lent, connection) == 0;
+        return lost(connection);
     case 21:
-        return lost(connection) && accepted(connection);
+        return twin_connected(&lent, connection) == 0;
     case 22:
-        return lost(connection) && twin_set_remote(&lent, connection, (struct remote){0x0A000001, 30490}) == 0 && twin_connected(&lent, connection) == 0;
+        return accepted(connection);
     case 23:
-        return twin_close(&lent, connection) == 0 && tick() && twin_open(&lent, connection) == 0 && tick();
+        return twin_set_remote(&lent, connection, (struct remote){0x0A000001, 30490}) == 0;
     case 24:
         return many_ticks();
+    case 25:
+        return twin_close(&lent, connection) == 0;
+    case 26:
+        return twin_open(&lent, connection) == 0;
     case 69:
         hold(connection, 0);
         hold(connection + 1u, 0);
@@ -250,7 +270,7 @@ int main(void)
     }
     for (size_t i = 0; i < times; i++) {
         image[place] = (uint8_t)i;
-        all &= once(what % 128, (uint8_t)number(1, 1), (uint16_t)number(2, 2), (uint16_t)number(10, 2));
+        all &= once(in_turn(what % 128, i), i, (uint8_t)number(1, 1), (uint16_t)number(2, 2), (uint16_t)number(10, 2));
     }
     printf(all ? "OK\n" : "REFUSED\n");
     return 0;

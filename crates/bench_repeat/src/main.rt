@@ -16,15 +16,18 @@
 //   what 8  a datagram for the group of the connection, from its configured remote
 //   what 9  an event through the dispatcher: the PDU is its number, the bytes are its body
 //   what 10 a take of the bytes that is to drop a header; what 11 a take of no bytes
-//   what 12 up to four events through the dispatcher: the bytes are of each its number 2, the length of its body 2, and the body
+//   what 12 a round of `used` events, four at most, through the dispatcher, one in each turn: the bytes are of each 28, its number 2, the
+//           length of its body 2, and the body
 //   what 13 a replay of the bytes as a recording, each entry three ticks after the one before
 //   what 14 a take of the bytes inside a transfer of 4,294,967,295 bytes on the connection, on the route that the PDU's number names
 //   what 15 so many ticks as the first four bytes say, and before each call every connection is online with ten bytes to send, its timer at
 //           65,535 ticks and its alive timer at its row's limit (the remotes of the table have no wildcard)
 //   what 16 what 13 does, each entry counted for the foreman's report
 //   what 17 a switch of the connection; 18 a switch on all connections; 19 a read of the UDP count that clears it
-//   what 20 lost and connected; 21 lost and accept; 22 lost, set remote and connected; 23 close, tick, open and tick: of the connection
+//   what 20 lost; 21 connected; 22 accept; 23 set remote; 25 close; 26 open: of the connection
 //   what 24 so many ticks as the first four bytes say
+//   what 32 a round of lost and connected, one in each turn; 33 lost and accept; 34 lost, set remote and connected; 35 close, tick, open and
+//           tick
 //   what 69, 70, 71, 72  what 5, 6, 14 and 15 do besides the call
 // 128 more: under a state in which each connection holds ten bytes to send, half of them due, half with a timer that runs.
 // Last word: OK when every call did what it names, REFUSED when one did not, CUT when the input is not what it says.
@@ -34,6 +37,7 @@ mod up;
 
 use input::read_part;
 use libc::STDOUT_FILENO;
+use once::in_turn;
 use once::once;
 use pieces::front;
 use up::start;
@@ -62,7 +66,8 @@ fn repeat(
     while i < times {
         put8(image, place, (i % 256) as u8);
         let turn = once(
-            what % 128,
+            in_turn(what % 128, i),
+            i,
             image,
             state,
             rx,

@@ -307,61 +307,36 @@ fn dispatched(
     }
 }
 
-// The next event of some, each a number 2, a length 2 and a body, through the dispatcher; where none is left, nothing.
-fn next_event(
-    image: &[u8],
-    turn: Turn,
-    rx: &mut [u8],
-    tx: &mut [u8],
-    out: &mut [u8],
-    events: &[u8],
-) -> Turn {
-    if events.len() < 4 {
-        return turn;
-    }
-    let before = turn.state;
-    let body = front(bytes_from(events, 4), be16(events, 2));
-    let met = dispatched(image, before, rx, tx, out, be16(events, 0) as u16, body);
-    let after = met.state;
-    Turn {
-        done: turn.done & met.done,
-        state: after,
+// Where the slot begins, of 28 bytes, whose turn it is out of four at most.
+fn slot_at(turn: u32, count: u16) -> usize {
+    match count {
+        2 => (turn % 2) as usize * 28,
+        3 => (turn % 3) as usize * 28,
+        4 => (turn % 4) as usize * 28,
+        _ => 0,
     }
 }
 
-// What stands behind the first of some events.
-fn later(events: &[u8]) -> &[u8] {
-    bytes_from(events, 4 + be16(events, 2))
-}
-
-// Two of them at most.
-fn two_events(
-    image: &[u8],
-    turn: Turn,
-    rx: &mut [u8],
-    tx: &mut [u8],
-    out: &mut [u8],
-    events: &[u8],
-) -> Turn {
-    let one = next_event(image, turn, rx, tx, out, events);
-    next_event(image, one, rx, tx, out, later(events))
-}
-
-// Four of them at most.
-fn some_events(
+// The event whose turn it is, each in a slot as its number 2, a length 2 and a body, through the dispatcher; without a slot nothing.
+fn event_of(
     image: &[u8],
     state: State,
     rx: &mut [u8],
     tx: &mut [u8],
     out: &mut [u8],
-    events: &[u8],
+    turn: u32,
+    count: u16,
+    slots: &[u8],
 ) -> Turn {
-    let start = Turn {
-        done: true,
-        state: state,
-    };
-    let two = two_events(image, start, rx, tx, out, events);
-    two_events(image, two, rx, tx, out, later(later(events)))
+    if count == 0 {
+        return Turn {
+            done: true,
+            state: state,
+        };
+    }
+    let slot = bytes_from(slots, slot_at(turn, count));
+    let body = front(bytes_from(slot, 4), be16(slot, 2));
+    dispatched(image, state, rx, tx, out, be16(slot, 0) as u16, body)
 }
 
 // ---- a replay
@@ -488,9 +463,33 @@ fn counted(
     }
 }
 
+// Which call's turn it is, of a round: lost, connected; lost, accept; lost, set remote, connected; close, tick, open, tick. What is no round is
+// itself.
+pub fn in_turn(what: u8, turn: u32) -> u8 {
+    if what < 32 {
+        return what;
+    }
+    match what {
+        32 => if turn % 2 == 0 { 20 } else { 21 },
+        33 => if turn % 2 == 0 { 20 } else { 22 },
+        34 => match turn % 3 {
+            0 => 20,
+            1 => 23,
+            _ => 21,
+        },
+        35 => match turn % 4 {
+            0 => 25,
+            2 => 26,
+            _ => 7,
+        },
+        _ => what,
+    }
+}
+
 // The call that a number names; an unknown one does nothing, and says so.
 pub fn once(
     what: u8,
+    turn: u32,
     image: &[u8],
     state: State,
     rx: &mut [u8],
@@ -517,7 +516,7 @@ pub fn once(
         9 => dispatched(image, state, rx, tx, out, pdu, bytes),
         10 => take(image, state, rx, tx, connection, bytes, 2),
         11 => take(image, state, rx, tx, connection, front(bytes, 0), 0),
-        12 => some_events(image, state, rx, tx, out, bytes),
+        12 => event_of(image, state, rx, tx, out, turn, used, bytes),
         13 => replayed(image, state, rx, tx, out, bytes),
         14 => take_piece(image, state, rx, tx, connection, pdu, bytes),
         15 => own::ticks_wound(image, state, rx, tx, be32(bytes, 0) as u32),
@@ -526,10 +525,12 @@ pub fn once(
         18 => own::switch_all(image, state, rx, tx),
         19 => own::clear(image, state, rx, tx),
         20 => own::lost(image, state, rx, tx, connection),
-        21 => own::accept(image, state, rx, tx, connection),
-        22 => own::set_remote(image, state, rx, tx, connection),
-        23 => own::close(image, state, rx, tx, connection),
+        21 => own::connected(image, state, rx, tx, connection),
+        22 => own::accept(image, state, rx, tx, connection),
+        23 => own::set_remote(image, state, rx, tx, connection),
         24 => own::ticks(image, state, rx, tx, be32(bytes, 0) as u32),
+        25 => own::close(image, state, rx, tx, connection),
+        26 => own::open(image, state, rx, tx, connection),
         69 => Turn {
             done: true,
             state: emptied(state, connection as usize),

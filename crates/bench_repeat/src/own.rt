@@ -1,5 +1,5 @@
 // Calls of the entry points of arrivals, of record events, of switches, counts and many ticks, by what they are (main.rt lists them). Each
-// leaves a state that the next call of it may begin from.
+// leaves a state that the next call of it, or of a round, may begin from.
 use crate::once::Turn;
 use crate::up::wound;
 use connection::Answer;
@@ -93,73 +93,69 @@ pub fn clear(image: &[u8], state: State, rx: &[u8], tx: &[u8]) -> Turn {
     }
 }
 
-// Lost, and connected.
 pub fn lost(image: &[u8], state: State, rx: &[u8], tx: &[u8], connection: u8) -> Turn {
-    let first = entry_events::lost(image, state, rx, tx, connection);
-    let one = first.answer;
-    let between = first.state;
-    let second = entry_events::connected(image, between, rx, tx, connection);
-    let two = second.answer;
-    let after = second.state;
+    let loss = entry_events::lost(image, state, rx, tx, connection);
+    let answer = loss.answer;
+    let after = loss.state;
     Turn {
-        done: is_done(one) & is_done(two),
+        done: is_done(answer),
         state: after,
     }
 }
 
-// Lost, and an accept from the configured remote.
+pub fn connected(image: &[u8], state: State, rx: &[u8], tx: &[u8], connection: u8) -> Turn {
+    let told = entry_events::connected(image, state, rx, tx, connection);
+    let answer = told.answer;
+    let after = told.state;
+    Turn {
+        done: is_done(answer),
+        state: after,
+    }
+}
+
+// From the configured remote.
 pub fn accept(image: &[u8], state: State, rx: &[u8], tx: &[u8], connection: u8) -> Turn {
-    let first = entry_events::lost(image, state, rx, tx, connection);
-    let one = first.answer;
-    let between = first.state;
     let source = remote_of(image, connection);
     let group = group_of(image, connection);
-    let second = entry_arrivals::accept(image, between, rx, tx, group, source);
-    let two = second.answer;
-    let after = second.state;
+    let arrived = entry_arrivals::accept(image, state, rx, tx, group, source);
+    let answer = arrived.answer;
+    let after = arrived.state;
     Turn {
-        done: is_done(one) & is_met(two, connection),
+        done: is_met(answer, connection),
         state: after,
     }
 }
 
-// Lost, a remote set, and connected.
 pub fn set_remote(image: &[u8], state: State, rx: &[u8], tx: &[u8], connection: u8) -> Turn {
     let source = Remote {
         address: 167772161,
         port: 30490,
     };
-    let first = entry_events::lost(image, state, rx, tx, connection);
-    let one = first.answer;
-    let between = first.state;
-    let second = entry_events::set_remote(image, between, rx, tx, connection, source);
-    let two = second.answer;
-    let later = second.state;
-    let third = entry_events::connected(image, later, rx, tx, connection);
-    let three = third.answer;
-    let after = third.state;
+    let told = entry_events::set_remote(image, state, rx, tx, connection, source);
+    let answer = told.answer;
+    let after = told.state;
     Turn {
-        done: is_done(one) & is_done(two) & is_done(three),
+        done: is_done(answer),
         state: after,
     }
 }
 
-// Close, a tick, open, a tick.
 pub fn close(image: &[u8], state: State, rx: &[u8], tx: &[u8], connection: u8) -> Turn {
-    let first = entry_events::close(image, state, rx, tx, connection);
-    let one = first.answer;
-    let wanted = first.state;
-    let second = entry_ticks::tick(image, wanted, rx, tx);
-    let two = second.answer;
-    let closed = second.state;
-    let third = entry_events::open(image, closed, rx, tx, connection);
-    let three = third.answer;
-    let asked = third.state;
-    let fourth = entry_ticks::tick(image, asked, rx, tx);
-    let four = fourth.answer;
-    let after = fourth.state;
+    let told = entry_events::close(image, state, rx, tx, connection);
+    let answer = told.answer;
+    let after = told.state;
     Turn {
-        done: is_done(one) & is_done(two) & is_done(three) & is_done(four),
+        done: is_done(answer),
+        state: after,
+    }
+}
+
+pub fn open(image: &[u8], state: State, rx: &[u8], tx: &[u8], connection: u8) -> Turn {
+    let told = entry_events::open(image, state, rx, tx, connection);
+    let answer = told.answer;
+    let after = told.state;
+    Turn {
+        done: is_done(answer),
         state: after,
     }
 }

@@ -27,6 +27,9 @@ cast-put8 c = search needs
 put8-requires : tie.Need-put8-requires Inv-loop μ-loop
 put8-requires c κs = search needs
 
+in-turn-requires : tie.Need-in-turn-requires Inv-loop μ-loop
+in-turn-requires c κs = search needs
+
 once-requires : tie.Need-once-requires Inv-loop μ-loop
 once-requires c κs = search needs
 
@@ -64,6 +67,7 @@ repeat-spec =
     loop-holds
     cast-put8
     put8-requires
+    in-turn-requires
     once-requires
     add-i
     loop-less
