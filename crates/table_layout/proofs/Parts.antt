@@ -2,14 +2,16 @@
 use Prim.Native.Nat.{ℕ, _+_, _-_, _*_, _/_, _<_, _≤_}
 use mathlib.Core.Path.{_≡_, sym, ap, _∙_}
 use mathlib.Core.List.{List, []}
+use Rattle.wire.specs.Be.{be}
 use Rattle.wire.specs.Place.{behind}
+use Rattle.wire.proofs.Part.{be-part}
 use Rattle.wire.proofs.Place.{at-front, at-behind}
-use native.Mathlib.Nat.{mul-le-mul, le-of-lt, add-sub-cancel-left, suc-mul, mul-le-mul-right, div-mul-le-self, le-trans, div-zero, mul-div-cancel}
+use native.Mathlib.Nat.{mul-le-mul, le-of-lt, add-sub-cancel-left, suc-mul, mul-le-mul-right, div-mul-le-self, le-trans, zero-add, div-zero, mul-div-cancel}
 use native.Mathlib.Omega.{arith}
 use borrow.Author.Tests.{le-leb, lt-leb, lt-ltb, le-ltb}
 use lib.ListN.{length, take, drop, length-drop}
 use lib.Seq.{length-take-le}
-use Rattle.table_layout.specs.Layout.{rowBytes, rowsOf, bodyBytes, startOf, endOf, partOf, partAt, bodyOf, bodyAt, rowIn, rowInAt, Laid}
+use Rattle.table_layout.specs.Layout.{entryAt, rowBytes, rowsOf, bodyBytes, startOf, endOf, partOf, partAt, bodyOf, bodyAt, rowIn, rowInAt, Laid}
 use Rattle.table_layout.specs.declared.Kind.{Kind}
 use Rattle.table_layout.specs.declared.Kind.the-variants.{Group, Connection, Route, Destination}
 
@@ -76,8 +78,25 @@ row-zero body i n z = row-none n body i (rw (z, div-zero) (omega arith))
 pub row-front-zero : (body : List ℕ) (i n : ℕ) (p : ℕ × ℕ) → n ≡ 0 → p ≡ behind p (rowInAt n body i)
 row-front-zero body i n p z = row-front n body i p (rw (z, div-zero) (omega arith))
 
+-- a number within the first n bytes is the one in the whole
+pub be-taken : (w n : ℕ) (s : List ℕ) (at : ℕ) → at + w ≤ n → be w (take n s) at ≡ be w s at
+be-taken w n s at h = be-part w n s 0 at h ∙ ap (be w s) (zero-add at)
+
 -- in an image that is laid out every body stands within it
 module _ (s : List ℕ) (l : Laid s) where
+  -- its contents stand in its front, and name where each body starts
+  pub front-long : 36 ≡ length (take 36 s)
+  front-long = sym (length-take-le 36 s (l .head))
+
+  pub start-named : (k : Kind) (at : ℕ) → at ≡ be 4 (take 36 s) (entryAt k + 4) → at ≡ startOf s k
+  start-named k at e = e ∙ be-taken 4 36 s (entryAt k + 4) (inside k) ∙ l .starts k
+    where
+      inside : (k : Kind) → entryAt k + 4 + 4 ≤ 36
+      inside Group = omega arith
+      inside Connection = omega arith
+      inside Route = omega arith
+      inside Destination = omega arith
+
   pub body-within : (k : Kind) → startOf s k + bodyBytes s k ≤ length s
   unfolding startOf endOf
   body-within Group = omega (arith, l .whole)
@@ -85,18 +104,28 @@ module _ (s : List ℕ) (l : Laid s) where
   body-within Route = omega (arith, l .whole)
   body-within Destination = omega (arith, l .whole)
 
-  -- by its numbers: it ends within the image, `&image[at..at + n]` is the body, and where it stands
-  module _ (k : Kind) (at n : ℕ) (ea : at ≡ startOf s k) (en : n ≡ bodyBytes s k) where
-    pub body-ends : at + n ≤ length s
+  -- by its bounds: it ends within the image, `&image[at..end]` is the body, and where it stands
+  module _ (k : Kind) (at end : ℕ) (ea : at ≡ startOf s k) (ee : end ≡ startOf s k + bodyBytes s k) where
+    pub body-from : at ≤ end
+    body-from = omega arith
+
+    pub body-ends : end ≤ length s
     body-ends = omega (arith, body-within k)
 
-    pub body-range : take (at + n - at) (drop at s) ≡ bodyOf s k
+    end-is : end ≡ at + bodyBytes s k
+    end-is = omega arith
+
+    within : at + bodyBytes s k ≤ length s
+    within = omega (arith, body-within k)
+
+    pub body-range : take (end - at) (drop at s) ≡ bodyOf s k
     unfolding bodyOf
-    body-range = part-range s at n body-ends ∙ ap (λ (x : ℕ). partOf s x n) ea ∙ ap (partOf s (startOf s k)) en
+    body-range =
+        ap (λ (x : ℕ). take (x - at) (drop at s)) end-is ∙ part-range s at (bodyBytes s k) within ∙ ap (λ (x : ℕ). partOf s x (bodyBytes s k)) ea
 
     pub body-there : (p : ℕ × ℕ) → (p .0, at + p .1) ≡ behind p (bodyAt s k)
     unfolding bodyAt
-    body-there p = part-there s at n p body-ends ∙ ap (λ (x : ℕ). behind p (partAt s x n)) ea ∙ ap (λ (x : ℕ). behind p (partAt s (startOf s k) x)) en
+    body-there p = part-there s at (bodyBytes s k) p within ∙ ap (λ (x : ℕ). behind p (partAt s x (bodyBytes s k))) ea
 
   pub body-length : (k : Kind) → length (bodyOf s k) ≡ bodyBytes s k
   unfolding bodyOf

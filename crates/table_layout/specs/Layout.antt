@@ -89,7 +89,8 @@ rowInAt n body i = cond (ltb i (length body / n)) (i * n) 0
 abbrev pub rowOf : List ℕ → Kind → ℕ → List ℕ
 rowOf s k i = rowIn (rowBytes s k) (bodyOf s k) i
 
--- R1.4: an image of which the bodies are all there and nothing else
+-- R1.4: an image of which the bodies are all there and nothing else, each where its contents entry says
 pub record Laid (s : List ℕ) : Type 0 where
   pub head : 36 ≤ length s
   pub whole : length s ≡ endOf s
+  pub starts : (k : Kind) → be 4 s (entryAt k + 4) ≡ startOf s k

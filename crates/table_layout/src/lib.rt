@@ -22,6 +22,7 @@ ghost use Rattle.table_layout.specs.Layout.{
   Laid,
 };
 use wire::be16;
+use wire::be32;
 
 pub enum Kind {
     Group,
@@ -131,14 +132,30 @@ pub fn body_of(image: &[u8], k: Kind) -> &[u8]
     part_of(image, start_of(image, k), body_bytes(image, k))
 }
 
-// As `body_of`, without its tests: in an image that is laid out as its contents say, every body fits.
+// Where the body of a kind ends: where the next one starts, by the next contents entry, or the image ends.
+fn end_laid(image: &[u8], k: Kind) -> usize
+    requires { ⌜ Laid (now image) ⌝ }
+    ensures { λ r. ⌜ r ≡ startOf (now (image .entry)) k + bodyBytes (now (image .entry)) k ⌝ }
+{
+    let front = &image[..36];
+    match k {
+        Kind::Group => be32(front, 16),
+        Kind::Connection => be32(front, 24),
+        Kind::Route => be32(front, 32),
+        Kind::Destination => image.len(),
+    }
+}
+
+// As `body_of`, without its tests: in an image that is laid out as its contents say, every body fits, and the contents
+// name its bounds. They are read out of a front of constant length, where a total reader makes no test.
 pub fn body_laid(image: &[u8], k: Kind) -> &[u8]
     requires { ⌜ Laid (now image) ⌝ }
     ensures bytes { λ r. ⌜ now r ≡ bodyOf (now (image .entry)) k ⌝ }
     ensures place { λ r. ⌜ ptr r ≡ behind (ptr (image .entry)) (bodyAt (now (image .entry)) k) ⌝ }
 {
-    let at = start_of(image, k);
-    let end = at + body_bytes(image, k);
+    let front = &image[..36];
+    let at = be32(front, entry_at(k) + 4);
+    let end = end_laid(image, k);
     &image[at..end]
 }
 

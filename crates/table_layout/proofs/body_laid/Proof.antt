@@ -1,36 +1,64 @@
 -- `table_layout::body_laid` meets its contract.
-use Rattle.table_layout.proofs.Parts.{body-ends, body-range, body-there}
+use Rattle.table_layout.specs.Layout.{startOf}
+use Rattle.table_layout.proofs.Parts.{front-long, start-named, body-from, body-ends, body-range, body-there}
+use mathlib.Core.Path.{_≡_}
+use denote.Ref.{now}
 use borrow.Author.Needs.{needs}
 use Rattle.table_layout.proofs.body_laid.Statement.{statement}
 use Rattle.table_layout.proofs.body_laid.Tie as tie
 
-start-of-requires : tie.Need-start-of-requires
-start-of-requires c κs = search needs
+slice-aggregate-front : tie.Need-slice-aggregate-front
+slice-aggregate-front c = front-long _ (c .before .before .pre)
 
-body-bytes-requires : tie.Need-body-bytes-requires
-body-bytes-requires c κs = search needs
+entry-at-requires : tie.Need-entry-at-requires
+entry-at-requires c κs = search needs
 
-add-end : tie.Need-add-end
-add-end c = search needs
+add-be32 : tie.Need-add-be32
+add-be32 c = search needs
+
+be32-requires : tie.Need-be32-requires
+be32-requires c κs = search needs
+
+end-laid-requires : tie.Need-end-laid-requires
+end-laid-requires c κs = search needs
+
+-- what was read is where the body starts
+start : (c : tie.After-end-laid) → c .before .be32 .result ≡ startOf (now (c .before .before .before .before .before .args .image)) (c .before .before .before .before .before .args .k)
+start c = start-named _ (c .before .before .before .before .before .pre) _ _ (rw (c .before .before .entry-at .ensures .0) at (c .before .be32 .ensures .is))
 
 sub-result : tie.Need-sub-result
-sub-result c = search needs
+sub-result c =
+    let b = c .before .before .before .before .before in
+    body-from (b .args .image .now) (b .pre) (b .args .k) _ _ (start c) (c .end-laid .ensures)
 
 part-result-start : tie.Need-part-result-start
-part-result-start c = search needs
+part-result-start c =
+    let b = c .before .before .before .before .before in
+    body-from (b .args .image .now) (b .pre) (b .args .k) _ _ (start c) (c .end-laid .ensures)
 
 part-result-end : tie.Need-part-result-end
 part-result-end c =
-    let b = c .before .before .before in
-    body-ends (b .args .image .now) (b .pre) (b .args .k) _ _ (c .before .start-of .ensures .0) (c .body-bytes .ensures .0)
+    let b = c .before .before .before .before .before in
+    body-ends (b .args .image .now) (b .pre) (b .args .k) _ _ (start c) (c .end-laid .ensures)
 
 returns : tie.Need-returns
 returns c =
-    let b = c .before .before .before .before in
-    let at = c .before .before .start-of .ensures .0 in
-    let n = c .before .body-bytes .ensures .0 in
+    let p = c .before in
+    let b = p .before .before .before .before .before in
     let s = b .args .image in
-    (body-range (s .now) (b .pre) (b .args .k) _ _ at n, body-there (s .now) (b .pre) (b .args .k) _ _ at n (s .ptr))
+    (body-range (s .now) (b .pre) (b .args .k) _ _ (start p) (p .end-laid .ensures),
+    body-there (s .now) (b .pre) (b .args .k) _ _ (start p) (p .end-laid .ensures) (s .ptr))
 
 pub body-laid-spec : {M : Type 1} → statement M
-body-laid-spec = tie.close (tie.spec start-of-requires body-bytes-requires add-end sub-result part-result-start part-result-end returns)
+body-laid-spec =
+    tie.close
+    (tie.spec
+    slice-aggregate-front
+    entry-at-requires
+    add-be32
+    be32-requires
+    end-laid-requires
+    sub-result
+    part-result-start
+    part-result-end
+    returns)
