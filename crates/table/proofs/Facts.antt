@@ -26,29 +26,40 @@ use Rattle.table_rows.specs.Rows.{
 }
 use Rattle.table_rows.specs.Rules.{groupGood, connectionGood, routeGood, destinationGood, sizeIn, groupTcp, tcpIn, routesShare, destinationsShare}
 use Rattle.table_scan.specs.Scan.{share, clearIn, goodIn}
-use Rattle.table.specs.Table.{entryGood, groupTcpOf, tcpOf, sizeOf, rule, rowGood, badRow}
+use Rattle.table.specs.Table.{headGood, entryGood, groupTcpOf, tcpOf, sizeOf, rule, rowGood, badRow}
 use Rattle.table.specs.Table.{demand, rowsPlace, entriesPlace, headPlace, allRowsPlace, checkTable}
 use Rattle.table.specs.Accepts.{Accepts}
 use Rattle.table.specs.declared.TableAnswer.the-variants.{Accepted}
 use Rattle.table.proofs.Answers.{then-first, then-second, demand-held}
 
--- good contents have no kind with too many rows
+-- good contents have their bytes 0..3 and their entries, no kind with too many rows, and each body's offset
 module _ (s : List ℕ) (good : headPlace s ≡ Accepted) where
+  pub contents-head : headGood s ≡ true
+  unfolding headPlace
+  contents-head = demand-held _ 0 (then-first _ _ good)
+
   entries : entriesPlace s ≡ Accepted
   unfolding headPlace
   entries = then-second _ _ good
 
-  entry : (k : Kind) → entryGood s k ≡ true
+  pub contents-entry : (k : Kind) → entryGood s k ≡ true
   unfolding entriesPlace
-  entry Group = demand-held _ 4 (then-first _ _ entries)
-  entry Connection = demand-held _ 12 (then-first _ _ (then-second _ _ entries))
-  entry Route = demand-held _ 20 (then-first _ _ (then-second _ _ (then-second _ _ entries)))
-  entry Destination = demand-held _ 28 (then-second _ _ (then-second _ _ (then-second _ _ entries)))
+  contents-entry Group = demand-held _ 4 (then-first _ _ entries)
+  contents-entry Connection = demand-held _ 12 (then-first _ _ (then-second _ _ entries))
+  contents-entry Route = demand-held _ 20 (then-first _ _ (then-second _ _ (then-second _ _ entries)))
+  contents-entry Destination = demand-held _ 28 (then-second _ _ (then-second _ _ (then-second _ _ entries)))
+
+  entry-tests : (k : Kind) → (be 2 s (entryAt k) ≡ number k) × (rowsOf s k ≤ mostRows k) × (be 4 s (entryAt k + 4) ≡ startOf s k)
+  unfolding entryGood
+  entry-tests k =
+      let f = and3 (eqb (be 2 s (entryAt k)) (number k)) (leb (rowsOf s k) (mostRows k)) (eqb (be 4 s (entryAt k + 4)) (startOf s k)) (contents-entry k) in
+      (eqb-true _ _ (f .0), leb-true _ _ (f .1), eqb-true _ _ (f .2))
 
   pub contents-most : (k : Kind) → rowsOf s k ≤ mostRows k
-  unfolding entryGood
-  contents-most k = leb-true _ _
-      (and3 (eqb (be 2 s (entryAt k)) (number k)) (leb (rowsOf s k) (mostRows k)) (eqb (be 4 s (entryAt k + 4)) (startOf s k)) (entry k) .1)
+  contents-most k = entry-tests k .1
+
+  pub contents-starts : (k : Kind) → be 4 s (entryAt k + 4) ≡ startOf s k
+  contents-starts k = entry-tests k .2
 
 module _ (s : List ℕ) (e : checkTable s ≡ Accepted) where
   -- the four parts of the check
@@ -69,7 +80,12 @@ module _ (s : List ℕ) (e : checkTable s ≡ Accepted) where
   rows = then-second _ _ (then-second (headPlace s) _ (then-second (demand (leb 36 (length s)) 0) _ e))
 
   pub accepted-laid : Laid s
-  accepted-laid = record { head = leb-true _ _ (demand-held (leb 36 (length s)) 0 head); whole = eqb-true _ _ (demand-held (eqb (length s) (endOf s)) 2 total) }
+  accepted-laid =
+      record {
+        head = leb-true _ _ (demand-held (leb 36 (length s)) 0 head);
+        whole = eqb-true _ _ (demand-held (eqb (length s) (endOf s)) 2 total);
+        starts = contents-starts s contents;
+      }
 
   most : (k : Kind) → rowsOf s k ≤ mostRows k
   most = contents-most s contents

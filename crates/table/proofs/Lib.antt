@@ -1,7 +1,8 @@
--- Laws of the check's places (Places), of its answers (Answers), what an accepted image meets (Facts), examples by
--- computation (Examples) and a wrong check refuted (Wrong).
+-- Laws of the check's places (Places), of its answers (Answers), what an accepted image meets (Facts), what is asked before
+-- the rows (Front), examples by computation (Examples) and a wrong check refuted (Wrong).
 pub mod Places
 pub mod Answers
 pub mod Facts
+pub mod Front
 pub mod Examples
 pub mod Wrong

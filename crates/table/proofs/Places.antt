@@ -6,12 +6,14 @@ use native.Mathlib.Omega.{arith}
 use lib.Dec.{leb}
 use lib.ListN.{length}
 use borrow.Author.Tests.{le-leb, lt-leb, leb-true}
+use Rattle.wire.specs.Be.{byteAt}
 use Rattle.lists.specs.Search.{firstBad}
 use Rattle.law_lists.proofs.First.{bad-most}
-use Rattle.table_layout.specs.Layout.{rowWidth, rowBytes, rowsOf, startOf, rowAt, bodyOf, Laid}
+use Rattle.table_layout.specs.Layout.{entryAt, rowWidth, rowBytes, rowsOf, startOf, rowAt, bodyOf, Laid}
 use Rattle.table_layout.proofs.Parts.{body-rows}
 use Rattle.table_layout.specs.declared.Kind.{Kind}
 use Rattle.table_layout.specs.declared.Kind.the-variants.{Group, Connection, Route, Destination}
+use Rattle.table_rows.proofs.Heads.{be-small}
 use Rattle.table_rows.specs.Rules.{connectionGood, routeGood, destinationGood}
 use Rattle.table_scan.specs.declared.BadRows.{BadRows}
 use Rattle.table_scan.specs.Scan.{badIn, badGroup, badConnection, badRoute, badDestination, badRows}
@@ -19,6 +21,11 @@ use Rattle.table.specs.Table.{groupTcpOf, tcpOf, sizeOf, rule, rowGood, 
 use Rattle.table.specs.declared.TableAnswer.{TableAnswer}
 use Rattle.table.specs.declared.TableAnswer.the-variants.{Accepted, Refused}
 use Rattle.table.proofs.Answers.{demand-held}
+
+-- a row count is a number of two bytes
+pub rows-small : (s : List ℕ) → ((i : ℕ) → byteAt s i < 256) → (k : Kind) → rowsOf s k < 65536
+unfolding rowsOf
+rows-small s bytes k = be-small s bytes 2 (entryAt k + 2)
 
 -- the place of row `bad`
 module _ (s : List ℕ) (k : Kind) (rows bad start size : ℕ) (er : rows ≡ rowsOf s k) where
@@ -73,18 +80,6 @@ module _ (s : List ℕ) (l : Laid s) (r : TableAnswer) (bad : ℕ) where
       ∙ ap (λ (n : ℕ). badIn (destinationGood n (sizeOf s)) Destination (bodyOf s Destination)) (body-rows s l Connection))
       f
 
--- connections that are accepted: none is bad
-pub connections-none : (s : List ℕ) (l : Laid s) (body groups : List ℕ) (r : TableAnswer) (bad place : ℕ)
-    → body ≡ bodyOf s Connection → groups ≡ bodyOf s Group → bad ≡ badConnection groups body
-    → r ≡ demand (leb (rowsOf s Connection) bad) place → r ≡ Accepted
-    → badConnection (bodyOf s Group) (bodyOf s Connection) ≡ length (bodyOf s Connection) / rowWidth Connection
-connections-none s l body groups r bad place b g e f accepted =
-    let is : bad ≡ badConnection (bodyOf s Group) (bodyOf s Connection) =
-    e ∙ ap (badConnection groups) b ∙ ap (λ (x : List ℕ). badConnection x (bodyOf s Connection)) g in
-    let low : rowsOf s Connection ≤ bad = leb-true _ _ (demand-held (leb (rowsOf s Connection) bad) place (sym f ∙ accepted)) in
-    let most : badConnection (bodyOf s Group) (bodyOf s Connection) ≤ length (bodyOf s Connection) / rowWidth Connection = bad-most _ _ in
-    omega (arith, is, low, most, body-rows s l Connection)
-
 -- the last two kinds, by what one search gives
 pub last-places : (s : List ℕ) (l : Laid s) (routes destinations connections groups : List ℕ) (x : BadRows) (a b r : TableAnswer)
     → routes ≡ bodyOf s Route → destinations ≡ bodyOf s Destination → connections ≡ bodyOf s Connection → groups ≡ bodyOf s Group
@@ -98,3 +93,16 @@ last-places s l routes destinations connections groups x a b r er ed ec eg ex ea
     let q : b ≡ rowsPlace s Destination =
     destinations-place s l b (x .destination) destinations connections ed ec (ap (λ (y : BadRows). y .destination) ex) eb in
     e ∙ ap (λ (y : TableAnswer). thenCheck y b) p ∙ ap (thenCheck (rowsPlace s Route)) q
+
+-- where no connection is refused, the search for a bad one has come to the row count
+pub connections-passed : (s : List ℕ) (l : Laid s) (body groups : List ℕ) (bad : ℕ) (r : TableAnswer)
+    → body ≡ bodyOf s Connection → groups ≡ bodyOf s Group → bad ≡ badConnection groups body
+    → r ≡ demand (leb (rowsOf s Connection) bad) (rowAt s Connection bad) → r ≡ Accepted
+    → badConnection (bodyOf s Group) (bodyOf s Connection) ≡ length (bodyOf s Connection) / rowWidth Connection
+connections-passed s l body groups bad r b g e f a =
+    let is : bad ≡ badConnection (bodyOf s Group) (bodyOf s Connection) =
+    e ∙ ap (badConnection groups) b ∙ ap (λ (x : List ℕ). badConnection x (bodyOf s Connection)) g in
+    let some : rowsOf s Connection ≤ bad = leb-true _ _ (demand-held (leb (rowsOf s Connection) bad) (rowAt s Connection bad) (sym f ∙ a)) in
+    let most : badConnection (bodyOf s Group) (bodyOf s Connection) ≤ length (bodyOf s Connection) / rowWidth Connection = bad-most _ _ in
+    let rows : length (bodyOf s Connection) / rowWidth Connection ≡ rowsOf s Connection = body-rows s l Connection in
+    omega arith

@@ -25,6 +25,16 @@ entryGood s k =
     && leb (rowsOf s k) (mostRows k)
     && eqb (be 4 s (entryAt k + 4)) (startOf s k)
 
+-- R1.2 to R1.4: all that is asked before the rows: bytes 0..3, the contents entries and the total length
+unfoldable pub frontGood : List ℕ → Bool
+frontGood s =
+    headGood s
+    && entryGood s Group
+    && entryGood s Connection
+    && entryGood s Route
+    && entryGood s Destination
+    && eqb (length s) (endOf s)
+
 -- R2.11: group g of an image is TCP, and connection c
 abbrev pub groupTcpOf : List ℕ → ℕ → Bool
 groupTcpOf s g = groupTcp (rowBytes s Group) (bodyOf s Group) g

@@ -2,7 +2,7 @@
 // it occupies. Everything public is total.
 ghost use mathlib.Core.Path.{_≡_};
 ghost use mathlib.Core.List.{[]};
-ghost use Prim.Native.Nat.{_/_};
+ghost use Prim.Native.Nat.{_/_, _≤_};
 ghost use lib.Dec.{leb};
 ghost use lib.ListN.{length};
 ghost use denote.Ref.{ptr};
@@ -12,6 +12,7 @@ ghost use Rattle.table_scan.specs.Scan.{badConnection};
 ghost use Rattle.table.specs.Table.{
   headGood,
   entryGood,
+  frontGood,
   demand,
   thenCheck,
   rowsPlace,
@@ -26,7 +27,6 @@ ghost use Rattle.table.specs.Table.{
 use table_layout::Kind;
 use table_layout::body_laid;
 use table_layout::body_of;
-use table_layout::end_of;
 use table_layout::entry_at;
 use table_layout::kind_number;
 use table_layout::most_rows;
@@ -101,11 +101,12 @@ fn head_place(image: &[u8]) -> TableAnswer
 
 // ---- rows
 
-// A refusal at the row `bad` if there is such a row.
-fn place_of(image: &[u8], k: Kind, bad: usize) -> TableAnswer
+// A refusal at the row `bad` if there is such a row among as many as the kind has.
+fn place_of(image: &[u8], k: Kind, rows: usize, bad: usize) -> TableAnswer
+    requires { ⌜ rows ≡ rowsOf (now image) k ⌝ }
     ensures { λ r. ⌜ r ≡ demand (leb (rowsOf (now (image .entry)) k) bad) (rowAt (now (image .entry)) k bad) ⌝ }
 {
-    if rows_of(image, k) <= bad {
+    if rows <= bad {
         TableAnswer::Accepted
     } else {
         TableAnswer::Refused(start_of(image, k) + bad * row_bytes(image, k))
@@ -114,9 +115,8 @@ fn place_of(image: &[u8], k: Kind, bad: usize) -> TableAnswer
 
 // Asked only where no connection is bad.
 fn after_connections(image: &[u8]) -> TableAnswer
-    requires { ⌜ Laid (now image) ⌝ }
-    requires { ⌜ badConnection (bodyOf (now image) Kind.Group) (bodyOf (now image) Kind.Connection)
-        ≡ length (bodyOf (now image) Kind.Connection) / rowWidth Kind.Connection ⌝ }
+    requires laid { ⌜ Laid (now image) ⌝ }
+    requires passed { ⌜ badConnection (bodyOf (now image) Kind.Group) (bodyOf (now image) Kind.Connection) ≡ length (bodyOf (now image) Kind.Connection) / rowWidth Kind.Connection ⌝ }
     ensures { λ r. ⌜ r ≡ thenCheck (rowsPlace (now (image .entry)) Kind.Route) (rowsPlace (now (image .entry)) Kind.Destination) ⌝ }
 {
     let routes = body_laid(image, Kind::Route);
@@ -124,8 +124,13 @@ fn after_connections(image: &[u8]) -> TableAnswer
     let connections = body_laid(image, Kind::Connection);
     let groups = body_laid(image, Kind::Group);
     let bad = first_bad_rows(routes, destinations, connections, groups);
-    let route = place_of(image, Kind::Route, bad.route);
-    let destination = place_of(image, Kind::Destination, bad.destination);
+    let route = place_of(image, Kind::Route, routes.len() / 16, bad.route);
+    let destination = place_of(
+        image,
+        Kind::Destination,
+        destinations.len() / 16,
+        bad.destination,
+    );
     first_refusal(route, destination)
 }
 
@@ -134,12 +139,11 @@ fn after_groups(image: &[u8]) -> TableAnswer
     ensures { λ r. ⌜ r ≡ thenCheck (rowsPlace (now (image .entry)) Kind.Connection)
         (thenCheck (rowsPlace (now (image .entry)) Kind.Route) (rowsPlace (now (image .entry)) Kind.Destination)) ⌝ }
 {
-    let bad = first_bad_connection(
-        body_laid(image, Kind::Connection),
-        body_laid(image, Kind::Group),
-    );
-    let connections = place_of(image, Kind::Connection, bad);
-    match connections {
+    let connections = body_laid(image, Kind::Connection);
+    let groups = body_laid(image, Kind::Group);
+    let bad = first_bad_connection(connections, groups);
+    let place = place_of(image, Kind::Connection, connections.len() / 16, bad);
+    match place {
         TableAnswer::Refused(p) => TableAnswer::Refused(p),
         TableAnswer::Accepted => after_connections(image),
     }
@@ -149,9 +153,10 @@ fn all_rows_place(image: &[u8]) -> TableAnswer
     requires { ⌜ Laid (now image) ⌝ }
     ensures { λ r. ⌜ r ≡ allRowsPlace (now (image .entry)) ⌝ }
 {
-    let bad = first_bad_group(body_laid(image, Kind::Group));
-    let groups = place_of(image, Kind::Group, bad);
-    match groups {
+    let groups = body_laid(image, Kind::Group);
+    let bad = first_bad_group(groups);
+    let place = place_of(image, Kind::Group, groups.len() / 2, bad);
+    match place {
         TableAnswer::Refused(p) => TableAnswer::Refused(p),
         TableAnswer::Accepted => after_groups(image),
     }
@@ -159,24 +164,46 @@ fn all_rows_place(image: &[u8]) -> TableAnswer
 
 // ---- the check
 
-// Accepted, or refusal 1 with its place.
+// All that is asked before the rows, at once: of each contents entry kind and row count are one number.
+fn is_laid(image: &[u8]) -> bool
+    requires { ⌜ 36 ≤ length (now image) ⌝ }
+    ensures { λ r. ⌜ r ≡ frontGood (now (image .entry)) ⌝ }
+{
+    let front = &image[..36];
+    let groups = be32(front, 4);
+    let connections = be32(front, 12);
+    let routes = be32(front, 20);
+    let destinations = be32(front, 28);
+    let one = be32(front, 16);
+    let two = be32(front, 24);
+    let three = be32(front, 32);
+    (be32(front, 0) == 65540)
+        & (65536 <= groups)
+        & (groups <= 65544)
+        & (be32(front, 8) == 36)
+        & (131072 <= connections)
+        & (connections <= 131088)
+        & (one + 131036 == 2 * groups)
+        & (196608 <= routes)
+        & (routes <= 196672)
+        & (two + 2097152 == one + 16 * connections)
+        & (262144 <= destinations)
+        & (destinations <= 262208)
+        & (three + 3145728 == two + 16 * routes)
+        & (image.len() + 4194304 == three + 16 * destinations)
+}
+
+// Accepted, or refusal 1 with its place, which only an image with a fault before its rows is asked for.
 pub fn check_table(image: &[u8]) -> TableAnswer
     ensures { λ r. ⌜ r ≡ checkTable (now (image .entry)) ⌝ }
 {
     if image.len() < 36 {
         return TableAnswer::Refused(0);
     }
-    let head = head_place(image);
-    match head {
-        TableAnswer::Refused(p) => TableAnswer::Refused(p),
-        TableAnswer::Accepted => {
-            if image.len() == end_of(image) {
-                all_rows_place(image)
-            } else {
-                TableAnswer::Refused(2)
-            }
-        }
+    if !is_laid(image) {
+        return first_refusal(head_place(image), TableAnswer::Refused(2));
     }
+    all_rows_place(image)
 }
 
 // ---- what is handed back

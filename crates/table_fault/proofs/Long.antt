@@ -4,14 +4,13 @@ use Prim.Native.Nat.{ℕ, _+_, _<_, _≤_}
 use mathlib.Core.Path.{_≡_, refl, sym, ap, _∙_}
 use mathlib.Core.List.{List}
 use native.Mathlib.Omega.{arith}
-use native.Mathlib.Nat.{zero-add}
 use lib.Dec.{eqb}
 use lib.ListN.{length, take}
 use lib.Seq.{length-take-le}
 use borrow.Author.Tests.{le-leb, ne-eqb}
 use Rattle.wire.specs.Be.{be}
-use Rattle.wire.proofs.Part.{be-part}
 use Rattle.table_layout.specs.Layout.{entryAt, rowsOf, bodyBytes, startOf, endOf}
+use Rattle.table_layout.proofs.Parts.{be-taken}
 use Rattle.table_layout.specs.declared.Kind.{Kind}
 use Rattle.table_layout.specs.declared.Kind.the-variants.{Group, Connection, Route, Destination}
 use Rattle.table.specs.Table.{headGood, entryGood, demand, thenCheck, entriesPlace, headPlace, allRowsPlace, checkTable}
@@ -37,7 +36,7 @@ refused-long s h = rw (le-leb 36 (length s) (omega arith)) (go (headPlace s) ref
 module _ (s : List ℕ) (n : ℕ) (h : 36 ≤ n) where
   -- the first 36 bytes are the same
   front : (w at : ℕ) → at + w ≤ 36 → be w (take n s) at ≡ be w s at
-  front w at l = be-part w n s 0 at (omega arith) ∙ ap (be w s) (zero-add at)
+  front w at l = be-taken w n s at (omega arith)
 
   rows-same : (k : Kind) → rowsOf (take n s) k ≡ rowsOf s k
   unfolding rowsOf

@@ -82,12 +82,13 @@ row-front-zero body i n p z = row-front n body i p (rw (z, div-zero) (omega arit
 pub be-taken : (w n : ℕ) (s : List ℕ) (at : ℕ) → at + w ≤ n → be w (take n s) at ≡ be w s at
 be-taken w n s at h = be-part w n s 0 at h ∙ ap (be w s) (zero-add at)
 
+-- the contents stand in a front of 36 bytes
+pub front-long : (s : List ℕ) → 36 ≤ length s → 36 ≡ length (take 36 s)
+front-long s h = sym (length-take-le 36 s h)
+
 -- in an image that is laid out every body stands within it
 module _ (s : List ℕ) (l : Laid s) where
-  -- its contents stand in its front, and name where each body starts
-  pub front-long : 36 ≡ length (take 36 s)
-  front-long = sym (length-take-le 36 s (l .head))
-
+  -- its contents name where each body starts
   pub start-named : (k : Kind) (at : ℕ) → at ≡ be 4 (take 36 s) (entryAt k + 4) → at ≡ startOf s k
   start-named k at e = e ∙ be-taken 4 36 s (entryAt k + 4) (inside k) ∙ l .starts k
     where
@@ -141,3 +142,6 @@ module _ (s : List ℕ) (l : Laid s) where
       some Connection = omega arith
       some Route = omega arith
       some Destination = omega arith
+
+  pub laid-rows : (k : Kind) (body : List ℕ) → body ≡ bodyOf s k → length body / rowBytes s k ≡ rowsOf s k
+  laid-rows k body e = ap (λ (b : List ℕ). length b / rowBytes s k) e ∙ body-rows k

@@ -1,5 +1,7 @@
 -- `table::after_connections` meets its contract.
 use Rattle.table.proofs.Places.{last-places}
+use Rattle.table_layout.proofs.Parts.{laid-rows}
+use Rattle.table_layout.specs.declared.Kind.the-variants.{Route, Destination}
 use borrow.Author.Needs.{needs}
 use Rattle.table.proofs.after_connections.Statement.{statement}
 use Rattle.table.proofs.after_connections.Tie as tie
@@ -21,10 +23,14 @@ first-bad-rows-requires c κs =
     rw (c .before .body-laid3 .ensures .0, c .body-laid4 .ensures .0) (c .before .before .before .before .before .pre .1)
 
 place-of-requires : tie.Need-place-of-requires
-place-of-requires c κs = search needs
+place-of-requires c κs =
+    let r = c .before .before .before .before in
+    laid-rows _ (r .before .before .pre .0) Route _ (r .body-laid .ensures .0)
 
 place-of-requires-2 : tie.Need-place-of-requires-2
-place-of-requires-2 c κs = search needs
+place-of-requires-2 c κs =
+    let d = c .before .before .before .before in
+    laid-rows _ (d .before .before .before .pre .0) Destination _ (d .body-laid2 .ensures .0)
 
 first-refusal-requires : tie.Need-first-refusal-requires
 first-refusal-requires c κs = search needs

@@ -2,6 +2,7 @@
 use Rattle.table.proofs.Answers.{then-refused, then-accepted}
 use Rattle.table.proofs.Places.{groups-place}
 use Rattle.table.specs.Table.{rowsPlace, allRowsPlace}
+use Rattle.table_layout.proofs.Parts.{laid-rows}
 use Rattle.table_layout.specs.declared.Kind.the-variants.{Group}
 use mathlib.Core.Path.{sym, _∙_}
 use borrow.Author.Needs.{needs}
@@ -15,10 +16,10 @@ first-bad-group-requires : tie.Need-first-bad-group-requires
 first-bad-group-requires c κs = search needs
 
 place-of-requires : tie.Need-place-of-requires
-place-of-requires c κs = search needs
+place-of-requires c κs = laid-rows _ (c .before .before .before .pre) Group _ (c .before .body-laid .ensures .0)
 
-enum-known-groups : tie.Need-enum-known-groups
-enum-known-groups c = search needs
+enum-known-place : tie.Need-enum-known-place
+enum-known-place c = search needs
 
 enum-told : tie.Need-enum-told
 enum-told c = search needs
@@ -34,7 +35,7 @@ returns c =
     let s = b .args .image .now in
     then-refused (rowsPlace s Group) _ _
     (sym (groups-place s (b .pre) _ _ _ (p .before .before .body-laid .ensures .0) (p .before .first-bad-group .ensures) (p .place-of .ensures))
-    ∙ c .before .groups .given .1)
+    ∙ c .before .place .given .1)
 
 returns-2 : tie.Need-returns-2
 unfolding allRowsPlace
@@ -54,7 +55,7 @@ all-rows-place-spec =
     body-laid-requires
     first-bad-group-requires
     place-of-requires
-    enum-known-groups
+    enum-known-place
     enum-told
     after-groups-requires
     returns

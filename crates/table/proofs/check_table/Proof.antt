@@ -1,10 +1,12 @@
 -- `table::check_table` meets its contract.
 use Rattle.table.specs.Table.{checkTable, thenCheck}
-use Rattle.table_layout.specs.Layout.{endOf}
+use Rattle.table.specs.declared.TableAnswer.{TableAnswer}
+use Rattle.table.specs.declared.TableAnswer.the-variants.{Refused}
+use Rattle.table.proofs.Front.{front-laid, check-rows, check-refused}
 use native.Mathlib.Omega.{arith}
 use denote.Ref.{now}
-use borrow.Author.Tests.{le-leb, lt-leb, eq-eqb, ne-eqb}
-use mathlib.Core.Path.{sym, _∙_}
+use borrow.Author.Tests.{lt-leb, not-true, not-false}
+use mathlib.Core.Path.{sym, ap, _∙_}
 use lib.ListN.{length}
 use borrow.Author.Needs.{needs}
 use Rattle.table.proofs.check_table.Statement.{statement}
@@ -14,60 +16,39 @@ returns : tie.Need-returns
 unfolding checkTable thenCheck
 returns c = rw (lt-leb 36 (length (now (c .before .before .args .image))) (omega arith))
 
+is-laid-requires : tie.Need-is-laid-requires
+is-laid-requires c κs = search needs
+
 head-place-requires : tie.Need-head-place-requires
 head-place-requires c κs = search needs
 
-enum-known-head : tie.Need-enum-known-head
-enum-known-head c = search needs
-
-enum-told : tie.Need-enum-told
-enum-told c = search needs
-
-end-of-requires : tie.Need-end-of-requires
-end-of-requires c κs = search needs
-
-all-rows-place-requires : tie.Need-all-rows-place-requires
-all-rows-place-requires c κs = search needs
+first-refusal-requires : tie.Need-first-refusal-requires
+first-refusal-requires c κs = search needs
 
 returns-2 : tie.Need-returns-2
-unfolding checkTable thenCheck
-returns-2 c = rw (
-  le-leb 36 (length (now (c .before .before .before .before .before .before .args .image))) (omega arith),
-  sym (c .before .before .before .head-place .ensures) ∙ c .before .head .given .1,
-)
+returns-2 c =
+    let h = c .before in
+    let i = h .before .before in
+    c .first-refusal .ensures
+    ∙ ap (λ (a : TableAnswer). thenCheck a (Refused 2)) (h .head-place .ensures)
+    ∙ check-refused _ (omega arith) (sym (i .is-laid .ensures) ∙ not-true _ (h .before .if2 .taken))
+
+all-rows-place-requires : tie.Need-all-rows-place-requires
+all-rows-place-requires c κs = front-laid _ (omega arith) (sym (c .before .is-laid .ensures) ∙ not-false _ (c .if2 .left))
 
 returns-3 : tie.Need-returns-3
-unfolding checkTable thenCheck
 returns-3 c =
-    let s = now (c .before .before .before .before .before .before .before .before .args .image) in
-    rw (
-      le-leb 36 (length s) (omega arith),
-      sym (c .before .before .before .before .before .head-place .ensures)
-          ∙ c .before .before .before .enum-told .given .1,
-      eq-eqb (length s) (endOf s) (omega arith),
-    ) (c .all-rows-place .ensures)
-
-returns-4 : tie.Need-returns-4
-unfolding checkTable thenCheck
-returns-4 c =
-    let s = now (c .before .before .before .before .before .before .before .args .image) in
-    rw (
-      le-leb 36 (length s) (omega arith),
-      sym (c .before .before .before .before .head-place .ensures)
-          ∙ c .before .before .enum-told .given .1,
-      ne-eqb (length s) (endOf s) (λ e. c .if2 .left (e ∙ sym (c .before .end-of .ensures))),
-    )
+    let i = c .before .before in
+    check-rows _ _ (omega arith) (sym (i .is-laid .ensures) ∙ not-false _ (c .before .if2 .left)) (c .all-rows-place .ensures)
 
 pub check-table-spec : {M : Type 1} → statement M
 check-table-spec =
     tie.close
     (tie.spec
     returns
+    is-laid-requires
     head-place-requires
-    enum-known-head
-    enum-told
-    end-of-requires
-    all-rows-place-requires
+    first-refusal-requires
     returns-2
-    returns-3
-    returns-4)
+    all-rows-place-requires
+    returns-3)

@@ -8,7 +8,7 @@ use Rattle.table_layout.proofs.body_laid.Statement.{statement}
 use Rattle.table_layout.proofs.body_laid.Tie as tie
 
 slice-aggregate-front : tie.Need-slice-aggregate-front
-slice-aggregate-front c = front-long _ (c .before .before .pre)
+slice-aggregate-front c = front-long (c .before .before .args .image .now) (c .before .before .pre .head)
 
 entry-at-requires : tie.Need-entry-at-requires
 entry-at-requires c κs = search needs
@@ -45,9 +45,10 @@ returns : tie.Need-returns
 returns c =
     let p = c .before in
     let b = p .before .before .before .before .before in
-    let s = b .args .image in
-    (body-range (s .now) (b .pre) (b .args .k) _ _ (start p) (p .end-laid .ensures),
-    body-there (s .now) (b .pre) (b .args .k) _ _ (start p) (p .end-laid .ensures) (s .ptr))
+    let s = b .args .image in (
+      body-range (s .now) (b .pre) (b .args .k) _ _ (start p) (p .end-laid .ensures),
+      body-there (s .now) (b .pre) (b .args .k) _ _ (start p) (p .end-laid .ensures) (s .ptr),
+    )
 
 pub body-laid-spec : {M : Type 1} → statement M
 body-laid-spec =

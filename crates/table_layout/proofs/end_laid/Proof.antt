@@ -7,7 +7,7 @@ use Rattle.table_layout.proofs.end_laid.Statement.{statement}
 use Rattle.table_layout.proofs.end_laid.Tie as tie
 
 slice-aggregate-front : tie.Need-slice-aggregate-front
-slice-aggregate-front c = front-long _ (c .before .before .pre)
+slice-aggregate-front c = front-long (c .before .before .args .image .now) (c .before .before .pre .head)
 
 enum-told : tie.Need-enum-told
 enum-told c = search needs
