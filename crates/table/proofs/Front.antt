@@ -9,7 +9,7 @@ use lib.ListN.{length, take}
 use borrow.Author.Tests.{le-leb, leb-true, eq-eqb, eqb-true}
 use Rattle.wire.specs.Be.{be, byteAt}
 use Rattle.wire.proofs.Join.{be-add}
-use Rattle.lists.proofs.Both.{and-left, and-right, and3, and4, and-both, impossible}
+use Rattle.lists.proofs.Both.{and-left, and-right, and3, and4, and-both}
 use Rattle.table_layout.specs.Layout.{rowsOf, bodyBytes, startOf, endOf, Laid}
 use Rattle.table_layout.proofs.Parts.{be-taken}
 use Rattle.table_layout.specs.declared.Kind.the-variants.{Group, Connection, Route, Destination}

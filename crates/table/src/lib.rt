@@ -116,7 +116,8 @@ fn place_of(image: &[u8], k: Kind, rows: usize, bad: usize) -> TableAnswer
 // Asked only where no connection is bad.
 fn after_connections(image: &[u8]) -> TableAnswer
     requires laid { ⌜ Laid (now image) ⌝ }
-    requires passed { ⌜ badConnection (bodyOf (now image) Kind.Group) (bodyOf (now image) Kind.Connection) ≡ length (bodyOf (now image) Kind.Connection) / rowWidth Kind.Connection ⌝ }
+    requires passed { ⌜ badConnection (bodyOf (now image) Kind.Group) (bodyOf (now image) Kind.Connection)
+        ≡ length (bodyOf (now image) Kind.Connection) / rowWidth Kind.Connection ⌝ }
     ensures { λ r. ⌜ r ≡ thenCheck (rowsPlace (now (image .entry)) Kind.Route) (rowsPlace (now (image .entry)) Kind.Destination) ⌝ }
 {
     let routes = body_laid(image, Kind::Route);
@@ -164,7 +165,9 @@ fn all_rows_place(image: &[u8]) -> TableAnswer
 
 // ---- the check
 
-// All that is asked before the rows, at once: of each contents entry kind and row count are one number.
+// All that is asked before the rows, at once. Of a contents entry the kind, times 65,536, and the row count are one number: that of kind 3
+// with 64 rows at most is from 196,608 to 196,672. The rows times their width lie between the start of a body and that of the next one; both
+// sides are raised by the kind's share of the number (36 less before the first), so that nothing is subtracted.
 fn is_laid(image: &[u8]) -> bool
     requires { ⌜ 36 ≤ length (now image) ⌝ }
     ensures { λ r. ⌜ r ≡ frontGood (now (image .entry)) ⌝ }
@@ -174,23 +177,23 @@ fn is_laid(image: &[u8]) -> bool
     let connections = be32(front, 12);
     let routes = be32(front, 20);
     let destinations = be32(front, 28);
-    let one = be32(front, 16);
-    let two = be32(front, 24);
-    let three = be32(front, 32);
+    let connections_at = be32(front, 16);
+    let routes_at = be32(front, 24);
+    let destinations_at = be32(front, 32);
     (be32(front, 0) == 65540)
         & (65536 <= groups)
         & (groups <= 65544)
         & (be32(front, 8) == 36)
         & (131072 <= connections)
         & (connections <= 131088)
-        & (one + 131036 == 2 * groups)
+        & (connections_at + 131036 == 2 * groups)
         & (196608 <= routes)
         & (routes <= 196672)
-        & (two + 2097152 == one + 16 * connections)
+        & (routes_at + 2097152 == connections_at + 16 * connections)
         & (262144 <= destinations)
         & (destinations <= 262208)
-        & (three + 3145728 == two + 16 * routes)
-        & (image.len() + 4194304 == three + 16 * destinations)
+        & (destinations_at + 3145728 == routes_at + 16 * routes)
+        & (image.len() + 4194304 == destinations_at + 16 * destinations)
 }
 
 // Accepted, or refusal 1 with its place, which only an image with a fault before its rows is asked for.

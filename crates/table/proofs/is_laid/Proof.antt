@@ -70,16 +70,17 @@ add-result-7 c = search needs
 
 returns : tie.Need-returns
 returns c =
-    let three = c .before .before in
-    let two = three .before in
-    let one = two .before in
-    let destinations = one .before in
+    let destinations-at = c .before .before in
+    let routes-at = destinations-at .before in
+    let connections-at = routes-at .before in
+    let destinations = connections-at .before in
     let routes = destinations .before in
     let connections = routes .before in
     let groups = connections .before in
     front-by-numbers _ (λ i. groups .before .before .shared-slice-known .given i .fits) _ _ _ _ _ _ _ _ _
     (c .before .be328 .ensures .is) (groups .be32 .ensures .is) (connections .be322 .ensures .is) (routes .be323 .ensures .is)
-    (destinations .be324 .ensures .is) (c .be329 .ensures .is) (one .be325 .ensures .is) (two .be326 .ensures .is) (three .be327 .ensures .is)
+    (destinations .be324 .ensures .is) (c .be329 .ensures .is) (connections-at .be325 .ensures .is)
+    (routes-at .be326 .ensures .is) (destinations-at .be327 .ensures .is)
 
 pub is-laid-spec : {M : Type 1} → statement M
 is-laid-spec =
