@@ -204,7 +204,8 @@ module _ (v u k₁ n₁ o₁ k₂ n₂ o₂ k₃ n₃ o₃ k₄ n₄ o₄ long :
         }
 
     tests-are : u < 65536 → n₁ < 65536 → n₂ < 65536 → n₃ < 65536 → n₄ < 65536 → tests h g c r d o₁ o₂ o₃ o₄ long ≡ rules
-    tests-are bu b₁ b₂ b₃ b₄ = same (tests h g c r d o₁ o₂ o₃ o₄ long) rules (λ e. front-rules (tests-front bu b₁ b₂ b₃ b₄ e)) (λ e. front-tests (rules-front e))
+    tests-are bu b₁ b₂ b₃ b₄ =
+        same (tests h g c r d o₁ o₂ o₃ o₄ long) rules (λ e. front-rules (tests-front bu b₁ b₂ b₃ b₄ e)) (λ e. front-tests (rules-front e))
 
 -- of an image, by numbers out of its front
 module _ (s : List ℕ) (bytes : (i : ℕ) → byteAt s i < 256) where

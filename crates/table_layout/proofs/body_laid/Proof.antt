@@ -23,7 +23,8 @@ end-laid-requires : tie.Need-end-laid-requires
 end-laid-requires c κs = search needs
 
 -- what was read is where the body starts
-start : (c : tie.After-end-laid) → c .before .be32 .result ≡ startOf (now (c .before .before .before .before .before .args .image)) (c .before .before .before .before .before .args .k)
+start : (c : tie.After-end-laid) →
+    c .before .be32 .result ≡ startOf (now (c .before .before .before .before .before .args .image)) (c .before .before .before .before .before .args .k)
 start c = start-named _ (c .before .before .before .before .before .pre) _ _ (rw (c .before .before .entry-at .ensures .0) at (c .before .be32 .ensures .is))
 
 sub-result : tie.Need-sub-result
