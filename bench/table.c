@@ -62,13 +62,13 @@ static inline bool add(struct met *met, const uint8_t *body, size_t i, uint32_t 
 static bool add_route(struct met *met, const uint8_t *body, size_t i)
 {
     const uint8_t *row = body + i * ROW;
-    return add(met, body, i, be32(row + 4) ^ row[0] * 0x01000193u, 4, 4);
+    return add(met, body, i, word(row + 4) ^ row[0] * 0x01000193u, 4, 4);
 }
 
 static bool add_destination(struct met *met, const uint8_t *body, size_t i)
 {
     const uint8_t *row = body + i * ROW;
-    return add(met, body, i, (uint32_t)row[0] << 16 | be16(row + 8), 8, 2);
+    return add(met, body, i, (uint32_t)row[0] << 16 | half(row + 8), 8, 2);
 }
 
 /* The place of the first bad row; 0 when all are good. */
@@ -101,13 +101,13 @@ bool check(const uint8_t *image, size_t image_length, struct layout *table, size
         return false;
     for (size_t kind = 0; kind < KINDS; kind++) {
         const uint8_t *entry = image + 4 + 8 * kind;
-        uint16_t rows = be16(entry + 2);
-        if (be16(entry) != kind + 1 || rows > most_rows[kind] || be32(entry + 4) != offset) {
+        uint32_t rows = be32(entry) - (uint32_t)((kind + 1) << 16); /* kind and row count as one number */
+        if (rows > most_rows[kind] || be32(entry + 4) != offset) {
             *place = (size_t)(entry - image);
             return false;
         }
         table->body[kind] = image + offset;
-        table->rows[kind] = rows;
+        table->rows[kind] = (uint16_t)rows;
         offset += (size_t)rows * row_bytes[kind];
     }
     if (image_length != offset) {

@@ -37,11 +37,16 @@ static inline bool is_marked(const struct layout *table, size_t route)
 }
 
 /* One load and a swap each: the twins are for x86-64, as the library is. */
-static inline uint16_t be16(const uint8_t *p)
+static inline uint16_t half(const uint8_t *p)
 {
     uint16_t value;
     __builtin_memcpy(&value, p, sizeof value);
-    return __builtin_bswap16(value);
+    return value;
+}
+
+static inline uint16_t be16(const uint8_t *p)
+{
+    return __builtin_bswap16(half(p));
 }
 
 static inline uint32_t word(const uint8_t *p)
