@@ -261,10 +261,13 @@ pub fn connection_good(row: &[u8], groups: &[u8]) -> bool
     let size = be16(row, 8);
     let group = be8(row, 0);
     let good = (group < groups.len() / 2) & (be8(row, 1) <= 1) & (8 <= size) & (size <= 1472);
-    if be16(row, 10) == 0 {
-        return good;
+    if !good {
+        return false;
     }
-    good & !is_group_tcp(groups, group)
+    if be16(row, 10) == 0 {
+        return true;
+    }
+    !is_group_tcp(groups, group)
 }
 
 // The connection of a route or a destination: the rules read a row's first four bytes as one number.
