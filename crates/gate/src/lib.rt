@@ -1,13 +1,14 @@
 // What is asked before any event: 11 for lent memory of another length, 12 for a table or state that is not sound, and 2 for
 // a connection that is not there. Every public function is total.
 ghost use mathlib.Core.Path.{_≡_};
+ghost use Prim.Native.Nat.{_≤_};
 ghost use Rattle.lists.specs.Each.{allFrom};
 ghost use Rattle.connection.specs.Sound.{onlineRemote, watched};
 ghost use Rattle.state.specs.Fresh.{configIn};
 ghost use Rattle.gate.specs.Sound.{routed, recordsSound};
 ghost use Rattle.gate.specs.Inner.{rulesFrom, rulesIn, soundIn, idle, idleSound, quietSound};
 ghost use Rattle.gate.specs.Lent.{lent};
-ghost use Rattle.table_layout.specs.Layout.{rowWidth, Laid};
+ghost use Rattle.table_layout.specs.Layout.{rowWidth, rowsOf, Laid};
 ghost use Rattle.table_rows.specs.Rules.{sizeIn};
 ghost use Rattle.gate.specs.Gate.{gateOf, gateAt};
 use connection::Config;
@@ -164,20 +165,14 @@ fn is_sound(
 }
 
 // Each record of a state, up to the first that is not sound. Most are idle, and the first loop is theirs; from the first that is not, the
-// second goes on. It stands here, and not in a function of its own, because a call would copy the state.
+// second goes on with the rows, and the third with the records past them. They stand here, and not in functions of their own, because a
+// call would copy the state.
 fn each_sound(rows: usize, connections: &[u8], groups: &[u8], routes: &[u8], state: State) -> bool
+    requires { ⌜ rows ≤ 16 ⌝ }
     ensures { λ r. ⌜ r ≡ allFrom (soundIn rows (now (connections .entry)) (now (groups .entry)) (now (routes .entry))) 0 (state .connections) ⌝ }
 {
     let mut i: usize = 0;
-    while i < 16 {
-        if rows <= i {
-            let past = state.connections[i];
-            if !past.is_zero() {
-                return false;
-            }
-            i += 1;
-            continue;
-        }
+    while i < rows {
         let connection = state.connections[i];
         if !is_idle(connection) {
             break;
@@ -187,9 +182,16 @@ fn each_sound(rows: usize, connections: &[u8], groups: &[u8], routes: &[u8], sta
         }
         i += 1;
     }
-    while i < 16 {
+    while i < rows {
         let connection = state.connections[i];
         if !is_sound(rows, connections, groups, routes, i, connection) {
+            return false;
+        }
+        i += 1;
+    }
+    while i < 16 {
+        let past = state.connections[i];
+        if !past.is_zero() {
             return false;
         }
         i += 1;
@@ -199,7 +201,7 @@ fn each_sound(rows: usize, connections: &[u8], groups: &[u8], routes: &[u8], sta
 
 // Whether every record is sound (R3.1); the bodies of the image are asked for once.
 fn are_sound(image: &[u8], state: State) -> bool
-    requires { ⌜ Laid (now image) ⌝ }
+    requires { ⌜ Laid (now image) × (rowsOf (now image) Kind.Connection ≤ 16) ⌝ }
     ensures { λ r. ⌜ r ≡ recordsSound (now (image .entry)) (state .connections) ⌝ }
 {
     let connections = body_laid(image, Kind::Connection);

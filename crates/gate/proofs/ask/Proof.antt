@@ -1,6 +1,7 @@
 -- `gate::ask` meets its contract.
 use mathlib.Core.Path.{sym, _∙_}
-use Rattle.table.proofs.Facts.{accepted-laid}
+use Rattle.table.proofs.Facts.{accepted-facts, accepted-laid}
+use Rattle.table_layout.specs.declared.Kind.the-variants.{Connection as Connections}
 use Rattle.gate.specs.Gate.{gateOf}
 use Rattle.gate.specs.Sound.{soundState}
 use Rattle.gate.proofs.Pass.{gate-memory}
@@ -21,7 +22,9 @@ enum-told-2 : tie.Need-enum-told-2
 enum-told-2 c = search needs
 
 are-sound-requires : tie.Need-are-sound-requires
-are-sound-requires c κs = accepted-laid _ (sym (c .before .before .check-table .ensures) ∙ c .enum-told2 .given .1)
+are-sound-requires c κs =
+    let accepted = sym (c .before .before .check-table .ensures) ∙ c .enum-told2 .given .1 in
+    (accepted-laid _ accepted, accepted-facts _ accepted .most Connections)
 
 returns-2 : tie.Need-returns-2
 unfolding gateOf soundState
