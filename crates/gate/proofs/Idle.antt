@@ -86,3 +86,15 @@ idle-with size k c reached online er eo ek n =
     ∙ ap (λ (o : Bool). leb (c .used) size && o && (eqb (c .timer) 0 || not (c .due)) && reached) eo
     ∙ ap (λ (r : Bool). leb (c .used) size && isOnline (c .mode) && (eqb (c .timer) 0 || not (c .due)) && r) er
     ∙ some size (c .used) (c .timer) (c .due) (isOnline (c .mode)) (onlineRemote c) n
+
+-- an online remote with a wildcard, and one without
+pub idle-unreached : (size : ℕ) (c : Connection) → onlineRemote c ≡ false → false ≡ idleSound size c
+idle-unreached size c e = rw e (go (leb (c .used) size && sends c && timed c && neverBoth c))
+  where
+    go : (b : Bool) → false ≡ (b && false)
+    go true = refl
+    go false = refl
+
+pub reached-too : (b : Bool) → b ≡ (b && true)
+reached-too true = refl
+reached-too false = refl

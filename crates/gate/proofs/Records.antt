@@ -11,7 +11,7 @@ use Rattle.table_layout.specs.declared.Kind.the-variants.{Connection as Connect
 use Rattle.table_layout.proofs.Parts.{body-rows}
 use Rattle.connection.specs.declared.Connection.{Connection}
 use Rattle.connection.specs.Connection.{zeroRecord}
-use Rattle.connection.specs.Sound.{soundOf, zeroOf, Sound}
+use Rattle.connection.specs.Sound.{watched, soundOf, zeroOf, Sound}
 use Rattle.connection.proofs.Rules.{sound-from, sound-to, zero-is, zero-zero}
 use Rattle.lists.proofs.Both.{and-left, and-right, and-both, impossible}
 use Rattle.lists.proofs.Each.{all-at, all-set, all-turn, all-all}
@@ -21,7 +21,7 @@ use Rattle.state.specs.declared.State.{State}
 use Rattle.state.specs.Fresh.{configIn, configOf}
 use Rattle.lists.specs.Each.{allFrom, allTo}
 use Rattle.gate.specs.Sound.{routed, soundAt, recordsSound}
-use Rattle.gate.specs.Inner.{rulesIn, soundIn, idle, quietSound}
+use Rattle.gate.specs.Inner.{rulesIn, soundIn, idle, idleSound, quietSound}
 use Rattle.gate.proofs.Idle.{idle-sound}
 
 module _ (image : List ℕ) (n : ℕ) (c : Connection) where
@@ -84,9 +84,22 @@ unfolding soundOf
 rules-enough connections groups n c = refl
 
 -- the size that a row says
-pub size-is : (connections groups : List ℕ) (n : ℕ) → sizeIn 16 connections n ≡ configIn connections groups n .size
+size-is : (connections groups : List ℕ) (n : ℕ) → sizeIn 16 connections n ≡ configIn connections groups n .size
 unfolding sizeIn connectionRow
 size-is connections groups n = refl
+
+-- an idle record by its two tests, of which the first reads the size alone
+module _ (connections groups : List ℕ) (n : ℕ) (c : Connection) where
+  pub quiet-not : idleSound (sizeIn 16 connections n) c ≡ false → false ≡ quietSound (configIn connections groups n) c
+  quiet-not e =
+      let k : idleSound (configIn connections groups n .size) c ≡ false = sym (ap (λ (z : ℕ). idleSound z c) (size-is connections groups n)) ∙ e in
+      rw k
+
+  pub quiet-when : idleSound (sizeIn 16 connections n) c ≡ true → (w : Bool) → w ≡ watched (configIn connections groups n) c
+      → w ≡ quietSound (configIn connections groups n) c
+  quiet-when e w h =
+      let k : idleSound (configIn connections groups n .size) c ≡ true = sym (ap (λ (z : ℕ). idleSound z c) (size-is connections groups n)) ∙ e in
+      rw k h
 
 -- a record past the rows, and that of a row where it is idle
 pub past-in : (rows : ℕ) (connections groups routes : List ℕ) (n : ℕ) (c : Connection) → rows ≤ n → zeroOf c ≡ soundIn rows connections groups routes n c

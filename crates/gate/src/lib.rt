@@ -123,22 +123,26 @@ fn is_watched(connections: &[u8], groups: &[u8], n: usize, c: Connection) -> boo
 fn is_idle_sound(connections: &[u8], n: usize, c: Connection) -> bool
     ensures { λ r. ⌜ r ≡ idleSound (sizeIn (rowWidth Kind.Connection) (now (connections .entry)) n) c ⌝ }
 {
-    let reached = is_reached(c);
+    if !is_reached(c) {
+        return false;
+    }
     if c.used == 0 {
-        return (c.timer == 0) & !c.due & reached;
+        return (c.timer == 0) & !c.due;
     }
     let mode = c.mode;
     let online = is_online(mode);
     let size = size_in(connections, n);
-    (c.used as usize <= size) & online & ((c.timer == 0) | !c.due) & reached
+    (c.used as usize <= size) & online & ((c.timer == 0) | !c.due)
 }
 
 // All rules that are left of such a record.
 fn is_quiet(connections: &[u8], groups: &[u8], n: usize, c: Connection) -> bool
     ensures { λ r. ⌜ r ≡ quietSound (configIn (now (connections .entry)) (now (groups .entry)) n) c ⌝ }
 {
-    let kept = is_idle_sound(connections, n, c);
-    kept & is_watched(connections, groups, n, c)
+    if !is_idle_sound(connections, n, c) {
+        return false;
+    }
+    is_watched(connections, groups, n, c)
 }
 
 // One record against its row, by the number of rows and the bodies; past the rows, against zero.
