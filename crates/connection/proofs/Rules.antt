@@ -1,19 +1,18 @@
 -- The rules of a sound record, from the test and back; the zero record.
 use lib.Dec.{eqb}
-use mathlib.Core.Path.{_≡_, refl}
-use mathlib.Core.Bool.{Bool, true, false, not, _&&_}
+use mathlib.Core.Path.{_≡_, refl, sym, ap, _∙_}
+use mathlib.Core.Bool.{Bool, true, false, not, _&&_, _||_}
 use borrow.Author.Tests.{eqb-true, not-true}
 use Rattle.receive_part.specs.declared.Part.{Part}
 use Rattle.receive_part.specs.declared.Part.the-variants.{Header, Payload, Skip, Transfer}
 use Rattle.receive_part.specs.Part.{emptyPart, readyPart}
-use Rattle.lists.proofs.Both.{impossible, and-left, and-right}
+use Rattle.lists.proofs.Both.{impossible, and-left, and-right, neither}
 use Rattle.connection.specs.declared.Mode.{Mode}
 use Rattle.connection.specs.declared.Mode.the-variants.{Offline, Reconnect, Online}
 use Rattle.connection.specs.declared.Connection.{Connection}
 use Rattle.connection.specs.declared.Config.{Config}
 use Rattle.connection.specs.Connection.{isOffline, wildFields, zeroRecord}
-use Rattle.connection.specs.Sound.{usedFits, partShaped, receives, sends, timed, neverBoth, onlineRemote}
-use Rattle.connection.specs.Sound.{openRule, closeRule, watched, soundOf, Sound, zeroOf}
+use Rattle.connection.specs.Sound.{soundOf, Sound, zeroOf}
 
 -- the last of some tests that hold together, and those before it
 both : {a b : Bool} → (a && b) ≡ true → (a ≡ true) × (b ≡ true)
@@ -104,3 +103,31 @@ zero-is c all =
 pub zero-zero : zeroOf zeroRecord ≡ true
 unfolding zeroOf
 zero-zero = refl
+
+-- a record with what the zero record has not is not all zero; and one that has none of four such things is, where four numbers are 0
+pub zero-not : (c : Connection) (has : Connection → Bool) → has zeroRecord ≡ false → has c ≡ true → false ≡ zeroOf c
+zero-not c has none some = go (zeroOf c) refl
+  where
+    go : (b : Bool) → zeroOf c ≡ b → false ≡ zeroOf c
+    go false e = sym e
+    go true e = impossible (sym none ∙ sym (ap has (zero-is c e)) ∙ some)
+
+pub zero-rest : (c : Connection)
+    → emptyPart (c .part) ≡ true
+    → (c .«open_wanted» || c .«close_wanted» || c .due || c .watch .«remote_set») ≡ false
+    → isOffline (c .mode) ≡ true
+    → (wildFields (c .remote) .address && wildFields (c .remote) .port) ≡ true
+    → (eqb (c .switches) 0 && eqb (c .used) 0 && eqb (c .timer) 0 && eqb (c .watch .alive) 0) ≡ zeroOf c
+unfolding zeroOf
+zero-rest c empty marks offline wild =
+    let (before, set) = neither (c .«open_wanted» || c .«close_wanted» || c .due) (c .watch .«remote_set») marks in
+    let (before, due) = neither (c .«open_wanted» || c .«close_wanted») (c .due) before in
+    let (wish, close) = neither (c .«open_wanted») (c .«close_wanted») before in
+    rw (empty, set, due, wish, close, offline, wild) (go (eqb (c .switches) 0) (eqb (c .used) 0) (eqb (c .timer) 0) (eqb (c .watch .alive) 0))
+  where
+    go : (s u t a : Bool) → (s && u && t && a) ≡ (true && true && true && true && s && true && u && t && true && (a && true))
+    go false u t a = refl
+    go true false t a = refl
+    go true true false a = refl
+    go true true true false = refl
+    go true true true true = refl

@@ -538,15 +538,18 @@ impl Connection {
         let offline = is_offline(mode);
         let empty = receive_part::is_empty(part);
         let wild = wild_fields(remote);
-        offline
-            & !self.open_wanted
-            & !self.close_wanted
-            & (wild.address & wild.port)
-            & (self.switches == 0)
-            & empty
-            & (self.used == 0)
-            & (self.timer == 0)
-            & !self.due
-            & ((self.watch.alive == 0) & !self.watch.remote_set)
+        if !empty {
+            return false;
+        }
+        if self.open_wanted | self.close_wanted | self.due | self.watch.remote_set {
+            return false;
+        }
+        if !offline {
+            return false;
+        }
+        if !(wild.address & wild.port) {
+            return false;
+        }
+        (self.switches == 0) & (self.used == 0) & (self.timer == 0) & (self.watch.alive == 0)
     }
 }
