@@ -21,7 +21,7 @@ use Rattle.state.specs.declared.State.{State}
 use Rattle.state.specs.Fresh.{configIn, configOf}
 use Rattle.lists.specs.Each.{allFrom, allTo}
 use Rattle.gate.specs.Sound.{routed, soundAt, recordsSound}
-use Rattle.gate.specs.Inner.{rulesIn, soundIn, idle, idleSound, quietSound}
+use Rattle.gate.specs.Inner.{rulesIn, rowSound, soundIn, idle, idleSound, quietSound}
 use Rattle.gate.proofs.Idle.{idle-sound}
 
 module _ (image : List ℕ) (n : ℕ) (c : Connection) where
@@ -101,9 +101,13 @@ module _ (connections groups : List ℕ) (n : ℕ) (c : Connection) where
       let k : idleSound (configIn connections groups n .size) c ≡ true = sym (ap (λ (z : ℕ). idleSound z c) (size-is connections groups n)) ∙ e in
       rw k h
 
--- a record past the rows, and that of a row where it is idle
+-- a record past the rows, that of a row, and that of a row where it is idle
 pub past-in : (rows : ℕ) (connections groups routes : List ℕ) (n : ℕ) (c : Connection) → rows ≤ n → zeroOf c ≡ soundIn rows connections groups routes n c
 past-in rows connections groups routes n c h = rw (le-ltb _ _ h) refl
+
+pub row-in : (rows : ℕ) (connections groups routes : List ℕ) (n : ℕ) (c : Connection) → n < rows
+    → rowSound connections groups routes n c ≡ soundIn rows connections groups routes n c
+row-in rows connections groups routes n c h = rw (lt-ltb _ _ h) refl
 
 pub idle-in : (rows : ℕ) (connections groups routes : List ℕ) (n : ℕ) (c : Connection) → n < rows → idle c ≡ true
     → quietSound (configIn connections groups n) c ≡ soundIn rows connections groups routes n c

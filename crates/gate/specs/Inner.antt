@@ -31,10 +31,13 @@ rulesFrom row group =
 abbrev pub rulesIn : List ℕ → List ℕ → ℕ → Config
 rulesIn connections groups n = rulesFrom (briefIn connections n) (groupIn groups (briefIn connections n .group))
 
--- a record as soundAt has it, by the number of rows and the bodies
+-- a record as soundAt has it, by the bodies where it has a row
+abbrev pub rowSound : List ℕ → List ℕ → List ℕ → ℕ → Connection → Bool
+rowSound connections groups routes n c = soundOf (configIn connections groups n) c && routed routes n (c .part)
+
+-- and by the number of rows
 abbrev pub soundIn : ℕ → List ℕ → List ℕ → List ℕ → ℕ → Connection → Bool
-soundIn rows connections groups routes n c =
-    cond (ltb n rows) (soundOf (configIn connections groups n) c && routed routes n (c .part)) (zeroOf c)
+soundIn rows connections groups routes n c = cond (ltb n rows) (rowSound connections groups routes n c) (zeroOf c)
 
 -- a record that has received nothing and wants nothing: of the rules those on its send bytes are left, "an online remote has no wildcard",
 -- and the alive timer's

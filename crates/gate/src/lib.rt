@@ -6,7 +6,7 @@ ghost use Rattle.lists.specs.Each.{allFrom};
 ghost use Rattle.connection.specs.Sound.{onlineRemote, watched};
 ghost use Rattle.state.specs.Fresh.{configIn};
 ghost use Rattle.gate.specs.Sound.{routed, recordsSound};
-ghost use Rattle.gate.specs.Inner.{rulesFrom, rulesIn, soundIn, idle, idleSound, quietSound};
+ghost use Rattle.gate.specs.Inner.{rulesFrom, rulesIn, rowSound, soundIn, idle, idleSound, quietSound};
 ghost use Rattle.gate.specs.Lent.{lent};
 ghost use Rattle.table_layout.specs.Layout.{rowWidth, rowsOf, Laid};
 ghost use Rattle.table_rows.specs.Rules.{sizeIn};
@@ -145,20 +145,16 @@ fn is_quiet(connections: &[u8], groups: &[u8], n: usize, c: Connection) -> bool
     is_watched(connections, groups, n, c)
 }
 
-// One record against its row, by the number of rows and the bodies; past the rows, against zero.
+// One record against its row, by the bodies.
 fn is_sound(
-    rows: usize,
     connections: &[u8],
     groups: &[u8],
     routes: &[u8],
     n: usize,
     connection: Connection,
 ) -> bool
-    ensures { λ r. ⌜ r ≡ soundIn rows (now (connections .entry)) (now (groups .entry)) (now (routes .entry)) n connection ⌝ }
+    ensures { λ r. ⌜ r ≡ rowSound (now (connections .entry)) (now (groups .entry)) (now (routes .entry)) n connection ⌝ }
 {
-    if rows <= n {
-        return connection.is_zero();
-    }
     if is_idle(connection) {
         return is_quiet(connections, groups, n, connection);
     }
@@ -188,7 +184,7 @@ fn each_sound(rows: usize, connections: &[u8], groups: &[u8], routes: &[u8], sta
     }
     while i < rows {
         let connection = state.connections[i];
-        if !is_sound(rows, connections, groups, routes, i, connection) {
+        if !is_sound(connections, groups, routes, i, connection) {
             return false;
         }
         i += 1;

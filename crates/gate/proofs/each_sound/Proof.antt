@@ -6,7 +6,7 @@ use borrow.Author.Tests.{not-true, not-false}
 use denote.Ref.{now}
 use borrow.Author.Needs.{needs}
 use Rattle.lists.proofs.Each.{long}
-use Rattle.gate.proofs.Records.{SoundTo, sound-turn, sound-not, sound-all, past-in, idle-in}
+use Rattle.gate.proofs.Records.{SoundTo, sound-turn, sound-not, sound-all, past-in, row-in, idle-in}
 use Rattle.gate.proofs.each_sound.Statement.{statement}
 use Rattle.gate.proofs.each_sound.Tie as tie
 
@@ -93,7 +93,8 @@ returns-2 c =
     let b = t .before in
     let a = b .before .before .before .before .before .before .args in
     sound-not (a .rows) (now (a .connections)) (now (a .groups)) (now (a .routes)) (a .t5) (b .loop2 .i) (b .loop2 .inv .1)
-    (omega (arith, t .loop2-test .taken, b .loop2 .inv .0)) (sym (c .before .is-sound .ensures) ∙ not-true _ (c .if3 .taken))
+    (omega (arith, t .loop2-test .taken, b .loop2 .inv .0))
+    (sym (row-in (a .rows) _ _ _ (b .loop2 .i) _ (t .loop2-test .taken)) ∙ sym (c .before .is-sound .ensures) ∙ not-true _ (c .if3 .taken))
 
 add-i-2 : tie.Need-add-i-2 Inv-loop μ-loop Inv-loop2 μ-loop2 Inv-loop3 μ-loop3
 add-i-2 c = search needs
@@ -108,7 +109,8 @@ loop2-again c =
     let a = b .before .before .before .before .before .before .args in (
       b .loop2 .inv .0,
       sound-turn (a .rows) (now (a .connections)) (now (a .groups)) (now (a .routes)) (a .t5) (b .loop2 .i) (b .loop2 .inv .1)
-          (omega (arith, t .loop2-test .taken, b .loop2 .inv .0)) (sym (not-false _ (c .if3 .left)) ∙ c .before .is-sound .ensures),
+          (omega (arith, t .loop2-test .taken, b .loop2 .inv .0))
+          (sym (not-false _ (c .if3 .left)) ∙ c .before .is-sound .ensures ∙ row-in (a .rows) _ _ _ (b .loop2 .i) _ (t .loop2-test .taken)),
     )
 
 loop3-holds : tie.Need-loop3-holds Inv-loop μ-loop Inv-loop2 μ-loop2 Inv-loop3 μ-loop3

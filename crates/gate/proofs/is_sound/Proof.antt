@@ -1,17 +1,12 @@
 -- `gate::is_sound` meets its contract.
 use mathlib.Core.Path.{sym, _∙_}
 use denote.Ref.{now}
-use borrow.Author.Tests.{lt-ltb, le-ltb}
 use borrow.Author.Needs.{needs}
-use Rattle.gate.proofs.Records.{rules-enough, idle-in}
+use Rattle.state.specs.Fresh.{configIn}
+use Rattle.gate.proofs.Idle.{idle-sound}
+use Rattle.gate.proofs.Records.{rules-enough}
 use Rattle.gate.proofs.is_sound.Statement.{statement}
 use Rattle.gate.proofs.is_sound.Tie as tie
-
-is-zero-requires : tie.Need-is-zero-requires
-is-zero-requires c κs = search needs
-
-returns : tie.Need-returns
-returns c = rw (le-ltb _ _ (c .before .if1 .taken)) (c .is-zero .ensures)
 
 is-idle-requires : tie.Need-is-idle-requires
 is-idle-requires c κs = search needs
@@ -19,10 +14,12 @@ is-idle-requires c κs = search needs
 is-quiet-requires : tie.Need-is-quiet-requires
 is-quiet-requires c κs = search needs
 
-returns-2 : tie.Need-returns-2
-returns-2 c =
+returns : tie.Need-returns
+returns c =
     let i = c .before .before in
-    c .is-quiet .ensures ∙ idle-in _ _ _ _ _ _ (i .before .if1 .left) (sym (i .is-idle .ensures) ∙ c .before .if2 .taken)
+    let a = i .before .before .before .before .args in
+    c .is-quiet .ensures
+    ∙ sym (idle-sound (configIn (now (a .connections)) (now (a .groups)) (a .n)) _ (a .n) (a .connection) (sym (i .is-idle .ensures) ∙ c .before .if1 .taken))
 
 rules-in-requires : tie.Need-rules-in-requires
 rules-in-requires c κs = search needs
@@ -33,12 +30,11 @@ is-routed-requires c κs = search needs
 sound-requires : tie.Need-sound-requires
 sound-requires c κs = search needs
 
-returns-3 : tie.Need-returns-3
-returns-3 c =
+returns-2 : tie.Need-returns-2
+returns-2 c =
     let r = c .before .before .before .before .before in
-    let a = r .before .before .before .before .args in
+    let a = r .before .before .before .args in
     rw (
-      lt-ltb _ _ (r .if1 .left),
       c .sound .ensures,
       c .before .is-routed .ensures,
       c .before .before .rules-in .ensures,
@@ -49,12 +45,10 @@ pub is-sound-spec : {M : Type 1} → statement M
 is-sound-spec =
     tie.close
     (tie.spec
-    is-zero-requires
-    returns
     is-idle-requires
     is-quiet-requires
-    returns-2
+    returns
     rules-in-requires
     is-routed-requires
     sound-requires
-    returns-3)
+    returns-2)
