@@ -32,6 +32,10 @@ use Rattle.table.specs.Accepts.{Accepts}
 use Rattle.table.specs.declared.TableAnswer.the-variants.{Accepted}
 use Rattle.table.proofs.Answers.{then-first, then-second, demand-held}
 
+-- the tests of a contents entry as facts
+pub entry-facts : (k n o w most start : ℕ) → eqb k w && leb n most && eqb o start ≡ true → (k ≡ w) × (n ≤ most) × (o ≡ start)
+entry-facts k n o w most start e = let f = and3 (eqb k w) (leb n most) (eqb o start) e in (eqb-true _ _ (f .0), leb-true _ _ (f .1), eqb-true _ _ (f .2))
+
 -- good contents have their bytes 0..3 and their entries, no kind with too many rows, and each body's offset
 module _ (s : List ℕ) (good : headPlace s ≡ Accepted) where
   pub contents-head : headGood s ≡ true
@@ -51,9 +55,7 @@ module _ (s : List ℕ) (good : headPlace s ≡ Accepted) where
 
   entry-tests : (k : Kind) → (be 2 s (entryAt k) ≡ number k) × (rowsOf s k ≤ mostRows k) × (be 4 s (entryAt k + 4) ≡ startOf s k)
   unfolding entryGood
-  entry-tests k =
-      let f = and3 (eqb (be 2 s (entryAt k)) (number k)) (leb (rowsOf s k) (mostRows k)) (eqb (be 4 s (entryAt k + 4)) (startOf s k)) (contents-entry k) in
-      (eqb-true _ _ (f .0), leb-true _ _ (f .1), eqb-true _ _ (f .2))
+  entry-tests k = entry-facts (be 2 s (entryAt k)) (rowsOf s k) (be 4 s (entryAt k + 4)) (number k) (mostRows k) (startOf s k) (contents-entry k)
 
   pub contents-most : (k : Kind) → rowsOf s k ≤ mostRows k
   contents-most k = entry-tests k .1

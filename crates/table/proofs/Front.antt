@@ -17,7 +17,7 @@ use Rattle.table_rows.proofs.Heads.{be-small}
 use Rattle.table.specs.Table.{headGood, entryGood, frontGood, demand, thenCheck, entriesPlace, headPlace, allRowsPlace, checkTable}
 use Rattle.table.specs.declared.TableAnswer.{TableAnswer}
 use Rattle.table.specs.declared.TableAnswer.the-variants.{Accepted, Refused}
-use Rattle.table.proofs.Facts.{contents-head, contents-entry, contents-starts}
+use Rattle.table.proofs.Facts.{entry-facts, contents-head, contents-entry, contents-starts}
 
 -- ---- what it gives
 
@@ -92,6 +92,14 @@ tests h g c r d o₁ o₂ o₃ o₄ long =
     && eqb (o₄ + 3145728) (o₃ + 16 * r)
     && eqb (long + 4194304) (o₄ + 16 * d)
 
+-- facts of a contents entry as its tests
+facts-entry : (k n o w most start : ℕ) → (k ≡ w) × (n ≤ most) × (o ≡ start) → eqb k w && leb n most && eqb o start ≡ true
+facts-entry k n o w most start f = and-both (and-both (eq-eqb k w (f .0)) (le-leb n most (f .1))) (eq-eqb o start (f .2))
+
+-- kind and row count out of one number
+entry-split : (x k n w most : ℕ) → x ≡ k * 65536 + n → n < 65536 → most < 65536 → w * 65536 ≤ x → x ≤ w * 65536 + most → (k ≡ w) × (n ≤ most)
+entry-split x k n w most e b m l h = (omega arith, omega arith)
+
 -- edition and number 4; of each kind its number, row count and offset, the first two as one number; the total length
 module _ (v u k₁ n₁ o₁ k₂ n₂ o₂ k₃ n₃ o₃ k₄ n₄ o₄ long : ℕ) where
   record Front : Type 0 where
@@ -111,12 +119,6 @@ module _ (v u k₁ n₁ o₁ k₂ n₂ o₂ k₃ n₃ o₃ k₄ n₄ o₄ long :
       && (eqb k₃ 3 && leb n₃ 64 && eqb o₃ (36 + n₁ * 2 + n₂ * 16))
       && (eqb k₄ 4 && leb n₄ 64 && eqb o₄ (36 + n₁ * 2 + n₂ * 16 + n₃ * 16))
       && eqb long (36 + n₁ * 2 + n₂ * 16 + n₃ * 16 + n₄ * 16)
-
-  entry-facts : (k n o w most start : ℕ) → eqb k w && leb n most && eqb o start ≡ true → (k ≡ w) × (n ≤ most) × (o ≡ start)
-  entry-facts k n o w most start e = let f = and3 (eqb k w) (leb n most) (eqb o start) e in (eqb-true _ _ (f .0), leb-true _ _ (f .1), eqb-true _ _ (f .2))
-
-  facts-entry : (k n o w most start : ℕ) → (k ≡ w) × (n ≤ most) × (o ≡ start) → eqb k w && leb n most && eqb o start ≡ true
-  facts-entry k n o w most start f = and-both (and-both (eq-eqb k w (f .0)) (le-leb n most (f .1))) (eq-eqb o start (f .2))
 
   rules-front : rules ≡ true → Front
   rules-front e =
@@ -168,10 +170,6 @@ module _ (v u k₁ n₁ o₁ k₂ n₂ o₂ k₃ n₃ o₃ k₄ n₄ o₄ long :
         (le-leb d 262208 (omega (arith, x .destinations .1))))
         (eq-eqb (o₄ + 3145728) (o₃ + 16 * r) (omega (arith, x .routes .2, x .destinations .2))))
         (eq-eqb (long + 4194304) (o₄ + 16 * d) (omega (arith, x .destinations .2, x .total)))
-
-    -- kind and row count out of one number
-    entry-split : (x k n w most : ℕ) → x ≡ k * 65536 + n → n < 65536 → most < 65536 → w * 65536 ≤ x → x ≤ w * 65536 + most → (k ≡ w) × (n ≤ most)
-    entry-split x k n w most e b m l h = (omega arith, omega arith)
 
     tests-front : u < 65536 → n₁ < 65536 → n₂ < 65536 → n₃ < 65536 → n₄ < 65536 → tests h g c r d o₁ o₂ o₃ o₄ long ≡ true → Front
     tests-front bu b₁ b₂ b₃ b₄ e =
