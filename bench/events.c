@@ -105,11 +105,13 @@ static uint32_t ask(const struct lent *lent, struct layout *table)
         return 11;
     if (!check(lent->image, lent->image_length, table, &bad))
         return 12;
-    for (size_t i = 0; i < MEMBERS; i++) {
-        const struct record *c = &lent->state->connections[i];
-        if (!(i < table->rows[CONNECTION] ? is_sound(table, i, c) : is_zero(c)))
+    size_t i = 0;
+    for (; i < table->rows[CONNECTION]; i++)
+        if (!is_sound(table, i, &lent->state->connections[i]))
             return 12;
-    }
+    for (; i < MEMBERS; i++)
+        if (!is_zero(&lent->state->connections[i]))
+            return 12;
     return 0;
 }
 
