@@ -11,8 +11,9 @@ use native.Mathlib.Omega.{arith}
 use borrow.Author.Tests.{eqb-true, eq-eqb, lt-ltb, ltb-true, le-leb, leb-true, leb-false, eqb-false, not-false}
 use Rattle.connection.specs.declared.Config.{Config}
 use Rattle.connection.specs.declared.Connection.{Connection}
-use Rattle.connection.specs.declared.Mode.the-variants.{Online}
-use Rattle.connection.specs.Connection.{become, aliveAt, withSend, withWatch, startedOf, reachOf, runOf, expires, closedOf, letGoOf, sunkOf, tickOf}
+use Rattle.connection.specs.declared.Mode.{Mode}
+use Rattle.connection.specs.declared.Mode.the-variants.{Offline, Reconnect, Online}
+use Rattle.connection.specs.Connection.{isOffline, isReconnect, become, aliveAt, withSend, withWatch, startedOf, reachOf, runOf, expires, closedOf, letGoOf, sunkOf, tickOf}
 use Rattle.connection.proofs.Ticks.{tick-closes, tick-goes-on, tick-lets-go, started}
 use Rattle.lists.specs.Each.{eachTo}
 use Rattle.lists.specs.Fold.{foldFrom}
@@ -268,6 +269,27 @@ module _ (g : Config) (n : ℕ) (c : Connection) {t b : Bool} where
   pub settled-at : t ≡ staysOf n c → (t || g .tcp) ≡ b → cond b (laterBy n c) (goneOf g n c) ≡ settledOf g n c
   unfolding settledOf
   settled-at is e = ap (λ (x : Bool). cond x (laterBy n c) (goneOf g n c)) (sym e ∙ ap (λ (x : Bool). x || g .tcp) is)
+
+-- WHETHER THE NEXT TICK TURNS, test by test: a close, else a start of what is offline, else what reaches
+module _ (g : Config) (c : Connection) where
+  pub turns-closing : c .«close_wanted» ≡ true → true ≡ turnsNext g c
+  turns-closing e = rw e
+
+  module _ (kept : c .«close_wanted» ≡ false) where
+    pub turns-offline : isOffline (c .mode) ≡ true → (c .«open_wanted» || g .automatic) ≡ turnsNext g c
+    turns-offline e = rw (kept, e, never (c .mode) e) (go (c .«open_wanted» || g .automatic))
+      where
+        never : (m : Mode) → isOffline m ≡ true → isReconnect m ≡ false
+        never Offline p = refl
+        never Reconnect p = impossible p
+        never Online p = refl
+
+        go : (b : Bool) → b ≡ (b || false)
+        go true = refl
+        go false = refl
+
+    pub turns-else : isOffline (c .mode) ≡ false → reachesNext g c ≡ turnsNext g c
+    turns-else e = rw (kept, e)
 
 -- THE LOOP of single ticks while they turn: the ticks that are left lead to the whole's end
 

@@ -66,11 +66,15 @@ fn stays(c: Connection, n: u32) -> bool
 fn turns_next(config: Config, c: Connection) -> bool
     ensures { λ r. ⌜ r ≡ turnsNext config c ⌝ }
 {
+    if c.close_wanted {
+        return true;
+    }
     let mode = c.mode;
     let remote = c.remote;
-    let starts = is_offline(mode) & (c.open_wanted | config.automatic);
-    let reaches = is_reconnect(mode) & !config.tcp & !has_wildcard(remote);
-    c.close_wanted | starts | reaches
+    if is_offline(mode) {
+        return c.open_wanted | config.automatic;
+    }
+    is_reconnect(mode) & !config.tcp & !has_wildcard(remote)
 }
 
 // A timer that falls by n, and not below 0.
