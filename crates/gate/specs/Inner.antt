@@ -11,7 +11,7 @@ use Rattle.receive_part.specs.Part.{emptyPart}
 use Rattle.connection.specs.declared.Config.{Config}
 use Rattle.connection.specs.declared.Connection.{Connection}
 use Rattle.connection.specs.Connection.{zeroRemote}
-use Rattle.connection.specs.Sound.{soundOf, zeroOf, sends, timed, neverBoth, onlineRemote, watched}
+use Rattle.connection.specs.Sound.{soundOf, zeroOf, sends, timed, neverBoth, onlineRemote, openRule, closeRule, watched}
 use Rattle.state.specs.Fresh.{configIn}
 use Rattle.gate.specs.Sound.{routed}
 
@@ -49,3 +49,7 @@ idleSound size c = leb (c .used) size && sends c && timed c && neverBoth c && on
 
 abbrev pub quietSound : Config → Connection → Bool
 quietSound g c = idleSound (g .size) c && watched g c
+
+-- and the rules on what is wanted
+abbrev pub wished : Config → Connection → Bool
+wished g c = openRule g c && closeRule g c

@@ -6,7 +6,7 @@ ghost use Rattle.lists.specs.Each.{allFrom};
 ghost use Rattle.connection.specs.Sound.{onlineRemote, watched};
 ghost use Rattle.state.specs.Fresh.{configIn};
 ghost use Rattle.gate.specs.Sound.{routed, recordsSound};
-ghost use Rattle.gate.specs.Inner.{rulesFrom, rulesIn, rowSound, soundIn, idle, idleSound, quietSound};
+ghost use Rattle.gate.specs.Inner.{rulesFrom, rulesIn, rowSound, soundIn, idle, idleSound, quietSound, wished};
 ghost use Rattle.gate.specs.Lent.{lent};
 ghost use Rattle.table_layout.specs.Layout.{rowWidth, rowsOf, Laid};
 ghost use Rattle.table_rows.specs.Rules.{sizeIn};
@@ -16,6 +16,7 @@ use connection::Connection;
 use connection::Refusal;
 use connection::Remote;
 use connection::has_wildcard;
+use connection::is_offline;
 use connection::is_online;
 use receive_part::Part;
 use state::State;
@@ -145,7 +146,24 @@ fn is_quiet(connections: &[u8], groups: &[u8], n: usize, c: Connection) -> bool
     is_watched(connections, groups, n, c)
 }
 
-// One record against its row, by the bodies.
+// What may be wanted: an open on an offline record that is not automatic, and no close with it; a close on any but an automatic UDP record and an
+// automatic offline one.
+fn is_wished(connections: &[u8], groups: &[u8], n: usize, c: Connection) -> bool
+    ensures { λ r. ⌜ r ≡ wished (configIn (now (connections .entry)) (now (groups .entry)) n) c ⌝ }
+{
+    if !c.open_wanted & !c.close_wanted {
+        return true;
+    }
+    let mode = c.mode;
+    let offline = is_offline(mode);
+    let rules = rules_in(connections, groups, n);
+    if c.open_wanted {
+        return !rules.automatic & offline & !c.close_wanted;
+    }
+    !rules.automatic | (rules.tcp & !offline)
+}
+
+// One record against its row, by the bodies. Of one that has received nothing less is asked.
 fn is_sound(
     connections: &[u8],
     groups: &[u8],
@@ -155,10 +173,13 @@ fn is_sound(
 ) -> bool
     ensures { λ r. ⌜ r ≡ rowSound (now (connections .entry)) (now (groups .entry)) (now (routes .entry)) n connection ⌝ }
 {
-    if is_idle(connection) {
-        return is_quiet(connections, groups, n, connection);
-    }
     let part = connection.part;
+    if receive_part::is_empty(part) {
+        if !is_quiet(connections, groups, n, connection) {
+            return false;
+        }
+        return is_wished(connections, groups, n, connection);
+    }
     let rules = rules_in(connections, groups, n);
     let has_route = is_routed(routes, n, part);
     connection.sound(rules) & has_route
