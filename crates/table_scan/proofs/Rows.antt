@@ -1,12 +1,14 @@
 -- A search over the rows of a body, at the places where a loop stands.
-use Prim.Native.Nat.{ℕ, _+_, _/_, _<_}
+use Prim.Native.Nat.{ℕ, _+_, _-_, _*_, _/_, _<_}
 use mathlib.Core.Path.{_≡_, refl, sym, ap, _∙_}
 use mathlib.Core.Bool.{Bool, true, false, not}
 use mathlib.Core.List.{List}
-use lib.ListN.{length}
+use native.Mathlib.Omega.{arith}
+use lib.ListN.{length, take, drop}
 use Rattle.lists.specs.Search.{firstBad, every}
 use Rattle.lists.proofs.Both.{and-both, and-first, and-second}
 use Rattle.lists.proofs.Search.{Searched, search-on, search-found, every-all}
+use Rattle.table_layout.proofs.Parts.{row-range}
 use Rattle.table_layout.specs.Layout.{rowIn}
 use Rattle.table_layout.specs.declared.Kind.{Kind}
 use Rattle.table_layout.specs.declared.Kind.the-variants.{Group, Connection}
@@ -53,3 +55,15 @@ module _ (shares : List ℕ → List ℕ → Bool) (n : ℕ) (body : List ℕ) (
   pub shared-pair : {ok : Bool} → ok ≡ shares earlier row → ok ≡ true → clearIn shares n body i j ≡ false
   unfolding clearIn
   shared-pair e f = rw (← is, ← was, sym e ∙ f)
+
+-- a loop over rows of 16 bytes that goes by the place of a row: row at / 16 starts at `at`
+pub place-first : (i : ℕ) → i * 16 / 16 ≡ i
+place-first i = omega arith
+
+pub place-next : (at : ℕ) → (at + 16) / 16 ≡ at / 16 + 1
+place-next at = omega arith
+
+-- `&body[at..at + 16]` is that row
+pub place-range : (body : List ℕ) (at : ℕ) → at ≡ at / 16 * 16 → at < length body / 16 * 16
+    → take (at + 16 - at) (drop at body) ≡ rowIn 16 body (at / 16)
+place-range body at starts h = ap (λ (x : ℕ). take (x + 16 - x) (drop x body)) starts ∙ row-range 16 body (at / 16) (omega arith)

@@ -127,7 +127,8 @@ fn destination_mark(row: &[u8], shift: usize) -> usize
     mark_of(owner_of(row), turned_pdu(row), shift)
 }
 
-// From row `from` on, the first route that is bad by itself or whose mark was met. `seen` holds 1 at each mark met.
+// From row `from` on, the first route that is bad by itself or whose mark was met. `seen` holds 1 at each mark met. The loop goes by
+// the place where a row starts, 16 times its number.
 fn next_route<'a>(
     body: &'a [u8],
     connections: &'a [u8],
@@ -141,22 +142,21 @@ fn next_route<'a>(
     ensures { λ r. ⌜ (from ≤ r)
         × Struck (routeRule (now (connections .entry)) (now (groups .entry))) Kind.Route (routeMark shift) 1 (now (body .entry)) (now (seen .exit)) r ⌝ }
 {
-    let n = body.len() / 16;
-    let mut i = from;
-    while i < n {
-        let at = i * 16;
+    let end = body.len() / 16 * 16;
+    let mut at = from * 16;
+    while at < end {
         let row = &body[at..at + 16];
         if !route_good(row, connections, groups) {
-            return i;
+            return at / 16;
         }
         let mark = route_mark(row, shift);
         if seen[mark] == 1 {
-            return i;
+            return at / 16;
         }
         seen[mark] = 1;
-        i += 1;
+        at += 16;
     }
-    i
+    at / 16
 }
 
 // The first bad route, or the row count where there is none.
@@ -203,22 +203,21 @@ fn next_destination<'a>(
     ensures { λ r. ⌜ (from ≤ r)
         × Struck (destinationRule (now (connections .entry))) Kind.Destination (destinationMark shift) 2 (now (body .entry)) (now (seen .exit)) r ⌝ }
 {
-    let n = body.len() / 16;
-    let mut i = from;
-    while i < n {
-        let at = i * 16;
+    let end = body.len() / 16 * 16;
+    let mut at = from * 16;
+    while at < end {
         let row = &body[at..at + 16];
         if !destination_good(row, connections) {
-            return i;
+            return at / 16;
         }
         let mark = destination_mark(row, shift);
         if seen[mark] == 2 {
-            return i;
+            return at / 16;
         }
         seen[mark] = 2;
-        i += 1;
+        at += 16;
     }
-    i
+    at / 16
 }
 
 fn first_bad_destination<'a>(
