@@ -154,7 +154,8 @@ checked c =
     let t : tie.In-loop Inv-loop μ-loop Inv-loop2 μ-loop2 = record { before = l; loop-test = w .0 } in
     let k : tie.After-destination-in Inv-loop μ-loop Inv-loop2 μ-loop2 =
     record { before = record { before = record { before = t; is-for = w .1 }; if1 = w .2 }; destination-in = w .3 } in
-    let f : tie.After-look-in Inv-loop μ-loop Inv-loop2 μ-loop2 = record { before = record { before = record { before = k; struct-known = w .4 }; c = w .5 }; look-in = w .6 } in
+    let f : tie.After-look-in Inv-loop μ-loop Inv-loop2 μ-loop2 =
+    record { before = record { before = record { before = k; struct-known = w .4 }; c = w .5 }; look-in = w .6 } in
     ended-refused _ _ (l .loop .i) _ (l .loop .inv .0) _ (w .9 ∙ said f) (inside t)
     (sym (ap passes (said f)) ∙ not-true (passes (w .6 .result)) (sym (w .7 .ensures) ∙ w .8 .taken)))
     (c .before .loop-test .came)
@@ -210,7 +211,8 @@ T k = k .before .before .before
 abbrev M : tie.After-destination-in2 Inv-loop μ-loop Inv-loop2 μ-loop2 → tie.At-loop2 Inv-loop μ-loop Inv-loop2 μ-loop2
 M k = T k .before
 
-row2 : (k : tie.After-destination-in2 Inv-loop μ-loop Inv-loop2 μ-loop2) → k .destination-in2 .result ≡ destinationOf (now (S (F (M k)) .args .image)) (M k .loop2 .j)
+row2 : (k : tie.After-destination-in2 Inv-loop μ-loop Inv-loop2 μ-loop2)
+    → k .destination-in2 .result ≡ destinationOf (now (S (F (M k)) .args .image)) (M k .loop2 .j)
 row2 k = k .destination-in2 .ensures ∙ there (F (M k)) (M k .loop2 .j)
 
 own2 : (k : tie.After-destination-in2 Inv-loop μ-loop Inv-loop2 μ-loop2) → k .destination-in2 .result .pdu ≡ S (F (M k)) .args .pdu
