@@ -33,7 +33,7 @@ module _ (accept member : Bool) (source : Remote) (c : Connection) (waits up : B
   unfolding scoreOf
   score-no t = cc
 
-no-member : (accept : Bool) (source : Remote) (c : Connection) → 0 ≡ scoreOf accept source false c
+pub no-member : (accept : Bool) (source : Remote) (c : Connection) → 0 ≡ scoreOf accept source false c
 unfolding scoreOf
 no-member accept source c = refl
 
@@ -49,24 +49,17 @@ module _ (image : List ℕ) (s : State) (accept : Bool) (group : ℕ) (source : 
 
   -- row i, as the loop reads it: the bytes of the body's row, of which the first names the group
   module _ (l : Laid image) (body : List ℕ) (eb : body ≡ bodyOf image KConnection) (i : ℕ) (h : i < length body / 16) (row : List ℕ)
-      (er : row ≡ rowIn 16 body i) (first : ℕ) (ef : first ≡ be 1 row 0) where
-    first-is : first ≡ connectionOf image i .group
+      (er : row ≡ rowIn 16 body i) where
+    first-is : be 1 row 0 ≡ connectionOf image i .group
     unfolding connectionRow
-    first-is = ef ∙ ap (λ (r : List ℕ). be 1 r 0) (er ∙ ap (λ (b : List ℕ). rowIn 16 b i) eb)
+    first-is = ap (λ (r : List ℕ). be 1 r 0) (er ∙ ap (λ (b : List ℕ). rowIn 16 b i) eb)
 
-    member-is : eqb first group ≡ member image s accept group source i
+    member-is : eqb (be 1 row 0) group ≡ member image s accept group source i
     member-is =
         let there : i < rowsOf image KConnection = rw (rows-are image l KConnection body eb) at h in
         rw (lt-ltb _ _ there, first-is)
 
     -- the score of record i
-    pub score-at : (found : ℕ) → found ≡ scoreOf accept source (eqb first group) (recordAt s i) → found ≡ scoreAt image s accept group source i
+    pub score-at : scoreOf accept source (eqb (be 1 row 0) group) (recordAt s i) ≡ scoreAt image s accept group source i
     unfolding scoreAt
-    score-at found r = r ∙ ap (λ (b : Bool). scoreOf accept source b (recordAt s i)) member-is
-
-    -- a record that is no member scores nothing
-    pub score-out : eqb first group ≡ false → 0 ≡ scoreAt image s accept group source i
-    score-out f = score-at 0 (none (eqb first group) f)
-      where
-        none : (b : Bool) → b ≡ false → 0 ≡ scoreOf accept source b (recordAt s i)
-        none b e = rw e (no-member accept source (recordAt s i))
+    score-at = ap (λ (b : Bool). scoreOf accept source b (recordAt s i)) member-is
