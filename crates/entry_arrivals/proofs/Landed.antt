@@ -19,7 +19,7 @@ use Rattle.select.specs.declared.Arrival.the-variants.{Refused, Unmatched}
 use Rattle.select.specs.declared.Pick.{Pick}
 use Rattle.select.specs.declared.Arrived.{Arrived}
 use Rattle.select.specs.Best.{found}
-use Rattle.select.specs.Choose.{isMet, metPlace, metNext, arrivalRefused, chosenIn, arriveOf, beforeOf, afterOf}
+use Rattle.select.specs.Choose.{isMet, metPlace, metNext, arrivalRefused, chosenIn, arriveOf, answerBefore, answerAfter}
 use Rattle.select.proofs.Arrivals.{landed, landed-refused, landed-is, after-is}
 use Rattle.entry_arrivals.specs.Arrivals.{arrivalOf}
 
@@ -38,11 +38,11 @@ module _ (l : Lent) (accept : Bool) (group : ℕ) (source : Remote) where
   at-gate (Gated.Refused r) = landed-refused (l .image) (l .state) source r
 
   -- the search stands between what is answered before it and after it
-  module _ (asked : Gate) (eg : asked ≡ gateOf l) (before : Arrival) (eb : before ≡ through asked Refused (beforeOf (l .image) accept group source)) where
+  module _ (asked : Gate) (eg : asked ≡ gateOf l) (before : Arrival) (eb : before ≡ through asked Refused (answerBefore (l .image) accept group source)) where
     before-past : before ≡ Unmatched → asked ≡ Gated.Pass
     before-past e = go asked (sym eb ∙ e)
       where
-        go : (g : Gate) → through g Refused (beforeOf (l .image) accept group source) ≡ Unmatched → g ≡ Gated.Pass
+        go : (g : Gate) → through g Refused (answerBefore (l .image) accept group source) ≡ Unmatched → g ≡ Gated.Pass
         go Gated.Pass u = refl
         go (Gated.Refused r) u = let z : _≡_ {A = ℕ} 0 1 = cc in absurd (omega arith)
 
@@ -53,14 +53,14 @@ module _ (l : Lent) (accept : Bool) (group : ℕ) (source : Remote) where
     before-most e = rows-in-sixteen l (sym eg ∙ before-past e)
 
     pub answer-is : (b : Pick) → (before ≡ Unmatched → found b ≡ chosenIn (l .image) (l .state) accept group source)
-        → ((before ≡ Unmatched → ⊥) → b .score ≡ 0) → (answer : Arrival) → answer ≡ afterOf before b → answer ≡ past asked
+        → ((before ≡ Unmatched → ⊥) → b .score ≡ 0) → (answer : Arrival) → answer ≡ answerAfter before b → answer ≡ past asked
     answer-is b f idle answer ea = ea ∙ go asked before eb f idle
       where
-        go : (g : Gate) (a : Arrival) → a ≡ through g Refused (beforeOf (l .image) accept group source)
+        go : (g : Gate) (a : Arrival) → a ≡ through g Refused (answerBefore (l .image) accept group source)
             → (a ≡ Unmatched → found b ≡ chosenIn (l .image) (l .state) accept group source) → ((a ≡ Unmatched → ⊥) → b .score ≡ 0)
-            → afterOf a b ≡ past g
+            → answerAfter a b ≡ past g
         go Gated.Pass a e h k =
-            ap (λ (x : Arrival). afterOf x b) e
+            ap (λ (x : Arrival). answerAfter x b) e
             ∙ after-is (l .image) (l .state) accept group source b (λ u. h (e ∙ u)) (λ n. k (λ u. n (sym e ∙ u)))
         go (Gated.Refused r) a e h k = rw (eq-eqb _ _ (k (λ u. let z : Refused r ≡ Unmatched = sym e ∙ u in let y : _≡_ {A = ℕ} 0 1 = cc in omega arith))) e
 

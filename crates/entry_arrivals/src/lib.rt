@@ -4,7 +4,7 @@ ghost use mathlib.Core.Path.{_≡_};
 ghost use Rattle.entry_arrivals.specs.Arrivals.{arrivalOf, datagramOf, acceptOf};
 ghost use Rattle.gate.specs.Lent.{lent, lentBy};
 ghost use Rattle.gate.specs.Gate.{through};
-ghost use Rattle.select.specs.Choose.{beforeOf};
+ghost use Rattle.select.specs.Choose.{answerBefore};
 ghost use Rattle.table_layout.specs.Layout.{Laid};
 use connection::Remote;
 use gate::Gate;
@@ -15,7 +15,7 @@ use state::State;
 // The gate's refusal, or past the gate what is answered before any member is looked at.
 fn past(asked: Gate, image: &[u8], accept: bool, group: u8, source: Remote) -> Arrival
     requires { ⌜ (asked ≡ Gate.Pass → Laid (now image)) ⌝ }
-    ensures { λ r. ⌜ r ≡ through asked Arrival.Refused (beforeOf (now (image .entry)) accept group source) ⌝ }
+    ensures { λ r. ⌜ r ≡ through asked Arrival.Refused (answerBefore (now (image .entry)) accept group source) ⌝ }
 {
     match asked {
         Gate::Refused(reason) => Arrival::Refused(reason),

@@ -27,7 +27,7 @@ use Rattle.select.specs.declared.Arrival.{Arrival}
 use Rattle.select.specs.declared.Arrival.the-variants.{Met, Refused, Unmatched}
 use Rattle.select.specs.declared.Arrived.{Arrived}
 use Rattle.select.specs.Best.{found}
-use Rattle.select.specs.Choose.{chosenIn, meet, arrivalRefused, protocolOf, deniedOf, arriveOf, beforeOf, afterOf, metPlace, metNext}
+use Rattle.select.specs.Choose.{chosenIn, meet, arrivalRefused, protocolOf, deniedOf, arriveOf, answerBefore, answerAfter, metPlace, metNext}
 use Rattle.select.proofs.Scores.{rows-are}
 use Rattle.select.proofs.Pass.{chosen-small}
 
@@ -35,8 +35,8 @@ module _ (image : List ℕ) (accept : Bool) (group : ℕ) (source : Remote) (l :
   counted : length groups / 2 ≡ rowsOf image Group
   counted = rows-are image l Group groups eg
 
-  pub before-missing : length groups / 2 ≤ group → Refused Missing ≡ beforeOf image accept group source
-  unfolding beforeOf
+  pub before-missing : length groups / 2 ≤ group → Refused Missing ≡ answerBefore image accept group source
+  unfolding answerBefore
   before-missing h = rw (← counted, le-leb _ _ h)
 
   module _ (there : group < length groups / 2) (row : GroupRow) (er : row ≡ groupIn groups group) (protocol : ℕ) (ep : protocol ≡ protocolOf accept)
@@ -47,21 +47,21 @@ module _ (image : List ℕ) (accept : Bool) (group : ℕ) (source : Remote) (l :
         ap₂ (λ (r : GroupRow) (w : Bool). not (eqb (r .protocol) protocol) || w) (er ∙ ap (λ (b : List ℕ). groupIn b group) eg) ew
         ∙ ap (λ (n : ℕ). not (eqb (groupOf image group .protocol) n) || wildcard source) ep
 
-    pub before-denied : (not (eqb (row .protocol) protocol) || wild) ≡ true → Refused Denied ≡ beforeOf image accept group source
-    unfolding beforeOf
+    pub before-denied : (not (eqb (row .protocol) protocol) || wild) ≡ true → Refused Denied ≡ answerBefore image accept group source
+    unfolding answerBefore
     before-denied t = rw (← counted, lt-leb _ _ there, ← denied-is, t)
 
     -- past both, nobody so far
-    pub before-nobody : (not (eqb (row .protocol) protocol) || wild) ≡ false → Unmatched ≡ beforeOf image accept group source
-    unfolding beforeOf
+    pub before-nobody : (not (eqb (row .protocol) protocol) || wild) ≡ false → Unmatched ≡ answerBefore image accept group source
+    unfolding answerBefore
     before-nobody t = rw (← counted, lt-leb _ _ there, ← denied-is, t)
 
 -- THE ANSWER AFTER THE SEARCH: a refusal stays, and where nobody is answered before it, it is the choice's
 pub after-is : (image : List ℕ) (s : State) (accept : Bool) (group : ℕ) (source : Remote) (b : Pick)
-    → (beforeOf image accept group source ≡ Unmatched → found b ≡ chosenIn image s accept group source)
-    → ((beforeOf image accept group source ≡ Unmatched → ⊥) → b .score ≡ 0)
-    → afterOf (beforeOf image accept group source) b ≡ arriveOf image s accept group source .answer
-unfolding beforeOf arriveOf
+    → (answerBefore image accept group source ≡ Unmatched → found b ≡ chosenIn image s accept group source)
+    → ((answerBefore image accept group source ≡ Unmatched → ⊥) → b .score ≡ 0)
+    → answerAfter (answerBefore image accept group source) b ≡ arriveOf image s accept group source .answer
+unfolding answerBefore arriveOf
 after-is image s accept group source b = go (leb (rowsOf image Group) group) (deniedOf image accept group source)
   where
     chosen : Chosen
@@ -70,7 +70,7 @@ after-is image s accept group source b = go (leb (rowsOf image Group) group) (de
     first : Bool → Bool → Arrival
     first x y = cond x (Refused Missing) (cond y (Refused Denied) Unmatched)
 
-    refused : (r : Refusal) → ((Refused r ≡ Unmatched → ⊥) → b .score ≡ 0) → afterOf (Refused r) b ≡ Refused r
+    refused : (r : Refusal) → ((Refused r ≡ Unmatched → ⊥) → b .score ≡ 0) → answerAfter (Refused r) b ≡ Refused r
     refused r idle = rw (eq-eqb _ _ (idle (λ e. let z : _≡_ {A = ℕ} 0 1 = cc in omega arith)))
 
     nobody : (t : Bool) → cond t Unmatched (Met (b .at)) ≡ meet image s source (cond t Nobody (At (b .at))) .answer
@@ -78,7 +78,7 @@ after-is image s accept group source b = go (leb (rowsOf image Group) group) (de
     nobody false = refl
 
     go : (x y : Bool) → (first x y ≡ Unmatched → found b ≡ chosen) → ((first x y ≡ Unmatched → ⊥) → b .score ≡ 0)
-        → afterOf (first x y) b ≡ cond x (arrivalRefused s Missing) (cond y (arrivalRefused s Denied) (meet image s source chosen)) .answer
+        → answerAfter (first x y) b ≡ cond x (arrivalRefused s Missing) (cond y (arrivalRefused s Denied) (meet image s source chosen)) .answer
     go true y f idle = refused Missing idle
     go false true f idle = refused Denied idle
     go false false f idle = nobody (eqb (b .score) 0) ∙ ap (λ (x : Chosen). meet image s source x .answer) (f refl)

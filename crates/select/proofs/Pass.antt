@@ -9,6 +9,7 @@ use lib.ListN.{length}
 use Rattle.wire.specs.Be.{be}
 use Rattle.table_layout.specs.Layout.{rowsOf, bodyOf, rowIn, Laid}
 use Rattle.table_layout.specs.declared.Kind.the-variants.{Connection as KConnection}
+use Rattle.table_rows.specs.Rows.{connectionRow}
 use Rattle.connection.specs.declared.Connection.{Connection}
 use Rattle.connection.specs.declared.Remote.{Remote}
 use Rattle.state.specs.declared.State.{State}
@@ -28,9 +29,10 @@ use Rattle.select.proofs.Scores.{no-member, rows-are, score-past, score
 -- one turn of the loop, as the code takes it
 module _ (accept : Bool) (group : ℕ) (source : Remote) (b : Pick) (row : List ℕ) (i : ℕ) (c : Connection) (first : ℕ) (ef : first ≡ be 1 row 0) where
   abbrev own : ℕ → ℕ
-  own k = scoreOf accept source (eqb (be 1 row 0) group) c
+  own k = scoreOf accept source (eqb (connectionRow row .group) group) c
 
   own-is : (r : ℕ) → r ≡ scoreOf accept source (eqb first group) c → r ≡ own i
+  unfolding connectionRow
   own-is r e = e ∙ ap (λ (n : ℕ). scoreOf accept source (eqb n group) c) ef
 
   pub turn-no : (r : ℕ) → r ≡ scoreOf accept source (eqb first group) c → r ≤ b .score → b ≡ betterOf accept group source b row i c
@@ -102,9 +104,10 @@ module _ (image : List ℕ) (s : State) (accept : Bool) (group : ℕ) (source : 
             → next ≡ betterOf accept group source b row i (recordAt s i) → Searching (i + 1) next
         search-on l b inv row er next en =
             let e = search-open in
-            let at : scoreOf accept source (eqb (be 1 row 0) group) (recordAt s i) ≡ score i =
-            score-at image s accept group source (laid e) body (open-body e) i h row er in
-            let step : next ≡ better score b i = en ∙ better-alike (λ (k : ℕ). scoreOf accept source (eqb (be 1 row 0) group) (recordAt s i)) score b i at in
+            let step : next ≡ better score b i =
+            en
+            ∙ better-alike (λ (k : ℕ). scoreOf accept source (eqb (connectionRow row .group) group) (recordAt s i)) score b i
+            (score-at image s accept group source (laid e) body (open-body e) i h row er) in
             record {
               passing = λ u. fold-on _ 16 _ i b next (inv .passing u) l step;
               idle = λ n. absurd (n e);

@@ -6,7 +6,6 @@ use mathlib.Core.List.{List}
 use lib.Dec.{eqb}
 use lib.ListN.{length}
 use borrow.Author.Tests.{lt-ltb, le-ltb}
-use Rattle.wire.specs.Be.{be}
 use Rattle.table_layout.specs.Layout.{rowWidth, rowsOf, bodyOf, rowIn, Laid}
 use Rattle.table_layout.specs.declared.Kind.{Kind}
 use Rattle.table_layout.specs.declared.Kind.the-variants.{Connection as KConnection}
@@ -47,19 +46,17 @@ module _ (image : List ℕ) (s : State) (accept : Bool) (group : ℕ) (source : 
   unfolding scoreAt
   score-past i h = rw (le-ltb _ _ h) (no-member accept source (recordAt s i))
 
-  -- row i, as the loop reads it: the bytes of the body's row, of which the first names the group
+  -- row i, as the loop reads it
   module _ (l : Laid image) (body : List ℕ) (eb : body ≡ bodyOf image KConnection) (i : ℕ) (h : i < length body / 16) (row : List ℕ)
       (er : row ≡ rowIn 16 body i) where
-    first-is : be 1 row 0 ≡ connectionOf image i .group
-    unfolding connectionRow
-    first-is = ap (λ (r : List ℕ). be 1 r 0) (er ∙ ap (λ (b : List ℕ). rowIn 16 b i) eb)
-
-    member-is : eqb (be 1 row 0) group ≡ member image s accept group source i
+    member-is : eqb (connectionRow row .group) group ≡ member image s accept group source i
     member-is =
         let there : i < rowsOf image KConnection = rw (rows-are image l KConnection body eb) at h in
-        rw (lt-ltb _ _ there, first-is)
+        let own : connectionRow row .group ≡ connectionOf image i .group =
+        ap (λ (r : List ℕ). connectionRow r .group) (er ∙ ap (λ (b : List ℕ). rowIn 16 b i) eb) in
+        rw (lt-ltb _ _ there, own)
 
     -- the score of record i
-    pub score-at : scoreOf accept source (eqb (be 1 row 0) group) (recordAt s i) ≡ scoreAt image s accept group source i
+    pub score-at : scoreOf accept source (eqb (connectionRow row .group) group) (recordAt s i) ≡ scoreAt image s accept group source i
     unfolding scoreAt
     score-at = ap (λ (b : Bool). scoreOf accept source b (recordAt s i)) member-is

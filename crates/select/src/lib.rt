@@ -1,9 +1,11 @@
 // Which member of a group a source belongs to: one pass over the rows of the connections, the best match first (both fields, the address,
-// the port, neither), then the lowest number. Assumes of the table that it is laid out as its contents say and has no more connections than
-// the state has records: the gate has shown it.
+// the port, neither), then the lowest number. The caller goes over the rows, with the record of each: here stand one turn of it, and what is
+// answered before and after it. Assumes of the table that it is laid out as its contents say: the gate has shown it.
 ghost use mathlib.Core.Path.{_≡_};
 ghost use mathlib.Core.Bool.{true};
 ghost use Prim.Native.Nat.{_≤_, _<_};
+ghost use denote.Ref.{ptr};
+ghost use Rattle.wire.specs.Place.{behind};
 ghost use Rattle.table_layout.specs.Layout.{Laid};
 ghost use Rattle.select.specs.Choose as Is;
 use connection::Connection;
@@ -16,6 +18,7 @@ use table_layout::Kind;
 use table_layout::body_laid;
 use wire::be8;
 
+// Whom the definitions choose.
 pub enum Chosen {
     Nobody,
     At(usize),
@@ -114,7 +117,7 @@ fn protocol_of(accept: bool) -> u8
 // What is answered before any member is looked at: a refusal, or else nobody.
 pub fn answer_before(image: &[u8], accept: bool, group: u8, source: Remote) -> Arrival
     requires { ⌜ Laid (now image) ⌝ }
-    ensures { λ r. ⌜ r ≡ Is.beforeOf (now (image .entry)) accept group source ⌝ }
+    ensures { λ r. ⌜ r ≡ Is.answerBefore (now (image .entry)) accept group source ⌝ }
 {
     let groups = body_laid(image, Kind::Group);
     if groups.len() / 2 <= group as usize {
@@ -131,7 +134,8 @@ pub fn answer_before(image: &[u8], accept: bool, group: u8, source: Remote) -> A
 // The rows to look through: those of the connections where nobody is answered so far, else none.
 pub fn searched(before: Arrival, image: &[u8]) -> &[u8]
     requires { ⌜ (before ≡ Arrival.Unmatched → Laid (now image)) ⌝ }
-    ensures { λ r. ⌜ now r ≡ Is.searchedOf before (now (image .entry)) ⌝ }
+    ensures bytes { λ r. ⌜ now r ≡ Is.searchedOf before (now (image .entry)) ⌝ }
+    ensures place { λ r. ⌜ ptr r ≡ behind (ptr (image .entry)) (Is.searchedAt before (now (image .entry))) ⌝ }
 {
     match before {
         Arrival::Met(_) => &image[..0],
@@ -143,7 +147,7 @@ pub fn searched(before: Arrival, image: &[u8]) -> &[u8]
 // What is answered after all: the best match, or as before where there is none.
 pub fn answer_after(before: Arrival, best: Pick) -> Arrival
     requires { ⌜ best .at < 16 ⌝ }
-    ensures { λ r. ⌜ r ≡ Is.afterOf before best ⌝ }
+    ensures { λ r. ⌜ r ≡ Is.answerAfter before best ⌝ }
 {
     if best.score == 0 {
         return before;

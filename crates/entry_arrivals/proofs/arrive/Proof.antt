@@ -54,7 +54,7 @@ row-small c =
     let p = r .before in
     let g = p .before in
     let a = g .before .before .before .args in
-    search-small (a .image .now) (a .state) (a .accept) (a .group) (a .source) (p .past .result) (laid p) _ (r .searched .ensures) (c .before .loop .i)
+    search-small (a .image .now) (a .state) (a .accept) (a .group) (a .source) (p .past .result) (laid p) _ (r .searched .ensures .0) (c .before .loop .i)
     (c .loop-test .taken)
     (before-most (by g) (a .accept) (a .group) (a .source) (g .ask .result) (g .ask .ensures) (p .past .result) (p .past .ensures))
 
@@ -95,7 +95,7 @@ loop-again c =
     let r = t .before .before in
     let p = r .before in
     let a = p .before .before .before .before .args in
-    search-on (a .image .now) (a .state) (a .accept) (a .group) (a .source) (p .past .result) (laid p) _ (r .searched .ensures) i (t .loop-test .taken)
+    search-on (a .image .now) (a .state) (a .accept) (a .group) (a .source) (p .past .result) (laid p) _ (r .searched .ensures .0) i (t .loop-test .taken)
     (row-small t) _ (t .before .loop .inv) _ (row-range 16 _ i (t .loop-test .taken)) _ (c .better .ensures)
 
 answer-after-requires : tie.Need-answer-after-requires Inv-loop μ-loop
@@ -113,7 +113,7 @@ answered c =
     let g = p .before in
     let a = g .before .before .before .args in
     answer-is (by g) (a .accept) (a .group) (a .source) (g .ask .result) (g .ask .ensures) (p .past .result) (p .past .ensures) (e .before .loop .best)
-    (search-ended (a .image .now) (a .state) (a .accept) (a .group) (a .source) (p .past .result) (laid p) _ (r .searched .ensures) (e .before .loop .i)
+    (search-ended (a .image .now) (a .state) (a .accept) (a .group) (a .source) (p .past .result) (laid p) _ (r .searched .ensures .0) (e .before .loop .i)
     (e .loop-test .left) (e .before .loop .best) (e .before .loop .inv))
     (e .before .loop .inv .idle) _ (c .answer-after .ensures)
 

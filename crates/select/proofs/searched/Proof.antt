@@ -1,4 +1,6 @@
 -- `select::searched` meets its contract.
+use mathlib.Core.Path.{refl}
+use Rattle.wire.proofs.Place.{at-front}
 use borrow.Author.Needs.{needs}
 use Rattle.select.proofs.searched.Statement.{statement}
 use Rattle.select.proofs.searched.Tie as tie
@@ -22,13 +24,13 @@ body-laid-requires : tie.Need-body-laid-requires
 body-laid-requires c κs = c .before .before .before .pre (c .enum-told3 .given .1)
 
 returns : tie.Need-returns
-returns c = search needs
+returns c = rw (c .before .enum-told .given .1) (refl, at-front (c .before .before .before .before .args .image .ptr))
 
 returns-2 : tie.Need-returns-2
-returns-2 c = search needs
+returns-2 c = rw (c .before .enum-told2 .given .1) (refl, at-front (c .before .before .before .before .args .image .ptr))
 
 returns-3 : tie.Need-returns-3
-returns-3 c = rw (c .before .enum-told3 .given .1) (c .body-laid .ensures .0)
+returns-3 c = rw (c .before .enum-told3 .given .1) (c .body-laid .ensures)
 
 pub searched-spec : {M : Type 1} → statement M
 searched-spec =
