@@ -86,7 +86,7 @@ module _ (image : List ℕ) (s : State) (accept : Bool) (group : ℕ) (source : 
 
       module _ (i : ℕ) (h : i < length body / 16) where
         -- there is a row to look at only there
-        pub search-open : before ≡ Unmatched
+        search-open : before ≡ Unmatched
         search-open = go before eb
           where
             none : body ≡ [] → ⊥
