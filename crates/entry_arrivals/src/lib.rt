@@ -1,32 +1,30 @@
 // The entry points of selection: a datagram for a UDP group, an accept for a TCP group. Each is lent image, state and both
 // memories, and answers any of them. Assumes nothing: no entry relies on its caller.
 ghost use mathlib.Core.Path.{_≡_};
-ghost use Prim.Native.Nat.{_≤_};
 ghost use Rattle.entry_arrivals.specs.Arrivals.{arrivalOf, datagramOf, acceptOf};
 ghost use Rattle.gate.specs.Lent.{lent, lentBy};
 ghost use Rattle.gate.specs.Gate.{through};
-ghost use Rattle.select.specs.Choose.{arriveOf};
-ghost use Rattle.table_layout.specs.Layout.{rowsOf, Laid};
+ghost use Rattle.select.specs.Choose.{answerBefore};
+ghost use Rattle.table_layout.specs.Layout.{Laid};
 use connection::Remote;
 use gate::Gate;
 use select::Arrival;
 use select::Arrived;
 use state::State;
-use table_layout::Kind;
 
-// The gate's refusal, or past the gate what the event is answered.
-fn past(asked: Gate, image: &[u8], state: State, accept: bool, group: u8, source: Remote) -> Arrival
-    requires { ⌜ (asked ≡ Gate.Pass → Laid (now image) × (rowsOf (now image) Kind.Connection ≤ 16)) ⌝ }
-    ensures { λ r. ⌜ r ≡ through asked Arrival.Refused (arriveOf (now (image .entry)) state accept group source .answer) ⌝ }
+// The gate's refusal, or past the gate what is answered before any member is looked at.
+fn past(asked: Gate, image: &[u8], accept: bool, group: u8, source: Remote) -> Arrival
+    requires { ⌜ (asked ≡ Gate.Pass → Laid (now image)) ⌝ }
+    ensures { λ r. ⌜ r ≡ through asked Arrival.Refused (answerBefore (now (image .entry)) accept group source) ⌝ }
 {
     match asked {
         Gate::Refused(reason) => Arrival::Refused(reason),
-        Gate::Pass => select::answer_of(image, state, accept, group, source),
+        Gate::Pass => select::answer_before(image, accept, group, source),
     }
 }
 
-// The state is taken apart once, into the copy that the gate is lent and the record is replaced in; where nobody is met the same record
-// is put back, so that there is one way out, and one copy.
+// The state is taken apart once, into the copy that the gate is lent, the search goes over and the record is replaced in; where nobody is
+// met the same record is put back, so that there is one way out, and one copy.
 fn arrive(
     image: &[u8],
     state: State,
@@ -45,7 +43,19 @@ fn arrive(
         tcp_drops: state.tcp_drops,
     };
     let asked = gate::ask(image, after, rx, tx);
-    let answer = past(asked, image, after, accept, group, source);
+    let before = past(asked, image, accept, group, source);
+    let body = select::searched(before, image);
+    let rows = body.len() / 16;
+    let mut best = select::Pick { score: 0, at: 0 };
+    let mut i: usize = 0;
+    while i < rows {
+        let start = i * 16;
+        let row = &body[start..start + 16];
+        let c = after.connections[i];
+        best = select::better(best, row, i, c, accept, group, source);
+        i += 1;
+    }
+    let answer = select::answer_after(before, best);
     let k = select::place_of(answer);
     let c = after.connections[k];
     let next = select::next_of(answer, image, c, source);

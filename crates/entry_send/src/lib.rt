@@ -15,7 +15,8 @@ pub struct Taken {
     pub answer: Taking,
 }
 
-// A payload for all switched-on destinations of a PDU, or for none.
+// A payload for all switched-on destinations of a PDU, or for none. The state is taken apart once, into the copy that the gate and the
+// passes are lent.
 pub fn transmit(
     image: &[u8],
     state: State,
@@ -27,13 +28,23 @@ pub fn transmit(
     ensures { λ r. ⌜ r ≡ sendOf (loan (now (image .entry)) state (now (rx .entry)) (now (tx .entry))) pdu (now (payload .entry)) ⌝ }
     ensures { λ _. ⌜ now (tx .exit) ≡ sentMemory (loan (now (image .entry)) state (now (rx .entry)) (now (tx .entry))) pdu (now (payload .entry)) ⌝ }
 {
-    let asked = gate::ask(image, state, rx.len(), tx.len());
+    let records = state.connections;
+    let after = State {
+        connections: records,
+        udp_drops: state.udp_drops,
+        tcp_drops: state.tcp_drops,
+    };
+    let asked = gate::ask(image, after, rx.len(), tx.len());
     match asked {
-        Gate::Refused(reason) => Transmitted {
-            answer: Transmission::Refused(reason),
-            state: state,
-        },
-        Gate::Pass => send::transmit(image, state, tx, pdu, payload),
+        Gate::Refused(reason) => {
+            return Transmitted {
+                answer: Transmission::Refused(reason),
+                state: after,
+            };
+        }
+        Gate::Pass => {
+            return send::transmit(image, after, tx, pdu, payload);
+        }
     }
 }
 

@@ -13,7 +13,8 @@ use Rattle.connection.specs.declared.Config.{Config}
 use Rattle.connection.specs.declared.Connection.{Connection}
 use Rattle.connection.specs.declared.Mode.{Mode}
 use Rattle.connection.specs.declared.Mode.the-variants.{Offline, Reconnect, Online}
-use Rattle.connection.specs.Connection.{isOffline, isReconnect, become, aliveAt, withSend, withWatch, startedOf, reachOf, runOf, expires, closedOf, letGoOf, sunkOf, tickOf}
+use Rattle.connection.specs.Connection.{isOffline, isReconnect, become, aliveAt, withSend, withWatch}
+use Rattle.connection.specs.Connection.{startedOf, reachOf, runOf, expires, closedOf, letGoOf, sunkOf, tickOf}
 use Rattle.connection.proofs.Ticks.{tick-closes, tick-goes-on, tick-lets-go, started}
 use Rattle.lists.specs.Each.{eachTo}
 use Rattle.lists.specs.Fold.{foldFrom}

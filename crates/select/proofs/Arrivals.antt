@@ -1,13 +1,13 @@
--- Each answer of an arrival, as the code gives it; and the state after it, of the answer alone.
+-- Each answer of an arrival, before and after the search; and the state after it, of the answer alone.
 use Prim.Native.Nat.{ℕ, _/_, _%_, _<_, _≤_}
-use mathlib.Core.Path.{_≡_, refl, ap, ap₂, sym, _∙_}
+use mathlib.Core.Path.{_≡_, refl, ap, ap₂, _∙_}
 use mathlib.Core.Bool.{Bool, true, false, cond, not, _||_}
 use mathlib.Core.List.{List}
 use native.Mathlib.Omega.{arith}
 use lib.Dec.{eqb, leb}
 use lib.ListN.{length}
 use lib.Seq.{set-getD}
-use borrow.Author.Tests.{le-leb, lt-leb}
+use borrow.Author.Tests.{le-leb, lt-leb, eq-eqb}
 use Rattle.table_layout.specs.Layout.{rowsOf, bodyOf, Laid}
 use Rattle.table_layout.specs.declared.Kind.the-variants.{Group}
 use Rattle.table_rows.specs.declared.GroupRow.{GroupRow}
@@ -20,22 +20,24 @@ use Rattle.connection.specs.Connection.{zeroRecord, wildcard, metOf}
 use Rattle.state.specs.declared.State.{State}
 use Rattle.state.specs.State.{recordAt, withRecords, withRecord}
 use Rattle.state.specs.Fresh.{configOf}
+use Rattle.select.specs.declared.Pick.{Pick}
 use Rattle.select.specs.declared.Chosen.{Chosen}
 use Rattle.select.specs.declared.Chosen.the-variants.{Nobody, At}
 use Rattle.select.specs.declared.Arrival.{Arrival}
 use Rattle.select.specs.declared.Arrival.the-variants.{Met, Refused, Unmatched}
 use Rattle.select.specs.declared.Arrived.{Arrived}
-use Rattle.select.specs.Choose.{chosenIn, meet, arrivalRefused, protocolOf, deniedOf, arriveOf, metPlace, metNext}
+use Rattle.select.specs.Best.{found}
+use Rattle.select.specs.Choose.{chosenIn, meet, arrivalRefused, protocolOf, deniedOf, arriveOf, answerBefore, answerAfter, metPlace, metNext}
 use Rattle.select.proofs.Scores.{rows-are}
 use Rattle.select.proofs.Pass.{chosen-small}
 
-module _ (image : List ℕ) (s : State) (accept : Bool) (group : ℕ) (source : Remote) (l : Laid image) (groups : List ℕ) (eg : groups ≡ bodyOf image Group) where
+module _ (image : List ℕ) (accept : Bool) (group : ℕ) (source : Remote) (l : Laid image) (groups : List ℕ) (eg : groups ≡ bodyOf image Group) where
   counted : length groups / 2 ≡ rowsOf image Group
   counted = rows-are image l Group groups eg
 
-  pub answer-missing : length groups / 2 ≤ group → Refused Missing ≡ arriveOf image s accept group source .answer
-  unfolding arriveOf
-  answer-missing h = rw (← counted, le-leb _ _ h)
+  pub before-missing : length groups / 2 ≤ group → Refused Missing ≡ answerBefore image accept group source
+  unfolding answerBefore
+  before-missing h = rw (← counted, le-leb _ _ h)
 
   module _ (there : group < length groups / 2) (row : GroupRow) (er : row ≡ groupIn groups group) (protocol : ℕ) (ep : protocol ≡ protocolOf accept)
       (wild : Bool) (ew : wild ≡ wildcard source) where
@@ -45,15 +47,41 @@ module _ (image : List ℕ) (s : State) (accept : Bool) (group : ℕ) (source : 
         ap₂ (λ (r : GroupRow) (w : Bool). not (eqb (r .protocol) protocol) || w) (er ∙ ap (λ (b : List ℕ). groupIn b group) eg) ew
         ∙ ap (λ (n : ℕ). not (eqb (groupOf image group .protocol) n) || wildcard source) ep
 
-    pub answer-denied : (not (eqb (row .protocol) protocol) || wild) ≡ true → Refused Denied ≡ arriveOf image s accept group source .answer
-    unfolding arriveOf
-    answer-denied t = rw (← counted, lt-leb _ _ there, ← denied-is, t)
+    pub before-denied : (not (eqb (row .protocol) protocol) || wild) ≡ true → Refused Denied ≡ answerBefore image accept group source
+    unfolding answerBefore
+    before-denied t = rw (← counted, lt-leb _ _ there, ← denied-is, t)
 
-    -- past both, the choice's
-    pub answer-chosen : (not (eqb (row .protocol) protocol) || wild) ≡ false → (x y : Chosen) → x ≡ chosenIn image s accept group source → x ≡ y
-        → meet image s source y .answer ≡ arriveOf image s accept group source .answer
-    unfolding arriveOf
-    answer-chosen t x y ex e = rw (← counted, lt-leb _ _ there, ← denied-is, t) (ap (λ (z : Chosen). meet image s source z .answer) (sym e ∙ ex))
+    -- past both, nobody so far
+    pub before-nobody : (not (eqb (row .protocol) protocol) || wild) ≡ false → Unmatched ≡ answerBefore image accept group source
+    unfolding answerBefore
+    before-nobody t = rw (← counted, lt-leb _ _ there, ← denied-is, t)
+
+-- THE ANSWER AFTER THE SEARCH: a refusal stays, and where nobody is answered before it, it is the choice's
+pub after-is : (image : List ℕ) (s : State) (accept : Bool) (group : ℕ) (source : Remote) (b : Pick)
+    → (answerBefore image accept group source ≡ Unmatched → found b ≡ chosenIn image s accept group source)
+    → ((answerBefore image accept group source ≡ Unmatched → ⊥) → b .score ≡ 0)
+    → answerAfter (answerBefore image accept group source) b ≡ arriveOf image s accept group source .answer
+unfolding answerBefore arriveOf
+after-is image s accept group source b = go (leb (rowsOf image Group) group) (deniedOf image accept group source)
+  where
+    chosen : Chosen
+    chosen = chosenIn image s accept group source
+
+    first : Bool → Bool → Arrival
+    first x y = cond x (Refused Missing) (cond y (Refused Denied) Unmatched)
+
+    refused : (r : Refusal) → ((Refused r ≡ Unmatched → ⊥) → b .score ≡ 0) → answerAfter (Refused r) b ≡ Refused r
+    refused r idle = rw (eq-eqb _ _ (idle (λ e. let z : _≡_ {A = ℕ} 0 1 = cc in omega arith)))
+
+    nobody : (t : Bool) → cond t Unmatched (Met (b .at)) ≡ meet image s source (cond t Nobody (At (b .at))) .answer
+    nobody true = refl
+    nobody false = refl
+
+    go : (x y : Bool) → (first x y ≡ Unmatched → found b ≡ chosen) → ((first x y ≡ Unmatched → ⊥) → b .score ≡ 0)
+        → answerAfter (first x y) b ≡ cond x (arrivalRefused s Missing) (cond y (arrivalRefused s Denied) (meet image s source chosen)) .answer
+    go true y f idle = refused Missing idle
+    go false true f idle = refused Denied idle
+    go false false f idle = nobody (eqb (b .score) 0) ∙ ap (λ (x : Chosen). meet image s source x .answer) (f refl)
 
 -- THE RECORD PUT BACK at the place of the answer
 abbrev pub landed : List ℕ → State → Remote → Arrival → Arrived

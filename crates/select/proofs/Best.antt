@@ -9,7 +9,8 @@ use native.Mathlib.Decide.{decLt}
 use lib.Dec.{eqb, leb}
 use borrow.Author.Tests.{leb-true, leb-false, eqb-true, eqb-false, le-leb, lt-leb}
 use Rattle.lists.specs.Fold.{foldFrom}
-use Rattle.select.specs.Best.{Best, IsChosen, Pick, pick, better, found, chosenOf}
+use Rattle.select.specs.Best.{Best, IsChosen, pick, better, found, chosenOf}
+use Rattle.select.specs.declared.Pick.{Pick}
 use Rattle.select.specs.declared.Chosen.{Chosen}
 use Rattle.select.specs.declared.Chosen.the-variants.{Nobody, At}
 
@@ -96,3 +97,17 @@ module _ (score : ℕ → ℕ) where
   pub better-yes : (b : Pick) (i r : ℕ) → r ≡ score i → b .score < r → pick r i ≡ better score b i
   unfolding better
   better-yes b i r e h = let l : b .score < score i = omega arith in rw (lt-leb _ _ l, e)
+
+-- a turn asks the score of its own candidate alone
+pub better-alike : (f g : ℕ → ℕ) (b : Pick) (i : ℕ) → f i ≡ g i → better f b i ≡ better g b i
+unfolding better
+better-alike f g b i e = ap (λ (r : ℕ). cond (leb r (b .score)) b (pick r i)) e
+
+-- the number stays one of the candidates
+pub better-small : (f : ℕ → ℕ) (n : ℕ) (b : Pick) (i : ℕ) → b .at < n → i < n → better f b i .at < n
+unfolding better
+better-small f n b i h l = go (leb (f i) (b .score))
+  where
+    go : (t : Bool) → cond t b (pick (f i) i) .at < n
+    go true = h
+    go false = l

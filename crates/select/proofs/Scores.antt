@@ -6,7 +6,6 @@ use mathlib.Core.List.{List}
 use lib.Dec.{eqb}
 use lib.ListN.{length}
 use borrow.Author.Tests.{lt-ltb, le-ltb}
-use Rattle.wire.specs.Be.{be}
 use Rattle.table_layout.specs.Layout.{rowWidth, rowsOf, bodyOf, rowIn, Laid}
 use Rattle.table_layout.specs.declared.Kind.{Kind}
 use Rattle.table_layout.specs.declared.Kind.the-variants.{Connection as KConnection}
@@ -33,7 +32,7 @@ module _ (accept member : Bool) (source : Remote) (c : Connection) (waits up : B
   unfolding scoreOf
   score-no t = cc
 
-no-member : (accept : Bool) (source : Remote) (c : Connection) → 0 ≡ scoreOf accept source false c
+pub no-member : (accept : Bool) (source : Remote) (c : Connection) → 0 ≡ scoreOf accept source false c
 unfolding scoreOf
 no-member accept source c = refl
 
@@ -47,26 +46,17 @@ module _ (image : List ℕ) (s : State) (accept : Bool) (group : ℕ) (source : 
   unfolding scoreAt
   score-past i h = rw (le-ltb _ _ h) (no-member accept source (recordAt s i))
 
-  -- row i, as the loop reads it: the bytes of the body's row, of which the first names the group
+  -- row i, as the loop reads it
   module _ (l : Laid image) (body : List ℕ) (eb : body ≡ bodyOf image KConnection) (i : ℕ) (h : i < length body / 16) (row : List ℕ)
-      (er : row ≡ rowIn 16 body i) (first : ℕ) (ef : first ≡ be 1 row 0) where
-    first-is : first ≡ connectionOf image i .group
-    unfolding connectionRow
-    first-is = ef ∙ ap (λ (r : List ℕ). be 1 r 0) (er ∙ ap (λ (b : List ℕ). rowIn 16 b i) eb)
-
-    member-is : eqb first group ≡ member image s accept group source i
+      (er : row ≡ rowIn 16 body i) where
+    member-is : eqb (connectionRow row .group) group ≡ member image s accept group source i
     member-is =
         let there : i < rowsOf image KConnection = rw (rows-are image l KConnection body eb) at h in
-        rw (lt-ltb _ _ there, first-is)
+        let own : connectionRow row .group ≡ connectionOf image i .group =
+        ap (λ (r : List ℕ). connectionRow r .group) (er ∙ ap (λ (b : List ℕ). rowIn 16 b i) eb) in
+        rw (lt-ltb _ _ there, own)
 
     -- the score of record i
-    pub score-at : (found : ℕ) → found ≡ scoreOf accept source (eqb first group) (recordAt s i) → found ≡ scoreAt image s accept group source i
+    pub score-at : scoreOf accept source (eqb (connectionRow row .group) group) (recordAt s i) ≡ scoreAt image s accept group source i
     unfolding scoreAt
-    score-at found r = r ∙ ap (λ (b : Bool). scoreOf accept source b (recordAt s i)) member-is
-
-    -- a record that is no member scores nothing
-    pub score-out : eqb first group ≡ false → 0 ≡ scoreAt image s accept group source i
-    score-out f = score-at 0 (none (eqb first group) f)
-      where
-        none : (b : Bool) → b ≡ false → 0 ≡ scoreOf accept source b (recordAt s i)
-        none b e = rw e (no-member accept source (recordAt s i))
+    score-at = ap (λ (b : Bool). scoreOf accept source b (recordAt s i)) member-is

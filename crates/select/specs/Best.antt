@@ -4,6 +4,7 @@ use mathlib.Core.Path.{_≡_}
 use mathlib.Core.Bool.{cond}
 use lib.Dec.{eqb, leb}
 use Rattle.lists.specs.Fold.{foldFrom}
+use Rattle.select.specs.declared.Pick.{Pick}
 use Rattle.select.specs.declared.Chosen.{Chosen}
 use Rattle.select.specs.declared.Chosen.the-variants.{Nobody, At}
 
@@ -22,10 +23,6 @@ module _ (score : ℕ → ℕ) (n : ℕ) where
   IsChosen (At k) = Best k
 
 -- the best so far, in one pass over the candidates
-pub record Pick : Type 0 where
-  pub score : ℕ
-  pub at : ℕ
-
 abbrev pub pick : ℕ → ℕ → Pick
 pick s k = record { score = s; at = k }
 

@@ -1,11 +1,11 @@
 -- Which member of a group a source belongs to, and what becomes of it: R7.1 to R7.6 (requirement 00525 of the standard).
 use Prim.Native.Nat.{ℕ, _+_, _*_, _%_}
 use mathlib.Core.Bool.{Bool, true, false, cond, not, _&&_, _||_}
-use mathlib.Core.List.{List}
+use mathlib.Core.List.{List, []}
 use lib.Dec.{eqb, leb, ltb}
-use Rattle.table_layout.specs.Layout.{rowsOf}
+use Rattle.table_layout.specs.Layout.{rowsOf, bodyOf, bodyAt}
 use Rattle.table_layout.specs.declared.Kind.the-variants.{Group, Connection as KConnection}
-use Rattle.table_rows.specs.Rows.{groupOf, connectionOf}
+use Rattle.table_rows.specs.Rows.{groupOf, connectionRow, connectionOf}
 use Rattle.connection.specs.declared.Connection.{Connection}
 use Rattle.connection.specs.declared.Remote.{Remote}
 use Rattle.connection.specs.declared.Fields.{Fields}
@@ -16,7 +16,8 @@ use Rattle.connection.specs.Event.{refusalNumber}
 use Rattle.state.specs.declared.State.{State}
 use Rattle.state.specs.State.{recordAt, withRecord}
 use Rattle.state.specs.Fresh.{configOf}
-use Rattle.select.specs.Best.{chosenOf}
+use Rattle.select.specs.Best.{better, chosenOf}
+use Rattle.select.specs.declared.Pick.{Pick}
 use Rattle.select.specs.declared.Chosen.{Chosen}
 use Rattle.select.specs.declared.Chosen.the-variants.{Nobody, At}
 use Rattle.select.specs.declared.Arrival.{Arrival}
@@ -58,6 +59,10 @@ module _ (image : List ℕ) (s : State) (accept : Bool) (group : ℕ) (source : 
   unfoldable pub chosenIn : Chosen
   chosenIn = chosenOf scoreAt 16
 
+-- one record more, with its row: it is a member where the row names the group
+abbrev pub betterOf : Bool → ℕ → Remote → Pick → List ℕ → ℕ → Connection → Pick
+betterOf accept group source b row i c = better (λ (k : ℕ). scoreOf accept source (eqb (connectionRow row .group) group) c) b i
+
 -- R7.6, R20.3: it becomes online with the source as remote, and the answer names it
 abbrev pub meet : List ℕ → State → Remote → Chosen → Arrived
 meet image s source Nobody = record { answer = Unmatched; state = s }
@@ -81,6 +86,26 @@ arriveOf image s accept group source =
     cond (leb (rowsOf image Group) group) (arrivalRefused s Missing)
     (cond (deniedOf image accept group source) (arrivalRefused s Denied)
     (meet image s source (chosenIn image s accept group source)))
+
+-- the same in the order of the code: what is answered before the rows are looked through, ..
+unfoldable pub answerBefore : List ℕ → Bool → ℕ → Remote → Arrival
+answerBefore image accept group source =
+    cond (leb (rowsOf image Group) group) (Refused Missing) (cond (deniedOf image accept group source) (Refused Denied) Unmatched)
+
+-- .. the rows that are looked through, and where in the image they stand, ..
+abbrev pub searchedOf : Arrival → List ℕ → List ℕ
+searchedOf (Met k) image = []
+searchedOf (Refused r) image = []
+searchedOf Unmatched image = bodyOf image KConnection
+
+abbrev pub searchedAt : Arrival → List ℕ → ℕ
+searchedAt (Met k) image = 0
+searchedAt (Refused r) image = 0
+searchedAt Unmatched image = bodyAt image KConnection
+
+-- .. and what is answered after it
+abbrev pub answerAfter : Arrival → Pick → Arrival
+answerAfter before best = cond (eqb (best .score) 0) before (Met (best .at))
 
 abbrev pub isMet : Arrival → Bool
 isMet (Met k) = true

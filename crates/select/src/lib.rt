@@ -1,10 +1,12 @@
 // Which member of a group a source belongs to: one pass over the rows of the connections, the best match first (both fields, the address,
-// the port, neither), then the lowest number. Assumes of the table that it is laid out as its contents say and has no more connections than
-// the state has records: the gate has shown it.
+// the port, neither), then the lowest number. The caller goes over the rows, with the record of each: here stand one turn of it, and what is
+// answered before and after it. Assumes of the table that it is laid out as its contents say: the gate has shown it.
 ghost use mathlib.Core.Path.{_≡_};
 ghost use mathlib.Core.Bool.{true};
 ghost use Prim.Native.Nat.{_≤_, _<_};
-ghost use Rattle.table_layout.specs.Layout.{rowsOf, Laid};
+ghost use denote.Ref.{ptr};
+ghost use Rattle.wire.specs.Place.{behind};
+ghost use Rattle.table_layout.specs.Layout.{Laid};
 ghost use Rattle.select.specs.Choose as Is;
 use connection::Connection;
 use connection::Fields;
@@ -16,6 +18,7 @@ use table_layout::Kind;
 use table_layout::body_laid;
 use wire::be8;
 
+// Whom the definitions choose.
 pub enum Chosen {
     Nobody,
     At(usize),
@@ -26,6 +29,12 @@ pub enum Arrival {
     Met(u8),
     Refused(Refusal),
     Unmatched,
+}
+
+// The best match among the connections below some number: its score, 0 for nobody, and its number.
+pub struct Pick {
+    pub score: u8,
+    pub at: usize,
 }
 
 // The answer, with the state after it.
@@ -69,38 +78,30 @@ fn score(accept: bool, source: Remote, member: bool, c: Connection) -> u8
     0
 }
 
-// The best match among the members of the group: the first byte of a connection's row names its group.
-fn choose(image: &[u8], s: State, accept: bool, group: u8, source: Remote) -> Chosen
-    requires { ⌜ Laid (now image) × (rowsOf (now image) Kind.Connection ≤ 16) ⌝ }
-    ensures { λ r. ⌜ r ≡ Is.chosenIn (now (image .entry)) s accept group source ⌝ }
+// One connection more: its row's first byte names its group.
+pub fn better(
+    best: Pick,
+    row: &[u8],
+    i: usize,
+    c: Connection,
+    accept: bool,
+    group: u8,
+    source: Remote,
+) -> Pick
+    ensures { λ r. ⌜ r ≡ Is.betterOf accept group source best (now (row .entry)) i c ⌝ }
 {
-    let body = body_laid(image, Kind::Connection);
-    let rows = body.len() / 16;
-    let mut best: u8 = 0;
-    let mut at: usize = 0;
-    let mut i: usize = 0;
-    while i < rows {
-        let start = i * 16;
-        let row = &body[start..start + 16];
-        let member = be8(row, 0) == group as usize;
-        if !member {
-            i += 1;
-            continue;
-        }
-        let c = s.connections[i];
-        let found = score(accept, source, member, c);
-        if found <= best {
-            i += 1;
-            continue;
-        }
-        best = found;
-        at = i;
-        i += 1;
+    let member = be8(row, 0) == group as usize;
+    if !member {
+        return best;
     }
-    if best == 0 {
-        return Chosen::Nobody;
+    let found = score(accept, source, member, c);
+    if found <= best.score {
+        return best;
     }
-    Chosen::At(at)
+    Pick {
+        score: found,
+        at: i,
+    }
 }
 
 // A datagram names a UDP group, an accept a TCP group.
@@ -113,10 +114,10 @@ fn protocol_of(accept: bool) -> u8
     1
 }
 
-// What a datagram (accept false) or an accept (accept true) for a group, from a source, is answered.
-pub fn answer_of(image: &[u8], s: State, accept: bool, group: u8, source: Remote) -> Arrival
-    requires { ⌜ Laid (now image) × (rowsOf (now image) Kind.Connection ≤ 16) ⌝ }
-    ensures { λ r. ⌜ r ≡ Is.arriveOf (now (image .entry)) s accept group source .answer ⌝ }
+// What is answered before any member is looked at: a refusal, or else nobody.
+pub fn answer_before(image: &[u8], accept: bool, group: u8, source: Remote) -> Arrival
+    requires { ⌜ Laid (now image) ⌝ }
+    ensures { λ r. ⌜ r ≡ Is.answerBefore (now (image .entry)) accept group source ⌝ }
 {
     let groups = body_laid(image, Kind::Group);
     if groups.len() / 2 <= group as usize {
@@ -127,11 +128,31 @@ pub fn answer_of(image: &[u8], s: State, accept: bool, group: u8, source: Remote
     if denied {
         return Arrival::Refused(Refusal::Denied);
     }
-    let chosen = choose(image, s, accept, group, source);
-    match chosen {
-        Chosen::Nobody => Arrival::Unmatched,
-        Chosen::At(k) => Arrival::Met(k as u8),
+    Arrival::Unmatched
+}
+
+// The rows to look through: those of the connections where nobody is answered so far, else none.
+pub fn searched(before: Arrival, image: &[u8]) -> &[u8]
+    requires { ⌜ (before ≡ Arrival.Unmatched → Laid (now image)) ⌝ }
+    ensures bytes { λ r. ⌜ now r ≡ Is.searchedOf before (now (image .entry)) ⌝ }
+    ensures place { λ r. ⌜ ptr r ≡ behind (ptr (image .entry)) (Is.searchedAt before (now (image .entry))) ⌝ }
+{
+    match before {
+        Arrival::Met(_) => &image[..0],
+        Arrival::Refused(_) => &image[..0],
+        Arrival::Unmatched => body_laid(image, Kind::Connection),
     }
+}
+
+// What is answered after all: the best match, or as before where there is none.
+pub fn answer_after(before: Arrival, best: Pick) -> Arrival
+    requires { ⌜ best .at < 16 ⌝ }
+    ensures { λ r. ⌜ r ≡ Is.answerAfter before best ⌝ }
+{
+    if best.score == 0 {
+        return before;
+    }
+    Arrival::Met(best.at as u8)
 }
 
 // Which record an answer replaces: that of the connection that it names, or record 0, by itself.

@@ -13,13 +13,12 @@ use Rattle.lists.proofs.Both.{and-left, and-right, neither}
 use Rattle.lists.proofs.Search.{Searched, search-start, search-on, search-found, search-ended, GoodTo, pass-start, pass-on, pass-failed, every-at, every-all}
 use Rattle.table_layout.specs.Layout.{bodyOf}
 use Rattle.table_layout.specs.declared.Kind.the-variants.{Connection as Connections}
-use Rattle.table_rows.specs.declared.ConnectionBrief.{ConnectionBrief}
 use Rattle.table_rows.specs.declared.DestinationRow.{DestinationRow}
 use Rattle.table_rows.specs.Rows.{briefIn, connectionOf, destinationOf}
 use Rattle.state.specs.declared.State.{State}
 use Rattle.state.specs.State.{recordAt}
 use Rattle.send.specs.declared.Transmission.the-variants.{Stored, NoDestination, SwitchedOff, RefusedAt}
-use Rattle.send.specs.Verdict.{isOut, passes, decidedAt, verdictOf, joinOf, transmissionOf}
+use Rattle.send.specs.Verdict.{isOut, passes, decidedAt, verdictOf, joinOf, transmissionOf, endedOf}
 use Rattle.send.specs.Send.{lookAt}
 
 -- a row that does not refuse
@@ -124,6 +123,16 @@ module _ (look : ℕ → ℕ) where
         go false true = refl
         go false false = sym none
 
+    -- the answer of the pass, where it ended after the last row, and where row i refuses
+    pub ended-clear : (refused : ℕ) → refused ≡ 0 → n ≤ i → endedOf v refused i ≡ verdictOf look n
+    ended-clear refused e h = ap (λ (x : ℕ). endedOf v x i) e ∙ scan-ended h
+
+    pub ended-refused : (refused : ℕ) → refused ≡ look i → i < n → good i ≡ false → endedOf v refused i ≡ verdictOf look n
+    ended-refused refused e h g =
+        let p = neither (eqb (look i) 0) (isOut (look i)) g in
+        let z : eqb (look i) 0 ≡ false = p .0 in
+        ap (λ (x : ℕ). endedOf v x i) e ∙ rw z (scan-refused h g)
+
 -- row i of a table
 module _ (image : List ℕ) (s : State) (pdu len i : ℕ) (d : DestinationRow) (e : d ≡ destinationOf image i) where
   abbrev lookFrom : DestinationRow → ℕ
@@ -134,11 +143,10 @@ module _ (image : List ℕ) (s : State) (pdu len i : ℕ) (d : DestinationRow) (
   look-other ne = sym (ap lookFrom e) ∙ rw (ne-eqb _ _ ne)
 
   pub look-own : d .pdu ≡ pdu → (connections : List ℕ) → connections ≡ bodyOf image Connections
-      → (row : ConnectionBrief) (found : ℕ) → row ≡ briefIn connections (d .connection)
-      → found ≡ lookOf len (row .size) d (recordAt s (d .connection)) → found ≡ lookAt image s pdu len i
+      → (found : ℕ) → found ≡ lookOf len (briefIn connections (d .connection) .size) d (recordAt s (d .connection)) → found ≡ lookAt image s pdu len i
   unfolding lookAt
-  look-own same connections eb row found p q =
+  look-own same connections eb found q =
       q
-      ∙ ap (λ (r : ConnectionBrief). lookOf len (r .size) d (recordAt s (d .connection))) (p ∙ ap (λ (b : List ℕ). briefIn b (d .connection)) eb)
+      ∙ ap (λ (b : List ℕ). lookOf len (briefIn b (d .connection) .size) d (recordAt s (d .connection))) eb
       ∙ sym (ap (λ (b : Bool). cond (not b) 5 (lookOf len (connectionOf image (d .connection) .size) d (recordAt s (d .connection)))) (eq-eqb _ _ same))
       ∙ ap lookFrom e

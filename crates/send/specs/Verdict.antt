@@ -49,3 +49,7 @@ joinOf seen look = cond (eqb look 5 || eqb seen 0) seen look
 
 abbrev pub transmissionOf : ℕ → Transmission
 transmissionOf seen = cond (eqb seen 5) NoDestination (cond (eqb seen 6) SwitchedOff Stored)
+
+-- and its answer, where it ended at row i with a refusal or with none
+abbrev pub endedOf : ℕ → ℕ → ℕ → Transmission
+endedOf seen refused i = cond (eqb refused 0) (transmissionOf seen) (RefusedAt refused i)

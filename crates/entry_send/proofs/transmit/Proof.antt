@@ -41,8 +41,8 @@ transmit-spec =
     (tie.spec
     ask-requires
     enum-known-asked
+    returns
     enum-told
     transmit-requires
-    returns
     same-length
     returns-2)
