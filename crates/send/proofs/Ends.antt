@@ -1,17 +1,22 @@
 -- The second pass of a transmit, and its two ends: all stored, or nothing.
-use Prim.Native.Nat.{ℕ, _<_, _≤_}
+use Prim.Native.Nat.{ℕ, _+_, _<_, _≤_}
 use mathlib.Core.Path.{_≡_, refl, sym, ap, ap₂, _∙_}
 use mathlib.Core.Logic.{_⊎_, inl, inr, ⊎-elim}
 use mathlib.Core.Bool.{Bool, true, false, cond}
 use mathlib.Core.List.{List}
 use native.Mathlib.Omega.{arith}
 use lib.ListN.{length}
+use Rattle.table_layout.specs.Layout.{bodyOf}
+use Rattle.table_layout.specs.declared.Kind.the-variants.{Destination}
+use Rattle.table_rows.specs.Rows.{destinationIn}
 use Rattle.state.specs.declared.State.{State}
 use Rattle.send.specs.declared.Transmission.{Transmission}
 use Rattle.send.specs.declared.Transmitted.{Transmitted}
 use Rattle.send.specs.Verdict.{isStored}
-use Rattle.send.specs.Send.{destinations, Sending, sending, checkOf, storeAll, transmitOf, transmittedOf}
-use Rattle.send.proofs.Store.{Storing, store-start, store-end}
+use Rattle.send.specs.Send.{destinations, Sending, sending, wantedAt, checkOf, storeAll, transmitOf, transmittedOf}
+use Rattle.send.specs.Inner.{ForFrom}
+use Rattle.send.proofs.Store.{Storing, store-start, store-skip, store-end, wanted-other}
+use Rattle.send.proofs.Pdu.{skips, below-rows}
 
 module _ (image : List ℕ) (s : State) (pdu : ℕ) (payload tx : List ℕ) (answer : Transmission) where
   -- at row j: after a check that refuses nothing the rows below it are stored; after any other it is past the rows, and all is as it was
@@ -27,13 +32,31 @@ module _ (image : List ℕ) (s : State) (pdu : ℕ) (payload tx : List ℕ) (ans
       go true t = let z : j ≡ 0 = rw t at q in inl (t, rw z (store-start image s pdu payload tx))
       go false t = let z : j ≡ n = rw t at q in inr (t, omega arith, refl, refl)
 
+  pub start-within : (n j : ℕ) → j ≡ cond (isStored answer) 0 n → j ≤ n
+  start-within n j q = go (isStored answer) refl
+    where
+      go : (b : Bool) → isStored answer ≡ b → j ≤ n
+      go true t = let z : j ≡ 0 = rw t at q in omega arith
+      go false t = let z : j ≡ n = rw t at q in omega arith
+
   module _ (tx′ : List ℕ) (next : State) (j : ℕ) (v : Second tx′ next j) where
     -- at a row, the check has refused nothing
     pub second-in : j < destinations image → (isStored answer ≡ true) × Storing image s pdu payload tx tx′ next j
     second-in h = ⊎-elim (λ w. w) (λ w. absurd (omega (arith, h, w .1))) v
 
+    pub second-skip : j < destinations image → wantedAt image s pdu payload j ≡ false → Second tx′ next (j + 1)
+    second-skip h w = inl (second-in h .0, store-skip image s pdu payload tx tx′ next j (second-in h .1) h w)
+
     pub second-long : length tx′ ≡ length tx
     second-long = ⊎-elim (λ w. w .1 .long) (λ w. ap length (w .3)) v
+
+  -- the rows that are passed on the way to the next one of the PDU
+  pub second-to : (body : List ℕ) → body ≡ bodyOf image Destination → (tx′ : List ℕ) (next : State) (i r : ℕ)
+      → ForFrom body pdu i r → Second tx′ next i → Second tx′ next r
+  second-to body e tx′ next i r f =
+      skips (Second tx′ next) r i (f .on)
+      (λ k l u x. second-skip tx′ next k x (below-rows image pdu body e i r f k u)
+      (wanted-other image s pdu payload k (destinationIn body k) (ap (λ (b : List ℕ). destinationIn b k) e) (f .others k l u)))
 
   -- the answer is the check's
   module _ (e : answer ≡ checkOf image s pdu (length payload)) where

@@ -1,8 +1,10 @@
 -- A row's PDU told by its two bytes, the last one first.
-use Prim.Native.Nat.{ℕ, _+_, _-_, _*_, _/_, _%_, _<_}
-use mathlib.Core.Path.{_≡_, refl, sym, ap, ap₂, _∙_}
+use Prim.Native.Nat.{ℕ, zero, suc, _+_, _-_, _*_, _/_, _%_, _<_, _≤_}
+use mathlib.Core.Path.{_≡_, refl, sym, ap, subst, _∙_}
 use mathlib.Core.Bool.{Bool, true, false, _&&_}
 use mathlib.Core.List.{List}
+use mathlib.Core.Logic.{⊎-elim}
+use native.Mathlib.Nat.{eq-or-lt-of-le}
 use native.Mathlib.Omega.{arith}
 use borrow.Author.Tests.{eqb-true, eqb-false, eq-eqb, ne-eqb}
 use lib.Dec.{eqb}
@@ -10,7 +12,11 @@ use lib.ListN.{length, take, drop}
 use Rattle.wire.specs.Be.{be, Number}
 use Rattle.wire.proofs.Join.{number-join}
 use Rattle.table_layout.proofs.Parts.{row-range}
+use Rattle.table_layout.specs.Layout.{bodyOf}
+use Rattle.table_layout.specs.declared.Kind.the-variants.{Destination}
 use Rattle.table_rows.specs.Rows.{destinationRow, destinationIn}
+use Rattle.send.specs.Send.{destinations}
+use Rattle.send.specs.Inner.{ForFrom}
 
 -- two bytes are a number's exactly when they are its last byte and what is above it
 bytes-same : (a b n : ℕ) → a < 256 → (eqb a (n % 256) && eqb b (n / 256)) ≡ eqb (b * 256 + a) n
@@ -39,3 +45,29 @@ for-other {d} {p} e f = eqb-false d p (sym e ∙ f)
 
 pub for-own : {d p : ℕ} {b : Bool} → b ≡ eqb d p → b ≡ true → d ≡ p
 for-own {d} {p} e f = eqb-true d p (sym e ∙ f)
+
+-- the rows from i to r are not for the PDU
+abbrev pub Others : List ℕ → ℕ → ℕ → ℕ → Type 0
+Others body pdu i r = (k : ℕ) → i ≤ k → k < r → destinationIn body k .pdu ≡ pdu → ⊥
+
+pub others-none : (body : List ℕ) (pdu i : ℕ) → Others body pdu i i
+others-none body pdu i k l u e = absurd (omega (arith, l, u))
+
+pub others-on : (body : List ℕ) (pdu i r : ℕ) → Others body pdu i r → (destinationIn body r .pdu ≡ pdu → ⊥) → Others body pdu i (r + 1)
+others-on body pdu i r o n k l u e = ⊎-elim (λ (q : k ≡ r). n (subst (λ (x : ℕ). destinationIn body x .pdu ≡ pdu) q e)) (λ (h : k < r). o k l h e) (eq-or-lt-of-le (omega (arith, u)))
+
+-- what holds at i and is kept by each row up to r holds at r
+module _ (P : ℕ → Type 0) (r : ℕ) where
+  along : (m i : ℕ) → r ≡ i + m → ((k : ℕ) → i ≤ k → k < r → P k → P (k + 1)) → P i → P r
+  along zero i e f x = let z : i ≡ r = omega arith in subst P z x
+  along (suc m) i e f x = along m (i + 1) (omega arith) (λ k l. f k (omega arith)) (f i (omega arith) (omega arith) x)
+
+  pub skips : (i : ℕ) → i ≤ r → ((k : ℕ) → i ≤ k → k < r → P k → P (k + 1)) → P i → P r
+  skips i h = along (r - i) i (omega arith)
+
+-- a row on the way is one of the image's
+pub below-rows : (image : List ℕ) (pdu : ℕ) (body : List ℕ) → body ≡ bodyOf image Destination
+    → (i r : ℕ) → ForFrom body pdu i r → (k : ℕ) → k < r → k < destinations image
+below-rows image pdu body e i r f k u =
+    let n : r ≤ destinations image = subst (λ (b : List ℕ). r ≤ length b / 16) e (f .within) in
+    omega (arith, u, n)

@@ -12,14 +12,16 @@ use Rattle.lists.specs.Search.{firstBad, every}
 use Rattle.lists.proofs.Both.{and-left, and-right, neither}
 use Rattle.lists.proofs.Search.{Searched, search-start, search-on, search-found, search-ended, GoodTo, pass-start, pass-on, pass-failed, every-at, every-all}
 use Rattle.table_layout.specs.Layout.{bodyOf}
-use Rattle.table_layout.specs.declared.Kind.the-variants.{Connection as Connections}
+use Rattle.table_layout.specs.declared.Kind.the-variants.{Connection as Connections, Destination}
 use Rattle.table_rows.specs.declared.DestinationRow.{DestinationRow}
-use Rattle.table_rows.specs.Rows.{briefIn, connectionOf, destinationOf}
+use Rattle.table_rows.specs.Rows.{briefIn, connectionOf, destinationIn, destinationOf}
 use Rattle.state.specs.declared.State.{State}
 use Rattle.state.specs.State.{recordAt}
 use Rattle.send.specs.declared.Transmission.the-variants.{Stored, NoDestination, SwitchedOff, RefusedAt}
 use Rattle.send.specs.Verdict.{isOut, passes, decidedAt, verdictOf, joinOf, transmissionOf, endedOf}
-use Rattle.send.specs.Send.{lookAt}
+use Rattle.send.specs.Send.{destinations, lookAt}
+use Rattle.send.specs.Inner.{ForFrom}
+use Rattle.send.proofs.Pdu.{skips, below-rows}
 
 -- a row that does not refuse
 data Passing : ℕ → Type 0 where
@@ -150,3 +152,12 @@ module _ (image : List ℕ) (s : State) (pdu len i : ℕ) (d : DestinationRow) (
       ∙ ap (λ (b : List ℕ). lookOf len (briefIn b (d .connection) .size) d (recordAt s (d .connection))) eb
       ∙ sym (ap (λ (b : Bool). cond (not b) 5 (lookOf len (connectionOf image (d .connection) .size) d (recordAt s (d .connection)))) (eq-eqb _ _ same))
       ∙ ap lookFrom e
+
+-- the rows that are passed on the way to the next one of the PDU
+module _ (image : List ℕ) (s : State) (pdu len : ℕ) (body : List ℕ) (e : body ≡ bodyOf image Destination) where
+  pub scan-to : (i r v : ℕ) → ForFrom body pdu i r
+      → Scanned (lookAt image s pdu len) (destinations image) i v → Scanned (lookAt image s pdu len) (destinations image) r v
+  scan-to i r v f =
+      skips (λ (k : ℕ). Scanned (lookAt image s pdu len) (destinations image) k v) r i (f .on)
+      (λ k l u x. scan-skip _ _ k v x (below-rows image pdu body e i r f k u)
+      (look-other image s pdu len k (destinationIn body k) (ap (λ (b : List ℕ). destinationIn b k) e) (f .others k l u)))

@@ -10,6 +10,7 @@ ghost use Rattle.table_rows.specs.Rows.{briefIn, destinationIn};
 ghost use Rattle.send_destination.specs.Destination.{lookOf, sentOf};
 ghost use Rattle.send_outbox.specs.Outbox.{appendedOf};
 ghost use Rattle.send.specs.Verdict as Is;
+ghost use Rattle.send.specs.Inner.{ForFrom};
 ghost use Rattle.send.specs.Send.{transmitOf, transmittedOf, Ready};
 use connection::Connection;
 use connection::Refusal;
@@ -62,6 +63,22 @@ fn is_for(body: &[u8], i: usize, pdu: u16) -> bool
     let at = i * 16;
     let row = &body[at..at + 16];
     (be8(row, 9) == (pdu % 256) as usize) & (be8(row, 8) == (pdu / 256) as usize)
+}
+
+// The first row from i on that is for a PDU; past the rows where none is.
+fn row_for(body: &[u8], i: usize, pdu: u16) -> usize
+    requires { ⌜ i ≤ length (now body) / rowWidth Kind.Destination ⌝ }
+    ensures { λ r. ⌜ ForFrom (now (body .entry)) pdu i r ⌝ }
+{
+    let n = body.len() / 16;
+    let mut r = i;
+    while r < n {
+        if is_for(body, r, pdu) {
+            return r;
+        }
+        r += 1;
+    }
+    r
 }
 
 // What the destination of a row says, where its connection's record is c.
@@ -142,12 +159,8 @@ pub fn transmit(image: &[u8], s: State, tx: &mut [u8], pdu: u16, payload: &[u8])
     let mut next = s;
     let mut seen: u8 = 5;
     let mut refused: u8 = 0;
-    let mut i: usize = 0;
+    let mut i = row_for(body, 0, pdu);
     while i < n {
-        if !is_for(body, i, pdu) {
-            i += 1;
-            continue;
-        }
         let d = table_rows::destination_in(body, i);
         let k = d.connection as usize;
         let c = next.connections[k];
@@ -157,25 +170,21 @@ pub fn transmit(image: &[u8], s: State, tx: &mut [u8], pdu: u16, payload: &[u8])
             break;
         }
         seen = join(seen, found);
-        i += 1;
+        i = row_for(body, i + 1, pdu);
     }
     let answer = verdict(seen, refused, i);
-    let mut j = start_of(answer, n);
+    let mut j = row_for(body, start_of(answer, n), pdu);
     while j < n {
-        if !is_for(body, j, pdu) {
-            j += 1;
-            continue;
-        }
         let d = table_rows::destination_in(body, j);
         let k = d.connection as usize;
         let c = next.connections[k];
         if !receive_route::is_on(d.groups, c.switches) {
-            j += 1;
+            j = row_for(body, j + 1, pdu);
             continue;
         }
         let after = put(tx, d, c, payload);
         next.connections[k] = after;
-        j += 1;
+        j = row_for(body, j + 1, pdu);
     }
     Transmitted {
         answer: answer,
