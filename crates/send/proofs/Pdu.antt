@@ -1,4 +1,4 @@
--- A row's PDU told by its two bytes, the last one first.
+-- A row's PDU told by its two bytes, the last one first; and the next row of a PDU.
 use Prim.Native.Nat.{ℕ, zero, suc, _+_, _-_, _*_, _/_, _%_, _<_, _≤_}
 use mathlib.Core.Path.{_≡_, refl, sym, ap, subst, _∙_}
 use mathlib.Core.Bool.{Bool, true, false, _&&_}
@@ -54,7 +54,8 @@ pub others-none : (body : List ℕ) (pdu i : ℕ) → Others body pdu i i
 others-none body pdu i k l u e = absurd (omega (arith, l, u))
 
 pub others-on : (body : List ℕ) (pdu i r : ℕ) → Others body pdu i r → (destinationIn body r .pdu ≡ pdu → ⊥) → Others body pdu i (r + 1)
-others-on body pdu i r o n k l u e = ⊎-elim (λ (q : k ≡ r). n (subst (λ (x : ℕ). destinationIn body x .pdu ≡ pdu) q e)) (λ (h : k < r). o k l h e) (eq-or-lt-of-le (omega (arith, u)))
+others-on body pdu i r o n k l u e =
+    ⊎-elim (λ (q : k ≡ r). n (subst (λ (x : ℕ). destinationIn body x .pdu ≡ pdu) q e)) (λ (h : k < r). o k l h e) (eq-or-lt-of-le (omega (arith, u)))
 
 -- what holds at i and is kept by each row up to r holds at r
 module _ (P : ℕ → Type 0) (r : ℕ) where

@@ -1,8 +1,6 @@
 -- `send::row_for` meets its contract: the rows from i to r are not for the PDU.
-use Prim.Native.Nat.{ℕ, _-_, _/_, _≤_}
-use mathlib.Core.Path.{_∙_}
+use Prim.Native.Nat.{_-_, _/_, _≤_}
 use native.Mathlib.Omega.{arith}
-use denote.Ref.{now}
 use lib.ListN.{length}
 use borrow.Author.Needs.{needs}
 use Rattle.send.proofs.Pdu.{for-other, for-own, Others, others-none, others-on}
