@@ -155,7 +155,8 @@ checked c =
     (λ w.
     let t : tie.In-loop Inv-loop μ-loop Inv-loop2 μ-loop2 = record { before = l; loop-test = w .0 } in
     let k : tie.After-destination-in Inv-loop μ-loop Inv-loop2 μ-loop2 = record { before = t; destination-in = w .1 } in
-    let f : tie.After-look-in Inv-loop μ-loop Inv-loop2 μ-loop2 = record { before = record { before = record { before = k; struct-known = w .2 }; c = w .3 }; look-in = w .4 } in
+    let f : tie.After-look-in Inv-loop μ-loop Inv-loop2 μ-loop2 =
+    record { before = record { before = record { before = k; struct-known = w .2 }; c = w .3 }; look-in = w .4 } in
     ended-refused _ _ (l .loop .i) _ (l .loop .inv .0) _ (w .7 ∙ said f) (inside t)
     (sym (ap passes (said f)) ∙ not-true (passes (w .4 .result)) (sym (w .5 .ensures) ∙ w .6 .taken)))
     (c .before .loop-test .came)
@@ -200,7 +201,8 @@ stores c = second-in _ _ _ _ _ (A (c .before) .verdict .result) _ _ _ (c .before
 abbrev M : tie.After-destination-in2 Inv-loop μ-loop Inv-loop2 μ-loop2 → tie.At-loop2 Inv-loop μ-loop Inv-loop2 μ-loop2
 M k = k .before .before
 
-row2 : (k : tie.After-destination-in2 Inv-loop μ-loop Inv-loop2 μ-loop2) → k .destination-in2 .result ≡ destinationOf (now (S (F (M k)) .args .image)) (M k .loop2 .j)
+row2 : (k : tie.After-destination-in2 Inv-loop μ-loop Inv-loop2 μ-loop2)
+    → k .destination-in2 .result ≡ destinationOf (now (S (F (M k)) .args .image)) (M k .loop2 .j)
 row2 k = k .destination-in2 .ensures ∙ there (F (M k)) (M k .loop2 .j)
 
 own2 : (k : tie.After-destination-in2 Inv-loop μ-loop Inv-loop2 μ-loop2) → k .destination-in2 .result .pdu ≡ S (F (M k)) .args .pdu
@@ -248,7 +250,8 @@ loop2-again c =
     let k = K o in
     let m = M k in (
       second-to _ _ _ _ _ (A m .verdict .result) _ (B (F m) .body-laid .ensures .0) _ _ (m .loop2 .j + 1) _ (c .row-for4 .ensures)
-          (second-skip _ _ _ _ _ (A m .verdict .result) _ _ (m .loop2 .j) (m .loop2 .inv .0) (inside2 (k .before)) (asked o ∙ not-true _ (c .before .if2 .taken))),
+          (second-skip _ _ _ _ _ (A m .verdict .result) _ _ (m .loop2 .j) (m .loop2 .inv .0) (inside2 (k .before))
+          (asked o ∙ not-true _ (c .before .if2 .taken))),
       c .row-for4 .ensures .own,
     )
 
