@@ -15,7 +15,7 @@ use Rattle.table_scan.specs.Scan.{share, goodIn, badIn}
 
 -- of a connection and the key beside it: 32 bits without the lowest `shift`
 unfoldable pub markOf : ℕ → ℕ → ℕ → ℕ
-markOf shift connection key = (key * 1640531527 + connection * 1879048192) % 4294967296 / 2 ^ shift
+markOf shift connection key = (key * 906386977 + connection * 1426063360) % 4294967296 / 2 ^ shift
 
 -- the id is read with its bytes in the other order: so one load reads it
 unfoldable pub routeMark : ℕ → List ℕ → ℕ

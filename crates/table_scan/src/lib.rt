@@ -96,7 +96,7 @@ fn mark_of(connection: usize, key: usize, shift: usize) -> usize
     requires { ⌜ (connection < 256) × (key < 4294967296) × (shift < 64) ⌝ }
     ensures { λ r. ⌜ r ≡ markOf shift connection key ⌝ }
 {
-    (key * 1640531527 + connection * 1879048192) % 4294967296 >> shift
+    (key * 906386977 + connection * 1426063360) % 4294967296 >> shift
 }
 
 // The id's four bytes, the last the highest: of this form the compiler makes one load.
