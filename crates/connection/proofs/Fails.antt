@@ -19,7 +19,7 @@ never : (b : Bool) → (b && not b) ≡ false
 never true = refl
 never false = refl
 
-always : (b : Bool) → (b && true) ≡ b
+pub always : (b : Bool) → (b && true) ≡ b
 always true = refl
 always false = refl
 

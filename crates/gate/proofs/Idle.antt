@@ -12,15 +12,11 @@ use Rattle.connection.specs.declared.Config.{Config}
 use Rattle.connection.specs.declared.Connection.{Connection}
 use Rattle.connection.specs.Connection.{isOffline, isOnline, withPart}
 use Rattle.connection.specs.Sound.{sends, timed, neverBoth, onlineRemote, openRule, closeRule, watched, soundOf}
+use Rattle.connection.proofs.Fails.{always}
 use Rattle.connection.proofs.Rules.{empty-is}
 use Rattle.lists.proofs.Both.{impossible, and-left, and-right}
 use Rattle.gate.specs.Sound.{routed}
 use Rattle.gate.specs.Inner.{idle, idleSound, quietSound, wished}
-
--- what all rules ask of a record is what they ask of its parts
-pub reached-too : (b : Bool) → b ≡ (b && true)
-reached-too true = refl
-reached-too false = refl
 
 -- what a record wants, by the tests of it: nothing; an open; a close
 module _ (g : Config) (c : Connection) where
@@ -92,7 +88,7 @@ module _ (g : Config) (routes : List ℕ) (n : ℕ) (c : Connection) where
       let pb : b ≡ true = and-left b _ p in
       empty-sound (and-left a _ pb)
       ∙ ap (λ (w : Bool). quietSound g c && w) (none-wished g c (not-true _ (and-right a _ pb)) (not-true _ (and-right b _ p)))
-      ∙ sym (reached-too (quietSound g c))
+      ∙ always (quietSound g c)
 
 -- without send bytes, and with some
 module _ (size used timer : ℕ) (due online reached : Bool) where

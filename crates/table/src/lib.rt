@@ -196,7 +196,7 @@ fn is_laid(image: &[u8]) -> bool
         & (image.len() + 4194304 == destinations_at + 16 * destinations)
 }
 
-// Accepted, or refusal 1 with its place, which only an image with a fault before its rows is asked for.
+// Accepted, or refusal 1 with its place. Field by field the front is asked only where something in it is wrong.
 pub fn check_table(image: &[u8]) -> TableAnswer
     ensures { λ r. ⌜ r ≡ checkTable (now (image .entry)) ⌝ }
 {

@@ -1,5 +1,5 @@
 // The table image's layout: what the contents say, where each body stands, and rows as parts of a body.
-// A number past the end is 0, a part that does not fit is empty. Everything is total but `body_laid`.
+// A number past the end is 0, a part that does not fit is empty. Everything public is total but `body_laid`.
 ghost use mathlib.Core.Path.{_≡_};
 ghost use Prim.Native.Nat.{_+_, _*_, _≤_, _<_};
 ghost use denote.Ref.{ptr};

@@ -5,7 +5,8 @@ use denote.Ref.{now}
 use borrow.Author.Tests.{not-true, not-false}
 use borrow.Author.Needs.{needs}
 use Rattle.table_rows.specs.Rules.{sizeIn}
-use Rattle.gate.proofs.Idle.{idle-unreached, reached-too, idle-without, idle-with}
+use Rattle.connection.proofs.Fails.{always}
+use Rattle.gate.proofs.Idle.{idle-unreached, idle-without, idle-with}
 use Rattle.gate.proofs.is_idle_sound.Statement.{statement}
 use Rattle.gate.proofs.is_idle_sound.Tie as tie
 
@@ -24,7 +25,7 @@ returns-2 c =
     let l = t .before .before in
     let r = l .before in
     let a = r .before .before .args in
-    reached-too _
+    sym (always _)
     ∙ idle-without (sizeIn 16 (now (a .connections)) (a .n)) (a .c) true (sym (not-false _ (l .if1 .left)) ∙ r .is-reached .ensures) (t .if2 .taken)
 
 is-online-requires : tie.Need-is-online-requires
@@ -43,7 +44,7 @@ returns-3 c =
     let l = t .before .before in
     let r = l .before in
     let a = r .before .before .args in
-    reached-too _
+    sym (always _)
     ∙ idle-with (sizeIn 16 (now (a .connections)) (a .n)) _ (a .c) true _ (sym (not-false _ (l .if1 .left)) ∙ r .is-reached .ensures)
     (z .before .is-online .ensures) (z .size-in .ensures) (t .if2 .left)
 
