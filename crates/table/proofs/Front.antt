@@ -83,7 +83,7 @@ tests h g c r d o₁ o₂ o₃ o₄ long =
     && eqb o₁ 36
     && leb 131072 c
     && leb c 131088
-    && eqb (o₂ + 131036) (2 * g)
+    && eqb (o₂ + 131072) (36 + 2 * g)
     && leb 196608 r
     && leb r 196672
     && eqb (o₃ + 2097152) (o₂ + 16 * c)
@@ -162,7 +162,7 @@ module _ (v u k₁ n₁ o₁ k₂ n₂ o₂ k₃ n₃ o₃ k₄ n₄ o₄ long :
         (eq-eqb o₁ 36 (x .groups .2)))
         (le-leb 131072 c (omega arith)))
         (le-leb c 131088 (omega (arith, x .connections .1))))
-        (eq-eqb (o₂ + 131036) (2 * g) (omega (arith, x .connections .2))))
+        (eq-eqb (o₂ + 131072) (36 + 2 * g) (omega (arith, x .connections .2))))
         (le-leb 196608 r (omega arith)))
         (le-leb r 196672 (omega (arith, x .routes .1))))
         (eq-eqb (o₃ + 2097152) (o₂ + 16 * c) (omega (arith, x .connections .2, x .routes .2))))
@@ -184,7 +184,7 @@ module _ (v u k₁ n₁ o₁ k₂ n₂ o₂ k₃ n₃ o₃ k₄ n₄ o₄ long :
         let three = entry-split r k₃ n₃ 3 64 er b₃ (omega arith) (leb-true _ _ (a .3)) (leb-true _ _ (q .1)) in
         let four = entry-split d k₄ n₄ 4 64 ed b₄ (omega arith) (leb-true _ _ (q .3)) (leb-true _ _ (p .1)) in
         let s₁ : o₁ ≡ 36 = eqb-true _ _ (z .1) in
-        let t₂ : o₂ + 131036 ≡ 2 * g = eqb-true _ _ (a .2) in
+        let t₂ : o₂ + 131072 ≡ 36 + 2 * g = eqb-true _ _ (a .2) in
         let t₃ : o₃ + 2097152 ≡ o₂ + 16 * c = eqb-true _ _ (q .2) in
         let t₄ : o₄ + 3145728 ≡ o₃ + 16 * r = eqb-true _ _ (p .2) in
         let t₅ : long + 4194304 ≡ o₄ + 16 * d = eqb-true _ _ (p .3) in

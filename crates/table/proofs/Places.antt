@@ -1,23 +1,25 @@
 -- The first bad row of a body is the first bad row of its kind, in an image that is laid out.
 use Prim.Native.Nat.{ℕ, _+_, _*_, _/_, _<_, _≤_}
-use mathlib.Core.Path.{_≡_, sym, ap, _∙_}
+use mathlib.Core.Path.{_≡_, refl, sym, ap, _∙_}
+use mathlib.Core.Bool.{true, _&&_}
 use mathlib.Core.List.{List}
 use native.Mathlib.Omega.{arith}
-use lib.Dec.{leb}
+use lib.Dec.{eqb, leb}
 use lib.ListN.{length}
-use borrow.Author.Tests.{le-leb, lt-leb, leb-true}
+use borrow.Author.Tests.{eqb-true, le-leb, lt-leb, leb-true}
 use Rattle.wire.specs.Be.{byteAt}
 use Rattle.lists.specs.Search.{firstBad}
+use Rattle.lists.proofs.Both.{and-left, and-right}
 use Rattle.law_lists.proofs.First.{bad-most}
 use Rattle.table_layout.specs.Layout.{entryAt, rowWidth, rowBytes, rowsOf, startOf, rowAt, bodyOf, Laid}
-use Rattle.table_layout.proofs.Parts.{body-rows}
+use Rattle.table_layout.proofs.Parts.{body-rows, laid-rows}
 use Rattle.table_layout.specs.declared.Kind.{Kind}
 use Rattle.table_layout.specs.declared.Kind.the-variants.{Group, Connection, Route, Destination}
 use Rattle.table_rows.proofs.Heads.{be-small}
 use Rattle.table_rows.specs.Rules.{connectionGood, routeGood, destinationGood}
 use Rattle.table_scan.specs.declared.BadRows.{BadRows}
 use Rattle.table_scan.specs.Scan.{badIn, badGroup, badConnection, badRoute, badDestination, badRows}
-use Rattle.table.specs.Table.{groupTcpOf, tcpOf, sizeOf, rule, rowGood, demand, thenCheck, rowsPlace}
+use Rattle.table.specs.Table.{groupTcpOf, tcpOf, sizeOf, rule, rowGood, badRow, demand, thenCheck, rowsPlace}
 use Rattle.table.specs.declared.TableAnswer.{TableAnswer}
 use Rattle.table.specs.declared.TableAnswer.the-variants.{Accepted, Refused}
 use Rattle.table.proofs.Answers.{demand-held}
@@ -93,6 +95,17 @@ last-places s l routes destinations connections groups x a b r er ed ec eg ex ea
     let q : b ≡ rowsPlace s Destination =
     destinations-place s l b (x .destination) destinations connections ed ec (ap (λ (y : BadRows). y .destination) ex) eb in
     e ∙ ap (λ (y : TableAnswer). thenCheck y b) p ∙ ap (thenCheck (rowsPlace s Route)) q
+
+-- and without rows of either
+pub none-placed : (s : List ℕ) (l : Laid s) (routes destinations : List ℕ) → routes ≡ bodyOf s Route → destinations ≡ bodyOf s Destination
+    → (eqb (length routes) 0 && eqb (length destinations) 0) ≡ true → Accepted ≡ thenCheck (rowsPlace s Route) (rowsPlace s Destination)
+unfolding thenCheck
+none-placed s l routes destinations er ed z =
+    none Destination destinations (and-right (eqb (length routes) 0) _ z) (laid-rows s l Destination destinations ed)
+    ∙ ap (λ (y : TableAnswer). thenCheck y (rowsPlace s Destination)) (none Route routes (and-left _ _ z) (laid-rows s l Route routes er))
+  where
+    none : (k : Kind) (body : List ℕ) → eqb (length body) 0 ≡ true → length body / 16 ≡ rowsOf s k → Accepted ≡ rowsPlace s k
+    none k body z h = no-place s k (rowsOf s k) (badRow s k) 0 0 refl (omega (arith, eqb-true (length body) 0 z, h))
 
 -- where no connection is refused, the search for a bad one has come to the row count
 pub connections-passed : (s : List ℕ) (l : Laid s) (body groups : List ℕ) (bad : ℕ) (r : TableAnswer)

@@ -28,8 +28,10 @@ use table_layout::Kind;
 use table_layout::body_laid;
 use table_layout::body_of;
 use table_layout::entry_at;
+use table_layout::kind_and_rows;
 use table_layout::kind_number;
 use table_layout::most_rows;
+use table_layout::named_start;
 use table_layout::row_bytes;
 use table_layout::rows_of;
 use table_layout::start_of;
@@ -113,7 +115,7 @@ fn place_of(image: &[u8], k: Kind, rows: usize, bad: usize) -> TableAnswer
     }
 }
 
-// Asked only where no connection is bad.
+// Asked only where no connection is bad. Without rows nothing is noted, and no mark is cleared.
 fn after_connections(image: &[u8]) -> TableAnswer
     requires laid { ⌜ Laid (now image) ⌝ }
     requires passed { ⌜ badConnection (bodyOf (now image) Kind.Group) (bodyOf (now image) Kind.Connection)
@@ -122,6 +124,9 @@ fn after_connections(image: &[u8]) -> TableAnswer
 {
     let routes = body_laid(image, Kind::Route);
     let destinations = body_laid(image, Kind::Destination);
+    if (routes.len() == 0) & (destinations.len() == 0) {
+        return TableAnswer::Accepted;
+    }
     let connections = body_laid(image, Kind::Connection);
     let groups = body_laid(image, Kind::Group);
     let bad = first_bad_rows(routes, destinations, connections, groups);
@@ -165,35 +170,47 @@ fn all_rows_place(image: &[u8]) -> TableAnswer
 
 // ---- the check
 
-// All that is asked before the rows, at once. Of a contents entry the kind, times 65,536, and the row count are one number: that of kind 3
-// with 64 rows at most is from 196,608 to 196,672. The rows times their width lie between the start of a body and that of the next one; both
-// sides are raised by the kind's share of the number (36 less before the first), so that nothing is subtracted.
+// Edition 1 and the number 4, as one number.
+const EDITION: usize = 65540;
+
+// Of a contents entry its kind, times 65,536, and no rows, as one number: of each kind.
+const GROUPS: usize = 65536;
+
+const CONNECTIONS: usize = 131072;
+
+const ROUTES: usize = 196608;
+
+const DESTINATIONS: usize = 262144;
+
+// All that is asked before the rows, at once. Kind and row count of a contents entry are one number: that of kind 3 with 64 rows at most is
+// from ROUTES to ROUTES + 64. The rows times their width lie between the start of a body and that of the next one; both sides are raised by
+// the kind's share of the number, so that nothing is subtracted.
 fn is_laid(image: &[u8]) -> bool
     requires { ⌜ 36 ≤ length (now image) ⌝ }
     ensures { λ r. ⌜ r ≡ frontGood (now (image .entry)) ⌝ }
 {
     let front = &image[..36];
-    let groups = be32(front, 4);
-    let connections = be32(front, 12);
-    let routes = be32(front, 20);
-    let destinations = be32(front, 28);
-    let connections_at = be32(front, 16);
-    let routes_at = be32(front, 24);
-    let destinations_at = be32(front, 32);
-    (be32(front, 0) == 65540)
-        & (65536 <= groups)
-        & (groups <= 65544)
-        & (be32(front, 8) == 36)
-        & (131072 <= connections)
-        & (connections <= 131088)
-        & (connections_at + 131036 == 2 * groups)
-        & (196608 <= routes)
-        & (routes <= 196672)
-        & (routes_at + 2097152 == connections_at + 16 * connections)
-        & (262144 <= destinations)
-        & (destinations <= 262208)
-        & (destinations_at + 3145728 == routes_at + 16 * routes)
-        & (image.len() + 4194304 == destinations_at + 16 * destinations)
+    let groups = kind_and_rows(front, Kind::Group);
+    let connections = kind_and_rows(front, Kind::Connection);
+    let routes = kind_and_rows(front, Kind::Route);
+    let destinations = kind_and_rows(front, Kind::Destination);
+    let connections_at = named_start(front, Kind::Connection);
+    let routes_at = named_start(front, Kind::Route);
+    let destinations_at = named_start(front, Kind::Destination);
+    (be32(front, 0) == EDITION)
+        & (GROUPS <= groups)
+        & (groups <= GROUPS + 8)
+        & (named_start(front, Kind::Group) == 36)
+        & (CONNECTIONS <= connections)
+        & (connections <= CONNECTIONS + 16)
+        & (connections_at + 2 * GROUPS == 36 + 2 * groups)
+        & (ROUTES <= routes)
+        & (routes <= ROUTES + 64)
+        & (routes_at + 16 * CONNECTIONS == connections_at + 16 * connections)
+        & (DESTINATIONS <= destinations)
+        & (destinations <= DESTINATIONS + 64)
+        & (destinations_at + 16 * ROUTES == routes_at + 16 * routes)
+        & (image.len() + 16 * DESTINATIONS == destinations_at + 16 * destinations)
 }
 
 // Accepted, or refusal 1 with its place. Field by field the front is asked only where something in it is wrong.

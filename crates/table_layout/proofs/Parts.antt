@@ -86,6 +86,17 @@ be-taken w n s at h = be-part w n s 0 at h ∙ ap (be w s) (zero-add at)
 pub front-long : (s : List ℕ) → 36 ≤ length s → 36 ≡ length (take 36 s)
 front-long s h = sym (length-take-le 36 s h)
 
+-- and name the same rows there
+pub front-rows : (s : List ℕ) (k : Kind) → rowsOf (take 36 s) k ≡ rowsOf s k
+unfolding rowsOf
+front-rows s k = be-taken 2 36 s (entryAt k + 2) (inside k)
+  where
+    inside : (k : Kind) → entryAt k + 2 + 2 ≤ 36
+    inside Group = omega arith
+    inside Connection = omega arith
+    inside Route = omega arith
+    inside Destination = omega arith
+
 -- in an image that is laid out every body stands within it
 module _ (s : List ℕ) (l : Laid s) where
   -- its contents name where each body starts

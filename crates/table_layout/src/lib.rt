@@ -1,8 +1,9 @@
 // The table image's layout: what the contents say, where each body stands, and rows as parts of a body.
-// A number past the end is 0, a part that does not fit is empty. Everything public is total but `body_laid`.
+// A number past the end is 0, a part that does not fit is empty. Everything public is total but `rows_laid` and `body_laid`.
 ghost use mathlib.Core.Path.{_≡_};
 ghost use Prim.Native.Nat.{_+_, _*_, _≤_, _<_};
 ghost use denote.Ref.{ptr};
+ghost use Rattle.wire.specs.Be.{Number};
 ghost use Rattle.wire.specs.Place.{behind};
 ghost use Rattle.table_layout.specs.Layout.{
   number,
@@ -132,6 +133,29 @@ pub fn body_of(image: &[u8], k: Kind) -> &[u8]
     part_of(image, start_of(image, k), body_bytes(image, k))
 }
 
+// Of a contents entry its kind, times 65,536, and its row count, as one number. This reader and the next are given the front of an image:
+// where a part has a constant length, a total reader makes no test.
+pub fn kind_and_rows(front: &[u8], k: Kind) -> usize
+    ensures { λ r. ⌜ Number 4 (now (front .entry)) (entryAt k) r ⌝ }
+{
+    be32(front, entry_at(k))
+}
+
+// Where a contents entry says that the body of its kind starts.
+pub fn named_start(front: &[u8], k: Kind) -> usize
+    ensures { λ r. ⌜ Number 4 (now (front .entry)) (entryAt k + 4) r ⌝ }
+{
+    be32(front, entry_at(k) + 4)
+}
+
+// As `rows_of`, without its tests: an image that is laid out as its contents say has a front.
+pub fn rows_laid(image: &[u8], k: Kind) -> usize
+    requires { ⌜ Laid (now image) ⌝ }
+    ensures { λ r. ⌜ (r ≡ rowsOf (now (image .entry)) k) × (r < 65536) ⌝ }
+{
+    rows_of(&image[..36], k)
+}
+
 // Where the body of a kind ends: where the next one starts, by the next contents entry, or the image ends.
 fn end_laid(image: &[u8], k: Kind) -> usize
     requires { ⌜ Laid (now image) ⌝ }
@@ -139,22 +163,22 @@ fn end_laid(image: &[u8], k: Kind) -> usize
 {
     let front = &image[..36];
     match k {
-        Kind::Group => be32(front, 16),
-        Kind::Connection => be32(front, 24),
-        Kind::Route => be32(front, 32),
+        Kind::Group => named_start(front, Kind::Connection),
+        Kind::Connection => named_start(front, Kind::Route),
+        Kind::Route => named_start(front, Kind::Destination),
         Kind::Destination => image.len(),
     }
 }
 
 // As `body_of`, without its tests: in an image that is laid out as its contents say, every body fits, and the contents
-// name its bounds. They are read out of a front of constant length, where a total reader makes no test.
+// name its bounds.
 pub fn body_laid(image: &[u8], k: Kind) -> &[u8]
     requires { ⌜ Laid (now image) ⌝ }
     ensures bytes { λ r. ⌜ now r ≡ bodyOf (now (image .entry)) k ⌝ }
     ensures place { λ r. ⌜ ptr r ≡ behind (ptr (image .entry)) (bodyAt (now (image .entry)) k) ⌝ }
 {
     let front = &image[..36];
-    let at = be32(front, entry_at(k) + 4);
+    let at = named_start(front, k);
     let end = end_laid(image, k);
     &image[at..end]
 }

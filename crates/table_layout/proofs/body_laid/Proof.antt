@@ -10,42 +10,36 @@ use Rattle.table_layout.proofs.body_laid.Tie as tie
 slice-aggregate-front : tie.Need-slice-aggregate-front
 slice-aggregate-front c = front-long (c .before .before .args .image .now) (c .before .before .pre .head)
 
-entry-at-requires : tie.Need-entry-at-requires
-entry-at-requires c κs = search needs
-
-add-be32 : tie.Need-add-be32
-add-be32 c = search needs
-
-be32-requires : tie.Need-be32-requires
-be32-requires c κs = search needs
+named-start-requires : tie.Need-named-start-requires
+named-start-requires c κs = search needs
 
 end-laid-requires : tie.Need-end-laid-requires
 end-laid-requires c κs = search needs
 
 -- what was read is where the body starts
 start : (c : tie.After-end-laid) →
-    c .before .be32 .result ≡ startOf (now (c .before .before .before .before .before .args .image)) (c .before .before .before .before .before .args .k)
-start c = start-named _ (c .before .before .before .before .before .pre) _ _ (rw (c .before .before .entry-at .ensures .0) at (c .before .be32 .ensures .is))
+    c .before .named-start .result ≡ startOf (now (c .before .before .before .before .args .image)) (c .before .before .before .before .args .k)
+start c = start-named _ (c .before .before .before .before .pre) _ _ (c .before .named-start .ensures .is)
 
 sub-result : tie.Need-sub-result
 sub-result c =
-    let b = c .before .before .before .before .before in
+    let b = c .before .before .before .before in
     body-from (b .args .image .now) (b .pre) (b .args .k) _ _ (start c) (c .end-laid .ensures)
 
 part-result-start : tie.Need-part-result-start
 part-result-start c =
-    let b = c .before .before .before .before .before in
+    let b = c .before .before .before .before in
     body-from (b .args .image .now) (b .pre) (b .args .k) _ _ (start c) (c .end-laid .ensures)
 
 part-result-end : tie.Need-part-result-end
 part-result-end c =
-    let b = c .before .before .before .before .before in
+    let b = c .before .before .before .before in
     body-ends (b .args .image .now) (b .pre) (b .args .k) _ _ (start c) (c .end-laid .ensures)
 
 returns : tie.Need-returns
 returns c =
     let p = c .before in
-    let b = p .before .before .before .before .before in
+    let b = p .before .before .before .before in
     let s = b .args .image in (
       body-range (s .now) (b .pre) (b .args .k) _ _ (start p) (p .end-laid .ensures),
       body-there (s .now) (b .pre) (b .args .k) _ _ (start p) (p .end-laid .ensures) (s .ptr),
@@ -56,9 +50,7 @@ body-laid-spec =
     tie.close
     (tie.spec
     slice-aggregate-front
-    entry-at-requires
-    add-be32
-    be32-requires
+    named-start-requires
     end-laid-requires
     sub-result
     part-result-start

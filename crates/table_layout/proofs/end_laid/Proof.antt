@@ -12,35 +12,35 @@ slice-aggregate-front c = front-long (c .before .before .args .image .now) (c .b
 enum-told : tie.Need-enum-told
 enum-told c = search needs
 
-be32-requires : tie.Need-be32-requires
-be32-requires c κs = search needs
+named-start-requires : tie.Need-named-start-requires
+named-start-requires c κs = search needs
 
 enum-told-2 : tie.Need-enum-told-2
 enum-told-2 c = search needs
 
-be32-requires-2 : tie.Need-be32-requires-2
-be32-requires-2 c κs = search needs
+named-start-requires-2 : tie.Need-named-start-requires-2
+named-start-requires-2 c κs = search needs
 
 enum-told-3 : tie.Need-enum-told-3
 enum-told-3 c = search needs
 
-be32-requires-3 : tie.Need-be32-requires-3
-be32-requires-3 c κs = search needs
+named-start-requires-3 : tie.Need-named-start-requires-3
+named-start-requires-3 c κs = search needs
 
 enum-told-4 : tie.Need-enum-told-4
 enum-told-4 c = search needs
 
 returns : tie.Need-returns
 unfolding startOf
-returns c = rw (c .before .enum-told .given .1) (start-named _ (c .before .before .before .before .before .pre) Connection _ (c .be32 .ensures .is))
+returns c = rw (c .before .enum-told .given .1) (start-named _ (c .before .before .before .before .before .pre) Connection _ (c .named-start .ensures .is))
 
 returns-2 : tie.Need-returns-2
 unfolding startOf
-returns-2 c = rw (c .before .enum-told2 .given .1) (start-named _ (c .before .before .before .before .before .pre) Route _ (c .be322 .ensures .is))
+returns-2 c = rw (c .before .enum-told2 .given .1) (start-named _ (c .before .before .before .before .before .pre) Route _ (c .named-start2 .ensures .is))
 
 returns-3 : tie.Need-returns-3
 unfolding startOf
-returns-3 c = rw (c .before .enum-told3 .given .1) (start-named _ (c .before .before .before .before .before .pre) Destination _ (c .be323 .ensures .is))
+returns-3 c = rw (c .before .enum-told3 .given .1) (start-named _ (c .before .before .before .before .before .pre) Destination _ (c .named-start3 .ensures .is))
 
 returns-4 : tie.Need-returns-4
 unfolding endOf
@@ -52,11 +52,11 @@ end-laid-spec =
     (tie.spec
     slice-aggregate-front
     enum-told
-    be32-requires
+    named-start-requires
     enum-told-2
-    be32-requires-2
+    named-start-requires-2
     enum-told-3
-    be32-requires-3
+    named-start-requires-3
     enum-told-4
     returns
     returns-2
