@@ -2,4 +2,5 @@
 pub mod Fails
 pub mod Many
 pub mod Marks
+pub mod Past
 pub mod Turns

@@ -5,7 +5,7 @@ use mathlib.Core.Bool.{Bool, false, true, not}
 use mathlib.Core.List.{List}
 use borrow.Author.Tests.{not-true}
 use lib.ListN.{length}
-use Rattle.connection.specs.declared.Answer.the-variants.{Done}
+use Rattle.connection.specs.declared.Answer.{Answer}
 use Rattle.connection.specs.declared.Config.{Config}
 use Rattle.connection.specs.declared.Connection.{Connection}
 use Rattle.connection.specs.Connection.{failedOf}
@@ -16,8 +16,9 @@ use Rattle.state.specs.declared.State.{State}
 use Rattle.state.specs.State.{recordAt}
 use Rattle.state.specs.Fresh.{configOf}
 use Rattle.state.proofs.Upto.{Upto, still}
+use Rattle.entry_ticks.specs.declared.Ticked.{Ticked}
 use Rattle.entry_ticks.specs.Many.{manyOf, upOf}
-use Rattle.entry_ticks.specs.Tick.{ticksTo, markedOf, failsAt, failedBit, failedTo, tickedFrom}
+use Rattle.entry_ticks.specs.Tick.{ticksTo, markedOf, failsAt, failedBit, failedTo}
 use Rattle.entry_ticks.proofs.Many.{manyAt}
 use Rattle.entry_ticks.proofs.Fails.{kept-part, ticked-at}
 
@@ -52,11 +53,13 @@ module _ (image : List ℕ) (rows count : ℕ) (s n : State) (i w : ℕ) (low : 
       let none : failsAt s (ticksTo image rows count s) i ≡ false = sym (fails-is d refl) ∙ kept-fails c d same in
       fold-on (failedBit s (ticksTo image rows count s)) rows 0 i w w so low (sym (ap (λ (b : Bool). markedOf i b w) none))
 
--- all of them
-pub marks-whole : (image : List ℕ) (rows count : ℕ) (s n : State) (i w : ℕ) → rows ≤ i → Marked image rows count s i w → n ≡ ticksTo image rows count s
-    → record { answer = Done; state = n; failed = w } ≡ tickedFrom rows s (ticksTo image rows count s)
+-- all of them, whatever is answered
+pub marks-whole : (image : List ℕ) (rows count : ℕ) (s n : State) (i w : ℕ) (answer : Answer) → rows ≤ i → Marked image rows count s i w
+    → n ≡ ticksTo image rows count s
+    → _≡_ {A = Ticked} (record { answer = answer; state = n; failed = w })
+    (record { answer = answer; state = ticksTo image rows count s; failed = failedTo rows s (ticksTo image rows count s) })
 unfolding failedTo
-marks-whole image rows count s n i w over so is =
-    ap (λ (t : State). record { answer = Done; state = t; failed = w }) is
-    ∙ ap (λ (v : ℕ). record { answer = Done; state = ticksTo image rows count s; failed = v })
+marks-whole image rows count s n i w answer over so is =
+    ap (λ (t : State). record { answer = answer; state = t; failed = w }) is
+    ∙ ap (λ (v : ℕ). record { answer = answer; state = ticksTo image rows count s; failed = v })
     (fold-ended (failedBit s (ticksTo image rows count s)) rows 0 i w so over)

@@ -7,6 +7,7 @@ use Rattle.table_layout.specs.Layout.{rowsOf}
 use Rattle.table_layout.specs.declared.Kind.the-variants.{Connection as Connections}
 use Rattle.connection.specs.declared.Connection.{Connection}
 use Rattle.connection.specs.declared.Refusal.{Refusal}
+use Rattle.connection.specs.declared.Answer.{Answer}
 use Rattle.connection.specs.declared.Answer.the-variants.{Done, Refused}
 use Rattle.connection.specs.Connection.{tickOf, failedOf}
 use Rattle.lists.specs.Each.{eachTo}
@@ -15,6 +16,7 @@ use Rattle.state.specs.declared.State.{State}
 use Rattle.state.specs.State.{recordAt, withRecords}
 use Rattle.state.specs.Fresh.{configOf}
 use Rattle.gate.specs.Lent.{Lent}
+use Rattle.gate.specs.declared.Gate.{Gate}
 use Rattle.gate.specs.Gate.{gateOf, through}
 use Rattle.entry_ticks.specs.declared.Ticked.{Ticked}
 
@@ -55,6 +57,14 @@ unticked s r = record { answer = Refused r; state = s; failed = 0 }
 -- done, from the state s to the state t
 abbrev pub tickedFrom : ℕ → State → State → Ticked
 tickedFrom rows s t = record { answer = Done; state = t; failed = failedTo rows s t }
+
+-- the rows that tick: none where the gate refuses
+abbrev pub rowsPast : Gate → List ℕ → ℕ
+rowsPast asked image = through asked (λ (r : Refusal). 0) (rowsOf image Connections)
+
+-- what ticks answer
+abbrev pub ticksAnswer : Gate → Answer
+ticksAnswer asked = through asked Refused Done
 
 -- a tick: 11, 12, else done
 unfoldable pub tickEvent : Lent → Ticked

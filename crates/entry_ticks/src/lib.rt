@@ -1,11 +1,11 @@
 // A tick of the whole module, and many ticks under one check, at once where a record has settled. Assumes nothing: no entry relies on its caller.
 ghost use mathlib.Core.Path.{_≡_};
 ghost use lib.Dec.{leb};
-ghost use Prim.Native.Nat.{_-_, _<_, _≤_};
+ghost use Prim.Native.Nat.{_-_, _<_};
 ghost use Rattle.table_layout.specs.Layout.{Laid};
-ghost use Rattle.gate.specs.Lent.{lentBy};
+ghost use Rattle.gate.specs.Lent.{lent, lentBy};
 ghost use Rattle.entry_ticks.specs.Many.{manyOf, turnsNext, upOf, stillOf, endsIn, staysOf, laterBy, settledOf};
-ghost use Rattle.entry_ticks.specs.Tick.{ticksTo, markedOf, tickedFrom, tickEvent, ticksEvent};
+ghost use Rattle.entry_ticks.specs.Tick.{markedOf, rowsPast, ticksAnswer, tickEvent, ticksEvent};
 use connection::Answer;
 use connection::Config;
 use connection::Connection;
@@ -17,7 +17,7 @@ use gate::Gate;
 use state::State;
 use state::config_laid;
 use table_layout::Kind;
-use table_layout::rows_of;
+use table_layout::rows_laid;
 
 // What a tick answers, the state after it, and whose transfers it ended: bit k, worth 2 to the k, for connection k.
 pub struct Ticked {
@@ -144,13 +144,42 @@ fn marked(word: u16, k: usize, on: bool) -> u16
     word
 }
 
-// `count` ticks of the first `rows` connections, in order, and whose transfers they end. Of one that is up the row is asked for only where
-// they may let it go, and its transfer goes on; only of one that is not up the whole record is read.
-fn tick_rows(image: &[u8], rows: usize, state: State, count: u32) -> Ticked
-    requires { ⌜ (rows ≤ 16) × Laid (now image) ⌝ }
-    ensures { λ r. ⌜ r ≡ tickedFrom rows state (ticksTo (now (image .entry)) rows count state) ⌝ }
+// The rows that tick: none where the gate refuses.
+fn rows_past(asked: Gate, image: &[u8]) -> usize
+    requires { ⌜ (asked ≡ Gate.Pass → Laid (now image)) ⌝ }
+    ensures { λ r. ⌜ r ≡ rowsPast asked (now (image .entry)) ⌝ }
 {
-    let mut after = state;
+    match asked {
+        Gate::Refused(_) => 0,
+        Gate::Pass => rows_laid(image, Kind::Connection),
+    }
+}
+
+// What ticks answer.
+fn answer_past(asked: Gate) -> Answer
+    ensures { λ r. ⌜ r ≡ ticksAnswer asked ⌝ }
+{
+    match asked {
+        Gate::Refused(reason) => Answer::Refused(reason),
+        Gate::Pass => Answer::Done,
+    }
+}
+
+// `count` ticks of each connection of the table, in order, and whose transfers they end, by the lengths of both memories. The state is taken
+// apart once, into the copy that the gate is lent and the records are put back in; in a refusal no row ticks, so that there is one way out,
+// and one copy. Of a connection that is up the row is asked for only where they may let it go, and its transfer goes on; only of one that is
+// not up the whole record is read.
+pub fn ticks_by(image: &[u8], state: State, rx: usize, tx: usize, count: u32) -> Ticked
+    ensures { λ r. ⌜ r ≡ ticksEvent (lent (now (image .entry)) state rx tx) count ⌝ }
+{
+    let records = state.connections;
+    let mut after = State {
+        connections: records,
+        udp_drops: state.udp_drops,
+        tcp_drops: state.tcp_drops,
+    };
+    let asked = gate::ask(image, after, rx, tx);
+    let rows = rows_past(asked, image);
     let mut failed: u16 = 0;
     let mut i: usize = 0;
     while i < rows {
@@ -177,8 +206,9 @@ fn tick_rows(image: &[u8], rows: usize, state: State, count: u32) -> Ticked
         after.connections[i] = next;
         i += 1;
     }
+    let answer = answer_past(asked);
     Ticked {
-        answer: Answer::Done,
+        answer: answer,
         state: after,
         failed: failed,
     }
@@ -187,28 +217,12 @@ fn tick_rows(image: &[u8], rows: usize, state: State, count: u32) -> Ticked
 pub fn tick(image: &[u8], state: State, rx: &[u8], tx: &[u8]) -> Ticked
     ensures { λ r. ⌜ r ≡ tickEvent (lentBy (now (image .entry)) state (now (rx .entry)) (now (tx .entry))) ⌝ }
 {
-    let asked = gate::ask(image, state, rx.len(), tx.len());
-    match asked {
-        Gate::Refused(reason) => Ticked {
-            answer: Answer::Refused(reason),
-            state: state,
-            failed: 0,
-        },
-        Gate::Pass => tick_rows(image, rows_of(image, Kind::Connection), state, 1),
-    }
+    ticks_by(image, state, rx.len(), tx.len(), 1)
 }
 
 // `count` ticks under one check.
 pub fn ticks(image: &[u8], state: State, rx: &[u8], tx: &[u8], count: u32) -> Ticked
     ensures { λ r. ⌜ r ≡ ticksEvent (lentBy (now (image .entry)) state (now (rx .entry)) (now (tx .entry))) count ⌝ }
 {
-    let asked = gate::ask(image, state, rx.len(), tx.len());
-    match asked {
-        Gate::Refused(reason) => Ticked {
-            answer: Answer::Refused(reason),
-            state: state,
-            failed: 0,
-        },
-        Gate::Pass => tick_rows(image, rows_of(image, Kind::Connection), state, count),
-    }
+    ticks_by(image, state, rx.len(), tx.len(), count)
 }

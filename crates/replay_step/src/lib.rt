@@ -4,7 +4,7 @@ ghost use mathlib.Core.Path.{_≡_};
 ghost use Rattle.gate.specs.Lent.{loan};
 ghost use Rattle.replay_step.specs.Step as Is;
 use dispatch::dispatch;
-use entry_ticks::ticks;
+use entry_ticks::ticks_by;
 use event_answer::Verdict;
 use pieces::front;
 use recording::Fault;
@@ -85,7 +85,7 @@ fn happen(
     ensures { λ _. ⌜ now (out .exit)
         ≡ Is.thenHappens (loan (now (image .entry)) state (now (rx .entry)) (now (tx .entry))) (now (out .entry)) count number (now (body .entry)) .out ⌝ }
 {
-    let later = ticks(image, state, rx, tx, count);
+    let later = ticks_by(image, state, rx.len(), tx.len(), count);
     let before = later.state;
     let done = dispatch(
         image,

@@ -4,8 +4,8 @@ use borrow.Author.Needs.{needs}
 use Rattle.replay_step.proofs.happen.Statement.{statement}
 use Rattle.replay_step.proofs.happen.Tie as tie
 
-ticks-requires : tie.Need-ticks-requires
-ticks-requires c κs = search needs
+ticks-by-requires : tie.Need-ticks-by-requires
+ticks-by-requires c κs = search needs
 
 arguments-in-requires : tie.Need-arguments-in-requires
 arguments-in-requires c κs = search needs
@@ -32,7 +32,7 @@ returns : tie.Need-returns
 returns c =
     let d = c .before .before .before .before .before .before .before .before .before .before in
     let p = d .dispatch .ensures in
-    happens-so _ _ _ _ _ _ _ _ _ _ _ _ _ _ _ _ (d .before .before .before .before .before .before .ticks .ensures)
+    happens-so _ _ _ _ _ _ _ _ _ _ _ _ _ _ _ _ (d .before .before .before .before .before .before .ticks-by .ensures)
     (d .before .before .arguments-in .ensures .0) (p .0) (p .1 .0)
     (p .1 .1 .0) (p .1 .1 .1) (c .before .answer-in .ensures .0) (c .played-by .ensures)
 
@@ -40,7 +40,7 @@ pub happen-spec : {M : Type 1} → statement M
 happen-spec =
     tie.close
     (tie.spec
-    ticks-requires
+    ticks-by-requires
     arguments-in-requires
     dispatch-requires
     answer-in-requires

@@ -1,30 +1,57 @@
--- `entry_ticks::tick_rows` meets its contract. The invariant: the records below i have ticked, and those that failed are marked.
+-- `entry_ticks::ticks_by` meets its contract. The invariant: the records below i have ticked, and those that failed are marked.
 use Prim.Native.Nat.{_<_, _≤_, _-_}
 use mathlib.Core.Path.{_≡_, refl, sym, _∙_}
 use lib.ListN.{length}
 use native.Mathlib.Omega.{arith}
 use borrow.Author.Needs.{needs}
 use borrow.Author.Tests.{not-false}
+use Rattle.table_layout.specs.Layout.{Laid}
 use Rattle.lists.proofs.Each.{long}
 use Rattle.lists.proofs.Fold.{fold-start}
 use Rattle.state.proofs.Upto.{Upto}
+use Rattle.gate.specs.Lent.{Lent, lent}
+use Rattle.gate.proofs.Pass.{gate-laid}
 use Rattle.entry_ticks.proofs.Many.{manyAt, ticks-each}
-use Rattle.entry_ticks.proofs.Marks.{Marked, many-mark, up-mark, marks-whole}
+use Rattle.entry_ticks.proofs.Marks.{Marked, many-mark, up-mark}
+use Rattle.entry_ticks.proofs.Past.{past-most, past-laid, past-whole}
 use Rattle.entry_ticks.proofs.Turns.{many-turn, still-turn, stays-turn, up-turn}
-use Rattle.entry_ticks.proofs.tick_rows.Statement.{statement}
-use Rattle.entry_ticks.proofs.tick_rows.Tie as tie
+use Rattle.entry_ticks.proofs.ticks_by.Statement.{statement}
+use Rattle.entry_ticks.proofs.ticks_by.Tie as tie
 
 abbrev Inv-loop : tie.InvT-loop
-Inv-loop image rows count after₀ failed₀ i₀ after failed i =
+Inv-loop image rx tx count after₀ asked rows failed₀ i₀ after failed i =
     (i ≤ rows) × (rows ≤ 16) × (length (after₀ .connections) ≡ 16) × Upto (manyAt image count) after₀ after i × Marked image rows count after₀ i failed
 
 abbrev μ-loop : tie.MeasureT-loop
-μ-loop image rows count after₀ failed₀ i₀ after failed i = rows - i
+μ-loop image rx tx count after₀ asked rows failed₀ i₀ after failed i = rows - i
+
+ask-requires : tie.Need-ask-requires Inv-loop μ-loop
+ask-requires c κs = search needs
+
+-- what the call is lent
+abbrev by : tie.After-ask Inv-loop μ-loop → Lent
+by c = let a = c .before .before .before .args in lent (a .image .now) (a .state) (a .rx) (a .tx)
+
+rows-past-requires : tie.Need-rows-past-requires Inv-loop μ-loop
+rows-past-requires c κs = λ p. gate-laid (by c) (sym (c .ask .ensures) ∙ p)
 
 loop-holds : tie.Need-loop-holds Inv-loop μ-loop
 loop-holds c =
-    let s = c .before in
-    (search needs, search needs, long _ (s .args .state .connections) (s .good .1 .1 .0 .1 .1 .0 .1 .0 .1), refl, fold-start _ _ _)
+    let g = c .before in
+    let s = g .before .before .before in (
+      search needs,
+      past-most (by g) (g .ask .result) (g .ask .ensures) _ (c .rows-past .ensures),
+      long _ (s .args .state .connections) (s .good .1 .0 .1 .1 .0 .1 .0 .1),
+      refl,
+      fold-start _ _ _,
+    )
+
+-- where a row ticks, the gate has let the call pass
+laid : (c : tie.In-loop Inv-loop μ-loop) → Laid (by (c .before .before .before) .image)
+laid c =
+    let r = c .before .before in
+    let g = r .before in
+    past-laid (by g) (g .ask .result) (g .ask .ensures) (r .rows-past .result) (r .rows-past .ensures) (c .before .loop .i) (c .loop-test .taken)
 
 mul-connection : tie.Need-mul-connection Inv-loop μ-loop
 mul-connection c = search needs
@@ -42,7 +69,7 @@ element-copy-out-whole : tie.Need-element-copy-out-whole Inv-loop μ-loop
 element-copy-out-whole c = search needs
 
 config-laid-requires : tie.Need-config-laid-requires Inv-loop μ-loop
-config-laid-requires c κs = c .before .before .before .before .before .before .before .pre .1
+config-laid-requires c κs = laid (c .before .before .before .before)
 
 tick-many-requires : tie.Need-tick-many-requires Inv-loop μ-loop
 tick-many-requires c κs = search needs
@@ -70,7 +97,7 @@ loop-again c =
     let m = c .before .before in
     let t = m .before .before .before .before .before .before in
     let b = t .before in
-    let h : b .loop .i < length (b .before .before .args .state .connections) = omega (arith, t .loop-test .taken) in
+    let h : b .loop .i < length (b .before .before .before .before .before .args .state .connections) = omega (arith, t .loop-test .taken) in
     let config = m .before .config-laid .ensures in (
       omega (arith, t .loop-test .taken),
       b .loop .inv .1,
@@ -94,7 +121,7 @@ loop-again-2 c =
     let u = c .before .before .before in
     let t = u .before .before in
     let b = t .before in
-    let h : b .loop .i < length (b .before .before .args .state .connections) = omega (arith, t .loop-test .taken) in
+    let h : b .loop .i < length (b .before .before .before .before .before .args .state .connections) = omega (arith, t .loop-test .taken) in
     let up = sym (u .is-up .ensures) ∙ not-false _ (c .before .before .if1 .left) in (
       omega (arith, t .loop-test .taken),
       b .loop .inv .1,
@@ -127,7 +154,7 @@ loop-again-3 c =
     let u = s .before .before .before .before in
     let t = u .before .before in
     let b = t .before in
-    let h : b .loop .i < length (b .before .before .args .state .connections) = omega (arith, t .loop-test .taken) in
+    let h : b .loop .i < length (b .before .before .before .before .before .args .state .connections) = omega (arith, t .loop-test .taken) in
     let up = sym (u .is-up .ensures) ∙ not-false _ (s .before .before .before .if1 .left) in (
       omega (arith, t .loop-test .taken),
       b .loop .inv .1,
@@ -137,7 +164,7 @@ loop-again-3 c =
     )
 
 config-laid-requires-2 : tie.Need-config-laid-requires-2 Inv-loop μ-loop
-config-laid-requires-2 c κs = c .before .before .before .before .before .before .before .before .before .before .pre .1
+config-laid-requires-2 c κs = laid (c .before .before .before .before .before .before .before)
 
 settled-requires : tie.Need-settled-requires Inv-loop μ-loop
 settled-requires c κs = search needs
@@ -160,7 +187,7 @@ loop-again-4 c =
     let u = s .before .before .before .before in
     let t = u .before .before in
     let b = t .before in
-    let h : b .loop .i < length (b .before .before .args .state .connections) = omega (arith, t .loop-test .taken) in
+    let h : b .loop .i < length (b .before .before .before .before .before .args .state .connections) = omega (arith, t .loop-test .taken) in
     let up = sym (u .is-up .ensures) ∙ not-false _ (s .before .before .before .if1 .left) in (
       omega (arith, t .loop-test .taken),
       b .loop .inv .1,
@@ -169,19 +196,29 @@ loop-again-4 c =
       up-mark _ _ _ _ _ _ _ (t .loop-test .taken) h (b .loop .inv .3) (b .loop .inv .4) up,
     )
 
+answer-past-requires : tie.Need-answer-past-requires Inv-loop μ-loop
+answer-past-requires c κs = search needs
+
 returns : tie.Need-returns Inv-loop μ-loop
 returns c =
-    let l = c .before in
-    let a = l .before .before .args in
-    let e : l .loop .i ≡ a .rows = omega arith in
-    marks-whole _ _ _ _ _ _ _ (omega arith) (l .loop .inv .4) ((rw e at (l .loop .inv .3)) ∙ sym (ticks-each (a .image .now) (a .rows) (a .count) (a .state)))
+    let l = c .before .before in
+    let r = l .before in
+    let g = r .before in
+    let a = g .before .before .before .args in
+    let rows = r .rows-past .result in
+    let e : l .loop .i ≡ rows = omega arith in
+    past-whole (by g) (g .ask .result) (g .ask .ensures) rows (r .rows-past .ensures) (a .count) (l .loop .after) (l .loop .i) (l .loop .failed)
+    (omega arith) (l .loop .inv .4) ((rw e at (l .loop .inv .3)) ∙ sym (ticks-each (a .image .now) rows (a .count) (a .state)))
+    (c .answer-past .result) (c .answer-past .ensures)
 
-pub tick-rows-spec : {M : Type 1} → statement M
-tick-rows-spec =
+pub ticks-by-spec : {M : Type 1} → statement M
+ticks-by-spec =
     tie.close
     (tie.spec
     Inv-loop
     μ-loop
+    ask-requires
+    rows-past-requires
     loop-holds
     mul-connection
     element-copy-out-connection
@@ -215,4 +252,5 @@ tick-rows-spec =
     add-i-4
     loop-less-4
     loop-again-4
+    answer-past-requires
     returns)
