@@ -7,12 +7,7 @@ use Rattle.connection.specs.declared.Answer.{Answer}
 use Rattle.connection.specs.declared.Answer.the-variants.{Done, Refused}
 use Rattle.entry_events.specs.declared.CountAnswer.{CountAnswer}
 use Rattle.entry_events.specs.declared.CountAnswer.the-variants.{Count, Refused as Uncounted}
-use Rattle.connection.specs.declared.Config.{Config}
-use Rattle.connection.specs.declared.Connection.{Connection}
 use Rattle.connection.specs.declared.Event.{Event}
-use Rattle.connection.specs.declared.Refusal.{Refusal}
-use Rattle.connection.specs.declared.Stepped.{Stepped}
-use Rattle.connection.specs.Event.{refusedBy, stepOf}
 use Rattle.entry_events.specs.declared.Told.{Told}
 use Rattle.entry_events.specs.declared.Loss.{Loss}
 use Rattle.entry_events.specs.declared.Counted.{Counted}
@@ -21,8 +16,6 @@ use Rattle.entry_events.specs.Module.{switchAllOf}
 use Rattle.entry_events.specs.Count.{readOf, clearOf}
 use Rattle.entry_ticks.specs.declared.Ticked.{Ticked}
 use Rattle.entry_ticks.specs.Tick.{ticksEvent}
-use Rattle.gate.specs.declared.Gate.{Gate}
-use Rattle.gate.specs.Gate.{through}
 use Rattle.gate.specs.Lent.{Loan, sizes}
 use Rattle.event_answer.specs.Answers.{Effect, answers, ifRoom, refusal, doneAlone, doneWith}
 
@@ -48,10 +41,6 @@ ticksBytes (Refused r) failed = refusal r
 abbrev pub countBytes : CountAnswer → List ℕ
 countBytes (Count v) = doneWith 4 v
 countBytes (Uncounted r) = refusal r
-
--- the gate's refusal, which leaves the record; past the gate the event on it
-abbrev pub stepPast : Gate → Config → Connection → Event → Stepped
-stepPast asked g c e = through asked (λ (r : Refusal). refusedBy r c) (stepOf e g c)
 
 -- what each leaves where there is room: the state that its entry point gives, both memories as they were
 abbrev pub toldEffect : Told → List ℕ → List ℕ → List ℕ → Effect

@@ -5,13 +5,9 @@ ghost use lib.ListN.{length};
 ghost use Rattle.wire.specs.Lay.{lay};
 ghost use Rattle.event_answer.specs.Answers.{dispatched};
 ghost use Rattle.dispatch_events.specs.Events as Is;
-ghost use Rattle.state.specs.Fresh.{configOf};
-ghost use Rattle.table_layout.specs.Layout.{Laid};
 ghost use Rattle.gate.specs.Lent.{loan};
 use connection::Answer;
-use connection::Connection;
 use connection::Event;
-use connection::Stepped;
 use connection::failed;
 use entry_events::CountAnswer;
 use event_answer::Dispatched;
@@ -74,22 +70,8 @@ fn put_count(out: &mut [u8], answer: CountAnswer) -> usize
     }
 }
 
-// The gate's refusal, or past the gate the event on the record of connection n.
-fn step_past(asked: Gate, image: &[u8], n: usize, c: Connection, event: Event) -> Stepped
-    requires { ⌜ (asked ≡ Gate.Pass → Laid (now image)) ⌝ }
-    ensures { λ r. ⌜ r ≡ Is.stepPast asked (configOf (now (image .entry)) n) c event ⌝ }
-{
-    match asked {
-        Gate::Refused(reason) => Stepped {
-            answer: Answer::Refused(reason),
-            connection: c,
-        },
-        Gate::Pass => c.step(config_laid(image, n), event),
-    }
-}
-
-// Open, close, connected, set remote, switch, cancel: as `entry_events::happen`, with one copy of the state, in which the record is put
-// back; in a refusal it is the one that stood there.
+// Open, close, connected, set remote, switch, cancel: as `entry_events::happen`, over one copy of the state, in which the record is put
+// back.
 pub fn own(
     image: &[u8],
     state: State,
@@ -110,23 +92,33 @@ pub fn own(
         };
     }
     let n = connection as usize;
-    let k = n % 16;
     let records = state.connections;
     let mut after = State {
         connections: records,
         udp_drops: state.udp_drops,
         tcp_drops: state.tcp_drops,
     };
-    let before = after.connections[k];
     let asked = ask_at(image, after, rx.len(), tx.len(), n);
-    let stepped = step_past(asked, image, n, before, event);
-    let answer = stepped.answer;
-    let next = stepped.connection;
-    after.connections[k] = next;
-    let long = put_told(out, answer);
-    Dispatched {
-        verdict: Verdict::Done(long),
-        state: after,
+    match asked {
+        Gate::Refused(reason) => {
+            let long = put_refusal(out, reason);
+            return Dispatched {
+                verdict: Verdict::Done(long),
+                state: after,
+            };
+        }
+        Gate::Pass => {
+            let before = after.connections[n];
+            let stepped = before.step(config_laid(image, n), event);
+            let answer = stepped.answer;
+            let next = stepped.connection;
+            after.connections[n] = next;
+            let long = put_told(out, answer);
+            return Dispatched {
+                verdict: Verdict::Done(long),
+                state: after,
+            };
+        }
     }
 }
 
@@ -149,24 +141,34 @@ pub fn lost(
         };
     }
     let n = connection as usize;
-    let k = n % 16;
     let records = state.connections;
     let mut after = State {
         connections: records,
         udp_drops: state.udp_drops,
         tcp_drops: state.tcp_drops,
     };
-    let before = after.connections[k];
     let asked = ask_at(image, after, rx.len(), tx.len(), n);
-    let stepped = step_past(asked, image, n, before, Event::Lost);
-    let answer = stepped.answer;
-    let next = stepped.connection;
-    after.connections[k] = next;
-    let now = after.connections[k];
-    let long = put_loss(out, answer, failed(before, now));
-    Dispatched {
-        verdict: Verdict::Done(long),
-        state: after,
+    match asked {
+        Gate::Refused(reason) => {
+            let long = put_refusal(out, reason);
+            return Dispatched {
+                verdict: Verdict::Done(long),
+                state: after,
+            };
+        }
+        Gate::Pass => {
+            let before = after.connections[n];
+            let stepped = before.step(config_laid(image, n), Event::Lost);
+            let answer = stepped.answer;
+            let next = stepped.connection;
+            after.connections[n] = next;
+            let now = after.connections[n];
+            let long = put_loss(out, answer, failed(before, now));
+            return Dispatched {
+                verdict: Verdict::Done(long),
+                state: after,
+            };
+        }
     }
 }
 
@@ -187,7 +189,7 @@ pub fn many_ticks(
             state: state,
         };
     }
-    let entry = entry_ticks::ticks(image, state, rx, tx, count);
+    let entry = entry_ticks::ticks_by(image, state, rx.len(), tx.len(), count);
     let answer = entry.answer;
     let after = entry.state;
     let n = put_ticks(out, answer, entry.failed);

@@ -79,7 +79,7 @@ pub fn datagram(
             state: state,
         };
     }
-    let entry = entry_arrivals::datagram(image, state, rx, tx, group, source);
+    let entry = entry_arrivals::arrive(image, state, rx.len(), tx.len(), false, group, source);
     let answer = entry.answer;
     let after = entry.state;
     let n = put_arrival(out, answer);
@@ -108,7 +108,7 @@ pub fn accept(
             state: state,
         };
     }
-    let entry = entry_arrivals::accept(image, state, rx, tx, group, source);
+    let entry = entry_arrivals::arrive(image, state, rx.len(), tx.len(), true, group, source);
     let answer = entry.answer;
     let after = entry.state;
     let n = put_arrival(out, answer);

@@ -23,9 +23,9 @@ fn past(asked: Gate, image: &[u8], accept: bool, group: u8, source: Remote) -> A
     }
 }
 
-// The state is taken apart once, into the copy that the gate is lent, the search goes over and the record is replaced in; where nobody is
-// met the same record is put back, so that there is one way out, and one copy.
-fn arrive(
+// Either of them, by the lengths of both memories. The state is taken apart once, into the copy that the gate is lent, the search goes over
+// and the record is replaced in; where nobody is met the same record is put back, so that there is one way out, and one copy.
+pub fn arrive(
     image: &[u8],
     state: State,
     rx: usize,

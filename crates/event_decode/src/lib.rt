@@ -116,10 +116,20 @@ pub fn remote_in(s: &[u8]) -> Remote
     }
 }
 
+// The address of a body that has one behind its connection or group.
+fn remote_of(body: &[u8]) -> Remote
+    ensures { λ r. ⌜ r ≡ Is.remoteIn (Is.bytesFrom (now (body .entry)) 2) ⌝ }
+{
+    remote_in(bytes_from(body, 2))
+}
+
 fn is_addressed(body: &[u8]) -> bool
     ensures { λ r. ⌜ r ≡ Is.addressed (now (body .entry)) ⌝ }
 {
-    is_plain(body, 21) & is_address(bytes_from(body, 2))
+    if !is_plain(body, 21) {
+        return false;
+    }
+    is_address(bytes_from(body, 2))
 }
 
 fn is_positioned(body: &[u8], n: usize, at: usize) -> bool
@@ -129,6 +139,13 @@ fn is_positioned(body: &[u8], n: usize, at: usize) -> bool
 }
 
 // ---- the call
+
+// What a body names behind its party: a connection, a group, a switch or a protocol.
+fn named(body: &[u8]) -> u8
+    ensures { λ r. ⌜ r ≡ be 1 (now (body .entry)) 1 ⌝ }
+{
+    one_byte(body, 1)
+}
 
 fn fitted(fits: bool, call: Call) -> Call
     ensures { λ r. ⌜ r ≡ Is.fitted fits call ⌝ }
@@ -146,20 +163,22 @@ fn own(connection: u8, event: Event) -> Call
 pub fn call_of(number: u16, body: &[u8]) -> Call
     ensures { λ r. ⌜ r ≡ Is.callOf number (now (body .entry)) ⌝ }
 {
-    let first = one_byte(body, 1);
-    let word = four_bytes(body, 2);
-    let remote = remote_in(bytes_from(body, 2));
     match number {
         0 => fitted(body.len() == 4, Call::Ticks(four_bytes(body, 0))),
-        1 => fitted(is_plain(body, 2), own(first, Event::Open)),
-        2 => fitted(is_plain(body, 2), own(first, Event::Close)),
-        3 => fitted(is_plain(body, 2), own(first, Event::Connected)),
-        4 => fitted(is_plain(body, 2), Call::Lost(first)),
-        5 => fitted(is_addressed(body), own(first, Event::SetRemote(remote))),
+        1 => fitted(is_plain(body, 2), own(named(body), Event::Open)),
+        2 => fitted(is_plain(body, 2), own(named(body), Event::Close)),
+        3 => fitted(is_plain(body, 2), own(named(body), Event::Connected)),
+        4 => fitted(is_plain(body, 2), Call::Lost(named(body))),
+        5 => {
+            if !is_addressed(body) {
+                return Call::Unfit;
+            }
+            own(named(body), Event::SetRemote(remote_of(body)))
+        }
         6 => fitted(
             is_positioned(body, 4, 3),
             own(
-                first,
+                named(body),
                 Event::Switch {
                     number: one_byte(body, 2),
                     on: be8(body, 3) == 1,
@@ -169,39 +188,43 @@ pub fn call_of(number: u16, body: &[u8]) -> Call
         7 => fitted(
             is_counted(body, 2),
             Call::Segment {
-                connection: first,
+                connection: named(body),
                 at: 6,
             },
         ),
         8 => fitted(
             is_counted(body, 6),
             Call::Walk {
-                connection: first,
-                place: word,
+                connection: named(body),
+                place: four_bytes(body, 2),
                 at: 10,
             },
         ),
         9 => fitted(
             is_plain(body, 6),
             Call::TakeWaiting {
-                connection: first,
-                room: word,
+                connection: named(body),
+                room: four_bytes(body, 2),
             },
         ),
-        10 => fitted(
-            is_addressed(body),
+        10 => {
+            if !is_addressed(body) {
+                return Call::Unfit;
+            }
             Call::Datagram {
-                group: first,
-                source: remote,
-            },
-        ),
-        11 => fitted(
-            is_addressed(body),
+                group: named(body),
+                source: remote_of(body),
+            }
+        }
+        11 => {
+            if !is_addressed(body) {
+                return Call::Unfit;
+            }
             Call::Accept {
-                group: first,
-                source: remote,
-            },
-        ),
+                group: named(body),
+                source: remote_of(body),
+            }
+        }
         12 => fitted(
             is_counted(body, 3),
             Call::Transmit {
@@ -212,13 +235,13 @@ pub fn call_of(number: u16, body: &[u8]) -> Call
         13 => fitted(
             is_positioned(body, 3, 2),
             Call::SwitchAll {
-                number: first,
+                number: named(body),
                 on: be8(body, 2) == 1,
             },
         ),
-        14 => fitted(is_plain(body, 2), Call::ReadCount(first)),
-        15 => fitted(is_plain(body, 2), Call::ClearCount(first)),
-        16 => fitted(is_plain(body, 2), own(first, Event::Cancel)),
+        14 => fitted(is_plain(body, 2), Call::ReadCount(named(body))),
+        15 => fitted(is_plain(body, 2), Call::ClearCount(named(body))),
+        16 => fitted(is_plain(body, 2), own(named(body), Event::Cancel)),
         _ => Call::Unknown,
     }
 }

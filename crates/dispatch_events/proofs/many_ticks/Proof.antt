@@ -11,8 +11,8 @@ returns : tie.Need-returns
 unfolding ticksEffect
 returns c = refuses _ _ _ _ _ (c .if1 .taken)
 
-ticks-requires : tie.Need-ticks-requires
-ticks-requires c κs = search needs
+ticks-by-requires : tie.Need-ticks-by-requires
+ticks-by-requires c κs = search needs
 
 put-ticks-requires : tie.Need-put-ticks-requires
 put-ticks-requires c κs = search needs
@@ -25,10 +25,10 @@ unfolding ticksEffect
 returns-2 c =
     let i = c .before .before .before .before .before .before in
     let a = i .before .before .before .before .before .args in
-    let h = c .before .before .before .before .before .ticks .ensures in
+    let h = c .before .before .before .before .before .ticks-by .ensures in
     let p = c .before .before .put-ticks .ensures in
     replies (a .state) (a .rx .now) (a .tx .now) (a .out .now) (i .if1 .left) (p .0) (p .1) (ap (λ (t : Ticked). ticksBytes (t .answer) (t .failed)) h)
     (ap (λ (t : Ticked). t .state) h)
 
 pub many-ticks-spec : {M : Type 1} → statement M
-many-ticks-spec = tie.close (tie.spec returns ticks-requires put-ticks-requires same-length returns-2)
+many-ticks-spec = tie.close (tie.spec returns ticks-by-requires put-ticks-requires same-length returns-2)

@@ -11,8 +11,8 @@ returns : tie.Need-returns
 unfolding acceptEffect
 returns c = refuses _ _ _ _ _ (c .if1 .taken)
 
-accept-requires : tie.Need-accept-requires
-accept-requires c κs = search needs
+arrive-requires : tie.Need-arrive-requires
+arrive-requires c κs = search needs
 
 put-arrival-requires : tie.Need-put-arrival-requires
 put-arrival-requires c κs = search needs
@@ -25,10 +25,10 @@ unfolding acceptEffect
 returns-2 c =
     let i = c .before .before .before .before .before .before in
     let a = i .before .before .before .before .before .args in
-    let h = c .before .before .before .before .before .accept .ensures in
+    let h = c .before .before .before .before .before .arrive .ensures in
     let p = c .before .before .put-arrival .ensures in
     replies (a .state) (a .rx .now) (a .tx .now) (a .out .now) (i .if1 .left) (p .0) (p .1) (ap (λ (t : Arrived). arrivalBytes (t .answer)) h)
     (ap (λ (t : Arrived). t .state) h)
 
 pub accept-spec : {M : Type 1} → statement M
-accept-spec = tie.close (tie.spec returns accept-requires put-arrival-requires same-length returns-2)
+accept-spec = tie.close (tie.spec returns arrive-requires put-arrival-requires same-length returns-2)
