@@ -14,15 +14,13 @@
 //   what 6  a take of what waits on the connection, `used` bytes each time
 //   what 7  a tick
 //   what 8  a datagram for the group of the connection, from its configured remote
-//   what 9  an event through the dispatcher: the PDU is its number, the bytes are its body
 //   what 10 a take of the bytes that is to drop a header; what 11 a take of no bytes
-//   what 12 a round of `used` events, four at most, through the dispatcher, one in each turn: the bytes are of each 28, its number 2, the
-//           length of its body 2, and the body
-//   what 13 a replay of the bytes as a recording, each entry three ticks after the one before
+//   what 12 an event through the dispatcher: without `used` the PDU is its number, and the bytes are its body; else a round of `used` events,
+//           four at most, one in each turn: the bytes are of each 28, its number 2, the length of its body 2, and the body. The number
+//           65,535 is none, with a body of two bytes
 //   what 14 a take of the bytes inside a transfer of 4,294,967,295 bytes on the connection, on the route that the PDU's number names
 //   what 15 so many ticks as the first four bytes say, and before each call every connection is online with ten bytes to send, its timer at
 //           65,535 ticks and its alive timer at its row's limit (the remotes of the table have no wildcard)
-//   what 16 what 13 does, each entry counted for the foreman's report
 //   what 17 a switch of the connection; 18 a switch on all connections; 19 a read of the UDP count that clears it
 //   what 20 lost; 21 connected; 22 accept; 23 set remote; 25 close; 26 open: of the connection
 //   what 24 so many ticks as the first four bytes say
@@ -33,14 +31,14 @@
 // Last word: OK when every call did what it names, REFUSED when one did not, CUT when the input is not what it says.
 mod once;
 mod own;
-mod up;
 
-use input::read_part;
-use libc::STDOUT_FILENO;
+use bench_start::read_input;
+use bench_start::say;
+use bench_start::say_cut;
+use bench_start::start;
 use once::in_turn;
 use once::once;
 use pieces::front;
-use up::start;
 use wire::be8;
 use wire::be16;
 use wire::be32;
@@ -113,28 +111,19 @@ fn run_front(head: &[u8], buffer: &mut [u8], long: usize, bytes: &[u8]) -> bool 
     false
 }
 
-fn say(done: bool) {
-    if done {
-        io::write_all(STDOUT_FILENO, b"OK\n");
-        return;
-    }
-    io::write_all(STDOUT_FILENO, b"REFUSED\n");
-}
-
 fn main() {
     let mut head = [0u8; 16];
     let mut image = [0u8; 2356];
     let mut bytes = [0u8; 2944];
-    let headed = read_part(&mut head, 0, 16);
-    let long = be16(&head, 12);
-    let n = be16(&head, 14);
-    let tabled = read_part(&mut image, 0, long);
-    let given = read_part(&mut bytes, 0, n);
-    let whole = (headed == 16) & (tabled == long) & (given == n);
-    if !whole {
-        io::write_all(STDOUT_FILENO, b"CUT\n");
+    if !read_input(&mut head, &mut image, &mut bytes) {
+        say_cut();
         return;
     }
-    let done = run_front(&head, &mut image, long, front(&bytes, n));
+    let done = run_front(
+        &head,
+        &mut image,
+        be16(&head, 12),
+        front(&bytes, be16(&head, 14)),
+    );
     say(done);
 }

@@ -1,31 +1,16 @@
 // One call of an entry point, by what it is (main.rt lists them), with the state as the next call is to find it.
 use crate::own;
-use crate::up::wound;
+use bench_start::Turn;
+use bench_start::wound;
 use connection::Answer;
 use entry_events::CountAnswer;
 use entry_receive::segment_take;
 use entry_receive::walk_datagram;
 use event_answer::Verdict;
 use event_decode::bytes_from;
-use pieces::after;
 use pieces::front;
 use receive_part::Part;
 use receive_stream::Outcome;
-use recording::Front;
-use recording::arguments_in;
-use recording::body_long;
-use recording::entries_in;
-use recording::entry_row;
-use recording::front_of;
-use recording::number_in;
-use recording::stamp_in;
-use replay_step::Played;
-use replay_step::Step;
-use replay_step::replay_step;
-use report_count::Run;
-use report_count::begin;
-use report_count::count;
-use report_count::takes_in;
 use send::Transmission;
 use send_waiting::Taking;
 use send_waiting::waiting_of;
@@ -33,12 +18,6 @@ use state::State;
 use wire::be8;
 use wire::be16;
 use wire::be32;
-
-// Whether the call did what it names, and the state for the next.
-pub struct Turn {
-    pub state: State,
-    pub done: bool,
-}
 
 fn gate_alone(image: &[u8], state: State, rx: &[u8], tx: &[u8]) -> Turn {
     let counted = entry_events::read_count(image, state, rx, tx, 1);
@@ -317,150 +296,40 @@ fn slot_at(turn: u32, count: u16) -> usize {
     }
 }
 
-// The event whose turn it is, each in a slot as its number 2, a length 2 and a body, through the dispatcher; without a slot nothing.
+// The event of a turn: without slots the PDU's number with all bytes for its body, else that of the slot whose turn it is, each a number 2,
+// a length 2 and a body.
+fn number_in_turn(turn: u32, count: u16, pdu: u16, bytes: &[u8]) -> u16 {
+    if count == 0 {
+        return pdu;
+    }
+    be16(bytes, slot_at(turn, count)) as u16
+}
+
+fn body_in_turn(turn: u32, count: u16, bytes: &[u8]) -> &[u8] {
+    if count == 0 {
+        return bytes;
+    }
+    let slot = bytes_from(bytes, slot_at(turn, count));
+    front(bytes_from(slot, 4), be16(slot, 2))
+}
+
+// An event through the dispatcher. The number 65,535 is none: what a turn does besides the call, by a body of two bytes.
 fn event_of(
     image: &[u8],
     state: State,
     rx: &mut [u8],
     tx: &mut [u8],
     out: &mut [u8],
-    turn: u32,
-    count: u16,
-    slots: &[u8],
+    number: u16,
+    body: &[u8],
 ) -> Turn {
-    if count == 0 {
+    if number == 65535 {
         return Turn {
-            done: true,
+            done: body.len() == 2,
             state: state,
         };
     }
-    let slot = bytes_from(slots, slot_at(turn, count));
-    let body = front(bytes_from(slot, 4), be16(slot, 2));
-    dispatched(image, state, rx, tx, out, be16(slot, 0) as u16, body)
-}
-
-// ---- a replay
-
-fn is_same(played: Played) -> bool {
-    if let Played::Same(_) = played {
-        true
-    } else {
-        false
-    }
-}
-
-// Entry i, from 0, whose body begins at a place, three ticks after the one before.
-fn replayed_entry(
-    image: &[u8],
-    state: State,
-    rx: &mut [u8],
-    tx: &mut [u8],
-    out: &mut [u8],
-    recording: &[u8],
-    i: u16,
-    at: usize,
-) -> Step {
-    let row = entry_row(recording, i);
-    let rest = bytes_from(recording, at);
-    let before = std::num::wrapping_sub_u32(stamp_in(row), 3);
-    replay_step(image, state, rx, tx, before, row, rest, out)
-}
-
-fn is_sized(recording: &[u8]) -> bool {
-    if let Front::Sized = front_of(recording) {
-        true
-    } else {
-        false
-    }
-}
-
-// Where the body behind that of an entry begins.
-fn body_after(recording: &[u8], i: u16, at: usize) -> usize {
-    after(recording.len(), at, body_long(entry_row(recording, i)))
-}
-
-// The entries of a recording; whether each answer is the recorded one.
-fn replayed(
-    image: &[u8],
-    state: State,
-    rx: &mut [u8],
-    tx: &mut [u8],
-    out: &mut [u8],
-    recording: &[u8],
-) -> Turn {
-    let count = entries_in(recording);
-    let mut now = state;
-    let mut all = is_sized(recording);
-    let mut at = 4 + count as usize * 12;
-    let mut i: u16 = 0;
-    while i < count {
-        let this = i;
-        i += 1;
-        let step = replayed_entry(image, now, rx, tx, out, recording, this, at);
-        let played = step.played;
-        now = step.state;
-        all = all & is_same(played);
-        at = body_after(recording, this, at);
-    }
-    Turn {
-        done: all,
-        state: now,
-    }
-}
-
-fn written(played: Played) -> usize {
-    match played {
-        Played::Same(long) => long,
-        Played::Differs(long) => long,
-        Played::Cut => 0,
-        Played::Refused(_) => 0,
-        Played::Small => 0,
-    }
-}
-
-// The report after an entry, out of its arguments, which begin a part of the recording, and today's answer.
-fn run_after(run: Run, recording: &[u8], i: u16, at: usize, played: Played, out: &[u8]) -> Run {
-    let number = number_in(entry_row(recording, i));
-    count(
-        run,
-        number,
-        arguments_in(number, bytes_from(recording, at)),
-        front(out, written(played)),
-    )
-}
-
-// `replayed`, counted.
-fn counted(
-    image: &[u8],
-    state: State,
-    rx: &mut [u8],
-    tx: &mut [u8],
-    out: &mut [u8],
-    recording: &[u8],
-) -> Turn {
-    let count = entries_in(recording);
-    let mut now = state;
-    let mut run = begin();
-    let mut all = is_sized(recording);
-    let mut at = 4 + count as usize * 12;
-    let mut i: u16 = 0;
-    while i < count {
-        let this = i;
-        i += 1;
-        let step = replayed_entry(image, now, rx, tx, out, recording, this, at);
-        let played = step.played;
-        now = step.state;
-        let number = number_in(entry_row(recording, this));
-        if takes_in(number, front(out, written(played))) != 0 {
-            run = run_after(run, recording, this, at, played, out);
-        }
-        all = all & is_same(played);
-        at = body_after(recording, this, at);
-    }
-    Turn {
-        done: all & run.fits,
-        state: now,
-    }
+    dispatched(image, state, rx, tx, out, number, body)
 }
 
 // Which call's turn it is, of a round: lost, connected; lost, accept; lost, set remote, connected; close, tick, open, tick. What is no round is
@@ -513,14 +382,19 @@ pub fn once(
         6 => take_waiting(image, state, rx, tx, out, connection, used),
         7 => tick(image, state, rx, tx),
         8 => own::arrive(image, state, rx, tx, connection),
-        9 => dispatched(image, state, rx, tx, out, pdu, bytes),
         10 => take(image, state, rx, tx, connection, bytes, 2),
         11 => take(image, state, rx, tx, connection, front(bytes, 0), 0),
-        12 => event_of(image, state, rx, tx, out, turn, used, bytes),
-        13 => replayed(image, state, rx, tx, out, bytes),
+        12 => event_of(
+            image,
+            state,
+            rx,
+            tx,
+            out,
+            number_in_turn(turn, used, pdu, bytes),
+            body_in_turn(turn, used, bytes),
+        ),
         14 => take_piece(image, state, rx, tx, connection, pdu, bytes),
         15 => own::ticks_wound(image, state, rx, tx, be32(bytes, 0) as u32),
-        16 => counted(image, state, rx, tx, out, bytes),
         17 => own::switch(image, state, rx, tx, connection),
         18 => own::switch_all(image, state, rx, tx),
         19 => own::clear(image, state, rx, tx),

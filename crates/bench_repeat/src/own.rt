@@ -1,7 +1,7 @@
 // Calls of the entry points of arrivals, of record events, of switches, counts and many ticks, by what they are (main.rt lists them). Each
 // leaves a state that the next call of it, or of a round, may begin from.
-use crate::once::Turn;
-use crate::up::wound;
+use bench_start::Turn;
+use bench_start::wound;
 use connection::Answer;
 use connection::Remote;
 use entry_events::CountAnswer;

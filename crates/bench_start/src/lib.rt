@@ -1,11 +1,47 @@
-// The state before the first call: each connection opened, a tick, each connected; where it is to be busy, each holds bytes to send.
+// What the programs of the bench share: their standard input, the state before the first call, and what a turn of their loop gives. Each
+// connection is opened, ticked once and connected; where it is to be busy, each holds bytes to send.
 use connection::Event;
 use connection::Watch;
+use input::read_part;
+use libc::STDOUT_FILENO;
 use state::State;
 use state::fresh_state;
 use table_layout::Kind;
 use table_layout::rows_of;
 use table_rows::connection_row;
+use wire::be16;
+
+// Whether the call did what it names, and the state for the next.
+pub struct Turn {
+    pub state: State,
+    pub done: bool,
+}
+
+// ---- the input
+
+// Head, image and bytes, as the head says how long they are; whether all are there.
+pub fn read_input(head: &mut [u8], image: &mut [u8], bytes: &mut [u8]) -> bool {
+    let headed = read_part(head, 0, 16);
+    let long = be16(head, 12);
+    let n = be16(head, 14);
+    let tabled = read_part(image, 0, long);
+    let given = read_part(bytes, 0, n);
+    (headed == 16) & (tabled == long) & (given == n)
+}
+
+pub fn say_cut() {
+    io::write_all(STDOUT_FILENO, b"CUT\n");
+}
+
+pub fn say(done: bool) {
+    if done {
+        io::write_all(STDOUT_FILENO, b"OK\n");
+        return;
+    }
+    io::write_all(STDOUT_FILENO, b"REFUSED\n");
+}
+
+// ---- the state
 
 // An event on each connection.
 fn each(image: &[u8], state: State, rx: &[u8], tx: &[u8], event: Event) -> State {

@@ -1,11 +1,11 @@
--- `bench_repeat::once::counted` meets its contract.
+-- `bench_replay::counted` meets its contract.
 use Prim.Native.Nat.{_-_}
 use mathlib.Core.Path.{_≡_, refl}
 use lib.ListN.{length}
 use native.Mathlib.Omega.{arith}
 use borrow.Author.Needs.{needs}
-use Rattle.bench_repeat.proofs.once.counted.Statement.{statement}
-use Rattle.bench_repeat.proofs.once.counted.Tie as tie
+use Rattle.bench_replay.proofs.counted.Statement.{statement}
+use Rattle.bench_replay.proofs.counted.Tie as tie
 
 abbrev Inv-loop : tie.InvT-loop
 Inv-loop image rx₀ tx₀ out₀ recording count now₀ run₀ all₀ at₀ i₀ rx tx out now run all at i =

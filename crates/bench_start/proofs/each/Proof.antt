@@ -1,21 +1,21 @@
--- `bench_repeat::up::busy` meets its contract.
+-- `bench_start::each` meets its contract.
 use Prim.Native.Nat.{_-_, _≤_}
 use native.Mathlib.Omega.{arith}
 use borrow.Author.Needs.{needs}
-use Rattle.bench_repeat.proofs.up.busy.Statement.{statement}
-use Rattle.bench_repeat.proofs.up.busy.Tie as tie
+use Rattle.bench_start.proofs.each.Statement.{statement}
+use Rattle.bench_start.proofs.each.Tie as tie
 
 abbrev Inv-loop : tie.InvT-loop
-Inv-loop rows next₀ i₀ next i = i ≤ 16
+Inv-loop image rx tx event next₀ i₀ next i = i ≤ 16
 
 abbrev μ-loop : tie.MeasureT-loop
-μ-loop rows next₀ i₀ next i = 16 - i
+μ-loop image rx tx event next₀ i₀ next i = 16 - i
 
 loop-holds : tie.Need-loop-holds Inv-loop μ-loop
 loop-holds c = omega arith
 
-busied-requires : tie.Need-busied-requires Inv-loop μ-loop
-busied-requires c κs = search needs
+happen-requires : tie.Need-happen-requires Inv-loop μ-loop
+happen-requires c κs = search needs
 
 add-i : tie.Need-add-i Inv-loop μ-loop
 add-i c = omega arith
@@ -29,7 +29,7 @@ loop-again c = omega arith
 returns : tie.Need-returns Inv-loop μ-loop
 returns c = search needs
 
-pub busy-spec : {M : Type 1} → statement M
-busy-spec =
+pub each-spec : {M : Type 1} → statement M
+each-spec =
     tie.close
-    (tie.spec Inv-loop μ-loop loop-holds busied-requires add-i loop-less loop-again returns)
+    (tie.spec Inv-loop μ-loop loop-holds happen-requires add-i loop-less loop-again returns)

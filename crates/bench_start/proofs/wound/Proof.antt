@@ -1,9 +1,9 @@
--- `bench_repeat::up::wound` meets its contract.
+-- `bench_start::wound` meets its contract.
 use Prim.Native.Nat.{_-_, _≤_}
 use native.Mathlib.Omega.{arith}
 use borrow.Author.Needs.{needs}
-use Rattle.bench_repeat.proofs.up.wound.Statement.{statement}
-use Rattle.bench_repeat.proofs.up.wound.Tie as tie
+use Rattle.bench_start.proofs.wound.Statement.{statement}
+use Rattle.bench_start.proofs.wound.Tie as tie
 
 abbrev Inv-loop : tie.InvT-loop
 Inv-loop image rows next₀ i₀ next i = i ≤ 16
