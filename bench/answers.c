@@ -76,11 +76,12 @@ int main(void)
     while (at < length) {
         unsigned event = be16(input + at);
         const uint8_t *body = input + at + 8;
-        at += 8 + be32(input + at + 4);
+        size_t size = be32(input + at + 4);
+        at += 8 + size;
         if (event == 65535)
             start_from(body);
         else
-            put_hex(out, twin_event(&lent, event, body, out));
+            put_hex(out, twin_dispatch(&lent, event, body, size, out, sizeof out));
     }
     for (size_t i = 0; i < 16; i++)
         print_record(&state.connections[i]);

@@ -1,4 +1,4 @@
-/* dispatch.c: an event by its number, with a body that fits it, and its answer written out: docs/EVENTS.md. */
+/* dispatch.c: an event by its number and its body, and its answer written out: docs/EVENTS.md. */
 #include "events.h"
 #include "system.h"
 #include "table.h"
@@ -114,4 +114,53 @@ size_t twin_event(const struct lent *lent, unsigned number, const uint8_t *body,
     default:
         die("twin_event: there is no such event");
     }
+}
+
+/* ---- when a body fits its event */
+
+static bool is_plain(const uint8_t *body, size_t length, size_t n)
+{
+    return length == n && body[0] == 0;
+}
+
+/* The length before the bytes that end the body, at a place. */
+static bool is_counted(const uint8_t *body, size_t length, size_t at)
+{
+    return length >= at + 4 && length <= 4096 && body[0] == 0 && be32(body + at) + at + 4 == length;
+}
+
+static bool is_addressed(const uint8_t *body, size_t length)
+{
+    return is_plain(body, length, 21) && body[2] == 4 && (word(body + 3) | word(body + 7) | word(body + 11)) == 0;
+}
+
+static bool fits(unsigned number, const uint8_t *body, size_t length)
+{
+    switch (number) {
+    case 0:
+        return length == 4;
+    case 5:
+    case 10:
+    case 11:
+        return is_addressed(body, length);
+    case 6:
+        return is_plain(body, length, 4) && body[3] <= 1;
+    case 7:
+        return is_counted(body, length, 2);
+    case 8:
+        return is_counted(body, length, 6);
+    case 9:
+        return is_plain(body, length, 6);
+    case 12:
+        return is_counted(body, length, 3);
+    case 13:
+        return is_plain(body, length, 3) && body[2] <= 1;
+    default:
+        return number <= 16 && is_plain(body, length, 2);
+    }
+}
+
+size_t twin_dispatch(const struct lent *lent, unsigned number, const uint8_t *body, size_t length, uint8_t *out, size_t room)
+{
+    return room >= 16384 && fits(number, body, length) ? twin_event(lent, number, body, out) : 0;
 }

@@ -82,6 +82,9 @@ uint32_t twin_datagram(const struct lent *lent, uint8_t group, struct remote sou
 uint32_t twin_accept(const struct lent *lent, uint8_t group, struct remote source, uint8_t *met);
 /* An event by its number, with a body that fits it (docs/EVENTS.md); its answer and that answer's length, the same way. */
 size_t twin_event(const struct lent *lent, unsigned number, const uint8_t *body, uint8_t *out);
+/* The same of any number and any body: 0, and nothing changes, where there is no such event, the body does not fit it, or the out buffer is
+ * shorter than 16,384 bytes. */
+size_t twin_dispatch(const struct lent *lent, unsigned number, const uint8_t *body, size_t length, uint8_t *out, size_t room);
 /* The foreman's report of one run: per route PDUs, bytes, smallest and largest length, per connection drops 20 to 24; the length of each running
  * transfer; whether every sum was made. */
 struct figures {

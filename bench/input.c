@@ -1,4 +1,4 @@
-/* input.c: writes the standard input of `repeat` (crates/bench_repeat, and repeat.c here).
+/* input.c: writes the standard input of `repeat` (crates/bench_repeat and crates/bench_replay, and repeat.c here).
  *
  *   input WHAT QUARTERS LENGTH TIMES     a table with QUARTERS/4 of the most rows, a payload of LENGTH bytes, TIMES calls of WHAT
  *
@@ -7,7 +7,7 @@
  * a table whose groups are all TCP, with the first, the middle or the last row for its route; none: the same with an id that no row
  * has, and no payload; empty: a take of no bytes there; switch, all, clear, lost, accept, remote, close: events through the dispatcher, in
  * rounds that leave the state as they find it (lost, connected; lost, accept; lost, set remote, connected; close, tick, open, tick), one
- * event a call; idle: none of them; piece: a take of LENGTH bytes inside a transfer; begun: what it does besides the call; replay: the recording of ten
+ * event a call; idle0, idle, idle2, idle3, idle4: none, without a slot and out of so many; piece: a take of LENGTH bytes inside a transfer; begun: what it does besides the call; replay: the recording of ten
  * events, answers and all (shift.h); tally: the same, counted for the foreman's report;
  * wound: LENGTH ticks before which every timer is started, under a table with alive limits; wind: what it does besides the call;
  * own-switch to own-close, own-ticks: what the words behind `own-` name, by calls of the entry points and not of the dispatcher.
@@ -22,16 +22,16 @@ extern int strcmp(const char *one, const char *other);
 
 static const char *const names[] = {"nothing", "gate",    "take",  "cut",     "walk",    "transmit", "waiting", "tick", "datagram",
                                     "segment", "ticks",   "first", "middle",  "last",    "none",     "empty",   "emptied", "holding",
-                                    "switch",  "all",     "clear", "lost",    "accept",  "remote",   "close",   "idle",
+                                    "switch",  "all",     "clear", "lost",    "accept",  "remote",   "close",   "idle0",   "idle",  "idle2", "idle3", "idle4",
                                     "replay",  "tally",   "piece", "begun",   "wound",   "wind",
                                     "own-switch", "own-all", "own-clear", "own-lost", "own-accept", "own-remote", "own-close", "own-ticks"};
 enum {
     NOTHING, GATE, TAKE, CUT, WALK, TRANSMIT, WAITING, TICK, DATAGRAM, SEGMENT, TICKS, FIRST, MIDDLE, LAST, NONE, EMPTY, EMPTIED, HOLDING,
-    SWITCH, ALL, CLEAR, LOST, ACCEPT, REMOTE, CLOSE, IDLE, REPLAY, TALLY, PIECE, BEGUN, WOUND, WIND,
+    SWITCH, ALL, CLEAR, LOST, ACCEPT, REMOTE, CLOSE, IDLE0, IDLE, IDLE2, IDLE3, IDLE4, REPLAY, TALLY, PIECE, BEGUN, WOUND, WIND,
     OWN_SWITCH, OWN_ALL, OWN_CLEAR, OWN_LOST, OWN_ACCEPT, OWN_REMOTE, OWN_CLOSE, OWN_TICKS, WHATS
 };
-static const uint8_t numbers[] = {0, 1, 2, 3, 4, 5, 6, 7, 8, 9, 9, 2, 2, 2, 10, 11, 69, 70, 12, 12, 12, 12, 12, 12, 12, 12, 13, 16, 14, 71, 15, 72, 17, 18, 19, 32, 33, 34, 35, 24};
-enum { EVENT_TICKS = 0, EVENT_SEGMENT = 7, PDU_BYTES = 10, SLOT = 28, BUSY = 128 };
+static const uint8_t numbers[] = {0, 1, 2, 3, 4, 5, 6, 7, 8, 12, 12, 2, 2, 2, 10, 11, 69, 70, 12, 12, 12, 12, 12, 12, 12, 12, 12, 12, 12, 12, 13, 16, 14, 71, 15, 72, 17, 18, 19, 32, 33, 34, 35, 24};
+enum { EVENT_TICKS = 0, EVENT_SEGMENT = 7, NO_EVENT = 65535, PDU_BYTES = 10, SLOT = 28, BUSY = 128 };
 
 static uint8_t head[16], bytes[2944];
 
@@ -110,7 +110,9 @@ static unsigned add_events(unsigned what, unsigned connection, unsigned group)
         at = add_tick(add_event(at, 2, connection, on, 0));
         return add_tick(add_event(at, 1, connection, on, 0));
     default:
-        return 0;
+        while (at < what - IDLE0)
+            at = add_event(at, NO_EVENT, connection, on, 0);
+        return at;
     }
 }
 
@@ -151,16 +153,16 @@ int main(int count, char **words)
         set(image + 36 + 2 * (2 * quarters) + 16 * i + 10, 30000 + 1000 * i, 2);
     if (what == TICKS || what == WOUND || what == OWN_TICKS)
         set(bytes, length, given = 4);
-    unsigned used = length;
-    if (what >= SWITCH && what <= IDLE) {
+    unsigned used = what == SEGMENT || what == TICKS ? 0 : length;
+    if (what >= SWITCH && what <= IDLE4) {
         used = add_events(what, connection, connection % (2 * quarters));
-        given = used * SLOT;
+        given = what == IDLE0 ? 2 : used * SLOT;
     }
     if (what == REPLAY || what == TALLY)
         given = make_shift(bytes, quarters);
     set(head, numbers[what] + (name != words[1] ? BUSY : 0), 1);
     set(head + 1, connection, 1);
-    set(head + 2, what == SEGMENT ? EVENT_SEGMENT : what == TICKS ? EVENT_TICKS : what == PIECE || what == BEGUN ? route : 8 * quarters - 1, 2);
+    set(head + 2, what == SEGMENT ? EVENT_SEGMENT : what == TICKS ? EVENT_TICKS : what == IDLE0 ? NO_EVENT : what == PIECE || what == BEGUN ? route : 8 * quarters - 1, 2);
     set(head + 4, (uint64_t)atoi(words[4]), 4);
     set(head + 8, 36 + 2 * (2 * quarters) + 16 * (4 * quarters) + 9, 2); /* the first route's upper PDU */
     set(head + 10, used, 2);

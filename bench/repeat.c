@@ -1,4 +1,4 @@
-/* repeat.c: what crates/bench_repeat does, over the C twins: the same standard input, the same last words. */
+/* repeat.c: what crates/bench_repeat and crates/bench_replay do, over the C twins: the same standard input, the same last words. */
 #include "events.h"
 #include "system.h"
 
@@ -82,9 +82,9 @@ static bool arrive(uint8_t connection)
     return twin_datagram(&lent, row[0], source, &met) == 0 && met == connection;
 }
 
-static bool dispatched(size_t event, const uint8_t *body)
+static bool dispatched(size_t event, const uint8_t *body, size_t n)
 {
-    return twin_event(&lent, (unsigned)event, body, out) > 1 && out[0] == 0 && out[1] == 0;
+    return twin_dispatch(&lent, (unsigned)event, body, n, out, sizeof out) > 1 && out[0] == 0 && out[1] == 0;
 }
 
 /* Every timer of every connection runs: each is online with ten bytes to send, and its alive timer is at its row's limit. */
@@ -110,11 +110,19 @@ static bool tallied(void)
     return twin_replay(&lent, bytes, length, out, &report) && report.fits;
 }
 
-/* The event whose turn it is, out of so many slots of 28 bytes, each a number 2, a length 2 and a body. */
-static bool event_of(size_t turn, size_t count)
+/* The event of a turn: without slots the PDU's number with all bytes for its body, else that of the slot whose turn it is, each of 28 bytes, a
+ * number 2, a length 2 and a body. The number 65,535 is none, with a body of two bytes. */
+static bool event_of(size_t turn, size_t count, uint16_t pdu)
 {
-    const uint8_t *slot = bytes + (count == 0 ? 0 : turn % count * 28);
-    return count == 0 || dispatched((size_t)(slot[0] << 8 | slot[1]), slot + 4);
+    const uint8_t *body = bytes;
+    size_t event = pdu, n = length;
+    if (count != 0) {
+        const uint8_t *slot = bytes + turn % count * 28;
+        event = (size_t)(slot[0] << 8 | slot[1]);
+        n = (size_t)(slot[2] << 8 | slot[3]);
+        body = slot + 4;
+    }
+    return event == 65535 ? n == 2 : dispatched(event, body, n);
 }
 
 static bool accepted(uint8_t connection)
@@ -180,14 +188,12 @@ static bool once(size_t what, size_t turn, uint8_t connection, uint16_t pdu, uin
         return tick();
     case 8:
         return arrive(connection);
-    case 9:
-        return dispatched(pdu, bytes);
     case 10:
         return take(connection, bytes, length, DROP);
     case 11:
         return take(connection, bytes, 0, MORE);
     case 12:
-        return event_of(turn, used);
+        return event_of(turn, used, pdu);
     case 13:
         return twin_replay(&lent, bytes, length, out, 0);
     case 14:

@@ -81,6 +81,8 @@ static size_t bad_row(const uint8_t *image, const struct layout *table)
     for (size_t i = 0; i < table->rows[CONNECTION]; i++, row += ROW)
         if (!good_connection(row, table))
             return (size_t)(row - image);
+    if (table->rows[ROUTE] + table->rows[DESTINATION] == 0)
+        return 0;
     struct met routes, destinations;
     memset(routes.head, 0, sizeof routes.head);
     memset(destinations.head, 0, sizeof destinations.head);
