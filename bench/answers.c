@@ -1,5 +1,5 @@
-/* answers.c: a table image and a script's entries on standard input, all of which fit (docs/EVENTS.md); of each event the twins' answer in
- * hex, a line each; then the records and counts in hex, as a start state has them, and a digest of both memories. */
+/* answers.c: a table image and a script's entries on standard input (docs/EVENTS.md); of each event the twins' answer in hex, a line each,
+ * which is empty where it is refused; then the records and counts in hex, as a start state has them, and a digest of both memories. */
 #include "events.h"
 #include "system.h"
 #include "table.h"
