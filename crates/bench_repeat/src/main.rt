@@ -29,6 +29,8 @@
 //   what 69, 70, 71, 72  what 5, 6, 14 and 15 do besides the call
 // 128 more: under a state in which each connection holds ten bytes to send, half of them due, half with a timer that runs.
 // Last word: OK when every call did what it names, REFUSED when one did not, CUT when the input is not what it says.
+#![tactic(auto)]
+
 mod once;
 mod own;
 

@@ -6,6 +6,8 @@
 //   what 13 a replay of the recording, each entry three ticks after the one before
 //   what 16 what 13 does, each entry counted for the foreman's report
 // Last word: OK when every answer was the recorded one, REFUSED when one was not, CUT when the input is not what it says.
+#![tactic(auto)]
+
 use bench_start::{Turn, read_input, say, say_cut, start};
 use event_decode::bytes_from;
 use pieces::{after, front};

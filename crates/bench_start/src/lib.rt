@@ -1,15 +1,19 @@
 // What the programs of the bench share: their standard input, the state before the first call, and what a turn of their loop gives. Each
 // connection is opened, ticked once and connected; where it is to be busy, each holds bytes to send.
+#![tactic(auto)]
+
 use connection::{Event, Watch};
 use input::read_part;
-use libc::STDOUT_FILENO;
 use state::{State, fresh_state};
 use table_layout::{Kind, rows_of};
 use table_rows::connection_row;
 use wire::be16;
 
+// The standard output's number.
+const STDOUT_FILENO: i32 = 1;
+
 // Whether the call did what it names, and the state for the next.
-#[derive(Drop)]
+#[derive(Clone, Copy)]
 pub struct Turn {
     pub state: State,
     pub done: bool,

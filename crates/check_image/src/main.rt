@@ -1,6 +1,8 @@
 // Reads a table image from standard input and lists its rows with names and units, or says at which byte it is refused
 // and why. The last line is OK or REFUSED. The check, its place and its reason are proved; the wording is tried by
 // stored output (the patterns are those of crate words).
+#![tactic(auto)]
+
 use pieces::front;
 use table::{TableAnswer, check_table};
 use table_layout::{Kind, body_of, kind_number, row_bytes, row_in, rows_of};

@@ -100,4 +100,5 @@ switch_other n on w k h ne = rw (lt-ltb n 32 h) (go on)
 
     go : (b : Bool) → bit_at k (cond b (bit_or w (2 ^ n)) (bit_xor (bit_or w (2 ^ n)) (2 ^ n))) ≡ bit_at k w
     go true = joined
-    go false = xor_bit k (bit_or w (2 ^ n)) (2 ^ n) ∙ ap (differ (bit_at k (bit_or w (2 ^ n)))) (other_bit n k ne) ∙ alone (bit_at k (bit_or w (2 ^ n))) ∙ joined
+    go false = xor_bit k (bit_or w (2 ^ n)) (2 ^ n) ∙ ap (differ (bit_at k (bit_or w (2 ^ n)))) (other_bit n k ne) ∙ alone (bit_at k (bit_or w (2 ^ n)))
+        ∙ joined

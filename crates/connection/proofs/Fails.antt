@@ -1,13 +1,13 @@
 -- R19.7: WHAT ENDS A TRANSFER. Of all that happens to a record beside a take only a loss and a tick that closes end one, and these always do.
-use mathlib.Core.Path.{◌≡◌, refl, sym, ap, ◌∙◌}
+use mathlib.Core.Path.{◌≡◌, refl, ap, ◌∙◌}
 use mathlib.Core.Bool.{Bool, true, false, cond, not, ◌&&◌}
 use Rattle.receive_part.specs.declared.Part.{Part}
 use Rattle.receive_part.specs.Part.{ready_part, transferring}
 use Rattle.connection.specs.declared.Connection.{Connection}
 use Rattle.connection.specs.declared.Config.{Config}
 use Rattle.connection.specs.declared.Event.{Event}
-use Rattle.connection.specs.Connection.{lost_of, tick_of, failed_of}
-use Rattle.connection.specs.Event.{known, allowed, record_after, empties, step_of}
+use Rattle.connection.specs.Connection.{tick_of, failed_of}
+use Rattle.connection.specs.Event.{record_after, empties, step_of}
 use Rattle.connection.proofs.Leaves.{after-leaves}
 use Rattle.connection.proofs.Ticks.{step-either, tick-part}
 

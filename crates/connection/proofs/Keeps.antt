@@ -2,7 +2,7 @@
 use Prim.Native.Nat.{ℕ, ◌-◌, ◌≤◌}
 use lib.Dec.{eqb, leb, ltb, leb-zero}
 use mathlib.Core.Path.{◌≡◌, refl, sym, ap, ◌∙◌}
-use mathlib.Core.Bool.{Bool, true, false, cond, not, ◌&&◌, ◌||◌, or_true}
+use mathlib.Core.Bool.{Bool, true, false, cond, not, ◌&&◌, ◌||◌, or-true}
 use borrow.Author.Tests.{eqb-true, eq-eqb, leb-true, le-leb, lt-ltb, not-true}
 use native.Mathlib.Omega.{arith}
 use native.Mathlib.Decide.{ℕ_discrete}
@@ -84,7 +84,7 @@ sunk_watched a n o u p = go (ℕ_discrete a 0) (eqb a 0) refl
     go (no m) false q =
         let w = watched_by (eqb a 0) o u (leb a n) q p in
         let least : a ≤ n = leb-true a n w.2 in
-        rw (w.0, w.1, le-leb (a - 1) n (omega arith)) (or_true (eqb (a - 1) 0))
+        rw (w.0, w.1, le-leb (a - 1) n (omega arith)) (or-true (eqb (a - 1) 0))
 
 -- an alive timer that a source has started again, or left
 met-watched : (t w : Bool) (a n : ℕ) → (t ≡ true → n ≡ 0) → (eqb (cond (w || ltb 0 a) n a) 0 || (true && not t && leb (cond (w || ltb 0 a) n a) n)) ≡ true
@@ -92,7 +92,7 @@ met-watched t w a n h = go t w (ℕ_discrete a 0) refl
   where
     self : (t' : Bool) → t ≡ t' → (eqb n 0 || (true && not t' && leb n n)) ≡ true
     self true e = rw (eq-eqb n 0 (h e))
-    self false e = rw (le-leb n n (omega arith)) (or_true (eqb n 0))
+    self false e = rw (le-leb n n (omega arith)) (or-true (eqb n 0))
 
     go : (t' w' : Bool) → Dec (a ≡ 0) → t ≡ t' → (eqb (cond (w' || ltb 0 a) n a) 0 || (true && not t' && leb (cond (w' || ltb 0 a) n a) n)) ≡ true
     go t' true d e = self t' e
@@ -157,14 +157,14 @@ module _ (g : Config) (c : Connection) (s : Sound g c) where
   cancel_keeps t =
       let up = moves-online t in
       let off : is_offline c.mode ≡ false = online_not_offline c.mode (and_left (is_online c.mode) _ up) in
-      wishes-keep false true refl (rw (and_right (is_online c.mode) g.tcp up, off) (or_true (not g.automatic)))
+      wishes-keep false true refl (rw (and_right (is_online c.mode) g.tcp up, off) (or-true (not g.automatic)))
 
   -- a record that is not offline goes online: no open is wanted, and no close that was not
   up_keeps : (r : Remote) (v : Watch) → is_offline c.mode ≡ false → not c.close_wanted ≡ true → wildcard r ≡ false
       → WatchSound g (with_watch v (become Online c)) → Sound g (with_watch v (become Online (with_remote r c)))
   up_keeps r v off k w a =
       record {
-        send = record { fits = s.send.fits; sending = or_true (eqb c.used 0); timing = s.send.timing; once = s.send.once };
+        send = record { fits = s.send.fits; sending = or-true (eqb c.used 0); timing = s.send.timing; once = s.send.once };
         wishes = record {
           reached = ap not w;
           opening = rw off at s.wishes.opening;
@@ -226,7 +226,7 @@ module _ (g : Config) (c : Connection) (s : Sound g c) where
       record {
         send = s.send;
         wishes = s.wishes;
-        receive = record { shape = q; receiving = rw a (or_true (empty_part p)) };
+        receive = record { shape = q; receiving = rw a (or-true (empty_part p)) };
         watch = s.watch;
       }
 
@@ -295,7 +295,7 @@ module _ (g : Config) (c : Connection) (s : Sound g c) where
           let one : c.timer ≡ 1 = eqb-true _ _ e in
           let none : c.timer - 1 ≡ 0 = omega arith in
           rw (eq-eqb _ _ none)
-      last false d e n = rw n (or_true (eqb (c.timer - 1) 0))
+      last false d e n = rw n (or-true (eqb (c.timer - 1) 0))
 
       go : (b : Bool) → eqb c.timer 0 ≡ b → Sound g (cond b c (with_send c.used (c.timer - 1) (eqb c.timer 1 || c.due) c))
       go true e = s
@@ -305,7 +305,7 @@ module _ (g : Config) (c : Connection) (s : Sound g c) where
           send_keeps c.used (c.timer - 1) (eqb c.timer 1 || c.due) (record {
             fits = s.send.fits;
             sending = s.send.sending;
-            timing = rw waiting (or_true (eqb (c.timer - 1) 0 && not (eqb c.timer 1 || c.due)));
+            timing = rw waiting (or-true (eqb (c.timer - 1) 0 && not (eqb c.timer 1 || c.due)));
             once = last (eqb c.timer 1) c.due refl quiet;
           })
 

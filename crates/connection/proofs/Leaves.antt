@@ -1,6 +1,6 @@
 -- What an event of the record alone leaves of the bytes held and of the mode: said once for every law above.
 use mathlib.Core.Path.{◌≡◌, refl, sym}
-use mathlib.Core.Bool.{Bool, true, false, cond}
+use mathlib.Core.Bool.{true, false, cond}
 use Rattle.receive_part.specs.Part.{ready_part}
 use Rattle.lists.proofs.Both.{impossible}
 use Rattle.connection.specs.declared.Connection.{Connection}

@@ -1,5 +1,4 @@
 -- When a source starts the alive timer of the record that it meets (R20.3).
-use Prim.Native.Nat.{ℕ}
 use mathlib.Core.Path.{◌≡◌, sym, ap}
 use mathlib.Core.Bool.{Bool, true, false, cond, ◌||◌}
 use lib.Dec.{ltb}

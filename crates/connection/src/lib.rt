@@ -1,5 +1,7 @@
 // One connection record and what each event makes of it. Methods take the record by value and return it.
 // Every function is total.
+#![tactic(auto)]
+
 ghost use Rattle.std.specs.Prelude.{◌≡◌};
 ghost use Rattle.connection.specs.Connection as Is;
 ghost use Rattle.connection.specs.Event as Ev;
@@ -7,7 +9,7 @@ ghost use Rattle.connection.specs.Sound as Sd;
 
 use receive_part::Part;
 
-#[derive(Drop)]
+#[derive(Clone, Copy)]
 pub enum Mode {
     Offline,
     Reconnect,
@@ -15,27 +17,27 @@ pub enum Mode {
 }
 
 // A remote. Only `equal_fields` and `wild_fields` compare its fields.
-#[derive(Drop)]
+#[derive(Clone, Copy)]
 pub struct Remote {
     pub address: u32,
     pub port: u16,
 }
 
 // One answer for each field of a remote.
-#[derive(Drop)]
+#[derive(Clone, Copy)]
 pub struct Fields {
     pub address: bool,
     pub port: bool,
 }
 
 // Who is watched: the alive timer in ticks, 0 when it is stopped; and whether the upper layer set the remote.
-#[derive(Drop)]
+#[derive(Clone, Copy)]
 pub struct Watch {
     pub alive: u16,
     pub remote_set: bool,
 }
 
-#[derive(Drop)]
+#[derive(Clone, Copy)]
 pub struct Connection {
     pub mode: Mode,
     pub open_wanted: bool,
@@ -50,7 +52,7 @@ pub struct Connection {
 }
 
 // What the table says of a connection.
-#[derive(Drop)]
+#[derive(Clone, Copy)]
 pub struct Config {
     pub tcp: bool,
     pub automatic: bool,
@@ -61,7 +63,7 @@ pub struct Config {
 }
 
 // Why an event is refused before it does anything: 11, 12, 2, 3.
-#[derive(Drop)]
+#[derive(Clone, Copy)]
 pub enum Refusal {
     Memory,
     Unsound,
@@ -69,21 +71,21 @@ pub enum Refusal {
     Denied,
 }
 
-#[derive(Drop)]
+#[derive(Clone, Copy)]
 pub enum Answer {
     Done,
     Refused(Refusal),
 }
 
 // The answer of an event, with the record after it.
-#[derive(Drop)]
+#[derive(Clone, Copy)]
 pub struct Stepped {
     pub answer: Answer,
     pub connection: Connection,
 }
 
 // The connection events that concern the record alone.
-#[derive(Drop)]
+#[derive(Clone, Copy)]
 pub enum Event {
     Open,
     Close,

@@ -2,15 +2,14 @@
 use Prim.Native.Nat.{ℕ, ◌+◌, ◌≤◌}
 use mathlib.Core.Path.{◌≡◌, refl}
 use mathlib.Core.Bool.{Bool, true, false, cond}
-use mathlib.Core.List.{List, ◌++◌}
+use mathlib.Core.List.{List}
 use native.Mathlib.Omega.{arith}
 use lib.Dec.{ltb}
 use lib.ListN.{length, take, replicate, length-append, length-take, length-replicate}
-use Rattle.wire.specs.Lay.{spell, lay}
+use Rattle.wire.specs.Lay.{lay}
 use Rattle.wire.proofs.Lay.{lay-length}
 use Rattle.wire.proofs.Spell.{length-spell}
 use Rattle.connection.specs.declared.Connection.{Connection}
-use Rattle.connection.specs.declared.Remote.{Remote}
 use Rattle.connection.specs.declared.Answer.{Answer}
 use Rattle.connection.specs.declared.Answer.TheVariants.{Done, Refused}
 use Rattle.connection.specs.Event.{refusal_number}
@@ -24,7 +23,6 @@ use Rattle.entry_events.specs.declared.CountAnswer.TheVariants.{Count, Refused a
 use Rattle.receive_datagram.specs.declared.Outcome.{Outcome}
 use Rattle.receive_datagram.specs.declared.Outcome.TheVariants.{End, Pdu, Drop}
 use Rattle.entry_receive.specs.declared.Answer.{Answer as Received}
-use Rattle.entry_receive.specs.declared.Answer.TheVariants as Received
 use Rattle.select.specs.declared.Arrival.{Arrival}
 use Rattle.select.specs.declared.Arrival.TheVariants as Arrived
 use Rattle.send.specs.declared.Transmission.{Transmission}

@@ -1,4 +1,6 @@
 // One dispatcher for all events: an event number and a body in, the answer into a lent out buffer. It is total.
+#![tactic(auto)]
+
 ghost use Rattle.std.specs.Prelude.{◌≡◌};
 ghost use Rattle.event_answer.specs.Answers.{dispatched};
 ghost use Rattle.dispatch.specs.Dispatch.{effect_of, dispatch_of};

@@ -1,5 +1,5 @@
 -- The answers of the events that write no memory, as bytes (R16.2; docs/EVENTS.md, "The answer").
-use Rattle.std.specs.Prelude.{ℕ, Bool, cond, length, List}
+use Rattle.std.specs.Prelude.{ℕ, Bool, cond, List}
 use Rattle.connection.specs.declared.Answer.{Answer}
 use Rattle.connection.specs.declared.Answer.TheVariants.{Done, Refused}
 use Rattle.entry_events.specs.declared.CountAnswer.{CountAnswer}

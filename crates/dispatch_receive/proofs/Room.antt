@@ -53,7 +53,8 @@ use Rattle.event_answer.proofs.Short.{no_room, room_keeps}
 use Rattle.dispatch_receive.specs.Long.{longest_body, too_long, if_fits}
 use Rattle.dispatch_receive.specs.Walk.{walked_effect, walk_effect}
 use Rattle.dispatch_receive.specs.Segment.{lent_next, take_bytes, bytes_if_done, Progress, begun, take_at, memory_at, bytes_at, one_take}
-use Rattle.dispatch_receive.specs.Segment.{take_follows, takes_up_to, all_takes, event_bytes, takes_effect, answer_room, none_marked, plain_room, segment_effect}
+use Rattle.dispatch_receive.specs.Segment.{take_follows, takes_up_to, all_takes, event_bytes, takes_effect, answer_room, none_marked, plain_room}
+use Rattle.dispatch_receive.specs.Segment.{segment_effect}
 use Rattle.dispatch_receive.proofs.Size.{NoneMarked, Pays, whole, most, most-all, most_least, spent_within, spent_goes}
 
 -- what nothing refuses is done
@@ -175,7 +176,8 @@ module _ (l : Loan) (k : ℕ) (seg : List ℕ) where
       (in_range s k (done_clear (sizes l) k (config_of image k).tcp e).receives))
 
   -- what a byte pays, where the gate has passed: in a sound state a transfer has a marked route
-  pays_here : {pay : ℕ} → Rate image pay → is_done answer ≡ true → Pays (lookup_of (body_of image RouteRows) k (record_at s k).switches) (record_at s k).part pay
+  pays_here : {pay : ℕ} → Rate image pay → is_done answer ≡ true → Pays (lookup_of (body_of image RouteRows) k (record_at s k).switches)
+      (record_at s k).part pay
   pays_here Rate.any e = Pays.any
   pays_here (plain none) e =
       let c = done_clear (sizes l) k (config_of image k).tcp e in
@@ -202,7 +204,8 @@ module _ (l : Loan) (k : ℕ) (seg : List ℕ) where
       )
 
   pub take-goes : {pay : ℕ} (from : ℕ) (m : List ℕ) → Rate image pay → is_done (segment_of l k seg).answer ≡ true → (segment_of l k seg).read < length seg
-      → 9 * length (bytes_from from m (segment_of l k seg)) + most (record_at (segment_of l k seg).state k).part + pay * (length seg - (segment_of l k seg).read)
+      → 9 * length (bytes_from from m (segment_of l k seg)) + most (record_at (segment_of l k seg).state k).part + pay *
+      (length seg - (segment_of l k seg).read)
       ≤ most (record_at s k).part + pay * length seg
   take-goes {pay} from m rate d =
       let e : is_done answer ≡ true = sym answer-is ∙ d in

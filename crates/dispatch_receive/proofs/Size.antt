@@ -20,7 +20,6 @@ use Rattle.receive_part.specs.declared.Part.{Part}
 use Rattle.receive_part.specs.declared.Part.TheVariants.{Header, Payload, Skip, Transfer}
 use Rattle.receive_part.specs.Part.{transferring}
 use Rattle.receive_stream.specs.declared.Outcome.{Outcome}
-use Rattle.receive_stream.specs.declared.Outcome.TheVariants.{More, Pdu, Drop, Start, Piece}
 use Rattle.receive_stream.specs.Stream.{cell_of, part_from, is_in_segment, take_outcome}
 use Rattle.state.specs.Memory.{stretch}
 use Rattle.entry_receive.specs.Segment.{payload_of}

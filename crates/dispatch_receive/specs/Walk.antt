@@ -1,5 +1,5 @@
 -- The answer of a walk as bytes (R16.2; docs/EVENTS.md, "The answer").
-use Rattle.std.specs.Prelude.{ℕ, List, ◌++◌, length}
+use Rattle.std.specs.Prelude.{ℕ, List, ◌++◌}
 use Rattle.wire.specs.Lay.{spell}
 use Rattle.receive_datagram.specs.declared.Outcome.{Outcome}
 use Rattle.receive_datagram.specs.declared.Outcome.TheVariants.{End, Pdu, Drop}

@@ -1,5 +1,7 @@
 // A walk and a segment event, each with its answer written to an out buffer. A segment event is the takes over one segment until all
 // is read, one at least. Every public function is total.
+#![tactic(auto)]
+
 ghost use Rattle.std.specs.Prelude.{◌≡◌, ◌+◌, ◌≤◌, length};
 ghost use Rattle.wire.specs.Lay.{spell, lay};
 ghost use Rattle.pieces.specs.Pieces.{place_after};
@@ -284,7 +286,7 @@ fn is_done(answer: Answer) -> bool
 
 // How far a segment event is, past the gate: the connection's receive part, the TCP drop count, the bytes read of the segment, the place
 // for the next take's bytes in the out buffer, and how many takes there were.
-#[derive(Drop)]
+#[derive(Clone, Copy)]
 struct Turn {
     part: Part,
     drops: u32,
@@ -335,7 +337,7 @@ fn take_once(
 }
 
 // Takes until all is read: the answer of the last, how many, the place after their bytes, and the state afterwards. All their bytes fit.
-#[derive(Drop)]
+#[derive(Clone, Copy)]
 struct Takes {
     state: State,
     answer: Answer,

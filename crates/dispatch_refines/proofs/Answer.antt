@@ -137,7 +137,8 @@ module _ (l : Loan) (out : List ℕ) (n : ℕ) (low : n ≤ room) (long : room �
   -- the step of a call whose segment or datagram, where it has one, is short enough
   call_named : (body : List ℕ) (call : Call) → Short body call → (effect_of l out body call).verdict ≡ Done n
       → Named out (answer_of l body call) n (effect_of l out body call).out
-  unfolding effect_of answer_of own_effect lost_effect ticks_effect switch_all_effect read_effect clear_effect datagram_effect accept_effect transmit_effect take_effect
+  unfolding effect_of answer_of own_effect lost_effect ticks_effect switch_all_effect read_effect clear_effect datagram_effect accept_effect transmit_effect
+      take_effect
   call_named body Unknown h e = none NoEvent refl e
   call_named body Unfit h e = none DoesNotFit refl e
   call_named body (Ticks k) h e = past (ticked (ticks_event (sizes l) k) l.rx l.tx out) (answer_of l body (Ticks k)) (laid _) e
@@ -169,7 +170,8 @@ module _ (l : Loan) (out : List ℕ) (long : room ≤ length out) where
 
   call_answered : (body : List ℕ) (call : Call) → Short body call → (call ≡ Unknown → ⊥) → (call ≡ Unfit → ⊥)
       → (effect_of l out body call).verdict ≡ Done (length (answer_of l body call))
-  unfolding effect_of answer_of own_effect lost_effect ticks_effect switch_all_effect read_effect clear_effect datagram_effect accept_effect transmit_effect take_effect
+  unfolding effect_of answer_of own_effect lost_effect ticks_effect switch_all_effect read_effect clear_effect datagram_effect accept_effect transmit_effect
+      take_effect
   call_answered body Unknown h known fit = absurd (known refl)
   call_answered body Unfit h known fit = absurd (fit refl)
   call_answered body (Ticks k) h known fit = past_too _

@@ -289,7 +289,8 @@ call-read image k m body (Lost c) bytes h = refl
 call-read image k m body (Segment c at) bytes h =
     ap (λ (l : List Out). cond (eqb c k) l []) (segment-read (loan_to image m) c (bytes_from body at) (bytes_drop at body bytes) (segment-fits body c at h))
 call-read image k m body (Walk c place at) bytes h =
-    ap (λ (l : List Out). cond (eqb c k) l []) (walk-read (lent_to image m) c (bytes_from body at) place (bytes_drop at body bytes) (walk-fits body c place at h))
+    ap (λ (l : List Out). cond (eqb c k) l [])
+    (walk-read (lent_to image m) c (bytes_from body at) place (bytes_drop at body bytes) (walk-fits body c place at h))
 call-read image k m body (TakeWaiting c n) bytes h = refl
 call-read image k m body (Datagram group source) bytes h = refl
 call-read image k m body (Accept group source) bytes h = refl

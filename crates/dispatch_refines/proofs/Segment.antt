@@ -7,7 +7,6 @@ use mathlib.Core.List.{List, [], ◌∷◌}
 use lib.Dec.{ltb, leb-zero, leb-suc-zero, leb-suc-suc}
 use lib.ListN.{length, drop}
 use lib.Seq.{drop-drop}
-use Rattle.state.specs.declared.State.{State}
 use Rattle.gate.specs.Lent.{Loan}
 use Rattle.entry_receive.specs.Answer.{is_done}
 use Rattle.dispatch_receive.specs.Segment.{Progress, begun, one_take, takes_up_to, all_takes}

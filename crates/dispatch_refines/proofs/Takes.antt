@@ -10,7 +10,6 @@ use lib.Dec.{leb, ltb}
 use lib.ListN.{length, take, drop, length-drop}
 use lib.Seq.{drop-drop}
 use Rattle.reading.specs.Feed.{Out, pdu, piece}
-use Rattle.state.specs.declared.State.{State}
 use Rattle.receive_stream.specs.declared.Outcome.{Outcome}
 use Rattle.receive_stream.specs.declared.Outcome.TheVariants as Found
 use Rattle.table_layout.specs.Layout.{part_of}
@@ -19,7 +18,7 @@ use Rattle.entry_receive.specs.declared.Answer.TheVariants.{Done, Refused, NotRe
 use Rattle.entry_receive.specs.Answer.{is_done}
 use Rattle.entry_receive.specs.Segment.{segment_of, segment_answer, take_on, none_taken, payload_of}
 use Rattle.dispatch_receive.specs.Segment.{lent_next, take_bytes, bytes_if_done, Progress, begun, bytes_at, one_take, takes_up_to, all_takes}
-use Rattle.model_refines.specs.Machine.{Machine, machine, taken, after_one, rest_of, pdu_told, told_by, goes_on, told_takes, told_segment, loan_to}
+use Rattle.model_refines.specs.Machine.{Machine, taken, after_one, rest_of, pdu_told, told_by, goes_on, told_takes, told_segment, loan_to}
 use Rattle.dispatch_refines.specs.Told.{Take, bytes_in, out_in, outs_in, next_take, took_then, takes_from}
 use Rattle.gate.specs.Lent.{Loan, sizes}
 use Rattle.dispatch_refines.proofs.Segment.{either_way, goes-alike, machine_at}

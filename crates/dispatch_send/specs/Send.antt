@@ -1,5 +1,5 @@
 -- The answers of a datagram, an accept, a transmit and a take of waiting bytes, as bytes (R16.2; docs/EVENTS.md, "The answer").
-use Rattle.std.specs.Prelude.{ℕ, min, List, length, take, replicate}
+use Rattle.std.specs.Prelude.{ℕ, min, List, take, replicate}
 use Rattle.connection.specs.declared.Remote.{Remote}
 use Rattle.select.specs.declared.Arrival.{Arrival}
 use Rattle.select.specs.declared.Arrival.TheVariants.{Met, Refused, Unmatched}

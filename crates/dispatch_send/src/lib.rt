@@ -1,5 +1,7 @@
 // A datagram, an accept, a transmit and a take of waiting bytes, each with its answer written to an out buffer; one that is too short for
 // an answer is refused. Every function is total.
+#![tactic(auto)]
+
 ghost use Rattle.std.specs.Prelude.{◌≡◌, ◌≤◌, length};
 ghost use Rattle.wire.specs.Lay.{lay};
 ghost use Rattle.event_answer.specs.Answers.{dispatched};

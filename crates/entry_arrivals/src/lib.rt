@@ -1,5 +1,7 @@
 // The entry points of selection: a datagram for a UDP group, an accept for a TCP group. Each is lent image, state and both
 // memories, and answers any of them. Assumes nothing: no entry relies on its caller.
+#![tactic(auto)]
+
 ghost use Rattle.std.specs.Prelude.{◌≡◌};
 ghost use Rattle.entry_arrivals.specs.Arrivals.{arrival_of, datagram_of, accept_of};
 ghost use Rattle.gate.specs.Lent.{lent, lent_by};

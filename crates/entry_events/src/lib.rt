@@ -1,5 +1,7 @@
 // The entry points for connection events that concern the record alone, for a switch on all connections, and for the drop
 // counts. Each is lent image, state and both memories, and answers any of them. Assumes nothing: no entry relies on its caller.
+#![tactic(auto)]
+
 ghost use Rattle.std.specs.Prelude.{◌≡◌, ◌<◌, ◌≤◌};
 ghost use Rattle.table_layout.specs.Layout.{rows_of};
 ghost use Rattle.entry_events.specs.Change.{change_of, event_of, loss_of};
@@ -13,14 +15,14 @@ use state::{State, config_laid};
 use table_layout::{Kind, rows_of};
 
 // What an event answers, and the state after it.
-#[derive(Drop)]
+#[derive(Clone, Copy)]
 pub struct Told {
     pub state: State,
     pub answer: Answer,
 }
 
 // What a loss answers, the state after it, and whether it ended a transfer.
-#[derive(Drop)]
+#[derive(Clone, Copy)]
 pub struct Loss {
     pub state: State,
     pub answer: Answer,
@@ -28,14 +30,14 @@ pub struct Loss {
 }
 
 // What reading a count answers.
-#[derive(Drop)]
+#[derive(Clone, Copy)]
 pub enum CountAnswer {
     Count(u32),
     Refused(Refusal),
 }
 
 // The answer, with the state after it.
-#[derive(Drop)]
+#[derive(Clone, Copy)]
 pub struct Counted {
     pub state: State,
     pub answer: CountAnswer,

@@ -1,4 +1,6 @@
 // Making a state: fresh under an accepted table; a refused one gives 1 with its place.
+#![tactic(auto)]
+
 ghost use Rattle.std.specs.Prelude.{◌≡◌};
 ghost use Rattle.entry_fresh.specs.Make.{make_of};
 
@@ -6,7 +8,7 @@ use state::State;
 use table::{TableAnswer, check_table};
 
 // The table's answer, and the state to begin with.
-#[derive(Drop)]
+#[derive(Clone, Copy)]
 pub struct Made {
     pub answer: TableAnswer,
     pub state: State,

@@ -1,6 +1,6 @@
 -- The payload that a reader hands out.
 use Prim.Native.Nat.{ℕ, ◌+◌, ◌≤◌}
-use mathlib.Core.Path.{◌≡◌, refl, sym, ap, ◌∙◌}
+use mathlib.Core.Path.{◌≡◌, refl, ap, ◌∙◌}
 use mathlib.Core.Bool.{Bool, cond}
 use mathlib.Core.List.{List, [], ◌∷◌}
 use lib.Dec.{leb}
@@ -14,8 +14,6 @@ use Rattle.reading_lengths.specs.Head.{Head, ended, short, beyond, whole, head_o
 use Rattle.reading_walk.specs.Walk.{whole_at, walk_step, walk_at, outs_told}
 use Rattle.wire.proofs.Part.{part_to_end}
 use Rattle.reading_walk.proofs.Steps.{whole-place}
-use Rattle.receive_datagram.specs.declared.Outcome.{Outcome}
-use Rattle.receive_datagram.specs.declared.Outcome.TheVariants.{Pdu}
 use Rattle.receive_datagram.specs.Datagram.{walk_outcome}
 use Rattle.entry_reader.specs.Reader.{payload_in, tell_of}
 

@@ -1,5 +1,7 @@
 // The datagram reader: a struct that holds a datagram and its place, over the entry point that walks a datagram. Each function
 // over it is thin and takes it apart; the last has plain parameters. Assumes nothing: no function relies on its caller.
+#![tactic(auto)]
+
 ghost use Rattle.std.specs.Prelude.{◌≡◌};
 ghost use Rattle.entry_receive.specs.Walk.{walk_of};
 ghost use Rattle.entry_reader.specs.Reader.{opened, moved_to, answer_at, PayloadFound};
@@ -10,7 +12,7 @@ use receive_datagram::Outcome;
 use state::State;
 use table_layout::part_of;
 
-#[derive(Drop)]
+#[derive(Clone, Copy)]
 pub struct DatagramReader<'a> {
     pub datagram: &'a [u8],
     pub place: usize,

@@ -15,7 +15,6 @@ use Rattle.table_layout.specs.Layout.{body_of}
 use Rattle.table_layout.specs.declared.Kind.TheVariants.{Route as Routes}
 use Rattle.connection.specs.declared.Connection.{Connection}
 use Rattle.connection.specs.Connection.{zero_record, with_part}
-use Rattle.state.specs.declared.State.{State}
 use Rattle.state.specs.State.{record_at, with_records, with_record, with_count}
 use Rattle.state.specs.Fresh.{config_of}
 use Rattle.receive_stream.specs.declared.Outcome.{Outcome}

@@ -1,6 +1,8 @@
 // The entry points for what is received: a take of a segment on a TCP connection, the payload that it hands out, and a step of a
 // walk over a datagram on a UDP connection. Each is lent image, state and both memories, and answers any of them.
 // Assumes nothing: no entry relies on its caller.
+#![tactic(auto)]
+
 ghost use Rattle.wire.specs.Place.{behind, from_at};
 ghost use Rattle.std.specs.Prelude.{◌≡◌, true, ◌*◌, length};
 ghost use Rattle.table_layout.specs.Layout.{Laid};
@@ -19,7 +21,7 @@ use table_layout::{Kind, body_laid, part_of};
 use table_rows::is_tcp;
 
 // 0; 11, 12, 2, 3; 4.
-#[derive(Drop)]
+#[derive(Clone, Copy)]
 pub enum Answer {
     Done,
     Refused(Refusal),
@@ -27,7 +29,7 @@ pub enum Answer {
 }
 
 // The answer of a take, the bytes read of the segment, what was found there, and the state afterwards.
-#[derive(Drop)]
+#[derive(Clone, Copy)]
 pub struct SegmentTaken {
     pub state: State,
     pub answer: Answer,
@@ -36,7 +38,7 @@ pub struct SegmentTaken {
 }
 
 // The answer of a walk, what stands at the place, the next place, and the state afterwards.
-#[derive(Drop)]
+#[derive(Clone, Copy)]
 pub struct DatagramWalked {
     pub state: State,
     pub answer: Answer,
@@ -45,7 +47,7 @@ pub struct DatagramWalked {
 }
 
 // What a take changes, its record and the TCP count, and what it tells.
-#[derive(Drop)]
+#[derive(Clone, Copy)]
 struct TakeStep {
     connection: Connection,
     drops: u32,
@@ -54,7 +56,7 @@ struct TakeStep {
 }
 
 // What a walk changes, the UDP count, and what it tells.
-#[derive(Drop)]
+#[derive(Clone, Copy)]
 struct WalkStep {
     drops: u32,
     outcome: receive_datagram::Outcome,

@@ -1,5 +1,7 @@
 // The entry points of sending: a transmit, and taking the waiting bytes of a connection. Each is lent image, state and both
 // memories, and answers any of them. Assumes nothing: no entry relies on its caller.
+#![tactic(auto)]
+
 ghost use Rattle.std.specs.Prelude.{◌≡◌};
 ghost use Rattle.entry_send.specs.Sending.{send_of, sent_memory, taken_waiting, taken_out};
 ghost use Rattle.gate.specs.Lent.{loan};
@@ -10,7 +12,7 @@ use send_waiting::Taking;
 use state::State;
 
 // What a take is answered, with the state after it.
-#[derive(Drop)]
+#[derive(Clone, Copy)]
 pub struct Taken {
     pub state: State,
     pub answer: Taking,

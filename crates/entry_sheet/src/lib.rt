@@ -1,5 +1,7 @@
 // The entry point that applies a sheet's words to a state. It is lent image, state and both memories, and answers any of them. Assumes
 // nothing: it does not rely on its caller.
+#![tactic(auto)]
+
 ghost use Rattle.std.specs.Prelude.{◌≡◌, ◌≤◌};
 ghost use Rattle.entry_sheet.specs.Apply.{forced_of, forced_rows, apply_of};
 ghost use Rattle.gate.specs.Lent.{lent_by};

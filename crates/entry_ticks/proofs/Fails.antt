@@ -125,7 +125,8 @@ failed_same s t u rows same =
 -- THE WHOLE MODULE
 
 -- one of the first n elements that are changed, each by what its index says
-each-there : {A : Type 0} (d : A) (f : ℕ → A → A) (b n : ℕ) (xs : List A) (k : ℕ) → k < n → k < length xs → get_or (each_to f b n xs) k d ≡ f (b + k) (get_or xs k d)
+each-there : {A : Type 0} (d : A) (f : ℕ → A → A) (b n : ℕ) (xs : List A) (k : ℕ) → k < n → k < length xs → get_or (each_to f b n xs) k d
+    ≡ f (b + k) (get_or xs k d)
 each-there d f b zero xs k h l = absurd (omega arith)
 each-there d f b (suc n) [] k h l = absurd (omega arith)
 each-there d f b (suc n) (x ∷ xs) zero h l = let e : b ≡ b + 0 = omega arith in ap (λ (m : ℕ). f m x) e

@@ -1,4 +1,6 @@
 // A tick of the whole module, and many ticks under one check, at once where a record has settled. Assumes nothing: no entry relies on its caller.
+#![tactic(auto)]
+
 ghost use Rattle.std.specs.Prelude.{◌≡◌, leb, ◌-◌, ◌<◌};
 ghost use Rattle.table_layout.specs.Layout.{Laid};
 ghost use Rattle.gate.specs.Lent.{lent, lent_by};
@@ -11,7 +13,7 @@ use state::{State, config_laid};
 use table_layout::{Kind, rows_laid};
 
 // What a tick answers, the state after it, and whose transfers it ended: bit k, worth 2 to the k, for connection k.
-#[derive(Drop)]
+#[derive(Clone, Copy)]
 pub struct Ticked {
     pub state: State,
     pub answer: Answer,

@@ -1,5 +1,7 @@
 // The answer of an event, written into a lent out buffer (docs/EVENTS.md): all of it, or nothing where it does not fit; and how
 // many bytes it is. Every function is total.
+#![tactic(auto)]
+
 ghost use Rattle.std.specs.Prelude.{◌≡◌, length};
 ghost use Rattle.wire.specs.Lay.{spell, lay};
 ghost use Rattle.connection.specs.Event.{refusal_number};
@@ -11,7 +13,7 @@ use wire::{copy_in, put8, put16, put32};
 
 // What becomes of an event number and a body: an answer of so many bytes; a number that is no event's; a body that does not fit; an
 // out buffer that is too short.
-#[derive(Drop)]
+#[derive(Clone, Copy)]
 pub enum Verdict {
     Done(usize),
     Unknown,
@@ -20,7 +22,7 @@ pub enum Verdict {
 }
 
 // The verdict, with the state after it.
-#[derive(Drop)]
+#[derive(Clone, Copy)]
 pub struct Dispatched {
     pub state: State,
     pub verdict: Verdict,

@@ -1,5 +1,7 @@
 // The call that an event number and a body spell (docs/EVENTS.md). Bytes stay in the body: a call names where they begin, and
 // they end the body. Every function is total.
+#![tactic(auto)]
+
 ghost use Rattle.wire.specs.Place.{behind, from_at};
 ghost use Rattle.std.specs.Prelude.{◌≡◌};
 ghost use Rattle.wire.specs.Be.{be};
@@ -9,7 +11,7 @@ use connection::{Event, Remote};
 use wire::{be8, be16, be32};
 
 // An event with its arguments; or a number that is no event's; or a body that is not laid out as its event's.
-#[derive(Drop)]
+#[derive(Clone, Copy)]
 pub enum Call {
     Unknown,
     Unfit,

@@ -1,5 +1,7 @@
 // The state that the bytes of a start state spell, and whether they fit (docs/EVENTS.md). An unsound state fits.
 // Every function is total.
+#![tactic(auto)]
+
 ghost use Rattle.std.specs.Prelude.{◌≡◌, ◌<◌, ◌^◌};
 ghost use Rattle.wire.specs.Be.{be};
 ghost use Rattle.lists.specs.Search.{every};
@@ -12,7 +14,7 @@ use state::{State, empty_state};
 use wire::{be8, be16, be32};
 
 // Whether the bytes fit, and the state that they spell.
-#[derive(Drop)]
+#[derive(Clone, Copy)]
 pub struct Given {
     pub fits: bool,
     pub state: State,

@@ -49,12 +49,16 @@ use Rattle.example_edges.specs.Table.{image}
 use Rattle.example_changes.specs.Changes.{Change, changes, idle_change, is_was, is_becomes, change_holds, EveryChange, Changes}
 
 pub changes-hold : EveryChange changes
-unfolding image be bad_from every fold_from rows_of body_bytes start_of end_of row_at part_of body_of row_in group_row connection_row route_row destination_row group_good
+unfolding image be bad_from every fold_from rows_of body_bytes start_of end_of row_at part_of body_of row_in group_row connection_row route_row
+    destination_row group_good
     connection_good route_good destination_good size_in group_tcp tcp_in routes_share destinations_share share clear_in good_in head_good entry_good rule
     then_check entries_place head_place all_rows_place check_table piece_done feed take_b head_of walk_at worth switch_of alive_after starts_of reach_of run_of
-    tick_of step_of sound_of zero_of counted config_of fresh_state is_on rows_in counts row_for reason_in reason_of decision_of lookup_of took_of takeFrom walked_of
-    sound_at records_sound sound_state gate_of gate_at told_of change_of event_of loss_of switched_all switch_all_of of_protocol clear_past clear_of ticked_to ticks_to
-    tick_event ticks_event better chosen_of rank_of score_of score_at chosen_in denied_of arrive_of arrival_of judged_of judged_answer take_on segment_of walk_on
+    tick_of step_of sound_of zero_of counted config_of fresh_state is_on rows_in counts row_for reason_in reason_of decision_of lookup_of took_of takeFrom
+    walked_of
+    sound_at records_sound sound_state gate_of gate_at told_of change_of event_of loss_of switched_all switch_all_of of_protocol clear_past clear_of
+    ticked_to ticks_to
+    tick_event ticks_event better chosen_of rank_of score_of score_at chosen_in denied_of arrive_of arrival_of judged_of judged_answer take_on segment_of
+    walk_on
     walk_of refusal_of look_of timer_of verdict_of append_of look_at check_of wanted_at store_of store_all transmit_of take_of send_of taken_waiting
 changes-hold = refl
 

@@ -41,11 +41,15 @@ use Rattle.example_edges.specs.Table.{image, fresh, waiting_for, used, exact}
 use Rattle.example_edges.specs.Edges.{Edge, edge, numbers, arrived_numbers, routes, framed, bar, skip_longest, edges, same_numbers, Hold}
 
 pub edges-hold : Hold edges
-unfolding image be bad_from every fold_from rows_of body_bytes start_of end_of row_at part_of body_of row_in group_row connection_row route_row destination_row group_good
-    connection_good route_good destination_good size_in routes_share destinations_share share clear_in good_in head_good entry_good rule then_check entries_place
+unfolding image be bad_from every fold_from rows_of body_bytes start_of end_of row_at part_of body_of row_in group_row connection_row route_row
+    destination_row group_good
+    connection_good route_good destination_good size_in routes_share destinations_share share clear_in good_in head_good entry_good rule then_check
+    entries_place
     head_place all_rows_place check_table config_of fresh_state piece_done feed take_b takes segment_ran segments head_of walk_at is_on rows_in counts row_for
-    reason_in reason_of decision_of lookup_of better chosen_of rank_of score_of score_at chosen_in denied_of arrive_of refusal_of look_of timer_of verdict_of look_at
-    check_of group_tcp tcp_in step_of sound_of zero_of sound_at records_sound sound_state gate_of gate_at told_of change_of event_of loss_of alive_after starts_of
+    reason_in reason_of decision_of lookup_of better chosen_of rank_of score_of score_at chosen_in denied_of arrive_of refusal_of look_of timer_of verdict_of
+    look_at
+    check_of group_tcp tcp_in step_of sound_of zero_of sound_at records_sound sound_state gate_of gate_at told_of change_of event_of loss_of alive_after
+    starts_of
     reach_of run_of tick_of ticked_to ticks_to ticks_event walked_of judged_of judged_answer walk_on walk_of
 edges-hold = refl
 
@@ -81,11 +85,15 @@ inside =
     ∷ []
 
 inside-hold : Hold inside
-unfolding image be bad_from every fold_from rows_of body_bytes start_of end_of row_at part_of body_of row_in group_row connection_row route_row destination_row group_good
-    connection_good route_good destination_good size_in routes_share destinations_share share clear_in good_in head_good entry_good rule then_check entries_place
+unfolding image be bad_from every fold_from rows_of body_bytes start_of end_of row_at part_of body_of row_in group_row connection_row route_row
+    destination_row group_good
+    connection_good route_good destination_good size_in routes_share destinations_share share clear_in good_in head_good entry_good rule then_check
+    entries_place
     head_place all_rows_place check_table config_of fresh_state piece_done feed take_b takes segment_ran segments head_of walk_at is_on rows_in counts row_for
-    reason_in reason_of decision_of lookup_of better chosen_of rank_of score_of score_at chosen_in denied_of arrive_of refusal_of look_of timer_of verdict_of look_at
-    check_of group_tcp tcp_in step_of sound_of zero_of sound_at records_sound sound_state gate_of gate_at told_of change_of event_of loss_of alive_after starts_of
+    reason_in reason_of decision_of lookup_of better chosen_of rank_of score_of score_at chosen_in denied_of arrive_of refusal_of look_of timer_of verdict_of
+    look_at
+    check_of group_tcp tcp_in step_of sound_of zero_of sound_at records_sound sound_state gate_of gate_at told_of change_of event_of loss_of alive_after
+    starts_of
     reach_of run_of tick_of ticked_to ticks_to ticks_event walked_of judged_of judged_answer walk_on walk_of
 inside-hold = refl
 

@@ -4,7 +4,7 @@ use mathlib.Core.Path.{◌≡◌, refl, sym, ap, ◌∙◌}
 use mathlib.Core.Bool.{true, false, true≢false}
 use mathlib.Core.List.{List, [], ◌∷◌}
 use native.Mathlib.Omega.{arith}
-use lib.ListN.{get_or, replicate, get_or-replicate}
+use lib.ListN.{get_or, get_or-replicate}
 use Rattle.wire.specs.Be.{be}
 use Rattle.wire.specs.Lay.{spell, lay}
 use Rattle.lists.specs.Search.{bad_from, every}
@@ -55,7 +55,8 @@ use Rattle.example_edges.specs.Wrong.{KeepsBytes, StaysUp, Hearing, IsHearing, A
 opens : (record_at (event_of (lends fresh) 0 Open).state 0).open_wanted ≡ true
 unfolding image be bad_from every rows_of body_bytes start_of end_of row_at part_of body_of row_in group_row connection_row route_row destination_row group_good
     connection_good route_good destination_good size_in group_tcp tcp_in routes_share destinations_share share clear_in good_in head_good entry_good rule
-    then_check entries_place head_place all_rows_place check_table config_of fresh_state sound_of zero_of sound_at records_sound sound_state gate_of gate_at step_of
+    then_check entries_place head_place all_rows_place check_table config_of fresh_state sound_of zero_of sound_at records_sound sound_state gate_of gate_at
+    step_of
     told_of change_of event_of
 opens = refl
 
@@ -72,7 +73,8 @@ no_still_events f is still =
 still-moves : transferring (record_at (event_of (lends (moving 5)) 2 Cancel).state 2).part ≡ true
 unfolding image be bad_from every rows_of body_bytes start_of end_of row_at part_of body_of row_in group_row connection_row route_row destination_row group_good
     connection_good route_good destination_good size_in group_tcp tcp_in routes_share destinations_share share clear_in good_in head_good entry_good rule
-    then_check entries_place head_place all_rows_place check_table config_of fresh_state sound_of zero_of sound_at records_sound sound_state gate_of gate_at step_of
+    then_check entries_place head_place all_rows_place check_table config_of fresh_state sound_of zero_of sound_at records_sound sound_state gate_of gate_at
+    step_of
     told_of change_of event_of
 still-moves = refl
 
@@ -83,9 +85,11 @@ no_ending_cancel f is wrong =
 
 -- a transmit to an online destination with room writes the header's id behind the bytes that wait
 stores : get_or (sent_memory (loans (used 10)) 9 (1 ∷ 2 ∷ [])) 2956 0 ≡ 2
-unfolding image be spell lay bad_from every fold_from rows_of body_bytes start_of end_of row_at part_of body_of row_in group_row connection_row route_row destination_row
+unfolding image be spell lay bad_from every fold_from rows_of body_bytes start_of end_of row_at part_of body_of row_in group_row connection_row route_row
+    destination_row
     group_good connection_good route_good destination_good size_in group_tcp tcp_in routes_share destinations_share share clear_in good_in head_good entry_good
-    rule then_check entries_place head_place all_rows_place check_table config_of fresh_state sound_of zero_of sound_at records_sound sound_state gate_of frame is_on
+    rule then_check entries_place head_place all_rows_place check_table config_of fresh_state sound_of zero_of sound_at records_sound sound_state gate_of
+    frame is_on
     refusal_of look_of timer_of verdict_of append_of look_at check_of wanted_at store_of store_all transmit_of sent_memory
 stores = refl
 
@@ -101,20 +105,24 @@ no_empty_transmit f is nothing_stored =
 -- configured remote
 lets_go : ((record_at (tick_event (lends (watching 1 false))).state 0).used ≡ 0)
     × (is_online (record_at (tick_event (lent limited_exact last_tick 23424 23552)).state 1).mode ≡ false)
-unfolding image be bad_from every fold_from rows_of body_bytes start_of end_of row_at part_of body_of row_in group_row connection_row route_row destination_row group_good
+unfolding image be bad_from every fold_from rows_of body_bytes start_of end_of row_at part_of body_of row_in group_row connection_row route_row
+    destination_row group_good
     connection_good route_good destination_good size_in group_tcp tcp_in routes_share destinations_share share clear_in good_in head_good entry_good rule
     then_check entries_place head_place all_rows_place check_table config_of fresh_state sound_of zero_of sound_at records_sound sound_state gate_of gate_at
-    alive_after starts_of reach_of run_of tick_of ticked_to tick_event better chosen_of rank_of score_of score_at chosen_in denied_of arrive_of arrival_of head_of
+    alive_after starts_of reach_of run_of tick_of ticked_to tick_event better chosen_of rank_of score_of score_at chosen_in denied_of arrive_of arrival_of
+    head_of
     walk_at is_on rows_in counts row_for reason_in reason_of decision_of lookup_of walked_of judged_of judged_answer walk_on walk_of
 lets_go = (refl, refl)
 
 -- of the table and the states before
 before-tick : ((record_at (watching 1 false) 0).close_wanted ≡ false) × ((record_at last_tick 1).close_wanted ≡ false)
     × (wildcard (config_of limited_exact 1).remote ≡ false) × ((config_of image 0).alive ≡ 2)
-unfolding image be bad_from every fold_from rows_of body_bytes start_of end_of row_at part_of body_of row_in group_row connection_row route_row destination_row group_good
+unfolding image be bad_from every fold_from rows_of body_bytes start_of end_of row_at part_of body_of row_in group_row connection_row route_row
+    destination_row group_good
     connection_good route_good destination_good size_in group_tcp tcp_in routes_share destinations_share share clear_in good_in head_good entry_good rule
     then_check entries_place head_place all_rows_place check_table config_of fresh_state sound_of zero_of sound_at records_sound sound_state gate_of gate_at
-    alive_after starts_of reach_of run_of tick_of ticked_to tick_event better chosen_of rank_of score_of score_at chosen_in denied_of arrive_of arrival_of head_of
+    alive_after starts_of reach_of run_of tick_of ticked_to tick_event better chosen_of rank_of score_of score_at chosen_in denied_of arrive_of arrival_of
+    head_of
     walk_at is_on rows_in counts row_for reason_in reason_of decision_of lookup_of walked_of judged_of judged_answer walk_on walk_of
 before-tick = (refl, refl, refl, refl)
 
@@ -122,10 +130,12 @@ before-tick = (refl, refl, refl, refl)
 hears : ((datagram_of (lends (watching 0 true)) 0 exact).answer ≡ Met 0) × ((record_at (datagram_of (lends (watching 0 true)) 0 exact).state 0).watch.alive ≡ 0)
     × ((record_at (datagram_of (lends (watching 0 true)) 0 exact).state 0).watch.remote_set ≡ true)
     × ((record_at (walk_of (lends (watching 1 false)) 0 [] 0).state 0).watch.alive ≡ 1)
-unfolding image be bad_from every fold_from rows_of body_bytes start_of end_of row_at part_of body_of row_in group_row connection_row route_row destination_row group_good
+unfolding image be bad_from every fold_from rows_of body_bytes start_of end_of row_at part_of body_of row_in group_row connection_row route_row
+    destination_row group_good
     connection_good route_good destination_good size_in group_tcp tcp_in routes_share destinations_share share clear_in good_in head_good entry_good rule
     then_check entries_place head_place all_rows_place check_table config_of fresh_state sound_of zero_of sound_at records_sound sound_state gate_of gate_at
-    alive_after starts_of reach_of run_of tick_of ticked_to tick_event better chosen_of rank_of score_of score_at chosen_in denied_of arrive_of arrival_of head_of
+    alive_after starts_of reach_of run_of tick_of ticked_to tick_event better chosen_of rank_of score_of score_at chosen_in denied_of arrive_of arrival_of
+    head_of
     walk_at is_on rows_in counts row_for reason_in reason_of decision_of lookup_of walked_of judged_of judged_answer walk_on walk_of
 hears = (refl, refl, refl, refl)
 

@@ -1,5 +1,5 @@
 -- THE STARRED EDGES THROUGH THE ENTRY POINTS hold.
-use Prim.Native.Nat.{ℕ, zero, suc, ◌<◌, ◌≤◌}
+use Prim.Native.Nat.{ℕ, zero, suc, ◌<◌}
 use mathlib.Core.Path.{◌≡◌, refl, sym, ap, ◌∙◌, subst}
 use mathlib.Core.Bool.{Bool, true, false, ◌&&◌}
 use mathlib.Core.List.{List, [], ◌∷◌, ◌++◌, append-nil}
@@ -32,13 +32,13 @@ use Rattle.send.specs.Verdict.{verdict_of, transmission_number}
 use Rattle.send.specs.Send.{look_at, check_of, wanted_at}
 use Rattle.entry_send.specs.Sending.{send_of}
 use Rattle.law_waits.specs.Waits.{waits}
-use Rattle.reading.specs.Feed.{piece_done, feed, take_b, takes, ready, segment_ran, fine, Out}
+use Rattle.reading.specs.Feed.{piece_done, feed, take_b, takes, ready, segment_ran, fine}
 use Rattle.reading_lengths.specs.Listed.{Bytes}
 use Rattle.reading_walk.specs.Walk.{walk_at, outs_told}
-use Rattle.model.specs.World.{held_at, cell_at, held_of}
+use Rattle.model.specs.World.{cell_at, held_of}
 use Rattle.model.proofs.View.{view_at}
-use Rattle.model_refines.specs.Machine.{machine, lent_to}
-use Rattle.model.specs.Events.{segment, walk, transmit, Event, on, on_whole}
+use Rattle.model_refines.specs.Machine.{lent_to}
+use Rattle.model.specs.Events.{segment, walk, transmit, on, on_whole}
 use Rattle.model_runs.specs.Same.{cut}
 use Rattle.model_refines.specs.Run.{given, given_in, after_event, Good}
 use Rattle.theorems.specs.Trip.{Reader, Walker}
@@ -50,7 +50,7 @@ use Rattle.theorems.proofs.Waiting.{event-waits}
 use Rattle.example_edges.specs.Table.{image, fresh, waiting_for, used, exact}
 use Rattle.example_edges.specs.Edges.{framed, bar, skip_longest, numbers, arrived_numbers, routes}
 use Rattle.example_edges.proofs.Edges.{each-inside}
-use Rattle.example_entries.specs.Entries.{tcp_up, udp_up, over, segments_give, walk_gives, datagram_gives, transmit_gives, AllAsSaid, entry_edges, EntryEdges}
+use Rattle.example_entries.specs.Entries.{tcp_up, udp_up, over, segments_give, walk_gives, datagram_gives, transmit_gives, EntryEdges}
 use Rattle.example_entries.proofs.Given.{reader_given, walker_given}
 
 -- the states are sound
@@ -250,6 +250,6 @@ module _ (rx tx : List ℕ) (long : length rx ≡ 23424) (wide : length tx ≡ 2
             ),
           ),
         );
-        then-wait = waits-then;
+        then_wait = waits-then;
         full_stays = refusal-stays image (over rx tx (used 1463)) (on_whole (transmit 9 (0 ∷ 180 ∷ []))) (λ z. omega (arith, z, ap first eight));
       }

@@ -1,24 +1,21 @@
 -- WHAT A READER AND A WALKER ARE GIVEN at one event is what the definitions of reading give, of any good machine.
-use Prim.Native.Nat.{ℕ, ◌<◌, ◌≤◌}
-use mathlib.Core.Path.{◌≡◌, refl, sym, ap, ◌∙◌, subst}
-use mathlib.Core.Bool.{Bool, true, false, cond, not, ◌&&◌}
-use mathlib.Core.List.{List, [], ◌∷◌}
-use lib.Dec.{eqb, leb, ltb}
+use Prim.Native.Nat.{ℕ, ◌≤◌}
+use mathlib.Core.Path.{◌≡◌, refl, ap, ◌∙◌}
+use mathlib.Core.List.{List, []}
 use lib.ListN.{length}
 use borrow.Author.Tests.{eq-eqb, lt-ltb, le-leb}
 use Rattle.table_layout.specs.Layout.{rows_of, body_of}
 use Rattle.table_layout.specs.declared.Kind.TheVariants.{Connection as Connections, Route}
 use Rattle.receive_route.specs.Route.{lookup_of}
-use Rattle.reading.specs.Feed.{Out, Cell, ready, segment_ran, fine}
+use Rattle.reading.specs.Feed.{ready, segment_ran, fine}
 use Rattle.reading_lengths.specs.Listed.{Bytes}
 use Rattle.reading_walk.specs.Walk.{walk_at, outs_told}
 use Rattle.connection.specs.declared.Connection.{Connection}
 use Rattle.connection.specs.Event.{receiving}
 use Rattle.state.specs.State.{record_at}
-use Rattle.state.specs.Fresh.{config_of}
 use Rattle.entry_receive.specs.Routes.{routes_in}
-use Rattle.model.specs.World.{held_at, cell_at}
-use Rattle.model.specs.Events.{segment, walk, Event, on}
+use Rattle.model.specs.World.{held_at}
+use Rattle.model.specs.Events.{segment, walk, on}
 use Rattle.model.specs.Step.{does, acts, hands}
 use Rattle.model.proofs.View.{view_record}
 use Rattle.model_refines.specs.Table.{table_of}

@@ -1,5 +1,5 @@
 -- THE STARRED EDGES (R12.1 to R12.7) THROUGH THE ENTRY POINTS, as one table: from sound states over the edges' image, lent any memory of the right lengths.
-use Rattle.std.specs.Prelude.{ℕ, ◌≡◌, false, List, [], ◌∷◌, ◌++◌, take, drop}
+use Rattle.std.specs.Prelude.{ℕ, ◌≡◌, List, [], ◌∷◌, ◌++◌, take, drop}
 use Rattle.connection.specs.declared.Mode.TheVariants.{Online}
 use Rattle.connection.specs.Connection.{become, with_remote, with_switches}
 use Rattle.state.specs.declared.State.{State}
@@ -77,7 +77,7 @@ module _ (rx tx : List ℕ) where
   -- THE ONE STATEMENT: the table, and which bytes wait after 1,462 + 8 + 2; after 1,463 all is as it was
   pub record EntryEdges : Type 0 where
     pub rows : AllAsSaid entry_edges
-    pub then-wait :
+    pub then_wait :
         waits (after_event image (on_whole (transmit 9 (0 ∷ 180 ∷ []))) (over (used 1462))).state
         (after_event image (on_whole (transmit 9 (0 ∷ 180 ∷ []))) (over (used 1462))).tx 2
         ≡ waits (used 1462) tx 2 ++ frame 0x202 (0 ∷ 180 ∷ [])

@@ -47,10 +47,13 @@ use Rattle.theorems.proofs.Refused.{event-refused}
 use Rattle.example_numbers.specs.Reached.{kind_of, Reached, Example, example, examples, example_holds, examples_hold}
 
 examples-hold : examples_hold examples ≡ true
-unfolding image be bad_from every fold_from rows_of body_bytes start_of end_of row_at part_of body_of row_in group_row connection_row route_row destination_row group_good
+unfolding image be bad_from every fold_from rows_of body_bytes start_of end_of row_at part_of body_of row_in group_row connection_row route_row
+    destination_row group_good
     connection_good route_good destination_good size_in group_tcp tcp_in routes_share destinations_share share clear_in good_in head_good entry_good rule
-    then_check entries_place head_place all_rows_place check_table step_of sound_of zero_of config_of fresh_state is_on sound_at records_sound sound_state gate_of
-    gate_at told_of change_of event_of switch_all_of of_protocol read_past read_of clear_past clear_of tick_event better chosen_of rank_of score_of score_at chosen_in
+    then_check entries_place head_place all_rows_place check_table step_of sound_of zero_of config_of fresh_state is_on sound_at records_sound sound_state
+    gate_of
+    gate_at told_of change_of event_of switch_all_of of_protocol read_past read_of clear_past clear_of tick_event better chosen_of rank_of score_of score_at
+    chosen_in
     denied_of arrive_of arrival_of judged_of judged_answer take_on segment_of walk_on walk_of refusal_of look_of verdict_of look_at check_of taking_of send_of
     taken_waiting
 examples-hold = refl

@@ -3,10 +3,10 @@ use Prim.Native.Nat.{ℕ, ◌<◌}
 use mathlib.Core.Path.{◌≡◌, refl, ap, ap₂, ◌∙◌}
 use mathlib.Core.List.{List, [], ◌∷◌, ◌++◌, flatten}
 use native.Mathlib.Omega.{arith}
-use lib.ListN.{length, take, drop, drop_of_length-le}
+use lib.ListN.{length, drop, drop_of_length-le}
 use lib.Seq.{take_all}
 use Rattle.wire.specs.Be.{be}
-use Rattle.reading.specs.Feed.{Routes, Out, transfer, ready, piece_done, feed, after, outs, take_b, Ran, takes, segment_ran, segments, Handed, began, finished}
+use Rattle.reading.specs.Feed.{Routes, transfer, ready, piece_done, feed, after, outs, take_b, Ran, takes, segment_ran, segments, Handed, began, finished}
 use Rattle.reading.specs.Feed.{compared, middle_of}
 use Rattle.reading.proofs.Pieces.{move_all}
 use Rattle.switches.specs.Switches.{is_on}
@@ -78,7 +78,8 @@ moved_whole R n r ss pos e =
 begun-whole : (R : Routes) (n : ℕ) (head : List ℕ) (ss : List (List ℕ)) (q : Ran) → segment_ran R ready head ≡ q → q.to ≡ transfer n 2
     → compared (q.list ++ (segments R (transfer n 2) ss).list) ≡ began 2 0x104 n ∷ compared (segments R (transfer n 2) ss).list
     → 0 < n → length (flatten ss) ≡ n
-    → ((segments R ready (head ∷ ss)).to ≡ ready) × (compared (segments R ready (head ∷ ss)).list ≡ began 2 0x104 n ∷ middle_of 2 (flatten ss) (finished 2 ∷ []))
+    → ((segments R ready (head ∷ ss)).to ≡ ready)
+    × (compared (segments R ready (head ∷ ss)).list ≡ began 2 0x104 n ∷ middle_of 2 (flatten ss) (finished 2 ∷ []))
 unfolding segments
 begun-whole R n head ss q e to list pos l =
     let m = moved_whole R n 2 ss pos l in (

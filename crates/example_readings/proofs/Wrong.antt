@@ -5,7 +5,8 @@ use mathlib.Core.Bool.{true, false, true≢false}
 use mathlib.Core.List.{List, [], ◌∷◌, ◌++◌, map}
 use native.Mathlib.Omega.{arith}
 use lib.ListN.{length, take, drop, length-drop}
-use Rattle.reading.specs.Feed.{Routes, Cell, cell, transfer, header, Out, nothing, pdu, dropped, start, piece, piece_done, feed, ready, Took, take_b, bytes_read}
+use Rattle.reading.specs.Feed.{Routes, Cell, cell, transfer, header, Out, nothing, pdu, dropped, start, piece, piece_done, feed, ready, Took, take_b}
+use Rattle.reading.specs.Feed.{bytes_read}
 use Rattle.reading.specs.Feed.{Ran, takes, segment_ran, compared}
 use Rattle.switches.specs.Switches.{is_on}
 use Rattle.reading_lengths.specs.Listed.{mark, read_out}

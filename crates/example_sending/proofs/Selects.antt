@@ -1,5 +1,4 @@
 -- The edges of selection.
-use Prim.Native.Nat.{ℕ}
 use mathlib.Core.Path.{◌≡◌, refl}
 use mathlib.Core.Bool.{Bool, true, false}
 use mathlib.Core.List.{List, [], ◌∷◌}
@@ -46,7 +45,8 @@ port-before_any true = refl
 port-before_any false = refl
 
 -- close wanted does not count, nor does offline
-pub closing-left-out : among false (record_of Online true (remote 7 9) 0 ∷ record_of Offline false (remote 7 9) 0 ∷ record_of Reconnect false (remote 0 0) 0 ∷ [])
+pub closing-left-out : among false
+    (record_of Online true (remote 7 9) 0 ∷ record_of Offline false (remote 7 9) 0 ∷ record_of Reconnect false (remote 0 0) 0 ∷ [])
     ≡ At 2
 unfolding chosen_of fold_from better score_of rank_of
 closing-left-out = refl

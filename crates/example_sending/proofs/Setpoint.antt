@@ -151,7 +151,8 @@ module _ (s : State) (rx tx payload : List ℕ) (v : TwoValves s rx tx payload) 
 
 -- SUCH STATES THERE ARE: the last byte that fits at the second valve; one more; and one more at the first
 passes : (sound_state valves (both_valves 0 1462) ≡ true) × (sound_state valves (both_valves 0 1463) ≡ true) × (sound_state valves (both_valves 1463 0) ≡ true)
-unfolding valves be bad_from every rows_of body_bytes start_of end_of row_at part_of body_of row_in group_row connection_row destination_row group_good connection_good
+unfolding valves be bad_from every rows_of body_bytes start_of end_of row_at part_of body_of row_in group_row connection_row destination_row group_good
+    connection_good
     route_good destination_good size_in routes_share destinations_share share clear_in good_in head_good entry_good rule then_check entries_place head_place
     all_rows_place check_table config_of sound_of zero_of sound_at records_sound sound_state
 passes = (refl, refl, refl)

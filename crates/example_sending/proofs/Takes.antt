@@ -1,12 +1,11 @@
 -- The edges of taking the waiting bytes.
-use Prim.Native.Nat.{ℕ}
 use mathlib.Core.Path.{◌≡◌, refl}
 use mathlib.Core.Bool.{true, false}
-use mathlib.Core.List.{List, [], ◌∷◌}
+use mathlib.Core.List.{[], ◌∷◌}
 use Rattle.connection.specs.declared.Mode.TheVariants.{Reconnect, Online}
 use Rattle.wire.specs.Lay.{lay}
 use Rattle.send_waiting.specs.declared.Taking.TheVariants.{Bytes, Short}
-use Rattle.send_waiting.specs.Waiting.{waiting_of, taking_of, take_of, out_of}
+use Rattle.send_waiting.specs.Waiting.{taking_of, take_of, out_of}
 use Rattle.example_sending.specs.Valves.{remote, record_of, holding, service}
 
 -- room for all, and one byte less

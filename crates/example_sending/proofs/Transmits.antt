@@ -93,7 +93,8 @@ unfolding transmit_of
 nothing_stored image s pdu payload tx e = rw e
 
 pub other_pdu : check_of valves (both_valves 0 0) 8 2 ≡ NoDestination
-unfolding valves check_of look_at look_of refusal_of is_on verdict_of every bad_from rows_of body_bytes start_of part_of body_of row_in connection_row destination_row be
+unfolding valves check_of look_at look_of refusal_of is_on verdict_of every bad_from rows_of body_bytes start_of part_of body_of row_in connection_row
+    destination_row be
 other_pdu = refl
 
 -- what is stored: the header with its length, then the payload

@@ -1,10 +1,12 @@
 // Framing: header and payload to the front of an out buffer, or a refusal by number.
+#![tactic(auto)]
+
 ghost use Rattle.std.specs.Prelude.{◌≡◌, length};
 ghost use Rattle.frame.specs.Framing.{framing_of, framed_out, framed_number};
 
 use wire::{copy_in, put32};
 
-#[derive(Drop)]
+#[derive(Clone, Copy)]
 pub enum Framed {
     Done,
     TooLong,

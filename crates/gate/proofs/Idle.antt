@@ -60,7 +60,8 @@ module _ (g : Config) (routes : List ℕ) (n : ℕ) (c : Connection) where
   fewer true s t b r o k w = last (s && t && b && r) o k w
   fewer false s t b r o k w = refl
 
-  nothing-received : (sound_of g (with_part ready_part c) && routed routes n ready_part) ≡ (quiet_sound g (with_part ready_part c) && wished g (with_part ready_part c))
+  nothing-received : (sound_of g (with_part ready_part c) && routed routes n ready_part)
+      ≡ (quiet_sound g (with_part ready_part c) && wished g (with_part ready_part c))
   unfolding sound_of
   nothing-received =
       fewer (leb c.used g.size) (sends c) (timed c) (never_both c) (online_remote c) (open_rule g c) (close_rule g c) (watched g c)

@@ -54,7 +54,8 @@ unfolding sound_at
 zero-past image n h = rw (le-ltb _ _ h) zero-zero
 
 -- each record of a sound state is sound, and may be replaced by one that is
-pub record-at : (image : List ℕ) (cs : List Connection) (n : ℕ) → records_sound image cs ≡ true → n < length cs → sound_at image n (get_or cs n zero_record) ≡ true
+pub record-at : (image : List ℕ) (cs : List Connection) (n : ℕ) → records_sound image cs ≡ true → n < length cs → sound_at image n (get_or cs n zero_record)
+    ≡ true
 unfolding records_sound
 record-at image cs n p h =
     let z : 0 + n ≡ n = omega arith in
@@ -79,7 +80,8 @@ pub records-in : (image : List ℕ) → Laid image → (cs : List Connection) (c
 records-in image l cs connections groups routes a b d = rw (a, b, d, body-rows image l Connections) (all_in image cs)
 
 -- the rules ask no more than that
-pub rules_enough : (connections groups : List ℕ) (n : ℕ) (c : Connection) → sound_of (rules_in connections groups n) c ≡ sound_of (config_in connections groups n) c
+pub rules_enough : (connections groups : List ℕ) (n : ℕ) (c : Connection) → sound_of (rules_in connections groups n) c
+    ≡ sound_of (config_in connections groups n) c
 unfolding sound_of
 rules_enough connections groups n c = refl
 

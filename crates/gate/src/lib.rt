@@ -1,5 +1,7 @@
 // What is asked before any event: 11 for lent memory of another length, 12 for a table or state that is not sound, and 2 for
 // a connection that is not there. Every public function is total.
+#![tactic(auto)]
+
 ghost use Rattle.std.specs.Prelude.{◌≡◌, ◌≤◌};
 ghost use Rattle.lists.specs.Each.{all_from};
 ghost use Rattle.connection.specs.Sound.{online_remote, watched};
@@ -18,7 +20,7 @@ use table::{TableAnswer, check_table};
 use table_layout::{Kind, body_laid};
 use table_rows::{ConnectionBrief, GroupRow, brief_in, group_in, route_in, size_in};
 
-#[derive(Drop)]
+#[derive(Clone, Copy)]
 pub enum Gate {
     Pass,
     Refused(Refusal),

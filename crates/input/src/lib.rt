@@ -1,4 +1,6 @@
 // Bytes of standard input into lent memory, and a table image from there, never more than is asked for.
+#![tactic(auto)]
+
 ghost use Rattle.std.specs.Prelude.{◌≤◌};
 
 use table_layout::end_of;

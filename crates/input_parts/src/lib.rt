@@ -1,5 +1,7 @@
 // Recordings one after the other on standard input, each with its length before it (docs/RECORDING.md, "Several recordings"): the contents and the
 // bodies of one, never past its length, and what is left of it passed over.
+#![tactic(auto)]
+
 ghost use Rattle.std.specs.Prelude.{◌≤◌};
 
 use input::read_part;
@@ -17,7 +19,7 @@ pub fn read_within(buffer: &mut [u8], at: usize, n: usize, left: usize) -> usize
 }
 
 // The length before a part; none where the input ends.
-#[derive(Drop)]
+#[derive(Clone, Copy)]
 pub enum Next {
     Ended,
     Part(usize),

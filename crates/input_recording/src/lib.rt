@@ -1,4 +1,6 @@
 // The front of a recording and its contents, from standard input (docs/RECORDING.md): at most 4,000 rows are kept, those behind are counted.
+#![tactic(auto)]
+
 ghost use Rattle.std.specs.Prelude.{◌≤◌};
 
 use input::read_part;

@@ -1,5 +1,7 @@
 // The replay of a recording that comes on standard input (docs/RECORDING.md), told on standard output: each entry that is run, with
 // today's answer, then the first difference, what was refused or cut, and the records at the end. Each body is read when its turn comes.
+#![tactic(auto)]
+
 use input::read_part;
 use input_recording::{contents_long, count_of, read_contents, shown_of};
 use pieces::front;
@@ -12,7 +14,7 @@ use words_replay::{
 };
 
 // How far the replay is: the state, and its tale.
-#[derive(Drop)]
+#[derive(Clone, Copy)]
 struct Going {
     state: State,
     tale: Tale,

@@ -1,5 +1,7 @@
 // A script that comes on standard input, run entry by entry and told on standard output: what each entry is and answers, and the records
 // at the end (docs/EVENTS.md).
+#![tactic(auto)]
+
 use dispatch::dispatch;
 use event_answer::Verdict;
 use event_start_state::given_state;
@@ -9,7 +11,7 @@ use words_record::records;
 use words_script::{Last, Told, goes_on, happened, read_entry, start_taken, word};
 
 // An entry as it was told, and the state after it.
-#[derive(Drop)]
+#[derive(Clone, Copy)]
 struct Ran {
     told: Told,
     state: State,

@@ -26,7 +26,8 @@ use Rattle.select.specs.declared.Chosen.{Chosen}
 use Rattle.select.specs.declared.Chosen.TheVariants.{Nobody, At}
 use Rattle.select.specs.declared.Arrived.{Arrived}
 use Rattle.select.specs.Best.{IsChosen}
-use Rattle.select.specs.Choose.{rank_of, matches, member_counts, member, score_of, score_at, chosen_in, meet, arrival_refused, protocol_of, denied_of, arrive_of}
+use Rattle.select.specs.Choose.{rank_of, matches, member_counts, member, score_of, score_at, chosen_in, meet, arrival_refused, protocol_of, denied_of}
+use Rattle.select.specs.Choose.{arrive_of}
 use Rattle.select.proofs.Pass.{chosen_is_best}
 use Rattle.entry_arrivals.specs.Arrivals.{arrival_of}
 use Rattle.gate.proofs.Pass.{passed-next}

@@ -1,7 +1,7 @@
 -- One record: what an arrival, an append and a take leave sound.
 use Prim.Native.Nat.{ℕ, ◌+◌}
 use mathlib.Core.Path.{◌≡◌, refl, sym, ◌∙◌}
-use mathlib.Core.Bool.{Bool, true, false, cond, not, ◌&&◌, ◌||◌, or_true}
+use mathlib.Core.Bool.{Bool, true, false, cond, not, ◌&&◌, ◌||◌, or-true}
 use native.Mathlib.Omega.{arith}
 use lib.Dec.{eqb, ltb}
 use borrow.Author.Tests.{le-leb, lt-ltb}
@@ -38,7 +38,7 @@ never_both : (trigger due : Bool) (timeout timer : ℕ) → (eqb timer 0 || not 
 unfolding timer_of
 never_both true due timeout timer h = refl
 never_both false true timeout timer h = h
-never_both false false timeout timer h = or_true (eqb (cond (true && ltb 0 timeout && (eqb timer 0 || ltb timeout timer)) timeout timer) 0)
+never_both false false timeout timer h = or-true (eqb (cond (true && ltb 0 timeout && (eqb timer 0 || ltb timeout timer)) timeout timer) 0)
 
 -- an append
 pub sent_keeps : (g : Config) (d : DestinationRow) (len : ℕ) (c : Connection) → Sound g c → Meets len g.size d c → Sound g (sent_of d (c.used + 8 + len) c)
@@ -46,8 +46,8 @@ sent_keeps g d len c s m =
     let timer = timer_of d.trigger d.timeout c.timer c.due in
     send_keeps g c s (c.used + 8 + len) timer (d.trigger || c.due) (record {
       fits = le-leb _ _ m.room;
-      sending = rw m.up (or_true (eqb (c.used + 8 + len) 0));
-      timing = rw (lt-ltb 0 (c.used + 8 + len) (omega arith)) (or_true (eqb timer 0 && not (d.trigger || c.due)));
+      sending = rw m.up (or-true (eqb (c.used + 8 + len) 0));
+      timing = rw (lt-ltb 0 (c.used + 8 + len) (omega arith)) (or-true (eqb timer 0 && not (d.trigger || c.due)));
       once = never_both d.trigger c.due d.timeout c.timer s.send.once;
     })
 
@@ -77,7 +77,7 @@ module _ (g : Config) (c : Connection) (s : Sound g c) (some : eqb c.used 0 ≡ 
   tcp_close : g.tcp ≡ true → Sound g (with_mode c.mode c.open_wanted true (with_send 0 0 false c))
   tcp_close t =
       wishes-keep g (with_send 0 0 false c) drained c.open_wanted true (rw no_open)
-      (rw (t, online_not_offline c.mode online) (or_true (not g.automatic)))
+      (rw (t, online_not_offline c.mode online) (or-true (not g.automatic)))
 
   -- 00582
   udp_back : g.tcp ≡ false → Sound g (become Reconnect (reset_of g (with_send 0 0 false c)))

@@ -17,7 +17,6 @@ use Rattle.gate.specs.declared.Gate.TheVariants.{Pass, Refused}
 use Rattle.gate.specs.Gate.{gate_of, gate_at, through}
 use Rattle.gate.specs.Sound.{records_sound}
 use Rattle.gate.proofs.Pass.{gate_passed, gate_at-passed, in_sixteen}
-use Rattle.state.specs.declared.State.{State}
 use Rattle.state.specs.State.{record_at}
 use Rattle.wire.specs.Lay.{lay}
 use Rattle.wire.proofs.Lay.{lay-fits}

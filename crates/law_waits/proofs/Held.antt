@@ -88,7 +88,8 @@ module _ (image : List ℕ) (ready : Ready image) (s : State) (pdu : ℕ) (paylo
     abbrev Keeps : Sending → Sending → Type 0
     Keeps x y = (stretch 1472 k y.memory ≡ stretch 1472 k x.memory) × (record_at y.state k ≡ record_at x.state k)
 
-    keeps_step : (x : Sending) (i : ℕ) → Fine x i → i < destinations image → goes_to image s pdu payload k i ≡ false → Keeps x (store_of image s pdu payload x i)
+    keeps_step : (x : Sending) (i : ℕ) → Fine x i → i < destinations image → goes_to image s pdu payload k i ≡ false
+        → Keeps x (store_of image s pdu payload x i)
     keeps_step x i f h =
         row_cases x i (λ (b : Bool) (y : Sending). b ≡ false → Keeps x y) (λ w e g. impossible (sym g))
         (λ w ne g. (
@@ -132,7 +133,8 @@ module _ (image : List ℕ) (ready : Ready image) (s : State) (pdu : ℕ) (paylo
 
     -- a connection with none of them keeps its whole stretch and its record
     pub others_stay : ((i : ℕ) → i < destinations image → goes_to image s pdu payload k i ≡ false)
-        → (stretch 1472 k (store_all image s pdu payload tx).memory ≡ stretch 1472 k tx) × (record_at (store_all image s pdu payload tx).state k ≡ record_at s k)
+        → (stretch 1472 k (store_all image s pdu payload tx).memory ≡ stretch 1472 k tx)
+        × (record_at (store_all image s pdu payload tx).state k ≡ record_at s k)
     unfolding store_all
     others_stay none = keeps_fold image ready s pdu payload (clear_roomy image s pdu payload clear ready) k
         (destinations image) (sending s tx) (omega arith) begin-fine none

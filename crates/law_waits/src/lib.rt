@@ -1,1 +1,3 @@
 // What waits on a connection, event after event: laws, no code.
+
+#![tactic(auto)]

@@ -1,1 +1,3 @@
 // Laws over lists of any element: no code.
+
+#![tactic(auto)]

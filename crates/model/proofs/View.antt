@@ -95,7 +95,8 @@ fewer-set [] i c l = fewer_none
 fewer-set (x ∷ cs) zero c l = fewer-one l (fewer-same cs)
 fewer-set (x ∷ cs) (suc i) c l = fewer-one (less_same x) (fewer-set cs i c l)
 
-pub fewer-each : (f : ℕ → Connection → Connection) → ((k : ℕ) (c : Connection) → Less (f k c) c) → (k n : ℕ) (cs : List Connection) → Fewer (each_to f k n cs) cs
+pub fewer-each : (f : ℕ → Connection → Connection) → ((k : ℕ) (c : Connection) → Less (f k c) c) → (k n : ℕ) (cs : List Connection)
+    → Fewer (each_to f k n cs) cs
 fewer-each f h k zero cs = fewer-same cs
 fewer-each f h k (suc n) [] = fewer_none
 fewer-each f h k (suc n) (c ∷ cs) = fewer-one (h k c) (fewer-each f h (suc k) n cs)

@@ -4,7 +4,6 @@ use mathlib.Core.Path.{◌≡◌, refl, sym, ap, ◌∙◌, subst}
 use mathlib.Core.Bool.{Bool, true, false, cond}
 use mathlib.Core.List.{List}
 use lib.Dec.{ltb}
-use lib.ListN.{length}
 use Rattle.table_layout.specs.Layout.{rows_of}
 use Rattle.table_layout.specs.declared.Kind.TheVariants.{Connection as Connections}
 use Rattle.connection.specs.declared.Connection.{Connection}
@@ -73,7 +72,8 @@ module _ (l : Loan) where
       → view_of (tick_event (sizes l)).state rx tx ≡ step (table_of image) (whole_of image) w (on_whole tick)
   unfolding tick_event step ticked_to
   tick_view p =
-      ap (λ (t : Ticked). view_of t.state rx tx) (past (unticked s) (ticked_from (rows_of image Connections) s (ticked_to image (rows_of image Connections) s)) p)
+      ap (λ (t : Ticked). view_of t.state rx tx)
+      (past (unticked s) (ticked_from (rows_of image Connections) s (ticked_to image (rows_of image Connections) s)) p)
       ∙ leaves_view (ticked_to image (rows_of image Connections)) s rx tx
       (fewer-each (tick_at image) (λ k c. tick_less (config_of image k) c) 0 (rows_of image Connections) s.connections)
 

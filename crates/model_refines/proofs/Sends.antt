@@ -76,7 +76,8 @@ module _ (image rx tx payload : List ℕ) (s : State) (pdu : ℕ) (long : length
     abbrev Way : ℕ → Sending → Type 0
     Way i x = Fine image ready s pdu payload (clear_roomy image s pdu payload clear ready) x i
 
-    one_store : (i : ℕ) (x : Sending) → i < destinations image → Way i x → seen rx (store_of image s pdu payload x i) ≡ store_in image s pdu payload (seen rx x) i
+    one_store : (i : ℕ) (x : Sending) → i < destinations image → Way i x → seen rx (store_of image s pdu payload x i)
+        ≡ store_in image s pdu payload (seen rx x) i
     unfolding store_of store_in
     one_store i x h f = go (wanted_at image s pdu payload i) refl
       where

@@ -4,7 +4,7 @@ use mathlib.Core.Path.{◌≡◌, refl, sym, ap, ap₂, ◌∙◌}
 use mathlib.Core.Bool.{Bool, true, false, cond}
 use mathlib.Core.List.{List, []}
 use lib.Dec.{eqb, ltb}
-use lib.ListN.{length, replicate, length-replicate}
+use lib.ListN.{replicate, length-replicate}
 use Rattle.table_layout.specs.Layout.{rows_of}
 use Rattle.table_layout.specs.declared.Kind.TheVariants.{Connection as Connections}
 use Rattle.connection.specs.declared.Remote.{Remote}

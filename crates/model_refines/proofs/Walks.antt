@@ -4,7 +4,6 @@ use mathlib.Core.Path.{◌≡◌, refl, sym, ap, ◌∙◌}
 use mathlib.Core.Bool.{Bool, true, false, cond, not, ◌&&◌}
 use mathlib.Core.List.{List, []}
 use lib.Dec.{ltb}
-use lib.ListN.{length}
 use lib.Seq.{set-get_or}
 use borrow.Author.Tests.{not-true}
 use Rattle.lists.proofs.Both.{and_left, and_right}

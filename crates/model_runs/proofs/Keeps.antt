@@ -24,7 +24,7 @@ use Rattle.send_waiting.specs.Waiting.{take_of}
 use Rattle.send_waiting.proofs.Taken.{take_part, take-mode}
 use Rattle.receive_stream.specs.Stream.{cell_of}
 use Rattle.model.specs.World.{Held, blank, held_by, cell_at, follow}
-use Rattle.model.specs.Events.{Own, change, walk, take_waiting, on}
+use Rattle.model.specs.Events.{Own, change, walk, take_waiting}
 use Rattle.model.specs.Step.{Table, does, acts}
 use Rattle.model_runs.specs.Streams.{Quiet, Kept}
 
@@ -104,5 +104,6 @@ module _ (T : Table) (k : ℕ) (tcp : (T.config k).tcp ≡ true) where
   acts-nothing e o h false p = rw p
 
 -- at its place in the world; past the last record nothing is there
-pub kept_set : (hs : List Held) (k : ℕ) (h' : Held) → Quiet (get_or hs k blank) → Kept (get_or hs k blank) h' → Kept (get_or hs k blank) (get_or (set hs k h') k blank)
+pub kept_set : (hs : List Held) (k : ℕ) (h' : Held) → Quiet (get_or hs k blank) → Kept (get_or hs k blank) h'
+    → Kept (get_or hs k blank) (get_or (set hs k h') k blank)
 kept_set hs k h' q r = one_at blank hs k k h' (Kept (get_or hs k blank)) (λ _. r) (kept_same (get_or hs k blank) q)

@@ -183,7 +183,8 @@ module _ (T : Table) (whole : Whole → World → World) (k : ℕ) (tcp : (T.con
       (ap (λ (d : Cell). read_out Q c ms ++ read_out Q d s.first) e ∙ sym (out-append Q c ms s.first))
 
   one-turn : (w : World) (e : Event) (s : Streams) → Turn w e → Quiet (held_at w k)
-      → hands T whole k w e ++ read_in (cell_at (held_at (next w e) k)) s ≡ read_in (cell_at (held_at w k)) (longer (ends T whole k w e) (reads T whole k w e) s)
+      → hands T whole k w e ++ read_in (cell_at (held_at (next w e) k)) s
+      ≡ read_in (cell_at (held_at w k)) (longer (ends T whole k w e) (reads T whole k w e) s)
   one-turn w e s (silent given bytes kept) q =
       ap (λ (os : List Out). os ++ read_in (cell_at (held_at (next w e) k)) s) given
       ∙ on_silent (held_at w k) (held_at (next w e) k) s (online w k) (online (next w e) k) refl refl q kept

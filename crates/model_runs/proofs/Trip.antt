@@ -5,7 +5,7 @@ use Prim.Native.Nat.{ℕ}
 use mathlib.Core.Path.{◌≡◌, refl, sym, ap, ◌∙◌}
 use mathlib.Core.List.{List, [], ◌∷◌, ◌++◌, append-nil, flatten, map}
 use borrow.Author.Tests.{eq-eqb}
-use Rattle.reading.specs.Feed.{Routes, Cell, ready, Out, Ran, segment_ran as segment_of, segments, fine, finely, Pdu, as_out}
+use Rattle.reading.specs.Feed.{Routes, Cell, ready, Out, Ran, segment_ran as segment_of, segments, fine, Pdu, as_out}
 use Rattle.frame.specs.Frame.{Sent, frames}
 use Rattle.reading.specs.Routed.{Routed, Carried}
 use Rattle.reading.proofs.Trip.{round_trip, carried_pdus, fine-pdus}

@@ -1,5 +1,7 @@
 // Pieces laid one after the other into a lent buffer: each whole, or not at all where it does not fit, and the place after it is
 // handed back. Every function is total.
+#![tactic(auto)]
+
 ghost use Rattle.std.specs.Prelude.{◌≡◌, take};
 ghost use Rattle.wire.specs.Lay.{lay};
 ghost use Rattle.pieces.specs.Pieces.{after_of, place_after};

@@ -1,6 +1,6 @@
 -- WHAT DEMAND 3 COMPARES depends on the single bytes alone: lists that are the same byte by byte are compared as the same, and so they
 -- stay with anything before and behind them.
-use Prim.Native.Nat.{ℕ, suc, ◌+◌}
+use Prim.Native.Nat.{ℕ, suc}
 use mathlib.Core.Path.{◌≡◌, refl, sym, ap, ◌∙◌}
 use mathlib.Core.Bool.{Bool, true, false, cond, false≢true}
 use mathlib.Core.List.{List, [], ◌∷◌, ◌++◌, flatten}
@@ -61,7 +61,8 @@ pub cut-to : (R : Routes) (c : Cell) (a b : List ℕ) → (segment_ran R c (a ++
 cut-to R c a b = ap (λ (q : Ran). q.to) (cut R c a b)
 
 pub cut-compared : (R : Routes) (c : Cell) (a b : List ℕ) (x y : List Out)
-    → compared (x ++ ((segment_ran R c (a ++ b)).list ++ y)) ≡ compared (x ++ (((segment_ran R c a).list ++ (segment_ran R (segment_ran R c a).to b).list) ++ y))
+    → compared (x ++ ((segment_ran R c (a ++ b)).list ++ y))
+    ≡ compared (x ++ (((segment_ran R c a).list ++ (segment_ran R (segment_ran R c a).to b).list) ++ y))
 cut-compared R c a b x y =
     compared_between x (segment_ran R c (a ++ b)).list ((segment_ran R c a).list ++ (segment_ran R (segment_ran R c a).to b).list) y
     (ap (λ (q : Ran). q.list) (cut R c a b) ∙ sym (fine-append (segment_ran R c a).list (segment_ran R (segment_ran R c a).to b).list))

@@ -79,7 +79,8 @@ pub segment_reads : (Q : ℕ → Routes) (w : ℕ) (c : Cell) (bs : List ℕ)
     → finely (segment_ran (Q w) c bs) ≡ ran (read_to Q c (map (mark w) bs)) (read_out Q c (map (mark w) bs))
 segment_reads Q w c bs = segment_feeds (Q w) c bs ∙ ap₂ ran (segment-to Q w c bs) (segment-out Q w c bs)
 
-pub given-reads : (Q : ℕ → Routes) (c : Cell) (gs : List GivenSegment) → finely (segments_given Q c gs) ≡ ran (read_to Q c (stream gs)) (read_out Q c (stream gs))
+pub given-reads : (Q : ℕ → Routes) (c : Cell) (gs : List GivenSegment) → finely (segments_given Q c gs)
+    ≡ ran (read_to Q c (stream gs)) (read_out Q c (stream gs))
 unfolding segments_given stream read_to read_out fine
 given-reads Q c [] = refl
 given-reads Q c (g ∷ gs) =

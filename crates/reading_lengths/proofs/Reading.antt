@@ -7,7 +7,7 @@ use mathlib.Core.List.{List, [], ◌∷◌, ◌++◌, map, map-append}
 use native.Mathlib.Omega.{arith}
 use borrow.Author.Tests.{leb-true, leb-false}
 use lib.Dec.{leb}
-use lib.ListN.{length, take, drop, length-map, drop_of_length-le}
+use lib.ListN.{length, take, drop, get_or, length-map, drop_of_length-le}
 use lib.Seq.{take_all}
 use Rattle.wire.specs.Lay.{spell}
 use Rattle.wire.proofs.Spell.{length-spell}
@@ -18,8 +18,8 @@ use Rattle.reading.specs.Feed.{decided, piece_done, feed, Ran, Handed, complete,
 use Rattle.reading.proofs.Laws.{add_all, add_all_payload, add_all_skip, add_all_header, grow}
 use Rattle.reading.proofs.Compared.{compared-fine, push-body}
 use Rattle.reading.proofs.Trip.{spelt-spell}
-use Rattle.reading_lengths.specs.Listed.{Marked, mark, bytes_of, read_to, read_out, listed, listed_from}
-use Rattle.reading_lengths.specs.Listed.{Shaped, Bytes, GivenSegment, segments_given, stream, AllBytes}
+use Rattle.reading_lengths.specs.Listed.{Marked, mark, bytes_of, read_to, read_out, listed, listed_from, words_of}
+use Rattle.reading_lengths.specs.Listed.{Shaped, Bytes, GivenSegment, segments_given, stream, AllBytes, words_of}
 use Rattle.reading_lengths.proofs.Bytes.{map-drop, bytes_drop, bytes-append, bytes-spell, bytes-mark}
 use Rattle.reading_lengths.proofs.Marks.{out-short, to-short, out-whole, move-short, move-whole, out-append, given-reads, stream-bytes}
 use Rattle.reading_lengths.proofs.Ready.{ready-list}
@@ -51,7 +51,8 @@ reading Q (cell (suc n) (payload r h)) ms p b = go (leb (suc n) (length ms)) ref
     go : (t : Bool) → leb (suc n) (length ms) ≡ t
         → compared (read_out Q (cell (suc n) (payload r h)) ms) ≡ cond t (complete r (h ++ bytes_of (take (suc n) ms)) ∷ listed Q (drop (suc n) ms)) []
     go true e =
-        ap compared (out-whole Q n (payload r h) ms (leb-true (suc n) (length ms) e) _ (ap (piece_done _) (add_all_payload r h (bytes_of (take (suc n) ms)))))
+        ap compared (out-whole Q n (payload r h) ms (leb-true (suc n) (length ms) e) _
+        (ap (piece_done (Q (get_or (words_of ms) n 0))) (add_all_payload r h (bytes_of (take (suc n) ms)))))
         ∙ ap (λ (ps : List Handed). complete r (h ++ bytes_of (take (suc n) ms)) ∷ ps)
         (ready-list Q (drop (suc n) ms) (rw (map-drop (λ (m : Marked). m.byte) (suc n) ms) (bytes_drop (suc n) (bytes_of ms) b)))
     go false e = ap compared (out-short Q (suc n) (payload r h) ms (leb-false (suc n) (length ms) e))
@@ -61,7 +62,8 @@ reading Q (cell (suc n) skip) ms p b =
     ∙ ready-list Q (drop (suc n) ms) (rw (map-drop (λ (m : Marked). m.byte) (suc n) ms) (bytes_drop (suc n) (bytes_of ms) b))
   where
     go : (t : Bool) → leb (suc n) (length ms) ≡ t → compared (read_out Q (cell (suc n) skip) ms) ≡ compared (read_out Q ready (drop (suc n) ms))
-    go true e = ap compared (out-whole Q n skip ms (leb-true (suc n) (length ms) e) _ (ap (piece_done _) (add_all_skip (bytes_of (take (suc n) ms)))))
+    go true e = ap compared
+        (out-whole Q n skip ms (leb-true (suc n) (length ms) e) _ (ap (piece_done (Q (get_or (words_of ms) n 0))) (add_all_skip (bytes_of (take (suc n) ms)))))
     go false e =
         ap compared (out-short Q (suc n) skip ms (leb-false (suc n) (length ms) e))
         ∙ sym (ap (λ (x : List Marked). compared (read_out Q ready x)) (drop_of_length-le ms {i = suc n} (omega (arith, leb-false (suc n) (length ms) e)))

@@ -46,15 +46,18 @@ out-fits Q (Accept r) i zero ms h = refl
 out-fits Q (Refuse k) i zero ms h = refl
 out-fits Q (Transfer r) i zero ms h = refl
 out-fits Q (Accept r) i (suc n) ms h =
-    ap compared (out-whole Q n (payload r []) ms (omega arith) _ (ap (piece_done _) (add_all_payload r [] (bytes_of (take (suc n) ms)))))
-out-fits Q (Refuse k) i (suc n) ms h = ap compared (out-whole Q n skip ms (omega arith) _ (ap (piece_done _) (add_all_skip (bytes_of (take (suc n) ms)))))
+    ap compared (out-whole Q n (payload r []) ms (omega arith) _
+    (ap (piece_done (Q (get_or (words_of ms) n 0))) (add_all_payload r [] (bytes_of (take (suc n) ms)))))
+out-fits Q (Refuse k) i (suc n) ms h =
+    ap compared (out-whole Q n skip ms (omega arith) _ (ap (piece_done (Q (get_or (words_of ms) n 0))) (add_all_skip (bytes_of (take (suc n) ms)))))
 out-fits Q (Transfer r) i (suc n) ms h =
     ap (λ (hs : List Handed). began r i (suc n) ∷ hs)
     (move-whole Q n r ms (omega arith) ∙ push-body r (bytes_of (take (suc n) ms)) (finished r ∷ compared (read_out Q ready (drop (suc n) ms))) refl)
 
 -- the eighth header byte of a stream that has it
 out-head : (Q : ℕ → Routes) (ms : List Marked) → Bytes (bytes_of ms) → 8 ≤ length ms → (i n : ℕ) → i ≡ be 4 (bytes_of ms) 0 → n ≡ be 4 (bytes_of ms) 4
-    → read_out Q ready ms ≡ emit (decided (Q (get_or (words_of ms) 7 0) i n) i n).out (read_out Q (decided (Q (get_or (words_of ms) 7 0) i n) i n).to (drop 8 ms))
+    → read_out Q ready ms ≡ emit (decided (Q (get_or (words_of ms) 7 0) i n) i n).out
+    (read_out Q (decided (Q (get_or (words_of ms) 7 0) i n) i n).to (drop 8 ms))
 out-head Q ms b h i n ei en =
     let R : Routes = Q (get_or (words_of ms) 7 0) in
     let l : List ℕ = bytes_of ms in

@@ -1,1 +1,3 @@
 // Reading by lengths alone, apart from the byte-wise one: definitions in specs/, laws in proofs/, no function.
+
+#![tactic(auto)]

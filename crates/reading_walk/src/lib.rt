@@ -1,1 +1,3 @@
 // The walk over a datagram: definitions in specs/, laws in proofs/, no function.
+
+#![tactic(auto)]

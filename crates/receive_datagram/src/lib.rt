@@ -1,4 +1,6 @@
 // A step of the walk over a datagram: what stands at a place, and the next place. Total: a place beyond the end is the end.
+#![tactic(auto)]
+
 ghost use Rattle.std.specs.Prelude.{◌≡◌, ◌+◌, ◌<◌, ◌^◌, length};
 ghost use Rattle.reading_lengths.specs.Head.{head_of};
 ghost use Rattle.receive_route.specs.Route.{lookup_of};
@@ -10,7 +12,7 @@ use receive_route::lookup;
 use wire::be32;
 
 // What a walk finds: the end; a PDU, with the place of its payload in the datagram; a drop.
-#[derive(Drop)]
+#[derive(Clone, Copy)]
 pub enum Outcome {
     End,
     Pdu {
@@ -26,7 +28,7 @@ pub enum Outcome {
     },
 }
 
-#[derive(Drop)]
+#[derive(Clone, Copy)]
 pub struct Walked {
     pub outcome: Outcome,
     pub next: usize,

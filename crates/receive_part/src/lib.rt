@@ -1,10 +1,12 @@
 // What a connection has received and not yet handed out: part of a header, part of a payload, bytes still to skip, or a running
 // transfer, of which nothing is held. Its shape, whether it is empty, and whether it is a transfer.
+#![tactic(auto)]
+
 ghost use Rattle.std.specs.Prelude.{◌≡◌};
 ghost use Rattle.receive_part.specs.Part.{shaped, empty_part, transferring, room_for};
 
 // `Header { held: 0, value: 0 }` is a connection that is ready and at a header's first byte.
-#[derive(Drop)]
+#[derive(Clone, Copy)]
 pub enum Part {
     Header { held: u8, value: u64 },
     Payload { route: u8, length: u16, held: u16 },

@@ -49,7 +49,8 @@ module _ (routes : List ℕ) (connection id : ℕ) where
 pub lookup_decided : (routes : List ℕ) (connection switches id n : ℕ) → Decided routes connection switches id n (lookup_of routes connection switches id n)
 unfolding lookup_of decision_of reason_of reason_in
 lookup_decided routes connection switches id n =
-    go (row_for routes connection id) (row-bears routes connection id) (none_bears routes connection id) (ltb (row_for routes connection id) (rows_in routes)) refl
+    go (row_for routes connection id) (row-bears routes connection id) (none_bears routes connection id)
+    (ltb (row_for routes connection id) (rows_in routes)) refl
     (is_on (route_in routes (row_for routes connection id)).groups switches) refl (route_in routes (row_for routes connection id)).transfer refl
     (ltb (route_in routes (row_for routes connection id)).longest n) refl
   where

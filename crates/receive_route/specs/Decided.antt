@@ -45,7 +45,8 @@ module _ (routes : List ℕ) (connection switches id n : ℕ) where
 -- R1.9: no two receive routes share connection and id, of a body of routes
 abbrev pub Alone : List ℕ → Type 0
 Alone routes =
-    (i j : ℕ) → i < j → j < rows_in routes → (route_in routes i).connection ≡ (route_in routes j).connection → (route_in routes i).id ≡ (route_in routes j).id → ⊥
+    (i j : ℕ) → i < j → j < rows_in routes → (route_in routes i).connection ≡ (route_in routes j).connection → (route_in routes i).id
+    ≡ (route_in routes j).id → ⊥
 
 -- R19.1: every marked route is on a connection that is TCP, of a body of routes
 abbrev pub MarkedTcp : List ℕ → (ℕ → Bool) → Type 0

@@ -1,4 +1,6 @@
 // The lookup: what the receive routes of a connection say to a header's id and length.
+#![tactic(auto)]
+
 ghost use Rattle.std.specs.Prelude.{◌≡◌, ◌≤◌};
 ghost use Rattle.wire.specs.Be.{Little};
 ghost use Rattle.table_rows.specs.Rows.{route_row};

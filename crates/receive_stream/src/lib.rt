@@ -1,6 +1,8 @@
 // A take over one connection's receive part, its receive stretch and a segment; and the payload that it hands out, as a
 // part of whichever of the two holds it. Skipping, whole payloads and a transfer's pieces are arithmetic: no loop but the header's and the copy's.
 // Assumes what `Fit` says: a part of a shape that R2.4 allows, a stretch of 1,464 bytes, and routes that allow no more.
+#![tactic(auto)]
+
 ghost use Rattle.std.specs.Prelude.{◌≡◌, true, false, List, ℕ, ◌+◌, ◌-◌, ◌^◌, ◌≤◌, ◌<◌, length, take};
 ghost use Rattle.reading.specs.Feed.{Routes, take_b, cell, transfer, header, payload, skip, spelt, decided, resume};
 ghost use Rattle.reading.specs.declared.Decision.TheVariants.{Accept};
@@ -18,7 +20,7 @@ use wire::{be32, copy_in};
 
 // What a take finds: more is wanted; a PDU, with the place of its payload in the segment or in receive memory; a drop;
 // a transfer's start, the last of it when its length is 0; a piece of it, at its place in the segment, the last or not.
-#[derive(Drop)]
+#[derive(Clone, Copy)]
 pub enum Outcome {
     More,
     Pdu {
@@ -49,7 +51,7 @@ pub enum Outcome {
 }
 
 // The bytes read of the segment, what was found, and the part afterwards.
-#[derive(Drop)]
+#[derive(Clone, Copy)]
 pub struct Taken {
     pub read: usize,
     pub outcome: Outcome,

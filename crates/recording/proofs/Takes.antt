@@ -1,5 +1,6 @@
 -- The takes of a recorded answer, one after the other, as a loop over the bytes goes through them.
-use Rattle.std.proofs.Common.{◌≡◌, ℕ, zero, suc, ◌+◌, ◌-◌, ◌<◌, ◌≤◌, Bool, true, false, not, ◌&&◌, eqb, leb, List, length, drop, sym, refl, ap, ◌∙◌, subst, arith, length-drop, drop-drop, eq-eqb, ne_eqb, leb-true}
+use Rattle.std.proofs.Common.{◌≡◌, ℕ, suc, ◌+◌, ◌-◌, ◌<◌, ◌≤◌, Bool, true, false, not, ◌&&◌, eqb, leb, List, length, drop, sym, refl, ap, ◌∙◌, subst, arith}
+use Rattle.std.proofs.Common.{length-drop, drop-drop, eq-eqb, ne_eqb, leb-true}
 use native.Mathlib.Decide.{ℕ_discrete}
 use borrow.Author.Tests.{not-true, not-false}
 use Rattle.lists.proofs.Both.{and_right, and_first}

@@ -1,5 +1,7 @@
 // The recording of a shift (docs/RECORDING.md): what its contents show, the distance between two stamps, and whether an entry's body
 // fits its event. Every function is total.
+#![tactic(auto)]
+
 ghost use Rattle.std.specs.Prelude.{◌≡◌, take};
 ghost use Rattle.wire.specs.Place.{behind};
 ghost use Rattle.lists.specs.Search.{first_bad};
@@ -13,7 +15,7 @@ use wire::{be8, be16, be32};
 
 // What the contents show before anything is run: they are cut off; another edition; more than 4,000 entries; the first entry whose
 // body is longer than 4,096 bytes, from 0; or none of these.
-#[derive(Drop)]
+#[derive(Clone, Copy)]
 pub enum Front {
     Contents,
     Edition,
@@ -23,7 +25,7 @@ pub enum Front {
 }
 
 // Why an entry is refused.
-#[derive(Drop)]
+#[derive(Clone, Copy)]
 pub enum Fault {
     Nothing,
     FarStamp,
@@ -248,7 +250,7 @@ fn segment_fits(answer: &[u8]) -> bool
     (4 <= answer.len()) & takes_fit(be16(answer, 2) as u16, bytes_from(answer, 4))
 }
 
-fn step_fits_lem(answer: &[u8]) -> bool
+fn step_fits(answer: &[u8]) -> bool
     ensures { result ≡ Of.step_fits answer.now }
 {
     let kind = be8(answer, 6);
@@ -282,7 +284,7 @@ fn done_fits(number: u16, answer: &[u8]) -> bool
 {
     match number {
         7 => segment_fits(answer),
-        8 => step_fits_lem(answer),
+        8 => step_fits(answer),
         9 => waiting_fits(answer),
         _ => done_long(number) == answer.len(),
     }

@@ -1,5 +1,7 @@
 // replay: a table image and the recording of a shift on standard input; what the core does with it today, on standard output
 // (docs/RECORDING.md).
+#![tactic(auto)]
+
 use input::read_image;
 use input_replay::replay_under;
 use pieces::front;

@@ -1,6 +1,6 @@
 -- WHAT A STEP LEAVES, as the functions that make it find it: by value, in both memories and in the out buffer.
 use Prim.Native.Nat.{ℕ, ◌≤◌}
-use mathlib.Core.Path.{◌≡◌, refl, sym, ap, ap₂, subst, ◌∙◌}
+use mathlib.Core.Path.{◌≡◌, sym, ap, ap₂, subst, ◌∙◌}
 use mathlib.Core.Bool.{Bool, cond}
 use mathlib.Core.List.{List}
 use borrow.Author.Tests.{le-ltb}
@@ -10,7 +10,6 @@ use Rattle.state.specs.declared.State.{State}
 use Rattle.gate.specs.Lent.{Loan, loan, lent_by}
 use Rattle.entry_ticks.specs.declared.Ticked.{Ticked}
 use Rattle.entry_ticks.specs.Tick.{ticks_event}
-use Rattle.event_answer.specs.declared.Verdict.{Verdict}
 use Rattle.event_answer.specs.declared.Dispatched.{Dispatched}
 use Rattle.event_answer.specs.Answers.{Effect, dispatched, room}
 use Rattle.dispatch.specs.Dispatch.{dispatch_of}
@@ -77,7 +76,8 @@ module _ (l : Loan) (out : List ℕ) (before : ℕ) (row rest : List ℕ) where
       (ap
       (λ (t : Bool).
       cond t (unplayed l out Small)
-      (cond (ltb (length rest) (body_long row)) (unplayed l out Cut) (entered l out (distance_in stamps before (stamp_in row)) row (take (body_long row) rest))))
+      (cond (ltb (length rest) (body_long row)) (unplayed l out Cut)
+      (entered l out (distance_in stamps before (stamp_in row)) row (take (body_long row) rest))))
       (le-ltb _ _ roomy)
       ∙ ap
       (λ (t : Bool). cond t (unplayed l out Cut) (entered l out (distance_in stamps before (stamp_in row)) row (take (body_long row) rest)))

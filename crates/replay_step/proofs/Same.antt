@@ -1,11 +1,10 @@
 -- TWO ANSWERS, byte by byte: as a loop compares them, and that they are alike exactly when they are equal.
-use Prim.Native.Nat.{ℕ, zero, suc, ◌+◌, ◌<◌, ◌≤◌}
-use mathlib.Core.Path.{◌≡◌, refl, sym, ap, ap₂, subst, ◌∙◌}
+use Prim.Native.Nat.{ℕ, suc, ◌+◌, ◌<◌, ◌≤◌}
+use mathlib.Core.Path.{◌≡◌, refl, sym, ap, ap₂, ◌∙◌}
 use mathlib.Core.Bool.{Bool, true, false, cond, ◌&&◌}
 use mathlib.Core.List.{List, [], ◌∷◌}
 use native.Mathlib.Omega.{arith}
 use native.Mathlib.Numerals.{add-one}
-use native.Mathlib.Decide.{ℕ_discrete}
 use borrow.Author.Tests.{eqb-true, eq-eqb, ne_eqb}
 use lib.Dec.{eqb}
 use lib.ListN.{length, take, drop, get_or}
@@ -49,7 +48,8 @@ module _ (a b : List ℕ) (long : length a ≡ length b) where
   split i h = ap₂ same_bytes (drop-cons a i 0 h) (drop-cons b i 0 (omega (arith, long, h)))
 
   pub same_other : (i : ℕ) → SameTo i → i < length a → (get_or a i 0 ≡ get_or b i 0 → ⊥) → false ≡ same_bytes a b
-  same_other i s h n = sym (sym s.rest ∙ split i h ∙ and_first (eqb (get_or a i 0) (get_or b i 0)) (same_bytes (drop (suc i) a) (drop (suc i) b)) (ne_eqb _ _ n))
+  same_other i s h n = sym
+      (sym s.rest ∙ split i h ∙ and_first (eqb (get_or a i 0) (get_or b i 0)) (same_bytes (drop (suc i) a) (drop (suc i) b)) (ne_eqb _ _ n))
 
   pub same-on : (i : ℕ) → SameTo i → i < length a → get_or a i 0 ≡ get_or b i 0 → SameTo (i + 1)
   same-on i s h e =

@@ -1,5 +1,7 @@
 // One entry of a recording, replayed: the tests in their order, the ticks since the stamp before, the event, and its answer beside the
 // recorded one (docs/RECORDING.md). Every function is total.
+#![tactic(auto)]
+
 ghost use Rattle.std.specs.Prelude.{◌≡◌};
 ghost use Rattle.gate.specs.Lent.{loan};
 ghost use Rattle.replay_step.specs.Step as Is;
@@ -15,7 +17,7 @@ use state::State;
 
 // What became of an entry: the out buffer is shorter than 16,384 bytes; its body is cut off; it is refused; or it was run, and today's
 // answer, so many bytes at the front of the out buffer, is the recorded one or another.
-#[derive(Drop)]
+#[derive(Clone, Copy)]
 pub enum Played {
     Small,
     Cut,
@@ -24,7 +26,7 @@ pub enum Played {
     Differs(usize),
 }
 
-#[derive(Drop)]
+#[derive(Clone, Copy)]
 pub struct Step {
     pub state: State,
     pub played: Played,

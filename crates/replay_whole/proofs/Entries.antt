@@ -1,5 +1,5 @@
 -- A REPLAY AT ITS i-TH ENTRY, as a loop goes through them: what is left of it ends as the whole does.
-use Prim.Native.Nat.{ℕ, zero, suc, ◌+◌, ◌*◌, ◌-◌, ◌<◌, ◌≤◌}
+use Prim.Native.Nat.{ℕ, suc, ◌+◌, ◌*◌, ◌-◌, ◌<◌, ◌≤◌}
 use mathlib.Core.Path.{◌≡◌, refl, sym, ap, ap₂, subst, ◌∙◌}
 use mathlib.Core.Logic.{◌⊎◌, inl, inr, ⊎_elim}
 use mathlib.Core.Bool.{Bool, true, false, cond, not}
@@ -17,7 +17,6 @@ use Rattle.state.specs.declared.State.{State}
 use Rattle.gate.specs.Lent.{Loan, loan}
 use Rattle.event_answer.specs.Answers.{room}
 use Rattle.recording.specs.Recording.{entries_in, contents_to, entry_row, stamp_in, body_long, distance_in, stamps}
-use Rattle.replay_step.specs.declared.Played.{Played}
 use Rattle.replay_step.specs.declared.Played.TheVariants.{Small, Cut}
 use Rattle.replay_step.specs.declared.Step.{Step}
 use Rattle.replay_step.specs.Step.{Stepped, unplayed, entered, entry_step}
@@ -25,10 +24,11 @@ use Rattle.replay_step.proofs.Leaves.{Leaves, leaves_by}
 use Rattle.replay_whole.specs.declared.End.{End}
 use Rattle.replay_whole.specs.declared.Replayed.{Replayed}
 use Rattle.replay_whole.specs.Replay.{Going, Left, is_run, is_other, first_other, end_at, step_at}
-use Rattle.replay_whole.specs.Replay.{ongoing, stopped, finished, replay_from, before_first, played_all}
+use Rattle.replay_whole.specs.Replay.{ongoing, stopped, finished, replay_from, played_all}
 
 -- an entry that was run is there whole
-pub run-there : (l : Loan) (out : List ℕ) (before : ℕ) (row rest : List ℕ) → is_run (entry_step l out before row rest).played ≡ true → body_long row ≤ length rest
+pub run-there : (l : Loan) (out : List ℕ) (before : ℕ) (row rest : List ℕ) → is_run (entry_step l out before row rest).played ≡ true
+    → body_long row ≤ length rest
 unfolding entry_step is_run
 run-there l out before row rest e = go (ltb (length out) room) (ltb (length rest) (body_long row)) refl e
   where

@@ -1,5 +1,7 @@
 // The replay of a whole recording that is lent: a fresh state under the table, then step after step over its entries (docs/RECORDING.md).
 // Every function is total.
+#![tactic(auto)]
+
 ghost use Rattle.std.specs.Prelude.{◌≡◌};
 ghost use Rattle.replay_whole.specs.Replay as Is;
 
@@ -11,7 +13,7 @@ use table::{TableAnswer, check_table};
 
 // How a replay ended: all entries were run; the table is refused, with its place; nothing is run, by what the contents show; the out
 // buffer is shorter than 16,384 bytes; the entry, from 1, is cut off or refused.
-#[derive(Drop)]
+#[derive(Clone, Copy)]
 pub enum End {
     Whole,
     Table(usize),
@@ -22,7 +24,7 @@ pub enum End {
 }
 
 // The end; the entries and ticks that were run; the first entry whose answer differs, from 1, or 0; and the state.
-#[derive(Drop)]
+#[derive(Clone, Copy)]
 pub struct Replayed {
     pub end: End,
     pub run: usize,

@@ -1,17 +1,17 @@
 -- The loops over routes and connections, at the places where they stand, and what a sum that fits says.
-use Prim.Native.Nat.{ℕ, zero, suc, ◌+◌, ◌-◌, ◌<◌, min, max}
+use Prim.Native.Nat.{ℕ, suc, ◌+◌, ◌-◌, ◌<◌, min, max}
 use mathlib.Core.Path.{◌≡◌, refl, sym, ap, ap₂, ◌∙◌}
-use mathlib.Core.Bool.{Bool, true, false, cond, ◌&&◌}
+use mathlib.Core.Bool.{Bool, true, false, ◌&&◌}
 use mathlib.Core.List.{List, [], ◌∷◌}
 use native.Mathlib.Omega.{arith}
 use native.Mathlib.Numerals.{add-one}
-use lib.Dec.{ltb, leb}
+use lib.Dec.{leb}
 use lib.ListN.{length, get_or, set, drop}
 use lib.Seq.{drop-cons, drop-length}
 use borrow.Author.Tests.{lt-ltb, le-ltb, ltb-true, le-leb, lt-leb}
 use native.Mathlib.Decide.{dec_lt}
 use Rattle.lists.specs.Each.{each, each_to, all_from, all_to}
-use Rattle.lists.proofs.Each.{each_get, each_set, each_all, all-turn, all-all}
+use Rattle.lists.proofs.Each.{each_get, each_set, each_all, all-all}
 use Rattle.lists.proofs.Both.{and_left, and_right, and4, impossible}
 use Rattle.report.specs.declared.RouteFigures.{RouteFigures}
 use Rattle.report.specs.declared.Drops.{Drops}

@@ -1,11 +1,13 @@
 // The foreman's report, a value: per route the PDUs handed out, their bytes, the smallest and the largest length; per connection the drops of
 // each reason. Sums have 64 bits, and none ever passes them. Every function is total: no caller is relied on.
+#![tactic(auto)]
+
 ghost use Rattle.std.specs.Prelude.{◌≡◌, min, max};
 ghost use Rattle.report.specs.Figures as Fi;
 ghost use Rattle.report.specs.Report as Re;
 
 // What one route handed out: how many PDUs, their bytes, the smallest and the largest length, 0 and 0 where there was none.
-#[derive(Drop)]
+#[derive(Clone, Copy)]
 pub struct RouteFigures {
     pub pdus: u64,
     pub bytes: u64,
@@ -14,7 +16,7 @@ pub struct RouteFigures {
 }
 
 // What one connection dropped, by reason: 20 no route, 21 switched off, 22 too long, 23 cut off; 24 is room for one more.
-#[derive(Drop)]
+#[derive(Clone, Copy)]
 pub struct Drops {
     pub unrouted: u64,
     pub off: u64,
@@ -24,14 +26,14 @@ pub struct Drops {
 }
 
 // The figures of each route and of each connection, by number.
-#[derive(Drop)]
+#[derive(Clone, Copy)]
 pub struct Report {
     pub routes: [RouteFigures; 64],
     pub connections: [Drops; 16],
 }
 
 // Two reports joined; where a sum would pass 64 bits, the first.
-#[derive(Drop)]
+#[derive(Clone, Copy)]
 pub struct Joined {
     pub fits: bool,
     pub report: Report,

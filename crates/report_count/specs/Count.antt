@@ -1,10 +1,9 @@
 -- WHAT AN ANSWER ADDS TO THE REPORT OF A RUN (R21.9, R21.10; docs/EVENTS.md, "The answer").
-use Rattle.std.specs.Prelude.{ℕ, zero, suc, Bool, true, cond, ◌&&◌, List, eqb, ltb, get_or, set, replicate, drop}
+use Rattle.std.specs.Prelude.{ℕ, zero, suc, true, cond, ◌&&◌, List, eqb, ltb, get_or, set, replicate, drop}
 use Rattle.wire.specs.Be.{be}
 use Rattle.recording.specs.Entry.{take_needs}
 use Rattle.report.specs.declared.RouteFigures.{RouteFigures}
 use Rattle.report.specs.declared.Drops.{Drops}
-use Rattle.report.specs.declared.Report.{Report}
 use Rattle.report.specs.Figures.{no_pdus, one_pdu, figures_fit, plus_figures, no_drops, one_drop, drops_fit, plus_drops}
 use Rattle.report.specs.Report.{empty_report, figures_at, drops_at}
 use Rattle.report_count.specs.declared.Adds.{Adds}

@@ -1,6 +1,8 @@
 // Counting from answers: what the answer of an event adds to the report of a run (docs/EVENTS.md, "The answer"). A PDU counts when it is handed
 // out, a transfer at its end with its whole length, a drop by its reason; events other than segments and walks add nothing, and neither does
 // an answer number other than 0. Every function is total.
+#![tactic(auto)]
+
 ghost use Rattle.std.specs.Prelude.{◌≡◌, ◌<◌, ◌+◌, min, length};
 ghost use Rattle.report_count.specs.Count as Is;
 
@@ -10,7 +12,7 @@ use report::{Drops, Report, RouteFigures, empty, no_drops, no_pdus, one_drop, on
 use wire::{be8, be16, be32};
 
 // What one take adds: figures to a route, drops to the event's connection; and the length of the transfer that runs there now.
-#[derive(Drop)]
+#[derive(Clone, Copy)]
 pub struct Adds {
     pub route: u8,
     pub figures: RouteFigures,
@@ -19,7 +21,7 @@ pub struct Adds {
 }
 
 // The report of the takes so far of one connection, whether no sum passed 64 bits, and the length of the transfer that runs.
-#[derive(Drop)]
+#[derive(Clone, Copy)]
 pub struct Counting {
     pub fits: bool,
     pub report: Report,
@@ -27,7 +29,7 @@ pub struct Counting {
 }
 
 // The report of a run so far, whether no sum passed 64 bits, and of each connection the length of the transfer that started last.
-#[derive(Drop)]
+#[derive(Clone, Copy)]
 pub struct Run {
     pub fits: bool,
     pub report: Report,

@@ -1,5 +1,7 @@
 // run: a table image and a script on standard input; what each entry is and answers, and the records at the end, on standard output
 // (docs/EVENTS.md).
+#![tactic(auto)]
+
 use input::read_image;
 use input_script::run_under;
 use pieces::front;

@@ -1,6 +1,8 @@
 // Which member of a group a source belongs to: one pass over the rows of the connections, the best match first (both fields, the address,
 // the port, neither), then the lowest number. The caller goes over the rows, with the record of each: here stand one turn of it, and what is
 // answered before and after it. Assumes of the table that it is laid out as its contents say: the gate has shown it.
+#![tactic(auto)]
+
 ghost use Rattle.std.specs.Prelude.{◌≡◌, true, ◌≤◌, ◌<◌};
 ghost use Rattle.wire.specs.Place.{behind};
 ghost use Rattle.table_layout.specs.Layout.{Laid};
@@ -12,14 +14,14 @@ use table_layout::{Kind, body_laid};
 use wire::be8;
 
 // Whom the definitions choose.
-#[derive(Drop)]
+#[derive(Clone, Copy)]
 pub enum Chosen {
     Nobody,
     At(usize),
 }
 
 // What a datagram or an accept is answered: the connection that it met, or why there is none.
-#[derive(Drop)]
+#[derive(Clone, Copy)]
 pub enum Arrival {
     Met(u8),
     Refused(Refusal),
@@ -27,14 +29,14 @@ pub enum Arrival {
 }
 
 // The best match among the connections below some number: its score, 0 for nobody, and its number.
-#[derive(Drop)]
+#[derive(Clone, Copy)]
 pub struct Pick {
     pub score: u8,
     pub at: usize,
 }
 
 // The answer, with the state after it.
-#[derive(Drop)]
+#[derive(Clone, Copy)]
 pub struct Arrived {
     pub state: State,
     pub answer: Arrival,

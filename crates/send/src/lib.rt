@@ -1,5 +1,7 @@
 // Transmit: the check of all destinations, then the store at all of them.
 // Assumes of the table what specs/Send.antt names in `Ready`, and send memory of its length: the gate has shown both.
+#![tactic(auto)]
+
 ghost use Rattle.std.specs.Prelude.{◌≡◌, cond, not, ◌+◌, ◌*◌, ◌/◌, ◌<◌, ◌≤◌, eqb, length};
 ghost use Rattle.table_layout.specs.Layout.{row_width};
 ghost use Rattle.table_rows.specs.Rows.{brief_in, destination_in};
@@ -16,7 +18,7 @@ use table_rows::DestinationRow;
 use wire::be8;
 
 // What a transmit is answered: header and payload stored at each destination, or why they are stored at none.
-#[derive(Drop)]
+#[derive(Clone, Copy)]
 pub enum Transmission {
     Stored,
     Refused(Refusal),
@@ -26,7 +28,7 @@ pub enum Transmission {
 }
 
 // The answer, with the state after it.
-#[derive(Drop)]
+#[derive(Clone, Copy)]
 pub struct Transmitted {
     pub state: State,
     pub answer: Transmission,

@@ -1,5 +1,7 @@
 // One destination of a transmit: what it says to a payload, and what an append makes of its connection's record.
 // Every function is total.
+#![tactic(auto)]
+
 ghost use Rattle.std.specs.Prelude.{◌≡◌};
 ghost use Rattle.send_destination.specs.Destination.{refusal_of, look_of, timer_of, sent_of};
 

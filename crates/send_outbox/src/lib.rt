@@ -1,4 +1,6 @@
 // Header and payload laid into send memory at a place. The function is total.
+#![tactic(auto)]
+
 ghost use Rattle.std.specs.Prelude.{◌≡◌};
 ghost use Rattle.send_outbox.specs.Outbox.{appended_of};
 

@@ -1,7 +1,7 @@
 -- Each answer of a take, as the code gives it, and what a take makes of a record.
 use Prim.Native.Nat.{ℕ, ◌+◌, ◌-◌, ◌*◌, ◌<◌, ◌≤◌}
 use mathlib.Core.Path.{◌≡◌, refl, sym, ap, ◌∙◌}
-use mathlib.Core.Bool.{Bool, true, false, cond, not, ◌&&◌, ◌||◌, or_true}
+use mathlib.Core.Bool.{Bool, true, false, cond, not, ◌&&◌, ◌||◌, or-true}
 use mathlib.Core.List.{List, []}
 use native.Mathlib.Omega.{arith}
 use native.Mathlib.Nat.{add-sub_cancel_left}
@@ -64,7 +64,7 @@ module _ (g : Config) (c : Connection) (waiting out : List ℕ) where
 
   pub taking_short : length out < c.used → Answers (record { answer = Short; connection = c }) out
   unfolding taking_of take_of out_of
-  taking_short h = (rw (lt-ltb _ _ h, or_true (eqb c.used 0)), rw (lt-ltb _ _ h))
+  taking_short h = (rw (lt-ltb _ _ h, or-true (eqb c.used 0)), rw (lt-ltb _ _ h))
 
   module _ (h : c.used ≤ length out) (o : List ℕ) (e : o ≡ lay out 0 waiting) where
     pub take-nothing : c.used ≡ 0 → Answers (record { answer = Bytes c.used c.remote; connection = c }) o

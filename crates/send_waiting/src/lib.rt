@@ -1,4 +1,6 @@
 // Taking the waiting bytes of one connection. Every function is total.
+#![tactic(auto)]
+
 ghost use Rattle.std.specs.Prelude.{◌*◌, ◌≡◌, length};
 ghost use Rattle.wire.specs.Place.{behind, from_at};
 ghost use Rattle.send_waiting.specs.Waiting.{waiting_of, taking_of, out_of, after_take, take_of};
@@ -6,7 +8,7 @@ ghost use Rattle.send_waiting.specs.Waiting.{waiting_of, taking_of, out_of, afte
 use connection::{Config, Connection, Mode, Refusal, Remote};
 
 // What a take is answered: so many bytes for this remote, or why there are none.
-#[derive(Drop)]
+#[derive(Clone, Copy)]
 pub enum Taking {
     Bytes { count: u16, remote: Remote },
     Refused(Refusal),
@@ -14,7 +16,7 @@ pub enum Taking {
 }
 
 // The answer, with the record after it.
-#[derive(Drop)]
+#[derive(Clone, Copy)]
 pub struct Drained {
     pub answer: Taking,
     pub connection: Connection,

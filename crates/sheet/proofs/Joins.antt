@@ -265,7 +265,8 @@ module _ (rows : ℕ) where
       apart : (c k : ℕ) (p q : Pair) → (k ≡ c → ⊥)
           → with_pair k (force_then (pair_at (with_pair c (force_then (pair_at ws c) p) ws) k) q) (with_pair c (force_then (pair_at ws c) p) ws)
           ≡ with_pair k (force_then (pair_at ws k) q) (with_pair c (force_then (pair_at ws c) p) ws)
-      apart c k p q d = ap (λ (x : Pair). with_pair k (force_then x q) (with_pair c (force_then (pair_at ws c) p) ws)) (get_or-set_other ws.pairs c k _ force_none d)
+      apart c k p q d = ap (λ (x : Pair). with_pair k (force_then x q) (with_pair c (force_then (pair_at ws c) p) ws))
+          (get_or-set_other ws.pairs c k _ force_none d)
 
       one : (c : ℕ) (p q : Pair) → c < 16 → with_pair c (force_then (pair_at (with_pair c (force_then (pair_at ws c) p) ws) c) q)
           (with_pair c (force_then (pair_at ws c) p) ws) ≡ with_pair c (force_then (pair_at ws c) (force_then p q)) ws
@@ -281,10 +282,12 @@ module _ (rows : ℕ) where
       same (yes d) e g =
           let h = there_below rows s e in
           twice ws s t e g
-          ∙ ap (λ (i : ℕ). with_pair i (force_then (pair_at (with_pair c (force_then (pair_at ws c) p) ws) i) q) (with_pair c (force_then (pair_at ws c) p) ws)) (sym d)
+          ∙ ap (λ (i : ℕ). with_pair i (force_then (pair_at (with_pair c (force_then (pair_at ws c) p) ws) i) q)
+          (with_pair c (force_then (pair_at ws c) p) ws)) (sym d)
           ∙ one c p q h ∙ ap (λ (x : Pair). with_pair c (force_then (pair_at ws c) x) ws) (one-swap s.number t.number s.on t.on (ne d))
           ∙ sym (one c q p h)
-          ∙ ap (λ (i : ℕ). with_pair c (force_then (pair_at (with_pair i (force_then (pair_at ws i) q) ws) c) p) (with_pair i (force_then (pair_at ws i) q) ws)) d
+          ∙ ap (λ (i : ℕ). with_pair c (force_then (pair_at (with_pair i (force_then (pair_at ws i) q) ws) c) p)
+          (with_pair i (force_then (pair_at ws i) q) ws)) d
           ∙ sym (twice ws t s g e)
 
       go : (x : Bool) → switch_there rows s ≡ x → (y : Bool) → switch_there rows t ≡ y

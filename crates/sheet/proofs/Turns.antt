@@ -119,7 +119,8 @@ module _ (s : List ℕ) where
         sym (ap (λ (x : List ℕ). sheet_from rows ws (sheet_switches x)) (three s (place left) (omega arith))) ∙ inv.1 in (
           omega arith,
           ap (λ (w : Words). sheet_from rows w (sheet_switches (drop (place (left - 3)) s))) e
-              ∙ ap (λ (k : ℕ). sheet_from rows (add_switch rows ws (switching_at s (place left))) (sheet_switches (drop k s))) (sym (next_place left h l)) ∙ one,
+              ∙ ap (λ (k : ℕ). sheet_from rows (add_switch rows ws (switching_at s (place left))) (sheet_switches (drop k s))) (sym (next_place left h l))
+              ∙ one,
         )
 
     pub add-ended : (left : ℕ) (ws : Words) → Adding left ws → left ≤ 2 → ws ≡ sheet_words rows (sheet_switches s)

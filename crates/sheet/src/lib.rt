@@ -1,24 +1,26 @@
 // A commissioning sheet: single switches of three bytes, and what they come to, two words for each connection: the bits forced on and the
 // bits forced off. Sheets are shortened to words, words are joined. Every function is total: no caller is relied on.
+#![tactic(auto)]
+
 ghost use Rattle.std.specs.Prelude.{◌≡◌, ◌<◌, ◌≤◌, ◌+◌, ◌*◌, length};
 ghost use Rattle.sheet.specs.Force as Fo;
 ghost use Rattle.sheet.specs.Sheet as Sh;
 
 // What one connection's switches are forced to: on, off, and every other as it was.
-#[derive(Drop)]
+#[derive(Clone, Copy)]
 pub struct Pair {
     pub on: u32,
     pub off: u32,
 }
 
 // A pair for each connection.
-#[derive(Drop)]
+#[derive(Clone, Copy)]
 pub struct Words {
     pub pairs: [Pair; 16],
 }
 
 // One switch of a sheet.
-#[derive(Drop)]
+#[derive(Clone, Copy)]
 pub struct Switching {
     pub connection: u8,
     pub number: u8,
@@ -26,21 +28,21 @@ pub struct Switching {
 }
 
 // Whether a sheet is laid out as one; else the byte where it is not.
-#[derive(Drop)]
+#[derive(Clone, Copy)]
 pub enum SheetFit {
     Fits,
     Unfit(usize),
 }
 
 // A sheet's words; where it does not fit, none.
-#[derive(Drop)]
+#[derive(Clone, Copy)]
 pub struct Shortened {
     pub fit: SheetFit,
     pub words: Words,
 }
 
 // What becomes of one switch of a sheet.
-#[derive(Drop)]
+#[derive(Clone, Copy)]
 pub enum Fate {
     Counts,
     Overridden(usize),

@@ -1,5 +1,7 @@
 // shorten: a table image and a commissioning sheet on standard input; what the sheet comes to, which of its switches change nothing and why, and a
 // shortened sheet, on standard output (docs/EVENTS.md). Words and fates are those of the proved crate sheet; the wording is tried by stored output.
+#![tactic(auto)]
+
 ghost use Rattle.std.specs.Prelude.{◌≤◌};
 
 use entry_events::Told;

@@ -1,5 +1,7 @@
-// What a C program calls, on numbers and byte buffers: `rt staticlib soad` writes libsoad.a. A slice is two C arguments,
+// What a C program calls, on numbers and byte buffers: `rt lib` writes libsoad.a. A slice is two C arguments,
 // pointer and length (size_t). Everything is total.
+#![tactic(auto)]
+
 ghost use Rattle.std.specs.Prelude.{◌≡◌, length};
 ghost use Rattle.frame.specs.Framing.{framed_number, framing_of, framed_out};
 ghost use Rattle.table.specs.Table.{check_table, table_number, answer_place};

@@ -1,5 +1,7 @@
 // The walk over a datagram by a table image's own routes, without a state: refused by number, or a step; and a step as
 // plain numbers.
+#![tactic(auto)]
+
 ghost use Rattle.std.specs.Prelude.{◌≡◌};
 ghost use Rattle.table.specs.Accepts.{Accepts};
 ghost use Rattle.soad_walk.specs.TableWalk.{accepted_walk, table_walk_of, numbers_of};
@@ -9,14 +11,14 @@ use table::{TableAnswer, check_table};
 use table_layout::{Kind, body_laid, rows_of};
 use table_rows::is_tcp;
 
-#[derive(Drop)]
+#[derive(Clone, Copy)]
 pub enum TableWalk {
     Refused(u32),
     Step(Walked),
 }
 
 // An outcome as numbers. Kind 0 is the end, 1 a PDU (number: its route), 2 a drop (number: its reason).
-#[derive(Drop)]
+#[derive(Clone, Copy)]
 pub struct Numbers {
     pub kind: u32,
     pub number: u32,

@@ -1,5 +1,7 @@
 // Sixteen connection records and two drop counts in one state, by value; what the table says of a connection; the fresh
 // state. Every function but `config_laid` is total.
+#![tactic(auto)]
+
 ghost use Rattle.std.specs.Prelude.{◌≡◌};
 ghost use Rattle.table_layout.specs.Layout.{Laid};
 ghost use Rattle.state.specs.State.{count_of, counted, dropped_of, with_count};
@@ -11,7 +13,7 @@ use table_rows::{
     group_row,
 };
 
-#[derive(Drop)]
+#[derive(Clone, Copy)]
 pub struct State {
     pub connections: [Connection; 16],
     pub udp_drops: u32,

@@ -1,5 +1,5 @@
 -- R5.3, on when its groups are 0 or share a set bit with the connection's switches, bit by bit.
-use Prim.Native.Nat.{ℕ, zero, suc, ◌+◌, ◌*◌, ◌/◌, ◌%◌, ◌^◌, ◌≤◌, min}
+use Prim.Native.Nat.{ℕ, ◌+◌, ◌*◌, ◌/◌, ◌%◌, ◌^◌, min}
 use mathlib.Core.Path.{◌≡◌, refl, sym, ap, ap₂, ◌∙◌}
 use mathlib.Core.Bool.{Bool, true, false, not, ◌||◌}
 use mathlib.Core.Logic.{◌⊎◌, inl, inr}
@@ -10,7 +10,6 @@ use lib.Bits.{bit_and, and_step, and_zero_l, and_shr}
 use lib.Dec.{eqb}
 use lib.Pow.{shr_le, shr-shr}
 use borrow.Author.Tests.{eqb-true, eqb-false, eq-eqb, ne_eqb}
-use Rattle.wire.specs.Bits.{bit_at}
 use Rattle.switches.specs.Switches.{is_on, Shared}
 
 -- a shared bit of the halves is one of the words

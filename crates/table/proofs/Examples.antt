@@ -37,21 +37,24 @@ twice =
     ∷ 0 ∷ 1 ∷ 0 ∷ 2 ∷ 0 ∷ 0 ∷ 2 ∷ 3 ∷ 0 ∷ 9 ∷ 0 ∷ 0 ∷ 0 ∷ 0 ∷ 0 ∷ 0 ∷ []
 
 pub image-whole : check_table example_image ≡ Accepted
-unfolding example_image be bad_from every rows_of body_bytes start_of end_of row_at part_of body_of row_in group_row connection_row route_row destination_row group_good
+unfolding example_image be bad_from every rows_of body_bytes start_of end_of row_at part_of body_of row_in group_row connection_row route_row destination_row
+    group_good
     connection_good route_good destination_good size_in group_tcp tcp_in routes_share destinations_share share clear_in good_in head_good entry_good rule
     then_check entries_place head_place all_rows_place check_table
 image-whole = refl
 
 -- R20.1: a UDP connection may have any alive limit
 pub image_limited : check_table (set (set example_image 48 255) 49 255) ≡ Accepted
-unfolding example_image be bad_from every rows_of body_bytes start_of end_of row_at part_of body_of row_in group_row connection_row route_row destination_row group_good
+unfolding example_image be bad_from every rows_of body_bytes start_of end_of row_at part_of body_of row_in group_row connection_row route_row destination_row
+    group_good
     connection_good route_good destination_good size_in group_tcp tcp_in routes_share destinations_share share clear_in good_in head_good entry_good rule
     then_check entries_place head_place all_rows_place check_table
 image_limited = refl
 
 -- R19.1: with its group TCP, its route may be marked
 pub image-marked : check_table (set (set example_image 36 2) 55 1) ≡ Accepted
-unfolding example_image be bad_from every rows_of body_bytes start_of end_of row_at part_of body_of row_in group_row connection_row route_row destination_row group_good
+unfolding example_image be bad_from every rows_of body_bytes start_of end_of row_at part_of body_of row_in group_row connection_row route_row destination_row
+    group_good
     connection_good route_good destination_good size_in group_tcp tcp_in routes_share destinations_share share clear_in good_in head_good entry_good rule
     then_check entries_place head_place all_rows_place check_table
 image-marked = refl
@@ -81,7 +84,8 @@ pub places :
     ∷ Refused 38
     ∷ Refused 54 ∷ Refused 54 ∷ Refused 54
     ∷ Refused 70 ∷ Refused 102 ∷ []
-unfolding example_image twice be bad_from every rows_of body_bytes start_of end_of row_at part_of body_of row_in group_row connection_row route_row destination_row group_good
+unfolding example_image twice be bad_from every rows_of body_bytes start_of end_of row_at part_of body_of row_in group_row connection_row route_row
+    destination_row group_good
     connection_good route_good destination_good size_in group_tcp tcp_in routes_share destinations_share share clear_in good_in head_good entry_good rule
     then_check entries_place head_place all_rows_place check_table
 places = refl

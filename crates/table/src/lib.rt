@@ -1,5 +1,7 @@
 // The table image: its check, with the place of the first fault, and each body handed back as the part of the image that
 // it occupies. Everything public is total.
+#![tactic(auto)]
+
 ghost use Rattle.std.specs.Prelude.{◌≡◌, [], ◌/◌, ◌≤◌, leb, length};
 ghost use Rattle.wire.specs.Place.{behind};
 ghost use Rattle.table_layout.specs.Layout.{row_width, rows_of, row_at, body_of, body_at, Laid};
@@ -27,7 +29,7 @@ use table_layout::{
 use table_scan::{first_bad_connection, first_bad_group, first_bad_rows};
 use wire::{be16, be32};
 
-#[derive(Drop)]
+#[derive(Clone, Copy)]
 pub enum TableAnswer {
     Accepted,
     Refused(usize),

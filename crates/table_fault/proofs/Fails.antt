@@ -32,7 +32,8 @@ use Rattle.table_rows.specs.Rows.{
 use Rattle.table_rows.specs.Rules.{group_good, connection_good, route_good, destination_good, group_tcp}
 use Rattle.table_scan.specs.Scan.{good_in}
 use Rattle.table_scan.proofs.Rows.{free, groups_free, connections_free}
-use Rattle.table.specs.Table.{head_good, entry_good, group_tcp_of, tcp_of, size_of, rule, row_good, demand, head_place, entries_place, all_rows_place, check_table}
+use Rattle.table.specs.Table.{head_good, entry_good, group_tcp_of, tcp_of, size_of, rule, row_good, demand, head_place, entries_place, all_rows_place}
+use Rattle.table.specs.Table.{check_table}
 use Rattle.table.specs.declared.TableAnswer.TheVariants.{Accepted, Refused}
 use Rattle.table.proofs.Answers.{then_first, then_second, demand-held}
 use Rattle.table.proofs.Facts.{accepted-row}

@@ -9,7 +9,6 @@ use native.Mathlib.Omega.{arith}
 use borrow.Author.Tests.{not-false}
 use Rattle.lists.specs.Search.{first_bad, every}
 use Rattle.lists.proofs.Search.{none_bad, found-bad, every-all, pass_failed}
-use Rattle.wire.specs.Be.{be}
 use Rattle.table_layout.specs.Layout.{rows_of, row_of}
 use Rattle.table_layout.specs.declared.Kind.{Kind}
 use Rattle.table_layout.specs.declared.Kind.TheVariants.{Group, Connection, Route, Destination}
@@ -88,7 +87,8 @@ group-through : (row : List ℕ) → (group_fault row).fault ≡ Shared → grou
 unfolding group_fault passes_test
 group-through row = through Protocol _ _ 1 1 _ _ refl (through Zero _ _ 0 0 _ _ refl (λ e. refl))
 
-connection-through : (groups protocol : ℕ) (row : List ℕ) → (connection_fault groups protocol row).fault ≡ Shared → connection_fault groups protocol row ≡ no_fault
+connection-through : (groups protocol : ℕ) (row : List ℕ) → (connection_fault groups protocol row).fault ≡ Shared → connection_fault groups protocol row
+    ≡ no_fault
 unfolding connection_fault passes_test
 connection-through groups protocol row =
     through NoGroup _ _ 0 1 _ _ refl

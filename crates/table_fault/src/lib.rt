@@ -2,6 +2,8 @@
 // row), and the first test that fails there, with the number found and the number asked; nothing where none fails. The
 // place that the spot names is the check's (proofs/Named), and nothing is told exactly where the spot is good
 // (proofs/Fails). Everything is total.
+#![tactic(auto)]
+
 ghost use Rattle.std.specs.Prelude.{◌≡◌, ◌+◌, ◌-◌, ◌/◌, leb};
 ghost use Rattle.lists.specs.Search.{first_bad};
 ghost use Rattle.table_layout.specs.Layout.{start_of, row_bytes, row_of};
@@ -33,7 +35,7 @@ use table_rows::{group_row, is_tcp, size_in};
 use table_scan::rows_share;
 use wire::{be8, be16, be32};
 
-#[derive(Drop)]
+#[derive(Clone, Copy)]
 pub enum Spot {
     Head,
     Entry(Kind),
@@ -41,7 +43,7 @@ pub enum Spot {
     Row(Kind, usize),
 }
 
-#[derive(Drop)]
+#[derive(Clone, Copy)]
 pub enum Fault {
     Nothing,
     Short,
@@ -68,14 +70,14 @@ pub enum Fault {
 
 // A fault, the number found, and the number asked (a limit, the value wanted, the byte's place in its row, or the
 // protocol of its group). Of `Shared` the number found is the earlier row's, and asked is 0; of `Nothing` both are 0.
-#[derive(Drop)]
+#[derive(Clone, Copy)]
 pub struct Told {
     pub fault: Fault,
     pub found: usize,
     pub asked: usize,
 }
 
-#[derive(Drop)]
+#[derive(Clone, Copy)]
 pub struct Reason {
     pub spot: Spot,
     pub told: Told,

@@ -1,5 +1,7 @@
 // The table image's layout: what the contents say, where each body stands, and rows as parts of a body.
 // A number past the end is 0, a part that does not fit is empty. Everything public is total but `rows_laid` and `body_laid`.
+#![tactic(auto)]
+
 ghost use Rattle.std.specs.Prelude.{◌≡◌, ◌+◌, ◌*◌, ◌≤◌, ◌<◌};
 ghost use Rattle.wire.specs.Be.{Number};
 ghost use Rattle.wire.specs.Place.{behind};
@@ -23,7 +25,7 @@ ghost use Rattle.table_layout.specs.Layout.{
 
 use wire::{be16, be32};
 
-#[derive(Drop)]
+#[derive(Clone, Copy)]
 pub enum Kind {
     Group,
     Connection,

@@ -1,6 +1,8 @@
 // Rows of the table image: each kind's row as a value, read by its number, and each kind's rule as a test on a row's
 // bytes. A row that is not there is the zero row. Everything is total but `group_laid`, `connection_laid` and
 // `destination_good`.
+#![tactic(auto)]
+
 ghost use Rattle.std.specs.Prelude.{◌≡◌};
 ghost use Rattle.wire.specs.Be.{be, Number};
 ghost use Rattle.table_layout.specs.Layout.{row_width, Laid};
@@ -35,12 +37,12 @@ ghost use Rattle.table_rows.specs.Rules.{
 use table_layout::{Kind, body_laid, body_of, row_bytes, row_in};
 use wire::{be8, be16, be32};
 
-#[derive(Drop)]
+#[derive(Clone, Copy)]
 pub struct GroupRow {
     pub protocol: u8,
 }
 
-#[derive(Drop)]
+#[derive(Clone, Copy)]
 pub struct ConnectionRow {
     pub group: u8,
     pub automatic: bool,
@@ -52,7 +54,7 @@ pub struct ConnectionRow {
 }
 
 // What a loop over all connections asks of each row.
-#[derive(Drop)]
+#[derive(Clone, Copy)]
 pub struct ConnectionBrief {
     pub group: u8,
     pub automatic: bool,
@@ -60,7 +62,7 @@ pub struct ConnectionBrief {
     pub alive: u16,
 }
 
-#[derive(Drop)]
+#[derive(Clone, Copy)]
 pub struct RouteRow {
     pub connection: u8,
     pub transfer: bool,
@@ -70,7 +72,7 @@ pub struct RouteRow {
     pub groups: u32,
 }
 
-#[derive(Drop)]
+#[derive(Clone, Copy)]
 pub struct DestinationRow {
     pub connection: u8,
     pub trigger: bool,

@@ -1,5 +1,7 @@
 // The first bad row of each kind's body. A row is tested by itself first; then, where its mark was met before, against
 // each earlier row, outside of the loop that most rows stay in. The marks make the search quick; no public contract shows them.
+#![tactic(auto)]
+
 ghost use Rattle.std.specs.Prelude.{◌≡◌, ℕ, ◌/◌, ◌<◌, ◌≤◌, length};
 ghost use Rattle.wire.specs.Be.{turn};
 ghost use Rattle.lists.specs.Search.{every};
@@ -17,7 +19,7 @@ use table_rows::{
 use wire::be8;
 
 // The first bad row of two kinds.
-#[derive(Drop)]
+#[derive(Clone, Copy)]
 pub struct BadRows {
     pub route: usize,
     pub destination: usize,

@@ -1,5 +1,7 @@
 // tally: a table image and recordings on standard input, each with its length before it; how each recording ended, and one report over all of
 // them, on standard output (docs/RECORDING.md, "Several recordings"). What counts is crate report_count's, the sums are crate report's.
+#![tactic(auto)]
+
 use input::{read_image, read_part};
 use input_parts::{Next, contents_named, contents_within, next_part, pass_over, read_within};
 use input_recording::{count_of, shown_of};
@@ -25,7 +27,7 @@ use words_report::{
 // ---- one recording
 
 // How far a recording is: the state, its tale, its report, and how many bytes of it are left on the input.
-#[derive(Drop)]
+#[derive(Clone, Copy)]
 struct Going {
     state: State,
     tale: Tale,
@@ -127,7 +129,7 @@ fn entries(
 // ---- the report over all
 
 // The report so far, how the recordings ended, and how many parts there were.
-#[derive(Drop)]
+#[derive(Clone, Copy)]
 struct Total {
     report: Report,
     ends: Ends,
@@ -135,7 +137,7 @@ struct Total {
 }
 
 // The total with one run more, and why it was left out where it was (crate words_report).
-#[derive(Drop)]
+#[derive(Clone, Copy)]
 struct Grown {
     report: Report,
     out: usize,

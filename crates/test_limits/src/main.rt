@@ -6,16 +6,20 @@
 // Standard input: a table image with a TCP connection 0 and a UDP connection 1, both automatic with a whole remote, and a route
 // for id 0x101 and 2 bytes on connection 0.
 // Last word: OK when every call did what its line says, DIFFERS when one did not, REFUSED for the table.
+#![tactic(auto)]
+
 use entry_events::CountAnswer;
 use entry_reader::walk_from;
 use entry_receive::{segment_payload, segment_take};
 use input::read_image;
-use libc::STDOUT_FILENO;
 use pieces::{front, put_piece};
 use receive_stream::Outcome;
 use state::{State, fresh_state};
 use table::{TableAnswer, check_table};
 use text::{decimal, hex};
+
+// The standard output's number.
+const STDOUT_FILENO: i32 = 1;
 
 // The text before a number, the number, and the text after it.
 fn tell(before: &[u8], number: u64, after: &[u8]) {
@@ -52,7 +56,7 @@ fn begin_skip(image: &[u8], state: State, rx: &mut [u8], tx: &[u8]) -> State {
 }
 
 // Whether all was well so far, and the state.
-#[derive(Drop)]
+#[derive(Clone, Copy)]
 struct Turn {
     well: bool,
     state: State,

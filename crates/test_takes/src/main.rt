@@ -17,10 +17,11 @@
 //     AT counts from the take's first byte; HEX is the payload, or the piece's bytes, in lower case, or `-` where it is empty. `start`, `piece`
 //     and `last`, the last piece, are a transfer's; LENGTH of a start is the transfer's.
 //   Another kind, too long an image, or a record that is cut off ends the program.
+#![tactic(auto)]
+
 use connection::{Connection, Mode, Refusal, Remote};
 use entry_receive::{Answer, segment_payload, segment_take};
 use input::read_part;
-use libc::STDOUT_FILENO;
 use pieces::front;
 use receive_stream::Outcome;
 use state::{State, empty_state, fresh_state};
@@ -29,8 +30,11 @@ use table_layout::{Kind, rows_of};
 use wire::{be8, be16, be32, put8, put32};
 use words::{lay, phrase};
 
+// The standard output's number.
+const STDOUT_FILENO: i32 = 1;
+
 // What a case stands on between records: so many bytes of image, the state, and whether to go on.
-#[derive(Drop)]
+#[derive(Clone, Copy)]
 struct Held {
     size: usize,
     state: State,

@@ -32,7 +32,8 @@ pub hex_length : (l : List ℕ) → length (hex_of l) ≡ length l * 2
 hex_length [] = refl
 hex_length (b ∷ bs) = omega (arith, hex_length bs)
 
-hex_more : (l : List ℕ) (i : ℕ) → i < length l → hex_of (take (suc i) l) ≡ hex_of (take i l) ++ (hex_digit_ascii (get_or l i 0 / 16) ∷ hex_digit_ascii (get_or l i 0 % 16) ∷ [])
+hex_more : (l : List ℕ) (i : ℕ) → i < length l → hex_of (take (suc i) l)
+    ≡ hex_of (take i l) ++ (hex_digit_ascii (get_or l i 0 / 16) ∷ hex_digit_ascii (get_or l i 0 % 16) ∷ [])
 hex_more [] i h = absurd (omega arith)
 hex_more (b ∷ bs) zero h = refl
 hex_more (b ∷ bs) (suc i) h = ap (λ (t : List ℕ). hex_digit_ascii (b / 16) ∷ hex_digit_ascii (b % 16) ∷ t) (hex_more bs i (omega arith))

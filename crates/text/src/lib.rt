@@ -1,5 +1,7 @@
 // Numbers and bytes as text, laid into a lent buffer in pieces: each whole, or not at all where it does not fit, and the place after
 // it is handed back. Every function is total.
+#![tactic(auto)]
+
 ghost use Rattle.std.specs.Prelude.{◌≡◌, ◌*◌, ◌<◌, length};
 ghost use Rattle.io.specs.Digits.{hex_digit_ascii};
 ghost use Rattle.wire.specs.Lay.{lay};

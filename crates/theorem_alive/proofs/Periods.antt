@@ -97,7 +97,8 @@ module _ (image : List ℕ) (k : ℕ) (m : Machine) (good : Good image m) (there
   accept_up group source = go (ℕ_discrete (whom (arrival_of (lent_to image m) true group source).answer) _)
     where
       go : Dec (whom (arrival_of (lent_to image m) true group source).answer ≡ whom (Met k)) → Up (on_whole (accept group source))
-      go (yes e) = mode_of (accepted image k m good there group source (whom_is (arrival_of (lent_to image m) true group source).answer k (e ∙ whom_met k))) refl
+      go (yes e) = mode_of (accepted image k m good there group source (whom_is (arrival_of (lent_to image m) true group source).answer k (e ∙ whom_met k)))
+          refl
       go (no ne) = mode_of (not_accepted image k m good there group source (λ is. ne (ap whom is))) online
 
   plain_up : (e : Whole) → plain e ≡ true → Up (on_whole e)

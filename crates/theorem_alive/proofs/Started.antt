@@ -3,7 +3,7 @@
 use Prim.Native.Nat.{ℕ, zero, suc, ◌<◌}
 use mathlib.Core.Path.{◌≡◌, refl, sym, ap, ◌∙◌, subst}
 use mathlib.Core.Logic.{◌⊎◌, inl, inr}
-use mathlib.Core.Bool.{true, false, true≢false}
+use mathlib.Core.Bool.{true, true≢false}
 use mathlib.Core.List.{List, [], ◌∷◌}
 use native.Mathlib.Omega.{arith}
 use lib.ListN.{length, get_or, replicate}
@@ -59,7 +59,8 @@ module _ (image : List ℕ) (k : ℕ) (there : k < rows_of image Connections) wh
         go (yes e) =
             let is = whom_is (arrival_of (lent_to image m) true group source).answer k e in
             absurd (true≢false (sym (accept-tcp (lent_to image m) group source k is)
-            ∙ runs_udp (config_of image k) (its_record image k after) (sound image k after (event_good image m good (on_whole (accept group source)) tt) there) l))
+            ∙ runs_udp (config_of image k) (its_record image k after)
+            (sound image k after (event_good image m good (on_whole (accept group source)) tt) there) l))
         go (no ne) =
             still (ap (λ (d : Connection). d.watch.alive) (not_accepted image k m good there group source (λ is. ne (ap whom is ∙ whom_met k))) ∙ z) l
 

@@ -1,6 +1,6 @@
 -- WHEN EACH NUMBER IS GIVEN: from any table, state and memory the number of an event is that of its first check that fails.
 use Prim.Native.Nat.{ℕ, zero, suc, ◌+◌, ◌<◌}
-use mathlib.Core.Path.{◌≡◌, refl, sym, ap, ◌∙◌}
+use mathlib.Core.Path.{◌≡◌, refl, sym, ◌∙◌}
 use mathlib.Core.Bool.{Bool, true, false, cond, not, ◌&&◌, ◌||◌}
 use mathlib.Core.List.{List, [], ◌∷◌}
 use native.Mathlib.Omega.{arith}
@@ -211,7 +211,8 @@ module _ (image : List ℕ) (m : Machine) where
       go false = refl
 
   take-number : (k : ℕ) (out : List ℕ)
-      → taking_number (taken_waiting (loan_to image m) k out).answer ≡ first_failing (first_of image m k (check (ltb (length out) (here image m k).used) 9 ∷ []))
+      → taking_number (taken_waiting (loan_to image m) k out).answer ≡ first_failing
+      (first_of image m k (check (ltb (length out) (here image m k).used) 9 ∷ []))
   unfolding taken_waiting
   take-number k out =
       gate_first_of (λ (t : Drained). taking_number t.answer) (not_taken s)
@@ -267,7 +268,8 @@ module _ (image : List ℕ) (m : Machine) where
 
     arrival_own : arrival_number (arrive_of image s a group source).answer ≡ first_failing (arrives image m a group source)
     unfolding arrive_of denied_of first_failing
-    arrival_own = go (leb (rows_of image Group) group) (denied_of image a group source) (chosen_in image s a group source) (chosen_is_best image s a group source)
+    arrival_own = go (leb (rows_of image Group) group) (denied_of image a group source) (chosen_in image s a group source)
+        (chosen_is_best image s a group source)
       where
         go : (x y : Bool) (c : Chosen) → IsChosen (score_at image s a group source) 16 c
             → arrival_number (cond x (not_met s Missing) (cond y (not_met s Denied) (meet image s source c))).answer

@@ -1,6 +1,6 @@
 -- EACH ANSWER OF FRAMING, OF THE FRESH STATE AND OF THE C WALK IS GIVEN EXACTLY WHEN ITS RULE SAYS SO.
 use Prim.Native.Nat.{ℕ, ◌+◌, ◌<◌, ◌≤◌}
-use mathlib.Core.Path.{◌≡◌, refl, sym, ap, ◌∙◌, subst}
+use mathlib.Core.Path.{◌≡◌, refl, subst}
 use mathlib.Core.Logic.{◌↔◌}
 use mathlib.Core.Bool.{Bool, true, false, cond}
 use mathlib.Core.List.{List}
@@ -22,7 +22,7 @@ use Rattle.receive_datagram.specs.Datagram.{walked_of}
 use Rattle.soad_walk.specs.declared.TableWalk.{TableWalk}
 use Rattle.soad_walk.specs.declared.TableWalk.TheVariants.{Refused, Step}
 use Rattle.soad_walk.specs.TableWalk.{accepted_walk, after_check, table_walk_of}
-use Rattle.theorem_calls.specs.Image.{MeetsAll, FirstFault, TableSays}
+use Rattle.theorem_calls.specs.Image.{MeetsAll, TableSays}
 use Rattle.theorem_calls.specs.Calls.{FramingSays, too_long, no_room, frames_it, MakeSays, made_fresh, made_empty}
 use Rattle.theorem_calls.specs.Calls.{protocol_number, WalkSays, bad_image, not_there, tcp, beyond, walks_on}
 use Rattle.theorem_calls.proofs.Image.{table-answer, table-given}

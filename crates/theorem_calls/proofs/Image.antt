@@ -1,5 +1,5 @@
 -- THE TABLE CHECK accepts exactly the images that meet every rule, and refuses any other at its first fault.
-use Prim.Native.Nat.{ℕ, zero, suc, ◌+◌, ◌-◌, ◌<◌, ◌≤◌}
+use Prim.Native.Nat.{ℕ, suc, ◌+◌, ◌-◌, ◌<◌, ◌≤◌}
 use mathlib.Core.Path.{◌≡◌, refl, sym, ap, ap₂, ◌∙◌, subst}
 use mathlib.Core.Logic.{◌↔◌}
 use mathlib.Core.Bool.{Bool, true, false, cond, ◌&&◌, false≢true}
@@ -9,7 +9,6 @@ use native.Mathlib.Decide.{dec_lt}
 use lib.Dec.{eqb, leb, ltb}
 use lib.ListN.{length}
 use borrow.Author.Tests.{leb-true, leb-false}
-use Rattle.lists.specs.Search.{first_bad}
 use Rattle.lists.proofs.Search.{none_bad, found-bad}
 use Rattle.law_lists.proofs.First.{before-bad}
 use Rattle.table_layout.specs.Layout.{number, entry_at, rows_of, row_at, end_of}
@@ -22,7 +21,7 @@ use Rattle.table_fault.specs.declared.Spot.{Spot}
 use Rattle.table_fault.specs.declared.Spot.TheVariants.{Head, Entry, Total, Row}
 use Rattle.table_fault.specs.Spots.{spot_place}
 use Rattle.table_fault.specs.Good.{There, good_at}
-use Rattle.theorem_calls.specs.Image.{GoodSpot, stage_of, within_stage, Earlier, stage, row, FirstFault, TableSays}
+use Rattle.theorem_calls.specs.Image.{stage_of, within_stage, Earlier, stage, row, TableSays}
 use Rattle.theorem_calls.proofs.Spots.{spot_words, words_spot}
 
 -- A SPOT IS KNOWN BY ITS STAGE and its number within it
@@ -173,7 +172,8 @@ module _ (s : List ℕ) where
   entry k = one (Entry k) (entry_back k) tt (entry_good s k) refl (entry_at k) refl
 
   -- 36 bytes and the head are one spot
-  heads : (a h : Bool) (x y : TableAnswer) → then_check (demand a 0) (then_check (then_check (demand h 0) x) y) ≡ then_check (demand (a && h) 0) (then_check x y)
+  heads : (a h : Bool) (x y : TableAnswer) → then_check (demand a 0) (then_check (then_check (demand h 0) x) y)
+      ≡ then_check (demand (a && h) 0) (then_check x y)
   unfolding then_check
   heads true true x y = refl
   heads true false x y = refl

@@ -1,16 +1,15 @@
 -- WHAT IS GOOD AT A SPOT, in words and by the check's own tests.
-use Prim.Native.Nat.{ℕ, ◌+◌, ◌<◌, ◌≤◌}
-use mathlib.Core.Path.{◌≡◌, refl, sym, ap, ◌∙◌}
+use Prim.Native.Nat.{ℕ, ◌+◌, ◌<◌}
+use mathlib.Core.Path.{◌≡◌, refl}
 use mathlib.Core.Bool.{Bool, true, false, not, ◌&&◌, ◌||◌}
 use mathlib.Core.List.{List}
 use lib.Dec.{eqb, leb, ltb}
 use lib.ListN.{length}
-use borrow.Author.Tests.{eqb-true, eqb-false, eq-eqb, ltb-true, leb-true, lt-ltb, le-leb}
-use Rattle.lists.specs.Search.{every}
+use borrow.Author.Tests.{eqb-true, eq-eqb, ltb-true, leb-true, lt-ltb, le-leb}
 use Rattle.lists.proofs.Both.{impossible, and_left, and_right, and_both, and3, and4}
 use Rattle.lists.proofs.Search.{every-at, every-all}
 use Rattle.wire.specs.Be.{be}
-use Rattle.table_layout.specs.Layout.{number, most_rows, entry_at, rows_of, start_of, end_of, row_of}
+use Rattle.table_layout.specs.Layout.{number, most_rows, entry_at, rows_of, start_of, row_of}
 use Rattle.table_layout.specs.declared.Kind.{Kind}
 use Rattle.table_layout.specs.declared.Kind.TheVariants.{Group, Connection, Route, Destination}
 use Rattle.table_rows.specs.Rows.{
@@ -32,7 +31,7 @@ use Rattle.table.specs.Table.{head_good, entry_good, group_tcp_of, tcp_of, size_
 use Rattle.table_fault.specs.declared.Spot.{Spot}
 use Rattle.table_fault.specs.declared.Spot.TheVariants.{Head, Entry, Total, Row}
 use Rattle.table_fault.specs.Good.{good_at}
-use Rattle.theorem_calls.specs.Image.{GoodHead, GoodEntry, GoodGroup, GoodConnection, GoodRoute, GoodDestination, GoodRow, GoodSpot}
+use Rattle.theorem_calls.specs.Image.{GoodHead, GoodEntry, GoodGroup, GoodConnection, GoodRoute, GoodDestination, GoodSpot}
 
 -- a test turned over
 not_to : (b : Bool) → not b ≡ true → b ≡ true → ⊥
@@ -92,7 +91,8 @@ module _ (s : List ℕ) where
       rw (kind, le-leb (rows_of s k) (most_rows k) g.most, eq-eqb (be 4 s (entry_at k + 4)) (start_of s k) g.offset)
 
   -- A ROW BY ITSELF, and among the earlier ones
-  row_test : (k : Kind) (i : ℕ) → row_good s k i ≡ true → (rule s k (row_of s k i) ≡ true) × ((j : ℕ) → j < i → share k (row_of s k j) (row_of s k i) ≡ true → ⊥)
+  row_test : (k : Kind) (i : ℕ) → row_good s k i ≡ true → (rule s k (row_of s k i) ≡ true)
+      × ((j : ℕ) → j < i → share k (row_of s k j) (row_of s k i) ≡ true → ⊥)
   unfolding good_in clear_in
   row_test k i e = (
     and_left (rule s k (row_of s k i)) _ e,

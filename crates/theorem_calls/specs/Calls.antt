@@ -4,7 +4,6 @@ use Rattle.table_layout.specs.Layout.{rows_of, body_of}
 use Rattle.table_layout.specs.declared.Kind.TheVariants.{Connection, Route}
 use Rattle.table_rows.specs.Rows.{group_of, connection_of}
 use Rattle.table.specs.declared.TableAnswer.TheVariants.{Accepted, Refused as NotAccepted}
-use Rattle.table.specs.Table.{check_table}
 use Rattle.state.specs.Fresh.{fresh_state, empty_state}
 use Rattle.entry_fresh.specs.declared.Made.{Made}
 use Rattle.frame.specs.declared.Framed.{Framed}

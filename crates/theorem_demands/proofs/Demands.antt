@@ -1,12 +1,11 @@
 -- DEMAND 1 AND DEMAND 2, each by its parts.
 use Prim.Native.Nat.{ℕ, ◌<◌}
-use mathlib.Core.Path.{◌≡◌, sym, subst}
+use mathlib.Core.Path.{◌≡◌, subst}
 use mathlib.Core.List.{List}
 use Rattle.table_layout.specs.Layout.{rows_of}
 use Rattle.table_layout.specs.declared.Kind.TheVariants.{Connection as Connections}
 use Rattle.table.proofs.Facts.{accepted_facts}
 use Rattle.switches.proofs.Switches.{on_from, on-to}
-use Rattle.reading.specs.declared.Decision.{Decision}
 use Rattle.connection.specs.Sound.{Sound}
 use Rattle.state.specs.Fresh.{config_of}
 use Rattle.state.specs.State.{record_at}

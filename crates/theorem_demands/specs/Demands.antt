@@ -1,5 +1,5 @@
 -- DEMAND 1 AND DEMAND 2 (R4.1, R4.7, R5.5, R7.5, R8.2, R10.2, R10.10, R5.17), each as one statement of a table image and a machine.
-use Rattle.std.specs.Prelude.{ℕ, ◌<◌, ◌≤◌, ◌≡◌, ◌↔◌, ◌⊎◌, Bool, true, false, cond, length}
+use Rattle.std.specs.Prelude.{ℕ, ◌<◌, ◌≤◌, ◌≡◌, ◌↔◌, ◌⊎◌, Bool, true, cond, length}
 use mathlib.Core.List.{List, [], ◌++◌, flatten, map}
 use Rattle.table_layout.specs.Layout.{rows_of}
 use Rattle.table_layout.specs.declared.Kind.TheVariants.{Connection as Connections}

@@ -1,1 +1,3 @@
 // The first and the second demand, each as one theorem: laws, no code.
+
+#![tactic(auto)]

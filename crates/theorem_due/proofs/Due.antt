@@ -1,6 +1,6 @@
 -- TIMER AND DUE MARK IN ANY RUN: at each moment they say of the PDUs that wait what the rule says.
 use Prim.Native.Nat.{ℕ, suc, ◌+◌, ◌<◌}
-use mathlib.Core.Path.{◌≡◌, refl, sym, ap, ap₂, ◌∙◌, subst}
+use mathlib.Core.Path.{◌≡◌, refl, sym, ap, ◌∙◌, subst}
 use mathlib.Core.Logic.{◌⊎◌, inl, inr}
 use mathlib.Core.Bool.{Bool, true, false, cond, not, ◌&&◌, ◌||◌, false≢true, true≢false}
 use mathlib.Core.List.{List, [], ◌∷◌, ◌++◌, append-nil}
@@ -249,7 +249,8 @@ module _ (image : List ℕ) (j : ℕ) (there : j < rows_of image Connections) (m
         due = ap (λ (d : Connection). d.due) (sym a) ∙ s.due ∙ ap (λ (d : Connection). d.due) b;
       }
 
-  whole-reads : (e : Whole) → leaves_all e ≡ true → (steps : List BufferStep) → Reads steps c → Reads steps (record_at (after_event image (on_whole e) m).state j)
+  whole-reads : (e : Whole) → leaves_all e ≡ true → (steps : List BufferStep) → Reads steps c
+      → Reads steps (record_at (after_event image (on_whole e) m).state j)
   whole-reads e l steps h = same_reads steps c (record_at (after_event image (on_whole e) m).state j) (whole_same e l) h
 
   -- a tick that does not empty neither closes nor lets go

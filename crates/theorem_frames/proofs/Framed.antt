@@ -1,5 +1,5 @@
 -- WHAT THE FRAMING FUNCTION WRITES IS READ BACK: over a stream cut in any way, and as one datagram.
-use Prim.Native.Nat.{ℕ, zero, suc, ◌+◌, ◌<◌, ◌≤◌}
+use Prim.Native.Nat.{ℕ, ◌+◌, ◌≤◌}
 use mathlib.Core.Path.{◌≡◌, refl, sym, ap, ap₂, ◌∙◌}
 use mathlib.Core.Bool.{Bool, true, false, cond}
 use mathlib.Core.List.{List, [], ◌∷◌, ◌++◌, map, flatten}
@@ -10,7 +10,7 @@ use borrow.Author.Tests.{ltb-false}
 use Rattle.wire.specs.Lay.{spell, lay}
 use Rattle.wire.proofs.Lay.{lay-own, lay-after}
 use Rattle.wire.proofs.Spell.{length-spell}
-use Rattle.frame.specs.Frame.{Sent, frame, frames}
+use Rattle.frame.specs.Frame.{frame, frames}
 use Rattle.frame.specs.Framing.{framing_of, out_after, framed_out}
 use Rattle.frame.specs.declared.Framed.{Framed}
 use Rattle.frame.specs.declared.Framed.TheVariants.{Done, TooLong, NoRoom}

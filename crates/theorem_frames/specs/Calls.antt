@@ -1,5 +1,5 @@
 -- CALLS OF THE FRAMING FUNCTION one after the other (R5.17, R6.3), each with an id, a payload and an out buffer, and the bytes that they write.
-use Rattle.std.specs.Prelude.{ℕ, ◌+◌, ◌≡◌, List, [], ◌∷◌, ◌++◌, map, length, take}
+use Rattle.std.specs.Prelude.{ℕ, ◌+◌, ◌≡◌, List, [], ◌∷◌, ◌++◌, length, take}
 use Rattle.frame.specs.Frame.{Sent}
 use Rattle.frame.specs.Framing.{framing_of, framed_out}
 use Rattle.frame.specs.declared.Framed.TheVariants.{Done}

@@ -1,12 +1,12 @@
 -- THE BEST MATCH, over what matching and its classes mean and not over the score that the code computes.
-use Prim.Native.Nat.{ℕ, zero, suc, ◌+◌, ◌-◌, ◌*◌, ◌<◌, ◌≤◌}
+use Prim.Native.Nat.{ℕ, zero, suc, ◌+◌, ◌-◌, ◌<◌, ◌≤◌}
 use mathlib.Core.Path.{◌≡◌, refl, sym, ap, ◌∙◌, subst}
 use mathlib.Core.Logic.{◌↔◌}
 use mathlib.Core.Bool.{Bool, true, false, cond, not, ◌&&◌, ◌||◌, false≢true}
 use native.Mathlib.Omega.{arith}
 use lib.Dec.{eqb, leb, ltb}
 use borrow.Author.Tests.{eqb-true, eqb-false, eq-eqb, ne_eqb, ltb-true, leb-true, leb-false, lt-ltb, le-leb, lt-leb}
-use Rattle.lists.proofs.Both.{impossible, and_left, and_right, and_both, and3, neither as neither-of}
+use Rattle.lists.proofs.Both.{impossible, and_left, and_right, and3, neither as neither-of}
 use Rattle.table_layout.specs.Layout.{rows_of}
 use Rattle.table_layout.specs.declared.Kind.TheVariants.{Connection as Connections, Group}
 use Rattle.table_rows.specs.Rows.{group_of, connection_of}
@@ -16,7 +16,6 @@ use Rattle.connection.specs.declared.Mode.TheVariants.{Offline, Reconnect, Onlin
 use Rattle.connection.specs.declared.Remote.{Remote}
 use Rattle.connection.specs.declared.Refusal.TheVariants.{Missing, Denied}
 use Rattle.connection.specs.Connection.{is_reconnect, is_online, equal_fields, wild_fields, wildcard}
-use Rattle.state.specs.declared.State.{State}
 use Rattle.state.specs.State.{record_at}
 use Rattle.gate.specs.declared.Gate.{Gate}
 use Rattle.gate.specs.declared.Gate.TheVariants.{Pass, Refused as Shut}
@@ -24,11 +23,11 @@ use Rattle.gate.specs.Lent.{Lent}
 use Rattle.gate.specs.Gate.{gate_of, through}
 use Rattle.gate.proofs.Pass.{rows_in-sixteen}
 use Rattle.select.specs.declared.Arrival.{Arrival}
-use Rattle.select.specs.declared.Arrival.TheVariants.{Met, Refused, Unmatched}
 use Rattle.select.specs.declared.Chosen.{Chosen}
 use Rattle.select.specs.declared.Chosen.TheVariants.{Nobody, At}
 use Rattle.select.specs.Best.{Best, IsChosen}
-use Rattle.select.specs.Choose.{one_of, rank_of, matches, member_counts, score_of, member, score_at, chosen_in, meet, arrival_refused, protocol_of, denied_of, arrive_of}
+use Rattle.select.specs.Choose.{rank_of, matches, member_counts, score_of, member, score_at, chosen_in, meet, arrival_refused, protocol_of, denied_of}
+use Rattle.select.specs.Choose.{arrive_of}
 use Rattle.select.proofs.Pass.{chosen_is_best, chosen_is_only}
 use Rattle.entry_arrivals.specs.Arrivals.{arrival_of}
 use Rattle.theorem_match.specs.Match.{MatchClass, both, any-port, any-address, neither, class_place, MatchesAs, by_both}

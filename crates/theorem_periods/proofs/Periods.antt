@@ -1,15 +1,14 @@
 -- AN ONLINE PERIOD OF A TCP CONNECTION ENDS EXACTLY BY AN ALLOWED LOSS OR A CLOSING TICK.
-use Prim.Native.Nat.{ℕ, ◌<◌, ◌≤◌}
-use mathlib.Core.Path.{◌≡◌, refl, sym, ap, ◌∙◌, subst}
+use Prim.Native.Nat.{ℕ, ◌<◌}
+use mathlib.Core.Path.{◌≡◌, ap, ◌∙◌}
 use mathlib.Core.Logic.{◌↔◌}
-use mathlib.Core.Bool.{Bool, true, false, not, ◌&&◌}
+use mathlib.Core.Bool.{true, not}
 use mathlib.Core.List.{List}
 use native.Mathlib.Nat.{zero-add}
 use native.Mathlib.Omega.{arith}
-use lib.ListN.{length, get_or, set}
+use lib.ListN.{length}
 use lib.Seq.{get_or-set_same}
 use Rattle.lists.proofs.Both.{and_left, and_right, and_both}
-use Rattle.lists.specs.Each.{each_to}
 use Rattle.law_lists.proofs.Each.{each-own}
 use Rattle.table_layout.specs.Layout.{rows_of}
 use Rattle.table_layout.specs.declared.Kind.TheVariants.{Connection as Connections}
@@ -17,10 +16,8 @@ use Rattle.connection.specs.declared.Connection.{Connection}
 use Rattle.connection.specs.declared.Event.TheVariants.{Lost}
 use Rattle.connection.specs.Connection.{is_online, lost_of, closed_of, tick_of, zero_record}
 use Rattle.connection.specs.Event.{lost_allowed, step_of}
-use Rattle.state.specs.declared.State.{State}
 use Rattle.state.specs.State.{record_at}
 use Rattle.state.specs.Fresh.{config_of}
-use Rattle.gate.specs.Gate.{gate_of, gate_at}
 use Rattle.gate.proofs.Pass.{passed_gate, passed_gate_at, rows_in-sixteen}
 use Rattle.entry_events.specs.Change.{told_of, change_of, event_of}
 use Rattle.entry_ticks.specs.Tick.{tick_at, ticked_to, tick_event}

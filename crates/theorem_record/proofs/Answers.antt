@@ -38,7 +38,6 @@ use Rattle.receive_stream.specs.declared.Outcome.TheVariants as Found
 use Rattle.receive_datagram.specs.declared.Outcome.{Outcome as Walked}
 use Rattle.receive_datagram.specs.declared.Outcome.TheVariants as Met
 use Rattle.entry_receive.specs.declared.Answer.{Answer as Received}
-use Rattle.entry_receive.specs.declared.Answer.TheVariants as Received
 use Rattle.entry_receive.specs.Answer.{is_done}
 use Rattle.select.specs.declared.Arrival.{Arrival}
 use Rattle.select.specs.declared.Arrival.TheVariants as Arrived

@@ -55,5 +55,6 @@ module _ (image rx tx : List ℕ) (cs : List Timed) (more : List ℕ) (can : Rec
       let es : List Noted = recorded_fresh image rx tx cs in
       let said : Answered image (first_stamp es) fresh es =
       subst (λ (b : ℕ). Answered image b fresh es) (sym (recorded-first image fresh cs)) (recorded-answered image (first_at cs) fresh cs) in
-      subst (λ (n : ℕ). NoDifference n (replay_of image made rx tx out)) (sym (length-map es timed_of) ∙ ap length (recorded-calls image (first_at cs) fresh cs))
+      subst (λ (n : ℕ). NoDifference n (replay_of image made rx tx out))
+      (sym (length-map es timed_of) ∙ ap length (recorded-calls image (first_at cs) fresh cs))
       (record_replay image rx tx out es more accepted long can said)

@@ -58,7 +58,7 @@ use Rattle.model.specs.Step.{acted, left}
 use Rattle.model.proofs.View.{state_view, view_at}
 use Rattle.model_runs.proofs.Keeps.{cell-follow}
 use Rattle.model_refines.specs.Table.{table_of}
-use Rattle.model_refines.specs.Machine.{Machine, machine, loan_to, lent_to, seen, taken, after_one, pdu_told, told_by}
+use Rattle.model_refines.specs.Machine.{Machine, loan_to, lent_to, seen, taken, after_one, pdu_told, told_by}
 use Rattle.model_refines.specs.Run.{Good}
 use Rattle.model_refines.proofs.Take.{Open, took_at, one_view, one_told, open_after}
 use Rattle.dispatch_refines.specs.Told.{Take, bytes_in, next_take, took_then, takes_from}
@@ -166,7 +166,8 @@ module _ (image : List ℕ) (k : ℕ) {m m' : Machine} (same : HoldsAlike m m') 
         payload_in (piece r p m ∷ os) = p
 
         one : (o : Outcome)
-            → pdu_told image k (payload_of segment z k o) o ≡ pdu_told image k (payload_of segment z' k o) o → payload_of segment z k o ≡ payload_of segment z' k o
+            → pdu_told image k (payload_of segment z k o) o ≡ pdu_told image k (payload_of segment z' k o) o → payload_of segment z k o
+            ≡ payload_of segment z' k o
         one Found.More e = refl
         one (Found.Pdu route id inside at n) e = ap payload_in e
         one (Found.Drop reason id n) e = refl

@@ -1,10 +1,10 @@
 -- ONE ENTRY REPLAYED: of an entry that was recorded so, the ticks and the event are run, and today's answer is the recorded one.
-use Prim.Native.Nat.{ℕ, ◌+◌, ◌≤◌}
+use Prim.Native.Nat.{ℕ, ◌≤◌}
 use mathlib.Core.Path.{◌≡◌, refl, sym, ap, ap₂, ◌∙◌}
 use mathlib.Core.Bool.{Bool, true, false, cond, false≢true}
-use mathlib.Core.List.{List, [], ◌∷◌, ◌++◌}
+use mathlib.Core.List.{List, [], ◌++◌}
 use native.Mathlib.Omega.{arith}
-use borrow.Author.Tests.{le-ltb, eq-eqb}
+use borrow.Author.Tests.{le-ltb}
 use lib.Dec.{ltb}
 use lib.ListN.{length, take, drop, length-append}
 use lib.Seq.{take-append_seam}
@@ -28,7 +28,7 @@ use Rattle.recording.specs.Entry.{is_spelt, answer_fits, body_fits, fault_of}
 use Rattle.replay_step.specs.declared.Played.{Played}
 use Rattle.replay_step.specs.declared.Played.TheVariants.{Same}
 use Rattle.replay_step.proofs.Same.{same_self}
-use Rattle.replay_step.specs.Step.{same_bytes, Stepped, played_by, told_beside, ticked_by, then_happens, unless_fault, entered, entry_step}
+use Rattle.replay_step.specs.Step.{Stepped, played_by, told_beside, ticked_by, then_happens, unless_fault, entered, entry_step}
 use Rattle.theorem_record.specs.Record.{Noted, note_body, note_row, Notable}
 use Rattle.theorem_record.specs.Again.{after_ticks, after_note, answer_to}
 use Rattle.theorem_record.proofs.Numbers.{arguments-in, answer-in}

@@ -1,11 +1,10 @@
 -- A CONNECTION EVENT IS ALLOWED exactly when the rule says so.
-use Prim.Native.Nat.{ℕ}
 use mathlib.Core.Path.{◌≡◌, refl, sym, ap, ◌∙◌}
 use mathlib.Core.Logic.{◌↔◌}
 use mathlib.Core.Bool.{Bool, true, false, not, ◌&&◌, ◌||◌, false≢true}
 use lib.Dec.{eqb}
 use borrow.Author.Tests.{eqb-false, ne_eqb}
-use Rattle.lists.proofs.Both.{impossible, and_left, and_right, and_both, neither}
+use Rattle.lists.proofs.Both.{impossible, and_left, and_right, neither}
 use Rattle.connection.specs.declared.Mode.{Mode}
 use Rattle.connection.specs.declared.Mode.TheVariants.{Offline, Reconnect, Online}
 use Rattle.connection.specs.declared.Config.{Config}

@@ -18,7 +18,7 @@ use Rattle.connection.specs.declared.Mode.TheVariants.{Reconnect}
 use Rattle.connection.specs.declared.Watch.{Watch}
 use Rattle.connection.specs.Connection.{wildcard, with_mode, with_send, become, reset_of, met_of, tick_of}
 use Rattle.connection.proofs.Ticks.{Tick, closes_wanted, lets_go, goes_on, tick_is}
-use Rattle.connection.specs.Event.{known, allowed, lost_allowed, remote_allowed, record_after, refused_by, step_of}
+use Rattle.connection.specs.Event.{known, allowed, record_after, refused_by, step_of}
 use Rattle.table_layout.specs.Layout.{rows_of}
 use Rattle.table_layout.specs.declared.Kind.TheVariants.{Group}
 use Rattle.state.specs.State.{record_at, with_record}
@@ -35,8 +35,8 @@ use Rattle.select.specs.declared.Chosen.TheVariants.{Nobody, At}
 use Rattle.select.specs.Choose.{chosen_in, meet, arrival_refused, denied_of, arrive_of}
 use Rattle.entry_arrivals.specs.Arrivals.{arrival_of}
 use Rattle.send_waiting.specs.Waiting.{after_take, take_of}
-use Rattle.model.specs.World.{World, Held, held_at, blank}
-use Rattle.model.specs.Events.{Own, Event, on}
+use Rattle.model.specs.World.{World, held_at, blank}
+use Rattle.model.specs.Events.{Own, on}
 use Rattle.model.specs.Step.{step, acts_at}
 use Rattle.model_runs.specs.Streams.{EventBytes}
 use Rattle.model_refines.specs.Machine.{Machine, seen}
@@ -46,7 +46,7 @@ use Rattle.model_refines.specs.Whole.{whole_of}
 use Rattle.model_refines.proofs.Steps.{event_view}
 use Rattle.theorem_records.specs.Records.{RemoteAfter, lost_configured, lost_refused, set_given, set_refused, kept_open, kept_close}
 use Rattle.theorem_records.specs.Records.{kept_connected, kept_switch, kept_cancel, RemoteAtTick, closed_configured, let_go_configured, kept_ticking}
-use Rattle.theorem_records.specs.Records.{Drained, ServesAnyone, TakeLeaves, nothing_taken, back_to_reconnect, to_be_closed, stays_as_it_is}
+use Rattle.theorem_records.specs.Records.{Drained, TakeLeaves, nothing_taken, back_to_reconnect, to_be_closed, stays_as_it_is}
 
 -- A CONNECTION EVENT LEAVES EVERY OTHER CONNECTION AS IT WAS: its record, and the bytes that it holds
 others-step : (image : List ℕ) (w : World) (k : ℕ) (e : Own) (i : ℕ) → (i ≡ k → ⊥) → held_at (step (table_of image) (whole_of image) w (on k e)) i ≡ held_at w i

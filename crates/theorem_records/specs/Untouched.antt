@@ -17,7 +17,8 @@ use Rattle.model_refines.specs.Machine.{Machine, lent_to}
 -- a count event touches none
 pub data Touches (image : List ℕ) (m : Machine) : Whole → ℕ → Type 0 where
   -- a datagram, an accept: the connection that it is answered with (R7.6)
-  datagram_meets : (group : ℕ) (source : Remote) (k : ℕ) → (datagram_of (lent_to image m) group source).answer ≡ Met k → Touches image m (datagram group source) k
+  datagram_meets : (group : ℕ) (source : Remote) (k : ℕ) → (datagram_of (lent_to image m) group source).answer ≡ Met k
+      → Touches image m (datagram group source) k
   accept_meets : (group : ℕ) (source : Remote) (k : ℕ) → (accept_of (lent_to image m) group source).answer ≡ Met k → Touches image m (accept group source) k
   -- a tick: each connection that is there (R9.1)
   tick_each : (k : ℕ) → k < rows_of image Connections → Touches image m tick k

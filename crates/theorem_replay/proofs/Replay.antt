@@ -17,8 +17,9 @@ use Rattle.recording.specs.declared.Front.TheVariants as Shown
 use Rattle.recording.specs.Recording.{entries_in, contents_to, entry_row, stamp_in, shown_by}
 use Rattle.replay_step.specs.Step.{Stepped}
 use Rattle.replay_whole.specs.declared.End.{End}
-use Rattle.replay_whole.specs.declared.End.TheVariants.{Whole, Table, Unread, Small, Refused}
-use Rattle.replay_whole.specs.Replay.{Going, Left, is_run, end_at, step_at, ongoing, stopped, replay_from, before_first, unrun, under_front, under_table, replay_of}
+use Rattle.replay_whole.specs.declared.End.TheVariants.{Whole, Table, Unread, Small}
+use Rattle.replay_whole.specs.Replay.{Going, Left, is_run, end_at, step_at, ongoing, stopped, replay_from, before_first, unrun, under_front, under_table}
+use Rattle.replay_whole.specs.Replay.{replay_of}
 use Rattle.model_refines.specs.Run.{after_run}
 use Rattle.theorem_replay.specs.Entries.{is_nothing, entry_body, ticks_before, ticks_up_to, events_up_to, is_cut, fault_of_entry, is_fine}
 use Rattle.theorem_replay.specs.Runs.{machine_left, fresh_machine, machine_after, EntryRuns, going_at}

@@ -5,7 +5,7 @@ use mathlib.Core.Bool.{Bool, true, false, cond}
 use mathlib.Core.List.{List, [], ◌∷◌, ◌++◌}
 use native.Mathlib.Decide.{dec_lt}
 use native.Mathlib.Omega.{arith}
-use lib.ListN.{length, get_or, set, replicate, length-set, get_or-replicate, get_or-eq_default}
+use lib.ListN.{get_or, set, replicate, length-set, get_or-replicate, get_or-eq_default}
 use Rattle.lists.proofs.Each.{one_at}
 use Rattle.report.specs.declared.RouteFigures.{RouteFigures}
 use Rattle.report.specs.declared.Drops.{Drops}
@@ -13,12 +13,12 @@ use Rattle.report.specs.declared.Report.{Report}
 use Rattle.report.specs.declared.Joined.{Joined}
 use Rattle.report.specs.Pairwise.{pairwise}
 use Rattle.report.specs.Figures.{no_pdus, one_pdu, add_figures, no_drops, one_drop, add_drops, Between, Bare}
-use Rattle.report.specs.Report.{empty_report, figures_at, drops_at, FullReport, Item, got, lost, count_item, count_from, report_of, add_reports}
+use Rattle.report.specs.Report.{empty_report, figures_at, FullReport, Item, got, lost, count_item, count_from, report_of, add_reports}
 use Rattle.report.specs.Report.{reports_fit, join_reports, runs_from, runs_report}
 use Rattle.theorem_report.proofs.Sums.{pairs_none, one_added}
 use Rattle.theorem_report.proofs.Figures.{figures_none, figures_sums, drops_none, drops-sums}
-use Rattle.theorem_report.proofs.Figures.{between_none, between_one, between_sum, bare_none, bare_one, bare_sum, empty_pdu}
-use Rattle.theorem_report.proofs.Joins.{add_comm, add_assoc, add_empty, empty_add, empty_full}
+use Rattle.theorem_report.proofs.Figures.{between_none, between_one, between_sum, bare_none, bare_one, bare_sum}
+use Rattle.theorem_report.proofs.Joins.{add_assoc, add_empty, empty_full}
 
 abbrev made : List RouteFigures → List Drops → Report
 made rs cs = record { routes = rs; connections = cs }

@@ -1,16 +1,16 @@
 -- THE FIGURES OF A ROUTE AND THE DROPS OF A CONNECTION, added up: in any order and any grouping; and how the bytes stand to the lengths.
-use Prim.Native.Nat.{ℕ, zero, suc, ◌+◌, ◌*◌, ◌<◌, ◌≤◌, min, max}
+use Prim.Native.Nat.{ℕ, ◌+◌, ◌*◌, ◌<◌, ◌≤◌, min, max}
 use mathlib.Core.Path.{◌≡◌, refl, sym, ap, ap₂, ◌∙◌}
 use mathlib.Core.Bool.{Bool, true, false, ◌&&◌}
 use native.Mathlib.Omega.{arith}
 use native.Mathlib.Decide.{ℕ_discrete}
-use native.Mathlib.Nat.{mul-le-mul_left, add-mul, mul_comm, min-le_left, min-le_right, le-max_left, le-max_right}
+use native.Mathlib.Nat.{mul-le-mul_left, add-mul, min-le_left, min-le_right, le-max_left, le-max_right}
 use lib.Dec.{eqb, ltb}
-use borrow.Author.Tests.{lt-ltb, ltb-true, eq-eqb, ne_eqb, eqb-true}
-use Rattle.lists.proofs.Both.{and_both, impossible}
+use borrow.Author.Tests.{lt-ltb, eq-eqb, ne_eqb, eqb-true}
+use Rattle.lists.proofs.Both.{and_both}
 use Rattle.report.specs.declared.RouteFigures.{RouteFigures}
 use Rattle.report.specs.declared.Drops.{Drops}
-use Rattle.report.specs.Figures.{sum_fits, no_pdus, one_pdu, smallest_by, add_figures, figures_fit, drops_by, no_drops, add_drops, drops_fit, Between, Bare}
+use Rattle.report.specs.Figures.{no_pdus, one_pdu, smallest_by, add_figures, figures_fit, drops_by, no_drops, add_drops, drops_fit, Between, Bare}
 use Rattle.report.proofs.Turns.{figures_small, SmallDrops, drops-small}
 use Rattle.theorem_report.proofs.Sums.{Sums}
 

@@ -1,7 +1,7 @@
 -- THINGS THAT ARE ADDED UP, with a test whether a sum of two passes 64 bits: what holds of the elements holds of lists of them, side by side.
 use Prim.Native.Nat.{ℕ, zero, suc}
 use mathlib.Core.Path.{◌≡◌, refl, sym, ap, ap₂, ◌∙◌}
-use mathlib.Core.Bool.{Bool, true, false, cond, ◌&&◌}
+use mathlib.Core.Bool.{Bool, true, ◌&&◌}
 use mathlib.Core.List.{List, [], ◌∷◌}
 use lib.ListN.{length, get_or, set, replicate}
 use Rattle.lists.proofs.Both.{and_left, and_right, and_both}

@@ -78,7 +78,8 @@ module _ (l : Lent) (passed : Passed l) where
       ∙ ap (λ (t : State). record { answer = Done; state = t }) (sym (switches_forced ss))
 
   -- sheets with the same words leave the same state
-  pub same_words_same_state : (ss ts : List Switching) → sheet_words (table_rows l) ss ≡ sheet_words (table_rows l) ts → after_switches l ss ≡ after_switches l ts
+  pub same_words_same_state : (ss ts : List Switching) → sheet_words (table_rows l) ss ≡ sheet_words (table_rows l) ts → after_switches l ss
+      ≡ after_switches l ts
   same_words_same_state ss ts e = switches_forced ss ∙ ap (λ (w : Words). forced_rows (table_rows l) w l.state) e ∙ sym (switches_forced ts)
 
   -- R18.6: a sheet that fits, shortened and applied

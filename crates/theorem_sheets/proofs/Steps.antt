@@ -47,7 +47,8 @@ use Rattle.law_lists.proofs.Each.{each_same, each-still, each_twice, each_more}
 -- other switches leave a row's record sound
 pub word_sound : (image : List ℕ) (n : ℕ) (c : Connection) (w : ℕ) → sound_at image n c ≡ true → n < rows_of image Connections
     → sound_at image n (with_switches w c) ≡ true
-word_sound image n c w p h = sound-row image n (with_switches w c) h (switches-keep (config_of image n) c (row-sound image n c p h) w) (row-routed image n c p h)
+word_sound image n c w p h = sound-row image n (with_switches w c) h (switches-keep (config_of image n) c (row-sound image n c p h) w)
+    (row-routed image n c p h)
 
 -- words applied one after the other are the words joined
 pub forced_join : (rows : ℕ) (a b : Words) (s : State) → rows ≤ 16 → Full a → forced_rows rows (join_words a b) s ≡ forced_rows rows b (forced_rows rows a s)

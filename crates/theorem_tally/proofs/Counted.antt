@@ -1,14 +1,14 @@
 -- COUNTING FROM THE BYTES OF AN ANSWER IS COUNTING WHAT ITS TAKES TOLD (R21.9): where no sum passed 64 bits, the report after the takes of a segment event is
 -- the report before with the PDUs, ended transfers and drops that these takes tell.
-use Prim.Native.Nat.{ℕ, zero, suc, ◌+◌, ◌^◌, ◌<◌, ◌≤◌}
+use Prim.Native.Nat.{ℕ, ◌+◌, ◌^◌, ◌<◌, ◌≤◌}
 use mathlib.Core.Path.{◌≡◌, refl, sym, ap, ap₂, subst, ◌∙◌}
 use mathlib.Core.Bool.{Bool, true, false, cond, ◌&&◌}
 use mathlib.Core.List.{List, [], ◌∷◌, ◌++◌, append_assoc}
 use native.Mathlib.Omega.{arith}
 use lib.Dec.{eqb, ltb}
-use lib.ListN.{length, get_or, set, drop, length-append}
+use lib.ListN.{length, set, drop, length-append}
 use lib.Seq.{set_out, set-get_or, drop_at}
-use borrow.Author.Tests.{ltb-false, eqb-true, eqb-false}
+use borrow.Author.Tests.{ltb-false}
 use Rattle.lists.proofs.Both.{and_left, and_right}
 use Rattle.wire.specs.Be.{be}
 use Rattle.wire.specs.Lay.{spell}
@@ -208,7 +208,8 @@ bytes-add begins read (Found.Piece route id at n last) payload rest h kept =
     simp append_assoc in
     found-adds read (piece_kind last) route id n (spell 4 (begins + at) ++ rest) is (kind-small last) h.0 h.1.0 kept ∙ piece-adds last route id at n kept
 bytes-add begins read (Found.Pdu route id true at n) payload rest h kept =
-    let is : here_bytes read route id n begins at ++ rest ≡ found_bytes read 1 route id n ++ (spell 1 0 ++ (spell 4 (begins + at) ++ rest)) = simp append_assoc in
+    let is : here_bytes read route id n begins at ++ rest ≡ found_bytes read 1 route id n ++ (spell 1 0 ++ (spell 4 (begins + at) ++ rest)) =
+    simp append_assoc in
     found-adds read 1 route id n (spell 1 0 ++ (spell 4 (begins + at) ++ rest)) is (omega arith) h.0 h.1.0 kept
 bytes-add begins read (Found.Pdu route id false at n) payload rest h kept =
     let is : held_bytes read route id n payload ++ rest ≡ found_bytes read 1 route id n ++ (spell 1 1 ++ (payload ++ rest)) = simp append_assoc in

@@ -1,12 +1,12 @@
 -- THE TAKES OF A SEGMENT EVENT STAND IN ITS ANSWER: each fits its bytes, and each PDU is as long as it says. So counting from the answer is counting what the
 -- event has told (R21.9).
 use Prim.Native.Nat.{ℕ, zero, suc, ◌+◌, ◌-◌, ◌<◌, ◌≤◌}
-use mathlib.Core.Path.{◌≡◌, refl, sym, ap, ap₂, subst, ◌∙◌}
+use mathlib.Core.Path.{◌≡◌, refl, sym, ap, subst, ◌∙◌}
 use mathlib.Core.Bool.{Bool, true, false, cond}
-use mathlib.Core.List.{List, [], ◌∷◌, ◌++◌}
+use mathlib.Core.List.{List, [], ◌∷◌}
 use native.Mathlib.Omega.{arith}
 use native.Mathlib.Decide.{dec_le}
-use lib.Dec.{eqb, leb, ltb}
+use lib.Dec.{leb, ltb}
 use lib.ListN.{length, take, drop, length-drop}
 use lib.Seq.{length-take-le}
 use borrow.Author.Tests.{lt-leb}
@@ -18,20 +18,19 @@ use Rattle.reading_lengths.specs.Listed.{Bytes}
 use Rattle.reading_lengths.proofs.Bytes.{bytes_drop}
 use Rattle.receive_route.specs.Route.{lookup_of}
 use Rattle.receive_stream.specs.declared.Outcome.{Outcome}
-use Rattle.receive_stream.specs.declared.Outcome.TheVariants as Found
 use Rattle.receive_stream.specs.Stream.{cell_of, is_in_segment, id_of, take_outcome, took_of, taken_of}
 use Rattle.state.specs.State.{record_at}
 use Rattle.state.specs.Fresh.{config_of}
 use Rattle.state.specs.Memory.{stretch}
 use Rattle.gate.specs.Lent.{Loan, sizes}
 use Rattle.entry_receive.specs.Answer.{is_done}
-use Rattle.entry_receive.specs.Segment.{take_on, segment_answer, segment_of, memory_of, payload_of}
+use Rattle.entry_receive.specs.Segment.{take_on, segment_answer, segment_of, payload_of}
 use Rattle.entry_receive.proofs.Answers.{Clear, done_clear}
 use Rattle.dispatch_receive.specs.Long.{longest_body}
-use Rattle.dispatch_receive.specs.Segment.{lent_next, take_bytes, Progress, begun, take_at, memory_at, one_take}
+use Rattle.dispatch_receive.specs.Segment.{lent_next, Progress, take_at, memory_at, one_take}
 use Rattle.dispatch_receive.proofs.Room.{answer-is}
 use Rattle.dispatch_receive.proofs.Run.{read-within}
-use Rattle.model_refines.specs.Machine.{Machine, machine, loan_to, taken, pdu_told, told_by}
+use Rattle.model_refines.specs.Machine.{Machine, machine, pdu_told}
 use Rattle.model_refines.proofs.Take.{one_told}
 use Rattle.dispatch_refines.specs.Told.{Take, bytes_in, took_then, next_take, takes_from}
 use Rattle.dispatch_refines.proofs.Fits.{take-fits}

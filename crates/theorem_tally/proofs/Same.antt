@@ -5,7 +5,7 @@ use mathlib.Core.Bool.{Bool, true, false, cond}
 use mathlib.Core.List.{List, [], ◌∷◌}
 use lib.Dec.{eqb}
 use lib.ListN.{length}
-use Rattle.reading.specs.Feed.{Out, nothing, pdu, dropped, start, piece, singles, single, fine}
+use Rattle.reading.specs.Feed.{Out, nothing, pdu, dropped, start, piece, singles, fine}
 use Rattle.reading.specs.Feed.{Handed, complete, began, middle, finished, push, push_all, marked, compared}
 use Rattle.report.specs.declared.Report.{Report}
 use Rattle.report.specs.Report.{Item, got, lost, report_of, add_reports}
@@ -83,7 +83,8 @@ sum_same f g (suc n) h = ap₂ add_reports (sum_same f g n h) (h n)
 module _ (image : List ℕ) (m : Machine) (good : Good image m) {es fs : List Event} (alike : Same es fs) (bytes : RunBytes es) where
   pub same_items : (k kept : ℕ) → items_from k kept (given_in image k m es) ≡ items_from k kept (given_in image k m fs)
   same_items k kept =
-      sym (items_fine k kept (given_in image k m es)) ∙ ap (items_from k kept) (same-given image m good alike bytes k) ∙ items_fine k kept (given_in image k m fs)
+      sym (items_fine k kept (given_in image k m es)) ∙ ap (items_from k kept) (same-given image m good alike bytes k)
+      ∙ items_fine k kept (given_in image k m fs)
 
   pub same_report : run_report image m es ≡ run_report image m fs
   same_report = sum_same _ _ 16 (λ k. ap report_of (same_items k 0))

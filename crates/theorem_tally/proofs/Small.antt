@@ -18,7 +18,8 @@ use Rattle.report.specs.Report.{empty_report, figures_at, drops_at, FullReport, 
 use Rattle.report_count.specs.declared.Adds.{Adds}
 use Rattle.report_count.specs.declared.Counting.{Counting}
 use Rattle.report_count.specs.declared.Run.{Run}
-use Rattle.report_count.specs.Count.{adds_of, one_counted, takes_counted, takes_in, takes_at, connection_named, run_begun, counting_at, after_counting, event_counted}
+use Rattle.report_count.specs.Count.{adds_of, one_counted, takes_counted, takes_in, takes_at, connection_named, run_begun, counting_at, after_counting}
+use Rattle.report_count.specs.Count.{event_counted}
 use Rattle.theorem_report.proofs.Figures.{fits_figures, fits-drops}
 use Rattle.theorem_report.proofs.Joins.{empty_full}
 use Rattle.model_refines.specs.Machine.{Machine}

@@ -1,6 +1,6 @@
 -- A WALK, COUNTED FROM THE BYTES OF ITS ANSWER, counts what it found (R21.9, R21.10).
-use Prim.Native.Nat.{ℕ, zero, suc, ◌+◌, ◌/◌, ◌^◌, ◌<◌, ◌≤◌}
-use mathlib.Core.Path.{◌≡◌, refl, sym, ap, ap₂, subst, ◌∙◌}
+use Prim.Native.Nat.{ℕ, ◌+◌, ◌/◌, ◌^◌, ◌<◌, ◌≤◌}
+use mathlib.Core.Path.{◌≡◌, refl, sym, ap, subst, ◌∙◌}
 use mathlib.Core.Bool.{Bool, true, false, cond, true≢false}
 use mathlib.Core.List.{List, [], ◌∷◌, ◌++◌, append_assoc, append-nil}
 use native.Mathlib.Omega.{arith}
@@ -15,7 +15,7 @@ use Rattle.table_layout.specs.Layout.{body_of}
 use Rattle.table_layout.specs.declared.Kind.TheVariants.{Route as RouteRows}
 use Rattle.reading.specs.declared.Decision.{Decision}
 use Rattle.reading.specs.declared.Decision.TheVariants as Decided
-use Rattle.reading.specs.Feed.{Routes, Out, pdu, dropped}
+use Rattle.reading.specs.Feed.{Routes, Out}
 use Rattle.reading_lengths.specs.Listed.{Bytes}
 use Rattle.reading_lengths.specs.Head.{Head, ended, short, beyond, whole, head_of}
 use Rattle.reading_lengths.proofs.Bytes.{bytes_drop}
@@ -40,7 +40,7 @@ use Rattle.dispatch_receive.specs.Walk.{or_refused, step_bytes, walk_bytes, walk
 use Rattle.report_count.specs.declared.Adds.{Adds}
 use Rattle.report_count.specs.declared.Counting.{Counting}
 use Rattle.report_count.specs.Count.{adds_nothing, adds_drop, adds_pdu, adds_of_kind, adds_of, one_counted, takes_counted, takes_in, takes_at}
-use Rattle.report.specs.Report.{Item, got, lost, count_from}
+use Rattle.report.specs.Report.{got, count_from}
 use Rattle.model_refines.specs.Run.{told_walk}
 use Rattle.dispatch_refines.proofs.Read.{number_at, some_number, StepFits}
 use Rattle.dispatch_refines.proofs.Drops.{reason_small, head_small}

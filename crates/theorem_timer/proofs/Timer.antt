@@ -2,7 +2,7 @@
 -- alive timer runs, no tick does (`unwatched_keeps`).
 use Prim.Native.Nat.{ℕ, zero, suc, ◌+◌, ◌-◌, ◌<◌, ◌≤◌}
 use mathlib.Core.Path.{◌≡◌, refl, sym, ap, ap₂, ◌∙◌, subst}
-use mathlib.Core.Bool.{Bool, true, false, cond, not, ◌&&◌, ◌||◌, false≢true}
+use mathlib.Core.Bool.{Bool, true, false, cond, not, ◌&&◌, ◌||◌}
 use mathlib.Core.List.{List, [], ◌∷◌}
 use native.Mathlib.Omega.{arith}
 use lib.Dec.{eqb, ltb}
@@ -12,13 +12,14 @@ use Rattle.lists.proofs.Both.{impossible}
 use Rattle.table_rows.specs.declared.DestinationRow.{DestinationRow}
 use Rattle.connection.specs.declared.Config.{Config}
 use Rattle.connection.specs.declared.Connection.{Connection}
-use Rattle.connection.specs.Connection.{is_offline, is_reconnect, wildcard, started_of, reach_of, run_of, expires, sunk_of, tick_of, with_mode, with_send, become}
+use Rattle.connection.specs.Connection.{is_offline, is_reconnect, wildcard, started_of, reach_of, run_of, expires, sunk_of, tick_of, with_mode, with_send}
+use Rattle.connection.specs.Connection.{become}
 use Rattle.connection.specs.declared.Mode.TheVariants.{Reconnect, Online}
 use Rattle.connection.specs.declared.Watch.{Watch}
 use Rattle.connection.proofs.Ticks.{Tick, closes_wanted, lets_go, goes_on, tick_is, tick-goes-on}
-use Rattle.send_destination.specs.Destination.{timer_of, sent_of}
+use Rattle.send_destination.specs.Destination.{timer_of}
 use Rattle.theorem_timer.specs.Timer.{BufferStep, stores, ticks, buffer_after, KeepsPeer, WaitsSince, just_stored, stored_before}
-use Rattle.theorem_timer.specs.Timer.{one_tick_more, Overdue, by_trigger, by_timeout, OneOverdue, AllowsStill, TimerReads}
+use Rattle.theorem_timer.specs.Timer.{one_tick_more, Overdue, by_trigger, by_timeout, TimerReads}
 
 -- AN APPEND, by what the timer becomes
 module _ (steps : List BufferStep) (timer : ℕ) (due : Bool) (h : TimerReads steps timer due) (d : DestinationRow) (used : ℕ) where

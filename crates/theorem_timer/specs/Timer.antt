@@ -1,5 +1,5 @@
 -- TIMER AND DUE MARK BY THE PDUS THAT WAIT (R9.5, R10.4): each by its destination's trigger and timeout, and by its age, the ticks since it was stored.
-use Rattle.std.specs.Prelude.{ℕ, zero, suc, ◌+◌, ◌<◌, ◌≤◌, ◌≡◌, Bool, true, false, List, [], ◌∷◌}
+use Rattle.std.specs.Prelude.{ℕ, suc, ◌+◌, ◌<◌, ◌≤◌, ◌≡◌, Bool, true, false, List, [], ◌∷◌}
 use Rattle.table_rows.specs.declared.DestinationRow.{DestinationRow}
 use Rattle.connection.specs.declared.Config.{Config}
 use Rattle.connection.specs.declared.Connection.{Connection}

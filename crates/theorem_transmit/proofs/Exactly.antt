@@ -1,18 +1,18 @@
 -- EACH ANSWER OF A TRANSMIT IS GIVEN EXACTLY WHEN ITS RULE SAYS SO, the destination of 4, 7 and 8 named, from any table, state and memory.
-use Prim.Native.Nat.{ℕ, zero, suc, ◌+◌, ◌<◌, ◌≤◌}
-use mathlib.Core.Path.{◌≡◌, refl, sym, ap, ◌∙◌, subst}
+use Prim.Native.Nat.{ℕ, ◌+◌, ◌<◌, ◌≤◌}
+use mathlib.Core.Path.{◌≡◌, refl, sym, ◌∙◌, subst}
 use mathlib.Core.Logic.{◌↔◌}
 use mathlib.Core.Bool.{Bool, true, false, cond, not, ◌&&◌, ◌||◌, false≢true}
 use mathlib.Core.List.{List}
 use native.Mathlib.Omega.{arith}
 use native.Mathlib.Decide.{dec_lt}
-use lib.Dec.{eqb, leb, ltb}
+use lib.Dec.{eqb, ltb}
 use lib.ListN.{length}
-use borrow.Author.Tests.{eqb-true, eqb-false, eq-eqb, ne_eqb, ltb-true, ltb-false, lt-ltb, le-ltb}
+use borrow.Author.Tests.{eqb-true, eqb-false, ltb-true, ltb-false, lt-ltb, le-ltb}
 use Rattle.lists.specs.Search.{first_bad, every}
 use Rattle.lists.proofs.Both.{impossible}
 use Rattle.lists.proofs.Search.{every-at, every-all, pass_failed, found-bad}
-use Rattle.law_lists.proofs.First.{before-bad, bad-most, bad-only, bad_none}
+use Rattle.law_lists.proofs.First.{before-bad, bad-only, bad_none}
 use Rattle.table_rows.specs.declared.DestinationRow.{DestinationRow}
 use Rattle.table_rows.specs.Rows.{connection_of, destination_of}
 use Rattle.switches.specs.Switches.{is_on}

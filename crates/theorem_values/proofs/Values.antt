@@ -71,7 +71,8 @@ arrival_from (n ∷ k ∷ ns) = Arrivals.Met k
 
 transmission_from : List ℕ → Transmission
 transmission_from [] = Sends.Stored
-transmission_from (n ∷ []) = cond (eqb n 0) Sends.Stored (cond (eqb n 5) Sends.NoDestination (cond (eqb n 6) Sends.SwitchedOff (Sends.Refused (refusal_from n))))
+transmission_from (n ∷ []) =
+    cond (eqb n 0) Sends.Stored (cond (eqb n 5) Sends.NoDestination (cond (eqb n 6) Sends.SwitchedOff (Sends.Refused (refusal_from n))))
 transmission_from (n ∷ d ∷ ns) = Sends.RefusedAt n d
 
 taking_from : List ℕ → Taking

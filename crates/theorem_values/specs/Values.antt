@@ -18,7 +18,6 @@ use Rattle.send_waiting.specs.declared.Taking.TheVariants as Takes
 use Rattle.send_waiting.specs.Waiting.{taking_number}
 use Rattle.table.specs.declared.TableAnswer.{TableAnswer}
 use Rattle.table.specs.declared.TableAnswer.TheVariants as Tables
-use Rattle.table.specs.Table.{table_number}
 use Rattle.frame.specs.declared.Framed.{Framed}
 use Rattle.frame.specs.Framing.{framed_number}
 

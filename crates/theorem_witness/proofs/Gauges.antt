@@ -2,10 +2,9 @@
 use Prim.Native.Nat.{ℕ, zero, suc, ◌<◌, ◌≤◌}
 use mathlib.Core.Path.{◌≡◌, refl, sym, ap, ap₂, ◌∙◌, subst}
 use mathlib.Core.Bool.{Bool, true, false, false≢true}
-use mathlib.Core.List.{List, [], ◌∷◌, ◌++◌, flatten, map}
+use mathlib.Core.List.{List, [], ◌∷◌, flatten, map}
 use native.Mathlib.Omega.{arith}
 use lib.ListN.{length, replicate, length-replicate}
-use borrow.Author.Tests.{ltb-true, lt-ltb}
 use Rattle.wire.specs.Be.{be}
 use Rattle.wire.specs.Lay.{spell}
 use Rattle.lists.specs.Search.{bad_from, every}
@@ -17,14 +16,13 @@ use Rattle.table_scan.specs.Scan.{share, clear_in, good_in}
 use Rattle.table.specs.Table.{head_good, entry_good, rule, then_check, entries_place, head_place, all_rows_place, check_table}
 use Rattle.connection.specs.Sound.{sound_of, zero_of}
 use Rattle.connection.specs.Event.{receiving}
-use Rattle.state.specs.declared.State.{State}
 use Rattle.state.specs.State.{record_at}
 use Rattle.state.specs.Fresh.{config_of, fresh_state}
 use Rattle.gate.specs.Sound.{sound_at, records_sound, sound_state}
 use Rattle.gate.proofs.Pass.{sound-passed}
 use Rattle.switches.specs.Switches.{is_on}
-use Rattle.frame.specs.Frame.{Sent, frames}
-use Rattle.reading.specs.Feed.{Out, Pdu, pdu, ready, handed, as_out, pdus, compared, complete, Cell, cell, header}
+use Rattle.frame.specs.Frame.{Sent}
+use Rattle.reading.specs.Feed.{pdu, ready, handed, compared, complete, cell, header}
 use Rattle.reading.specs.Routed.{Routed, routed_none, routed_one}
 use Rattle.reading.specs.declared.Decision.TheVariants.{Accept}
 use Rattle.reading_lengths.specs.Head.{head_of}
@@ -37,14 +35,14 @@ use Rattle.send.specs.Send.{look_at, check_of, wanted_at}
 use Rattle.table.proofs.Facts.{accepted_facts}
 use Rattle.law_keeps.proofs.Transmitted.{all_fit}
 use Rattle.entry_receive.specs.Routes.{routes_in}
-use Rattle.model.specs.World.{Held, held_at, held_of, cell_at}
+use Rattle.model.specs.World.{held_at, held_of, cell_at}
 use Rattle.model.specs.Events.{change, segment, walk, take_waiting, Event, on, on_whole}
 use Rattle.model.proofs.View.{view_at}
-use Rattle.model_runs.specs.Same.{Same, cut}
-use Rattle.model_runs.specs.Streams.{RunBytes, Streams, streams, longer, listed_in, listed_later}
+use Rattle.model_runs.specs.Same.{cut}
+use Rattle.model_runs.specs.Streams.{RunBytes, streams, longer, listed_in, listed_later}
 use Rattle.model_runs.specs.Trip.{as_segments}
 use Rattle.model_refines.specs.Machine.{Machine, machine, lent_to, seen}
-use Rattle.model_refines.specs.Run.{Good, after_event, after_run, given_in}
+use Rattle.model_refines.specs.Run.{Good, after_run, given_in}
 use Rattle.theorems.specs.Waits.{sent_from, sent_to, sent_in}
 use Rattle.theorems.specs.Trip.{Reader, Walker, outgoing, as_walks}
 use Rattle.theorems.specs.Streams.{ends_at, reads_at, streams_in}
@@ -59,8 +57,10 @@ use Rattle.theorem_witness.specs.Gauges.{gauges, gauges_up, half_read, pressure,
 
 -- both states are sound
 sound : (sound_state gauges gauges_up ≡ true) × (sound_state gauges half_read ≡ true)
-unfolding gauges be bad_from every rows_of body_bytes start_of end_of row_at part_of body_of row_in group_row connection_row route_row destination_row group_good
-    connection_good route_good destination_good size_in routes_share destinations_share share clear_in good_in head_good entry_good rule then_check entries_place
+unfolding gauges be bad_from every rows_of body_bytes start_of end_of row_at part_of body_of row_in group_row connection_row route_row destination_row
+    group_good
+    connection_good route_good destination_good size_in routes_share destinations_share share clear_in good_in head_good entry_good rule then_check
+    entries_place
     head_place all_rows_place check_table config_of fresh_state sound_of zero_of sound_at records_sound sound_state
 sound = (refl, refl)
 

@@ -1,1 +1,3 @@
 // Machines that meet what the theorems ask, and the theorems applied to them: laws, no code.
+
+#![tactic(auto)]

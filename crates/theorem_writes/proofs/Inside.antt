@@ -85,7 +85,8 @@ module _ (image : List ℕ) (k i : ℕ) where
     abbrev Fits : ℕ → Type 0
     Fits n = payload_held k m + n ≤ 1464
 
-    none_added : is_answered image k m bytes ≡ false → added_by (taken image k m bytes).outcome (payload_held k m) (payload_held k (after_one image k m bytes)) ≡ 0
+    none_added : is_answered image k m bytes ≡ false → added_by (taken image k m bytes).outcome (payload_held k m)
+        (payload_held k (after_one image k m bytes)) ≡ 0
     unfolding segment_of
     none_added e = rw e (omega arith)
 

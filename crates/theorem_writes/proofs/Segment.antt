@@ -129,7 +129,8 @@ module _ (image : List ℕ) (k : ℕ) where
   unfolding after_takes
   takes-long zero m bytes = refl
   takes-long (suc f) m bytes =
-      go (goes_on image k (is_done (taken image k m bytes).answer) (rest_of image k m bytes)) (takes-long f (after_one image k m bytes) (rest_of image k m bytes))
+      go (goes_on image k (is_done (taken image k m bytes).answer) (rest_of image k m bytes))
+      (takes-long f (after_one image k m bytes) (rest_of image k m bytes))
     where
       go : (b : Bool) → length (after_takes image k f (after_one image k m bytes) (rest_of image k m bytes)).rx ≡ length (after_one image k m bytes).rx
           → length (cond b (after_takes image k f (after_one image k m bytes) (rest_of image k m bytes)) (after_one image k m bytes)).rx ≡ length m.rx

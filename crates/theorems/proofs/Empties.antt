@@ -24,7 +24,8 @@ use Rattle.send_waiting.proofs.Taken.{take-used}
 use Rattle.reading_walk.specs.Walk.{walk_at, outs_told}
 use Rattle.law_waits.proofs.Turns.{tick-used, step-used, if_emptied, only-emptied}
 use Rattle.model.specs.World.{Held, World, blank, held_at, cell_at}
-use Rattle.model.specs.Events.{Own, change, segment, walk, take_waiting, Whole, datagram, accept, tick, transmit, switch_all, read_count, clear_count, on, on_whole}
+use Rattle.model.specs.Events.{Own, change, segment, walk, take_waiting, Whole, datagram, accept, tick, transmit, switch_all, read_count, clear_count, on}
+use Rattle.model.specs.Events.{on_whole}
 use Rattle.model.specs.Step.{Table, acted, streamed, routes_at, does, acts, step}
 use Rattle.model_refines.specs.Table.{table_of}
 use Rattle.model_refines.specs.Whole.{whole_of}
@@ -88,7 +89,8 @@ ticked-used image s j rows =
     (λ h.
     let z : 0 + j ≡ j = omega arith in
     rw (lt-ltb _ _ h) (subst
-    (λ (i : ℕ). (tick_of (config_of image i) (record_at s j)).used ≡ cond (is_emptied (emptied_at_tick (config_of image j) (record_at s j))) 0 (record_at s j).used)
+    (λ (i : ℕ). (tick_of (config_of image i) (record_at s j)).used ≡ cond (is_emptied (emptied_at_tick (config_of image j) (record_at s j))) 0
+    (record_at s j).used)
     (sym z) (tick-used (config_of image j) (record_at s j))))
     (λ h. rw (le-ltb _ _ h))
 

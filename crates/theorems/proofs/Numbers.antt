@@ -1,7 +1,7 @@
 -- WHICH NUMBERS (R4.1): from any table, state and memory each event is answered one of the numbers listed for it.
 use Prim.Native.Nat.{ℕ, ◌+◌}
 use mathlib.Core.Path.{◌≡◌, refl, sym, subst, ◌∙◌}
-use mathlib.Core.Bool.{Bool, true, false, cond, not, ◌||◌, or_true}
+use mathlib.Core.Bool.{Bool, true, false, cond, not, ◌||◌, or-true}
 use mathlib.Core.List.{List, [], ◌∷◌, ◌++◌}
 use lib.Dec.{eqb, leb, ltb}
 use lib.ListN.{length, replicate}
@@ -73,7 +73,7 @@ sooner n (x ∷ xs) ys h = go (eqb n x) h (sooner n xs ys)
 later : (n : ℕ) (xs ys : List ℕ) → among n ys ≡ true → among n (xs ++ ys) ≡ true
 unfolding among
 later n [] ys h = h
-later n (x ∷ xs) ys h = rw (later n xs ys h) (or_true (eqb n x))
+later n (x ∷ xs) ys h = rw (later n xs ys h) (or-true (eqb n x))
 
 module _ (image : List ℕ) (m : Machine) where
   abbrev s : State
@@ -159,7 +159,8 @@ module _ (image : List ℕ) (m : Machine) where
 
   receive-listed : (k : ℕ) (ok : Bool) → Received (judged_answer (lent_to image m) k ok)
   unfolding judged_answer judged_of among
-  receive-listed k ok = gate-at k (λ g. Received (through g Receive.Refused (judged_of ok (record_at s k)))) (past ok (receiving (record_at s k))) refl refl refl
+  receive-listed k ok = gate-at k (λ g. Received (through g Receive.Refused (judged_of ok (record_at s k))))
+      (past ok (receiving (record_at s k))) refl refl refl
     where
       past : (a b : Bool) → Received (cond a (cond b Receive.Done Receive.NotReceiving) (Receive.Refused Denied))
       past true true = refl

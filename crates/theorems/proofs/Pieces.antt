@@ -3,7 +3,7 @@
 use Prim.Native.Nat.{ℕ, zero, suc, ◌<◌}
 use mathlib.Core.Path.{◌≡◌, sym, ap, ◌∙◌, subst}
 use mathlib.Core.Bool.{Bool, true, false, cond, ◌&&◌}
-use mathlib.Core.List.{List, [], ◌∷◌, ◌++◌}
+use mathlib.Core.List.{List, [], ◌∷◌}
 use lib.Dec.{eqb, ltb}
 use lib.ListN.{length}
 use Rattle.table_layout.specs.Layout.{rows_of, body_of}
@@ -16,14 +16,14 @@ use Rattle.receive_datagram.specs.declared.Outcome.TheVariants as Met
 use Rattle.connection.specs.Event.{receiving}
 use Rattle.state.specs.State.{record_at}
 use Rattle.state.specs.Fresh.{config_of}
-use Rattle.reading.specs.Feed.{Out, segment_ran, FullPieces, piece_bytes, moved_bytes}
+use Rattle.reading.specs.Feed.{Out, FullPieces, piece_bytes, moved_bytes}
 use Rattle.reading.proofs.Pieces.{full-segment, full-append, compared-bytes}
 use Rattle.reading.proofs.Trip.{Solid, solid_append}
 use Rattle.entry_receive.specs.Segment.{payload_of}
 use Rattle.entry_receive.specs.Answer.{is_done}
 use Rattle.entry_receive.specs.Walk.{walk_of}
 use Rattle.model.specs.World.{held_at, cell_at}
-use Rattle.model.specs.Events.{Own, change, segment, walk, take_waiting, Event, on, on_whole}
+use Rattle.model.specs.Events.{change, segment, walk, take_waiting, Event, on, on_whole}
 use Rattle.model_runs.specs.Streams.{RunBytes, EventBytes, listed_in}
 use Rattle.model_refines.specs.Machine.{Machine, lent_to, seen, taken, after_one, rest_of, pdu_told, told_by, goes_on, told_takes, told_segment}
 use Rattle.model_refines.specs.Run.{told_walk, after_event, given, given_in, Good}
@@ -117,5 +117,6 @@ module _ (image : List ℕ) (k : ℕ) where
 
   -- THE PIECES, JOINED, ARE THE BYTES OF THE TRANSFERS
   pub pieces_joined : k < rows_of image Connections → (config_of image k).tcp ≡ true → (m : Machine) → Good image m → (es : List Event) → RunBytes es
-      → piece_bytes (given_in image k m es) ≡ moved_bytes (listed_in (lookup_of (body_of image Routes) k) (cell_at (held_at (seen m) k)) (streams_in image k m es))
+      → piece_bytes (given_in image k m es)
+      ≡ moved_bytes (listed_in (lookup_of (body_of image Routes) k) (cell_at (held_at (seen m) k)) (streams_in image k m es))
   pieces_joined there tcp m good es bytes = sym (compared-bytes (given_in image k m es)) ∙ ap moved_bytes (own-list image k there tcp m good es bytes)

@@ -2,7 +2,7 @@
 -- from any table, state and memory.
 use Prim.Native.Nat.{ℕ}
 use mathlib.Core.Path.{◌≡◌, refl, ap, ◌∙◌}
-use mathlib.Core.Bool.{Bool, true, false, cond, or_true}
+use mathlib.Core.Bool.{Bool, true, false, cond, or-true}
 use mathlib.Core.List.{List}
 use lib.Dec.{eqb, leb, ltb}
 use lib.ListN.{length, replicate}
@@ -120,7 +120,7 @@ module _ (image : List ℕ) (m : Machine) where
   take-stays k room = go (ltb room (record_at s k).used) refl
     where
       go : (b : Bool) → ltb room (record_at s k).used ≡ b → StaysTaken (take_past image s k room)
-      go true e no_zero = rw (e, or_true (eqb (record_at s k).used 0)) (put_back s k)
+      go true e no_zero = rw (e, or-true (eqb (record_at s k).used 0)) (put_back s k)
       go false e no_zero = absurd (no_zero (rw e))
 
   taken-stays : (k : ℕ) (out : List ℕ) → StaysTaken (taken_waiting (loan_to image m) k out)
@@ -156,7 +156,8 @@ module _ (image : List ℕ) (m : Machine) where
       → (ticks_event (lent_to image m) count).state ≡ m.state
   unfolding ticks_event
   ticks-stays count =
-      past_or StaysTicked (gate_of (lent_to image m)) (unticked s) (ticked_from (rows_of image Connections) s (ticks_to image (rows_of image Connections) count s))
+      past_or StaysTicked (gate_of (lent_to image m)) (unticked s)
+      (ticked_from (rows_of image Connections) s (ticks_to image (rows_of image Connections) count s))
       (λ r no_zero. refl) (λ _ no_zero. absurd (no_zero refl))
 
   switches_stay : (n : ℕ) (b : Bool) → StaysTold (switch_all_of (lent_to image m) n b)

@@ -48,7 +48,8 @@ module _ (image : List ℕ) where
   unfolding after_run run
   run_view m [] b g = refl
   run_view m (e ∷ es) (b, bs) g =
-      run_view (after_event image e m) es bs (event_good image m g e b) ∙ ap (λ (w : World). run (table_of image) (whole_of image) w es) (event_view image m g e b)
+      run_view (after_event image e m) es bs (event_good image m g e b) ∙ ap (λ (w : World). run (table_of image) (whole_of image) w es)
+      (event_view image m g e b)
 
   -- .. and what the caller is given is, byte by byte, what the world hands out
   pub run-given : (k : ℕ) (m : Machine) (es : List Event) → RunBytes es → Good image m

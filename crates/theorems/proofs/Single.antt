@@ -23,7 +23,8 @@ use Rattle.wire.specs.Lay.{lay}
 use Rattle.receive_part.specs.declared.Part.{Part}
 use Rattle.receive_route.specs.Route.{lookup_of}
 use Rattle.receive_stream.specs.declared.Taken.{Taken}
-use Rattle.receive_stream.specs.Stream.{cell_of, part_from, held_in, none_held, is_in_segment, id_of, take_outcome, answered, wrote, took_of, taken_of, rx_after}
+use Rattle.receive_stream.specs.Stream.{cell_of, part_from, held_in, none_held, is_in_segment, id_of, take_outcome, answered, wrote, took_of, taken_of}
+use Rattle.receive_stream.specs.Stream.{rx_after}
 use Rattle.receive_stream.proofs.Leaves.{handed-piece}
 use Rattle.connection.specs.declared.Connection.{Connection}
 use Rattle.connection.specs.Connection.{with_part}
@@ -34,7 +35,8 @@ use Rattle.entry_receive.specs.declared.Answer.TheVariants.{Done}
 use Rattle.entry_receive.specs.declared.SegmentTaken.{SegmentTaken}
 use Rattle.entry_receive.specs.Answer.{is_done}
 use Rattle.entry_receive.specs.Segment.{count_take, take_on, memory_on, none_taken, segment_answer, segment_of, memory_of, payload_of}
-use Rattle.model_refines.specs.Machine.{Machine, lent_to, machine, taken, after_one, rest_of, pdu_told, told_by, after_takes, told_takes, after_segment, told_segment}
+use Rattle.model_refines.specs.Machine.{Machine, lent_to, machine, taken, after_one, rest_of, pdu_told, told_by, after_takes, told_takes, after_segment}
+use Rattle.model_refines.specs.Machine.{told_segment}
 use Rattle.model_refines.specs.Run.{after_own, after_event, given, after_run, given_in}
 use Rattle.theorems.specs.Order.{AnyCall, event, once, bytes_taken, after_call, given_by, as_event, after_calls, given_calls, as_events}
 

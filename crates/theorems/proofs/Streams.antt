@@ -61,7 +61,8 @@ module _ (image : List ℕ) (k : ℕ) (there : k < rows_of image Connections) (t
   reads-is m (on_whole e) = refl
 
   -- A RUN
-  streams-is : (m : Machine) (es : List Event) → RunBytes es → Good image m → streams_in image k m es ≡ streams_of (table_of image) (whole_of image) k (seen m) es
+  streams-is : (m : Machine) (es : List Event) → RunBytes es → Good image m → streams_in image k m es
+      ≡ streams_of (table_of image) (whole_of image) k (seen m) es
   unfolding streams_in streams_of
   streams-is m [] bytes good = refl
   streams-is m (e ∷ es) (b, bs) good =

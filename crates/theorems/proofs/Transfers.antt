@@ -1,6 +1,6 @@
 -- A TRANSFER ENDS with its end mark handed out, or is told failed, and nothing else ends one (R19.4, R19.7); and failed is told exactly
 -- when a transfer ran before the event and none runs after it.
-use Prim.Native.Nat.{ℕ, zero, suc, ◌≤◌, ◌<◌}
+use Prim.Native.Nat.{ℕ, zero, suc, ◌<◌}
 use mathlib.Core.Path.{◌≡◌, refl, sym, ap, ap₂, ◌∙◌, subst}
 use mathlib.Core.Bool.{Bool, true, false, cond, not, ◌&&◌, ◌||◌, true≢false}
 use mathlib.Core.List.{List, [], ◌∷◌, ◌++◌}
@@ -12,7 +12,6 @@ use Rattle.wire.specs.Bits.{bit_at}
 use Rattle.lists.proofs.Each.{one_at}
 use Rattle.table_layout.specs.Layout.{rows_of}
 use Rattle.table_layout.specs.declared.Kind.TheVariants.{Connection as Connections}
-use Rattle.table.proofs.Facts.{accepted_facts}
 use Rattle.receive_part.specs.Part.{transferring}
 use Rattle.receive_stream.specs.declared.Outcome.{Outcome}
 use Rattle.receive_stream.specs.declared.Outcome.TheVariants as Found
@@ -29,7 +28,7 @@ use Rattle.gate.proofs.Records.{record-at, past-zero}
 use Rattle.reading.specs.Feed.{Out}
 use Rattle.reading_lengths.specs.Listed.{Bytes}
 use Rattle.reading_lengths.proofs.Bytes.{bytes_drop}
-use Rattle.entry_events.specs.Change.{event_of, loss_of}
+use Rattle.entry_events.specs.Change.{loss_of}
 use Rattle.entry_ticks.specs.Tick.{ticked_to, tick_event}
 use Rattle.entry_ticks.proofs.Fails.{failed-bit}
 use Rattle.entry_receive.specs.Answer.{is_done}
@@ -44,8 +43,7 @@ use Rattle.model.specs.Step.{acts_at, step}
 use Rattle.model.proofs.View.{view_record}
 use Rattle.model_runs.specs.Streams.{EventBytes}
 use Rattle.model_refines.specs.Table.{table_of}
-use Rattle.model_refines.specs.Whole.{whole_of}
-use Rattle.model_refines.specs.Machine.{Machine, loan_to, lent_to, seen, taken, after_one, rest_of, pdu_told, told_by, goes_on, after_takes, told_takes, told_segment}
+use Rattle.model_refines.specs.Machine.{Machine, loan_to, lent_to, seen, taken, after_one, rest_of, pdu_told, told_by, goes_on, after_takes, told_takes}
 use Rattle.model_refines.specs.Run.{after_own, after_whole, after_event, given, Good}
 use Rattle.model_refines.proofs.Steps.{event_view}
 use Rattle.theorems.specs.Transfers.{end_mark, some_mark, runs_at, EndsTransfer, by_end_mark, by_failed_loss, by_failed_tick}
@@ -174,7 +172,8 @@ module _ (image : List ℕ) (k : ℕ) (m : Machine) (good : Good image m) (runs 
   whole (accept group source) over = absurd (part_stays (on_whole (accept group source)) (arrival_part (lent_to image m) k true group source) over)
   whole tick over = by_failed_tick (ticked over)
   whole (transmit number payload) over = absurd (part_stays (on_whole (transmit number payload)) (send-part (loan_to image m) k number payload) over)
-  whole (switch_all number position) over = absurd (part_stays (on_whole (switch_all number position)) (switch_all-part (lent_to image m) k number position) over)
+  whole (switch_all number position) over =
+      absurd (part_stays (on_whole (switch_all number position)) (switch_all-part (lent_to image m) k number position) over)
   whole (read_count protocol) over = absurd (part_stays (on_whole (read_count protocol)) (read-part (lent_to image m) k protocol) over)
   whole (clear_count protocol) over = absurd (part_stays (on_whole (clear_count protocol)) (clear_part (lent_to image m) k protocol) over)
 

@@ -12,7 +12,6 @@ use Rattle.table_layout.specs.declared.Kind.TheVariants.{Connection as Connectio
 use Rattle.table_rows.specs.Rows.{destination_of}
 use Rattle.table.proofs.Facts.{accepted_facts}
 use Rattle.connection.specs.declared.Connection.{Connection}
-use Rattle.connection.specs.declared.Answer.TheVariants.{Done}
 use Rattle.state.specs.declared.State.{State}
 use Rattle.state.specs.State.{record_at}
 use Rattle.state.specs.Fresh.{config_of}

@@ -1,6 +1,6 @@
 -- THE ANSWER NUMBER OF AN EVENT (R4.1), as its entry point gives it; of a segment event that of its first take; and the numbers that an
 -- event can be answered with at all.
-use Rattle.std.specs.Prelude.{ℕ, Bool, true, false, cond, ◌||◌, List, [], ◌∷◌, eqb, length, replicate}
+use Rattle.std.specs.Prelude.{ℕ, Bool, true, false, cond, ◌||◌, List, [], ◌∷◌, eqb, replicate}
 use Rattle.connection.specs.Event.{answer_number, deniable}
 use Rattle.entry_events.specs.Change.{event_of}
 use Rattle.entry_events.specs.Module.{switch_all_of}

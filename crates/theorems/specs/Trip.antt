@@ -1,7 +1,7 @@
 -- R5.17, THE ROUND TRIP'S TWO SIDES: the bytes that a take of the waiting bytes gives out; and who reads them: a TCP connection that is there,
 -- online without close wanted, and at a header's first byte, given them in segments; or a UDP connection that is there and online without
 -- close wanted, given them as one datagram.
-use Rattle.std.specs.Prelude.{ℕ, zero, suc, ◌<◌, ◌≡◌, true, false, List, [], ◌∷◌, length, take}
+use Rattle.std.specs.Prelude.{ℕ, zero, suc, ◌<◌, ◌≡◌, true, false, List, [], ◌∷◌, take}
 use Rattle.table_layout.specs.Layout.{rows_of}
 use Rattle.table_layout.specs.declared.Kind.TheVariants.{Connection as Connections}
 use Rattle.connection.specs.Event.{receiving}

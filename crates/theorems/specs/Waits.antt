@@ -13,8 +13,10 @@ use Rattle.state.specs.State.{record_at}
 use Rattle.state.specs.Fresh.{config_of}
 use Rattle.send.specs.Verdict.{is_stored}
 use Rattle.send.specs.Send.{destinations, check_of}
-use Rattle.law_waits.specs.Waits.{goes_to, emptied_at_tick, emptied_by, was_taken, was_lost, Emptied, not_emptied, is_emptied, emptied_if, only_if, Turn, turn_by}
-use Rattle.model.specs.Events.{Own, change, segment, walk, take_waiting, datagram, accept, tick, transmit, switch_all, read_count, clear_count, Event, on, on_whole}
+use Rattle.law_waits.specs.Waits.{goes_to, emptied_at_tick, emptied_by, was_taken, was_lost, Emptied, not_emptied, is_emptied, emptied_if, only_if, Turn}
+use Rattle.law_waits.specs.Waits.{turn_by}
+use Rattle.model.specs.Events.{Own, change, segment, walk, take_waiting, datagram, accept, tick, transmit, switch_all, read_count, clear_count, Event, on}
+use Rattle.model.specs.Events.{on_whole}
 use Rattle.model_refines.specs.Machine.{Machine}
 use Rattle.model_refines.specs.Run.{after_event}
 

@@ -1,5 +1,7 @@
 // Big-endian numbers out of lent bytes and into them, and bytes copied into a part: a reader gives 0 past the end, a
 // writer writes all or nothing.
+#![tactic(auto)]
+
 ghost use Rattle.std.specs.Prelude.{◌≡◌, ◌+◌, ◌≤◌, ◌<◌, leb, length};
 ghost use Rattle.wire.specs.Be.{Number, Little, turn};
 ghost use Rattle.wire.specs.Lay.{spell, lay};

@@ -7,6 +7,8 @@
 //   @ # *           the number given, how many bytes are shown, and those bytes in hex (`-` where there are none)
 //   ^               an `s`, unless the last number was 1
 // Proved to be safe and to return; the words are tried by stored output.
+#![tactic(auto)]
+
 ghost use Rattle.std.specs.Prelude.{◌-◌, ◌≤◌, length};
 
 use pieces::put_piece;
@@ -150,7 +152,7 @@ fn plural(text: &mut [u8], at: usize, last: u64) -> usize {
 }
 
 // What a pattern has at a place: its letter or sign, the place in the row that it speaks of, and how many bytes of the pattern it is.
-#[derive(Drop)]
+#[derive(Clone, Copy)]
 struct Sign {
     letter: u8,
     place: usize,

@@ -1,5 +1,7 @@
 // An event and its answer as words, from the event's number, the bytes of its body and those of its answer (docs/EVENTS.md; the patterns are
 // those of crate words). Proved to be safe and to return; the words are tried by stored output.
+#![tactic(auto)]
+
 use event_decode::{bytes_from, two_bytes};
 use pieces::after;
 use table_layout::part_of;

@@ -1,6 +1,8 @@
 // Every record that a table has a row for, and both drop counts, as lines of text: the end of what programs print (docs/EVENTS.md, "What `./soad
 // run` prints"; the patterns are those of crate words). A record is spelt first as a start state spells it. Proved to be safe and to return; the
 // words are tried by stored output.
+#![tactic(auto)]
+
 use connection::{Connection, Mode, Watch};
 use event_decode::bytes_from;
 use pieces::front;

@@ -1,5 +1,7 @@
 // Why a table image is refused, as a line of text: the byte, the spot, and the first test that fails there with the numbers found and asked (the
 // patterns are those of crate words). Spot and test are proved (crate table_fault); the words are tried by stored output.
+#![tactic(auto)]
+
 use pieces::front;
 use table_fault::{Fault, Spot, reason_of};
 use table_layout::{Kind, kind_number};

@@ -1,6 +1,8 @@
 // The tale of a replay, entry by entry, and its lines (docs/RECORDING.md, "What a replay prints"; the patterns are those of crate words, over a
 // contents row: stamp 4, event number 2, zero 2, body length 4; or over the whole contents: edition 2, entries 2). Proved to be safe and to return;
 // the words are tried by stored output.
+#![tactic(auto)]
+
 ghost use Rattle.std.specs.Prelude.{◌≤◌};
 
 use recording::{
@@ -13,7 +15,7 @@ use words::{lay, phrase};
 use words_event::{answer, event};
 
 // How an entry leaves the replay: it goes on; its body is cut off after so many bytes; it is refused.
-#[derive(Drop)]
+#[derive(Clone, Copy)]
 pub enum Last {
     GoesOn,
     Cut(usize),
@@ -22,7 +24,7 @@ pub enum Last {
 
 // How the last entry left the replay, the stamp before, the entries and ticks run; the first entry that differs, from 1, or 0, and how many
 // bytes today's answer to it has; and where the line of the last entry ends.
-#[derive(Drop)]
+#[derive(Clone, Copy)]
 pub struct Tale {
     pub last: Last,
     pub before: u32,

@@ -1,10 +1,12 @@
 // The lines of the foreman's report (docs/RECORDING.md, "What a report prints"; the patterns are those of crate words). Proved to be safe and to
 // return; the words are tried by stored output.
+#![tactic(auto)]
+
 use report::{Drops, RouteFigures};
 use words::{lay, phrase};
 
 // How many recordings there were, how they ended, and how many parts were left out.
-#[derive(Drop)]
+#[derive(Clone, Copy)]
 pub struct Ends {
     pub given: u64,
     pub same: u64,

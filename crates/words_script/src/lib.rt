@@ -1,5 +1,7 @@
 // The entries of a script: read from standard input, and told as lines (docs/EVENTS.md, "What `./soad run` prints"; the patterns are those of crate
 // words). Proved to be safe and to return; the words are tried by stored output.
+#![tactic(auto)]
+
 use event_answer::Verdict;
 use event_decode::{Call, call_of};
 use input::read_part;
@@ -10,7 +12,7 @@ use words::{lay, phrase};
 use words_event::{answer, event};
 
 // How an entry leaves the run: it goes on; the input ended; an entry was refused; an entry was cut off.
-#[derive(Drop)]
+#[derive(Clone, Copy)]
 pub enum Last {
     GoesOn,
     Ended,
@@ -19,7 +21,7 @@ pub enum Last {
 }
 
 // An entry as it was read and told: how it leaves the run, its event number, the length of its body, and where its line ends.
-#[derive(Drop)]
+#[derive(Clone, Copy)]
 pub struct Told {
     pub last: Last,
     pub number: u16,

@@ -1,0 +1,5 @@
+-- `gate::rules_in` meets its contract.
+use Rattle.gate.proofs.rules_in.Goals as goal
+
+pub returns : goal.returns
+returns c = rw (c.rules_from.ensures, c.group_in-group.ensures, c.brief_in-row.ensures)

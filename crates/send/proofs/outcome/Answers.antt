@@ -1,0 +1,12 @@
+-- `send::outcome` meets its contract.
+use borrow.Author.Tests.{ne_eqb}
+use Rattle.send.proofs.outcome.Goals as goal
+
+pub returns-in-5 : goal.returns-in-5
+returns-in-5 c = rw c.in-5.is
+
+pub returns-in-6 : goal.returns-in-6
+returns-in-6 c = rw c.in-6.is
+
+pub returns-in_default : goal.returns-in_default
+returns-in_default c = rw (ne_eqb _ _ c.in_default.in_default-own.rest.0.1, ne_eqb _ _ c.in_default.in_default-own.rest.1)

@@ -1,0 +1,11 @@
+-- `table_fault::shared_with` meets its contract. The loop's invariant: what is left of the search has the whole one's answer.
+use Rattle.table_fault.specs.Faults.{shares_nothing}
+use Rattle.lists.proofs.Search.{Searched}
+use Prim.Native.Nat.{◌-◌}
+use Rattle.table_fault.proofs.shared_with.Given as goal
+
+abbrev pub invariant-loop-j : goal.invariant-loop-j
+invariant-loop-j l = Searched (shares_nothing l.image l.k l.i) l.i l.j
+
+abbrev pub decreases-loop-j : goal.decreases-loop-j
+decreases-loop-j l = l.i - l.j

@@ -1,0 +1,13 @@
+-- `wire::copy_in` meets its contract. The loop's invariant: the first j bytes are copied.
+use lib.Seq.{paste}
+use lib.ListN.{length}
+use mathlib.Core.Path.{◌≡◌}
+use Prim.Native.Nat.{◌+◌, ◌≤◌, ◌-◌}
+use Rattle.wire.proofs.copy_in.Given as goal
+
+abbrev pub invariant-loop-j : goal.invariant-loop-j
+invariant-loop-j l = (l.at + length l.s ≤ length l.initial.d) × (l.n ≡ length l.s) × (l.j ≤ l.n) × (length l.d ≡ length l.initial.d)
+    × (l.d ≡ paste l.initial.d l.at l.s l.j)
+
+abbrev pub decreases-loop-j : goal.decreases-loop-j
+decreases-loop-j l = l.n - l.j
