@@ -2,7 +2,7 @@
 # machine.sh, to be sourced: compiles C programs for x86-64 and runs them, on a machine of either kind.
 #
 #   need COMMAND PACKAGE     installs a package where its command is missing
-#   proved_program NAME      proves and builds target/bin/NAME where it is missing or older than a source
+#   proved_program NAME [LOG]   proves and builds target/bin/NAME where it is missing or older than a source
 #   proved_library           the same for target/staticlib/libsoad.a
 #   compile OUT WORD ..      compiles and links C files (and archives, and flags) into the program OUT; with SHOW set, prints each
 #                            command on standard error first
@@ -11,8 +11,8 @@
 #   ${kit_start[@]} OUT ..   runs a program that rt has built
 #
 # On x86-64 the programs are native. Elsewhere, or with CROSS=1, the Rattle kit gives compiler, linker, loader and C library for
-# x86-64, gcc the headers that belong to no C library (stdint.h, stddef.h, ..), and the kit's emulator runs the program, or
-# qemu-user's where the kit has none.
+# x86-64, gcc the headers that belong to no C library (stdint.h, stddef.h, ..), and an emulator of the kit runs the program, or
+# qemu-user's where the kit has none. The kit itself is for x86-64.
 
 # one at a time: several tests may run side by side
 install_package() {
@@ -31,25 +31,40 @@ need() { command -v "$1" >/dev/null || install_package "$2"; }
 tree=$(cd "$(dirname "${BASH_SOURCE[0]}")/.." && pwd -P)
 
 # fresh FILE: it is there, and no source is newer.
-fresh() { [ -f "$1" ] && [ -z "$(find "$tree/crates" "$tree/crates.txt" -newer "$1" -type f -print -quit)" ]; }
+fresh() { [ -f "$1" ] && [ -z "$(find "$tree/crates" "$tree/crates.txt" -type d -name out -prune -o -newer "$1" -type f -print -quit)" ]; }
 
-# made FILE WORD ..: FILE is fresh, or these words of rt make it.
+# made FILE CRATE MADE VERB [LOG]: FILE is fresh, or becomes a copy of what rt makes of the crate as out/MADE once it has proved it: `rt ci` leaves the
+# programs there, and else `rt VERB` makes it, over what this tree has proved before. A program is run on its own input, and writes what is stored.
+# What rt says on standard error is appended to LOG, where one is given.
 made() {
-    local file=$1 log
-    shift
+    local file=$1 folder=$tree/crates/$2 own=$tree/crates/$2/out/$3 log=${5:-} room
     fresh "$file" && return
-    log=$(mktemp)
-    (cd "$tree" && rt "$@") >"$log" 2>&1 && touch "$file" && rm -f "$log" || {
-        tail -5 "$log"
-        rm -f "$log"
-        return 1
-    }
+    mkdir -p "${file%/*}" || return
+    if ! fresh "$own"; then
+        room=$(mktemp -d) || return
+        log=${log:-$room/log}
+        (cd "$folder" && rt "$4" <"$([ "$4" = run ] && echo stdin || echo /dev/null)") >"$room/out" 2>>"$log" &&
+            { [ "$4" != run ] || cmp "$room/out" "$folder/stdout" 2>>"$log"; } || {
+            tail -q -n 5 "$room/out" "$log"
+            rm -rf "$room"
+            return 1
+        }
+        rm -rf "$room"
+    fi
+    # in one step: another test may be running the file
+    cp "$own" "$file.$$" && mv "$file.$$" "$file"
 }
 
-proved_program() { made "$tree/target/bin/$1" check "$1"; }
-proved_library() { made "$tree/target/staticlib/libsoad.a" staticlib soad; }
+proved_program() { made "$tree/target/bin/$1" "$1" "$1" run "${2:-}"; }
 
-kit_tools() { echo "$(cd "$(dirname "$(rt doc)")/.." && pwd -P)/on/$(uname -m)/toolchain"; }
+# the crate of the C functions, which crates.txt has as a static library
+proved_library() {
+    local crate
+    crate=$(sed -n 's/^\(soad\w*\) staticlib *:.*/\1/p' "$tree/crates.txt")
+    made "$tree/target/staticlib/libsoad.a" "$crate" "lib$crate.a" lib
+}
+
+kit_tools() { echo "$(cd "$(dirname "$(rt doc)")" && pwd -P)/toolchain"; }
 
 c_flags=(-std=c11 -O2 -Wall -Wextra -Werror)
 

@@ -1,5 +1,5 @@
 """changing.py: pastes the blocks of docs/CHANGING.md into a copy of crates/, second/ and bench/, in order, and checks the crate that the page changes
-before its code is changed and after. The crates below it are taken as they are proved in target/."""
+before its code is changed and after. rt builds the crates below it there, over what this machine has proved of them."""
 import os
 import re
 import shutil
@@ -49,27 +49,15 @@ def paste(folder, name, old, new):
         file.write(new)
 
 
-def below(crate):
-    """The crates that it stands on, and those that these stand on."""
-    told = re.search(f"^{crate}:(.*)$", contents(ROOT, "crates.txt"), re.M)
-    return {one for name in (told[1].split() if told else []) for one in (name, *below(name))}
-
-
 def copy(folder):
     for name in ("crates", "second/src", "bench"):
-        shutil.copytree(os.path.join(ROOT, name), os.path.join(folder, name))
+        shutil.copytree(os.path.join(ROOT, name), os.path.join(folder, name), ignore=lambda at, names: {"out"} & {*names} if os.path.dirname(at) == os.path.join(ROOT, "crates") else ())
     shutil.copy(os.path.join(ROOT, "crates.txt"), folder)
-    for kind in ("rlib", "stamp"):
-        os.makedirs(os.path.join(folder, "target", kind))
-        for name in os.listdir(os.path.join(ROOT, "target", kind)):
-            path = os.path.join(ROOT, "target", kind, name)
-            if name.split(".")[0] in below(CRATE):
-                (shutil.copytree if os.path.isdir(path) else shutil.copy2)(path, os.path.join(folder, "target", kind, name))
 
 
 def says(folder):
-    """What rt dev says of each function of the crate."""
-    done = subprocess.run(["rt", "dev", CRATE], cwd=folder, stdout=subprocess.PIPE, stderr=subprocess.STDOUT, check=False)
+    """What rt check says of each function of the crate."""
+    done = subprocess.run(["rt", "check"], cwd=os.path.join(folder, "crates", CRATE), stdin=subprocess.DEVNULL, stdout=subprocess.PIPE, stderr=subprocess.STDOUT, check=False)
     return dict(re.findall(f"^fn {CRATE}::([a-z_]*): ([^;\n]*)", done.stdout.decode(errors="replace"), re.M)), done.stdout.decode(errors="replace")
 
 

@@ -7,13 +7,13 @@ ROOT = os.path.dirname(os.path.dirname(os.path.dirname(os.path.abspath(__file__)
 
 
 def tracked():
-    """The files that a clone has; where git cannot say, all but target/."""
+    """The files that a clone has; where git cannot say, all but target/ and what rt makes."""
     listed = subprocess.run(["git", "ls-files", "-z"], cwd=ROOT, capture_output=True, check=False)
     if listed.returncode == 0 and listed.stdout:
         return [os.fsdecode(name) for name in listed.stdout.split(b"\0") if name and os.path.exists(os.path.join(os.fsencode(ROOT), name))]
     names = []
     for folder, folders, files in os.walk(ROOT):
-        folders[:] = [name for name in folders if name not in ("target", ".git")]
+        folders[:] = [name for name in folders if name not in ("target", "out", ".git")]
         names += [os.path.relpath(os.path.join(folder, name), ROOT) for name in files]
     return names
 

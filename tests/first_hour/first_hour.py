@@ -2,7 +2,6 @@
 compares counts as passed or failed."""
 import os
 import re
-import struct
 import subprocess
 import sys
 import tempfile
@@ -253,33 +252,22 @@ def until(line, *words, where):
     return said
 
 
-def sections(program):
-    """(name, kind, flags, bytes or their number, link) of each section of an ELF program."""
-    start, = struct.unpack_from("<Q", program, 40)
-    size, count, names = struct.unpack_from("<HHH", program, 58)
-    heads = [struct.unpack_from("<IIQQQQI", program, start + i * size) for i in range(count)]
-    for name, kind, flags, _, at, length, link in heads:
-        at_name = heads[names][4] + name
-        yield program[at_name:program.index(b"\0", at_name)].decode(), kind, flags, length if kind == 8 else program[at:at + length], link
+def stored(folder):
+    """The bytes of each case of a folder of tests/."""
+    for name in sorted(os.listdir(os.path.join(ROOT, "tests", folder))):
+        text = contents("tests", folder, name).decode()
+        yield bytes.fromhex("".join(line for line in text.split("\n") if not line.startswith("#")))
 
 
-def loaded(program):
-    """The sections that are loaded when a program runs, its code and data. The linker's number of the build, over notes that say who compiled it, too,
-    is left out."""
-    return {name: data for name, _, flags, data, _ in sections(program) if flags & 2 and name != ".note.gnu.build-id"}
-
-
-def functions(program):
-    """The functions of a program: names and sizes, in no order."""
-    every = [*sections(program)]
-    (data, names), = [(data, every[link][3]) for _, kind, _, data, link in every if kind == 2]
-    symbols = [struct.unpack_from("<IBBHQQ", data, at) for at in range(0, len(data), 24)]
-    return sorted((names[name:names.index(b"\0", name)].decode(), size) for name, info, _, _, _, size in symbols if info & 15 == 2)
+def answers(path, inputs):
+    """What a program prints of each input, and its status."""
+    start = '. tests/machine.sh; "${kit_start[@]}" "$1"'
+    return [subprocess.run(["bash", "-c", start, "bash", path], cwd=ROOT, input=data, capture_output=True, check=False) for data in inputs]
 
 
 def sources():
-    """Where nothing is built: a tree of the sum in crates.sum is compiled, to the very program that the proof builds, and says so; a tree or a kit of
-    another sum is proved. The sum is written here for the kit of this machine."""
+    """Where nothing is built: a tree of the sum in crates.sum is compiled, and says so; the program answers as the one that the proof builds. A tree or a kit
+    of another sum is proved. The sum is written here for the kit of this machine."""
     new = bare(FOLDER, "a new clone")
     true(shell(".ci/sum --write && .ci/sum --check", where=new)[0] == 0, ".ci/sum of a clone")
     sums = dict(line.split(" ", 1) for line in open(os.path.join(new, "crates.sum"), encoding="ascii").read().splitlines())
@@ -293,17 +281,16 @@ def sources():
     same((status, out), soad("check", TABLE)[:2], "./soad check, built from sources")
     same(error.split("\n")[0], "soad: building check_image from sources as proved by the gate at this sum; ./soad prove checks them here", "what is said of it")
     true(error.endswith(f"; sources {sums['sources']}\n"), f"the sum is said: {error}")
-    same(shell('./soad "$@"', "run", TABLE, SHIFT, where=new)[:2], soad("run", TABLE, SHIFT)[:2], "./soad run, built from sources")
-    built = {}
-    for name in ("check_image", "run"):
-        with open(os.path.join(new, "target/sources", name), "rb") as program:
-            built[name] = program.read(), contents("target", "bin", name)
-    ours, theirs = (loaded(program) for program in built["check_image"])
-    true(len(ours[".text"]) > 1000, "a program has code")
-    same([name for name in {**ours, **theirs} if ours.get(name) != theirs.get(name)], [], "check_image built from sources is the one that the proof builds: sections")
-    ours, theirs = (functions(program) for program in built["run"])
-    true(len(ours) > 10, "a program has functions")
-    same(ours, theirs, "run built from sources has the functions that the proof builds, in another order")
+    for words in (("run", TABLE, SHIFT), ("run", "examples/service-table.txt", "examples/service.txt"), ("run", "examples/firmware-table.txt", "examples/firmware.txt"),
+                  ("replay", "examples/debarker.txt", RECORDING), ("replay", "examples/debarker.txt", "examples/long-shift-changed.recording", "--each"),
+                  ("report", "examples/debarker.txt", RECORDING, "--json"), ("sheet", "examples/debarker.txt", SHEET)):
+        same(shell('./soad "$@"', *words, where=new)[:2], soad(*words)[:2], f"./soad {words}, built from sources")
+    table = contents(TABLE)
+    for name, inputs in (("check_image", [table, *stored("images")]), ("run", [table, *stored("scripts")]), ("replay", [table, *stored("recordings")]),
+                         ("tally", [table, *stored("tallies")]), ("shorten", [table])):
+        ours, theirs = ([(done.returncode, done.stdout) for done in answers(path, inputs)] for path in (
+            os.path.join(new, "target/sources", name), os.path.join(ROOT, "target/bin", name)))
+        same(ours, theirs, f"{name} built from sources answers as the one that the proof builds")
     same(shell('./soad "$@"', "check", TABLE, where=new)[2], "", "./soad check, built before")
     true(shell("./soad --version", where=new)[1].endswith(f"sources: as proved by the gate at this sum, {sums['sources']}\n"), "./soad --version of that sum")
     for what, change in (("another source", "echo >>crates/wire/src/lib.rt"), ("a file more", "touch crates/wire/src/more"), ("a file less", "rm crates/wire/specs/Lib.antt"),
