@@ -1,5 +1,6 @@
 -- `dispatch::dispatch` meets its contract.
 use mathlib.Core.Path.{refl}
+use lib.ListN.{length}
 use borrow.Author.Tests.{lt-ltb, le-ltb}
 use Rattle.dispatch.specs.Dispatch.{dispatch_of}
 use Rattle.wire.proofs.Clauses.{value_rx_tx_out}
@@ -7,7 +8,7 @@ use Rattle.dispatch.proofs.dispatch.Goals as goal
 
 pub returns-then-out-lt16384 : goal.returns-then-out-lt16384
 unfolding dispatch_of
-returns-then-out-lt16384 c = rw (lt-ltb _ 16384 c.if-out-lt16384.true) record {
+returns-then-out-lt16384 c = rw (lt-ltb (length c.args.out.now) 16384 c.if-out-lt16384.true) record {
   value = refl;
   rx_after = refl;
   tx_after = refl;
