@@ -37,7 +37,7 @@ mod own;
 use bench_start::{read_input, say, say_cut, start};
 use once::{in_turn, once};
 use pieces::front;
-use wire::{be8, be16, be32, put8};
+use wire::{be16, put8, u8_at, u16_at, u32_at};
 
 // So many calls; whether each did what it names.
 fn repeat(
@@ -55,8 +55,7 @@ fn repeat(
 ) -> bool {
     let mut state = start(image, rx, tx, what);
     let mut all = true;
-    let mut i: u32 = 0;
-    while i < times {
+    for i in 0..times {
         put8(image, place, (i % 256) as u8);
         let turn = once(
             in_turn(what % 128, i),
@@ -73,7 +72,6 @@ fn repeat(
         );
         state = turn.state;
         all = all & turn.done;
-        i += 1;
     }
     all
 }
@@ -84,16 +82,16 @@ fn run(head: &[u8], image: &mut [u8], bytes: &[u8]) -> bool {
     let mut tx = [0u8; 23552];
     let mut out = [0u8; 16384];
     repeat(
-        be32(head, 4) as u32,
+        u32_at(head, 4),
         be16(head, 8),
-        be8(head, 0) as u8,
+        u8_at(head, 0),
         image,
         &mut rx,
         &mut tx,
         &mut out,
-        be8(head, 1) as u8,
-        be16(head, 2) as u16,
-        be16(head, 10) as u16,
+        u8_at(head, 1),
+        u16_at(head, 2),
+        u16_at(head, 10),
         bytes,
     )
 }

@@ -1,31 +1,20 @@
 // One call of an entry point, by what it is (main.rt lists them), with the state as the next call is to find it.
 use crate::own;
 use bench_start::{Turn, wound};
-use connection::Answer;
-use entry_events::CountAnswer;
 use entry_receive::{segment_take, walk_datagram};
-use event_answer::Verdict;
 use event_decode::bytes_from;
 use pieces::front;
 use receive_part::Part;
 use receive_stream::Outcome;
-use send::Transmission;
-use send_waiting::{Taking, waiting_of};
+use send_waiting::waiting_of;
 use state::State;
-use wire::{be8, be16, be32};
+use wire::{be16, u16_at, u32_at};
 
 fn gate_alone(image: &[u8], state: State, rx: &[u8], tx: &[u8]) -> Turn {
     let counted = entry_events::read_count(image, state, rx, tx, 1);
-    let answer = counted.answer;
-    let after = counted.state;
-    let done = if let CountAnswer::Count(_) = answer {
-        true
-    } else {
-        false
-    };
     Turn {
-        done: done,
-        state: after,
+        done: counted.answer.is_ok(),
+        state: counted.state,
     }
 }
 
@@ -33,31 +22,10 @@ fn gate_alone(image: &[u8], state: State, rx: &[u8], tx: &[u8]) -> Turn {
 fn kind_of(outcome: Outcome) -> u8 {
     match outcome {
         Outcome::More => 0,
-        Outcome::Pdu {
-            route: _,
-            id: _,
-            in_segment: _,
-            at: _,
-            length: _,
-        } => 1,
-        Outcome::Drop {
-            reason: _,
-            id: _,
-            length: _,
-        } => 2,
-        Outcome::Start {
-            route: _,
-            id: _,
-            length: _,
-            last: _,
-        } => 3,
-        Outcome::Piece {
-            route: _,
-            id: _,
-            at: _,
-            length: _,
-            last: _,
-        } => 4,
+        Outcome::Pdu { .. } => 1,
+        Outcome::Drop { .. } => 2,
+        Outcome::Start { .. } => 3,
+        Outcome::Piece { .. } => 4,
     }
 }
 
@@ -72,17 +40,9 @@ fn take(
     kind: u8,
 ) -> Turn {
     let taken = segment_take(image, state, rx, tx, connection, segment);
-    let answer = taken.answer;
-    let outcome = taken.outcome;
-    let after = taken.state;
-    let done = if let entry_receive::Answer::Done = answer {
-        kind_of(outcome) == kind
-    } else {
-        false
-    };
     Turn {
-        done: done,
-        state: after,
+        done: taken.answer.is_ok() & (kind_of(taken.outcome) == kind),
+        state: taken.state,
     }
 }
 
@@ -96,67 +56,48 @@ fn take_cut(
 ) -> Turn {
     let middle = bytes.len() / 2;
     let first = take(image, state, rx, tx, connection, front(bytes, middle), 0);
-    let between = first.state;
     let second = take(
         image,
-        between,
+        first.state,
         rx,
         tx,
         connection,
         bytes_from(bytes, middle),
         1,
     );
-    let after = second.state;
     Turn {
         done: first.done & second.done,
-        state: after,
+        state: second.state,
     }
 }
 
 fn walk(image: &[u8], state: State, rx: &[u8], tx: &[u8], connection: u8, datagram: &[u8]) -> Turn {
     let walked = walk_datagram(image, state, rx, tx, connection, datagram, 0);
-    let outcome = walked.outcome;
-    let after = walked.state;
-    let done = if let receive_datagram::Outcome::Pdu {
-        route: _,
-        id: _,
-        at: _,
-        length: _,
-    } = outcome
-    {
-        true
-    } else {
-        false
-    };
     Turn {
-        done: done,
-        state: after,
+        done: matches!(walked.outcome, receive_datagram::Outcome::Pdu { .. }),
+        state: walked.state,
     }
 }
 
 // A state in which connection n holds so many bytes to send, and no timer runs.
 fn holding(state: State, n: usize, used: u16) -> State {
-    if n < 16 {
-        let c = state.connections[n];
-        let mut next = state;
-        next.connections[n] = c.with_send(used, 0, false);
-        return next;
+    let mut next = state;
+    if let Some(c) = next.connections.get_mut(n) {
+        *c = c.with_send(used, 0, false);
     }
-    state
+    next
 }
 
 // A state in which a transfer runs on connection n, with all its bytes still to come, as many as there can be.
 fn transferring(state: State, n: usize, route: u16) -> State {
-    if n < 16 {
-        let c = state.connections[n];
-        let mut next = state;
-        next.connections[n] = c.with_part(Part::Transfer {
+    let mut next = state;
+    if let Some(c) = next.connections.get_mut(n) {
+        *c = c.with_part(Part::Transfer {
             route: (route % 256) as u8,
-            left: 4294967295,
+            left: u32::MAX,
         });
-        return next;
     }
-    state
+    next
 }
 
 // A take that is to meet a piece of a transfer.
@@ -196,16 +137,9 @@ fn transmit(
     payload: &[u8],
 ) -> Turn {
     let sent = entry_send::transmit(image, state, rx, tx, pdu, payload);
-    let answer = sent.answer;
-    let after = sent.state;
-    let done = if let Transmission::Stored = answer {
-        true
-    } else {
-        false
-    };
     Turn {
-        done: done,
-        state: emptied(after, connection as usize),
+        done: sent.answer.is_ok(),
+        state: emptied(sent.state, connection as usize),
     }
 }
 
@@ -220,41 +154,24 @@ fn take_waiting(
 ) -> Turn {
     let before = holding(state, connection as usize, used);
     let taken = entry_send::take_waiting(image, before, rx, tx, connection, out);
-    let answer = taken.answer;
-    let after = taken.state;
-    let done = if let Taking::Bytes { count, remote: _ } = answer {
-        count == used
-    } else {
-        false
-    };
+    let done = matches!(taken.answer, Ok((count, _)) if count == used);
     let last = last_of(waiting_of(tx, connection, used));
     Turn {
         done: done & (last == last_of(front(out, used as usize))),
-        state: after,
+        state: taken.state,
     }
 }
 
 // The last of some bytes: it tells whether they were copied.
 fn last_of(bytes: &[u8]) -> usize {
-    let n = bytes.len();
-    if n == 0 {
-        return 0;
-    }
-    be8(bytes, n - 1)
+    bytes.last().map_or(0, |byte| *byte as usize)
 }
 
 fn tick(image: &[u8], state: State, rx: &[u8], tx: &[u8]) -> Turn {
     let ticked = entry_ticks::tick(image, state, rx, tx);
-    let answer = ticked.answer;
-    let after = ticked.state;
-    let done = if let Answer::Done = answer {
-        true
-    } else {
-        false
-    };
     Turn {
-        done: done,
-        state: after,
+        done: ticked.answer.is_ok(),
+        state: ticked.state,
     }
 }
 
@@ -268,17 +185,12 @@ fn dispatched(
     number: u16,
     body: &[u8],
 ) -> Turn {
-    let got = dispatch::dispatch(image, state, rx, tx, number, body, out);
-    let verdict = got.verdict;
-    let after = got.state;
-    let whole = if let Verdict::Done(_) = verdict {
-        true
-    } else {
-        false
-    };
-    Turn {
-        done: whole & (be16(out, 0) == 0),
-        state: after,
+    match dispatch::dispatch(image, state, rx, tx, number, body, out) {
+        Ok(got) => Turn {
+            done: be16(out, 0) == 0,
+            state: got.state,
+        },
+        Err(_) => Turn { done: false, state },
     }
 }
 
@@ -298,7 +210,7 @@ fn number_in_turn(turn: u32, count: u16, pdu: u16, bytes: &[u8]) -> u16 {
     if count == 0 {
         return pdu;
     }
-    be16(bytes, slot_at(turn, count)) as u16
+    u16_at(bytes, slot_at(turn, count))
 }
 
 fn body_in_turn(turn: u32, count: u16, bytes: &[u8]) -> &[u8] {
@@ -322,7 +234,7 @@ fn event_of(
     if number == 65535 {
         return Turn {
             done: body.len() == 2,
-            state: state,
+            state,
         };
     }
     dispatched(image, state, rx, tx, out, number, body)
@@ -366,10 +278,7 @@ pub fn once(
     bytes: &[u8],
 ) -> Turn {
     match what {
-        0 => Turn {
-            done: true,
-            state: state,
-        },
+        0 => Turn { done: true, state },
         1 => gate_alone(image, state, rx, tx),
         2 => take(image, state, rx, tx, connection, bytes, 1),
         3 => take_cut(image, state, rx, tx, connection, bytes),
@@ -390,7 +299,7 @@ pub fn once(
             body_in_turn(turn, used, bytes),
         ),
         14 => take_piece(image, state, rx, tx, connection, pdu, bytes),
-        15 => own::ticks_wound(image, state, rx, tx, be32(bytes, 0) as u32),
+        15 => own::ticks_wound(image, state, rx, tx, u32_at(bytes, 0)),
         17 => own::switch(image, state, rx, tx, connection),
         18 => own::switch_all(image, state, rx, tx),
         19 => own::clear(image, state, rx, tx),
@@ -398,7 +307,7 @@ pub fn once(
         21 => own::connected(image, state, rx, tx, connection),
         22 => own::accept(image, state, rx, tx, connection),
         23 => own::set_remote(image, state, rx, tx, connection),
-        24 => own::ticks(image, state, rx, tx, be32(bytes, 0) as u32),
+        24 => own::ticks(image, state, rx, tx, u32_at(bytes, 0)),
         25 => own::close(image, state, rx, tx, connection),
         26 => own::open(image, state, rx, tx, connection),
         69 => Turn {
@@ -417,9 +326,6 @@ pub fn once(
             done: true,
             state: wound(image, state),
         },
-        _ => Turn {
-            done: false,
-            state: state,
-        },
+        _ => Turn { done: false, state },
     }
 }

@@ -11,20 +11,14 @@
 use bench_start::{Turn, read_input, say, say_cut, start};
 use event_decode::bytes_from;
 use pieces::{after, front};
-use recording::{
-    Front, arguments_in, body_long, entries_in, entry_row, front_of, number_in, stamp_in,
-};
-use replay_step::{Played, Step, replay_step};
+use recording::{arguments_in, body_long, entries_in, entry_row, front_of, number_in, stamp_in};
+use replay_step::{Compared, Step, Unplayed, replay_step};
 use report_count::{Run, begin, count, takes_in};
 use state::State;
-use wire::{be8, be16, be32, put8};
+use wire::{be16, put8, u8_at, u32_at};
 
-fn is_same(played: Played) -> bool {
-    if let Played::Same(_) = played {
-        true
-    } else {
-        false
-    }
+fn is_same(played: Result<Compared, Unplayed>) -> bool {
+    matches!(played, Ok(Compared::Same(_)))
 }
 
 // Entry i, from 0, whose body begins at a place, three ticks after the one before.
@@ -40,16 +34,12 @@ fn replayed_entry(
 ) -> Step {
     let row = entry_row(recording, i);
     let rest = bytes_from(recording, at);
-    let before = std::num::wrapping_sub_u32(stamp_in(row), 3);
+    let before = stamp_in(row).wrapping_sub(3);
     replay_step(image, state, rx, tx, before, row, rest, out)
 }
 
 fn is_sized(recording: &[u8]) -> bool {
-    if let Front::Sized = front_of(recording) {
-        true
-    } else {
-        false
-    }
+    front_of(recording).is_ok()
 }
 
 // Where the body behind that of an entry begins.
@@ -57,47 +47,22 @@ fn body_after(recording: &[u8], i: u16, at: usize) -> usize {
     after(recording.len(), at, body_long(entry_row(recording, i)))
 }
 
-// The entries of a recording; whether each answer is the recorded one.
-fn replayed(
-    image: &[u8],
-    state: State,
-    rx: &mut [u8],
-    tx: &mut [u8],
-    out: &mut [u8],
-    recording: &[u8],
-) -> Turn {
-    let count = entries_in(recording);
-    let mut now = state;
-    let mut all = is_sized(recording);
-    let mut at = 4 + count as usize * 12;
-    let mut i: u16 = 0;
-    while i < count {
-        let this = i;
-        i += 1;
-        let step = replayed_entry(image, now, rx, tx, out, recording, this, at);
-        let played = step.played;
-        now = step.state;
-        all = all & is_same(played);
-        at = body_after(recording, this, at);
-    }
-    Turn {
-        done: all,
-        state: now,
-    }
-}
-
-fn written(played: Played) -> usize {
+fn written(played: Result<Compared, Unplayed>) -> usize {
     match played {
-        Played::Same(long) => long,
-        Played::Differs(long) => long,
-        Played::Cut => 0,
-        Played::Refused(_) => 0,
-        Played::Small => 0,
+        Ok(Compared::Same(long) | Compared::Differs(long)) => long,
+        Err(_) => 0,
     }
 }
 
 // The report after an entry, out of its arguments, which begin a part of the recording, and today's answer.
-fn run_after(run: Run, recording: &[u8], i: u16, at: usize, played: Played, out: &[u8]) -> Run {
+fn run_after(
+    run: Run,
+    recording: &[u8],
+    i: u16,
+    at: usize,
+    played: Result<Compared, Unplayed>,
+    out: &[u8],
+) -> Run {
     let number = number_in(entry_row(recording, i));
     count(
         run,
@@ -107,8 +72,8 @@ fn run_after(run: Run, recording: &[u8], i: u16, at: usize, played: Played, out:
     )
 }
 
-// `replayed`, counted.
-fn counted(
+// The entries of a recording, counted for the report or not; whether each answer is the recorded one.
+fn replayed<const COUNTED: bool>(
     image: &[u8],
     state: State,
     rx: &mut [u8],
@@ -121,19 +86,16 @@ fn counted(
     let mut run = begin();
     let mut all = is_sized(recording);
     let mut at = 4 + count as usize * 12;
-    let mut i: u16 = 0;
-    while i < count {
-        let this = i;
-        i += 1;
-        let step = replayed_entry(image, now, rx, tx, out, recording, this, at);
+    for i in 0..count {
+        let step = replayed_entry(image, now, rx, tx, out, recording, i, at);
         let played = step.played;
         now = step.state;
-        let number = number_in(entry_row(recording, this));
-        if takes_in(number, front(out, written(played))) != 0 {
-            run = run_after(run, recording, this, at, played, out);
+        let number = number_in(entry_row(recording, i));
+        if COUNTED && takes_in(number, front(out, written(played))) != 0 {
+            run = run_after(run, recording, i, at, played, out);
         }
         all = all & is_same(played);
-        at = body_after(recording, this, at);
+        at = body_after(recording, i, at);
     }
     Turn {
         done: all & run.fits,
@@ -152,16 +114,10 @@ fn once(
     recording: &[u8],
 ) -> Turn {
     match what {
-        0 => Turn {
-            done: true,
-            state: state,
-        },
-        13 => replayed(image, state, rx, tx, out, recording),
-        16 => counted(image, state, rx, tx, out, recording),
-        _ => Turn {
-            done: false,
-            state: state,
-        },
+        0 => Turn { done: true, state },
+        13 => replayed::<false>(image, state, rx, tx, out, recording),
+        16 => replayed::<true>(image, state, rx, tx, out, recording),
+        _ => Turn { done: false, state },
     }
 }
 
@@ -178,13 +134,11 @@ fn repeat(
 ) -> bool {
     let mut state = start(image, rx, tx, what);
     let mut all = true;
-    let mut i: u32 = 0;
-    while i < times {
+    for i in 0..times {
         put8(image, place, (i % 256) as u8);
         let turn = once(what % 128, image, state, rx, tx, out, recording);
         state = turn.state;
         all = all & turn.done;
-        i += 1;
     }
     all
 }
@@ -195,9 +149,9 @@ fn run(head: &[u8], image: &mut [u8], recording: &[u8]) -> bool {
     let mut tx = [0u8; 23552];
     let mut out = [0u8; 16384];
     repeat(
-        be32(head, 4) as u32,
+        u32_at(head, 4),
         be16(head, 8),
-        be8(head, 0) as u8,
+        u8_at(head, 0),
         image,
         &mut rx,
         &mut tx,

@@ -2,11 +2,11 @@
 // connection is opened, ticked once and connected; where it is to be busy, each holds bytes to send.
 #![tactic(auto)]
 
-use connection::{Event, Watch};
+use connection::{Connection, Event, Watch};
 use input::read_part;
 use state::{State, fresh_state};
 use table_layout::{Kind, rows_of};
-use table_rows::connection_row;
+use table_rows::{ConnectionRow, row_of};
 use wire::be16;
 
 // The standard output's number.
@@ -28,7 +28,7 @@ pub fn read_input(head: &mut [u8], image: &mut [u8], bytes: &mut [u8]) -> bool {
     let n = be16(head, 14);
     let tabled = read_part(image, 0, long);
     let given = read_part(bytes, 0, n);
-    (headed == 16) & (tabled == long) & (given == n)
+    headed == 16 && tabled == long && given == n
 }
 
 pub fn say_cut() {
@@ -48,11 +48,8 @@ pub fn say(done: bool) {
 // An event on each connection.
 fn each(image: &[u8], state: State, rx: &[u8], tx: &[u8], event: Event) -> State {
     let mut next = state;
-    let mut i: u8 = 0;
-    while i < 16 {
-        let told = entry_events::happen(image, next, rx, tx, i, event);
-        next = told.state;
-        i += 1;
+    for i in 0..16 {
+        next = entry_events::happen(image, next, rx, tx, i, event).state;
     }
     next
 }
@@ -60,68 +57,44 @@ fn each(image: &[u8], state: State, rx: &[u8], tx: &[u8], event: Event) -> State
 fn online(image: &[u8], rx: &[u8], tx: &[u8]) -> State {
     let wanted = each(image, fresh_state(image), rx, tx, Event::Open);
     let ticked = entry_ticks::tick(image, wanted, rx, tx);
-    let reached = ticked.state;
-    each(image, reached, rx, tx, Event::Connected)
+    each(image, ticked.state, rx, tx, Event::Connected)
 }
 
-// A state in which connection i, where the table has it, holds ten bytes to send: an even one is due, of an odd one a timer runs.
-fn busied(state: State, i: usize, rows: usize) -> State {
-    if rows <= i {
-        return state;
-    }
-    if 16 <= i {
-        return state;
-    }
-    let c = state.connections[i];
-    let mut next = state;
+// Connection i, which holds ten bytes to send: an even one is due, of an odd one a timer runs.
+fn busied(c: Connection, i: usize) -> Connection {
     if i % 2 == 0 {
-        next.connections[i] = c.with_send(10, 0, true);
-        return next;
+        return c.with_send(10, 0, true);
     }
-    next.connections[i] = c.with_send(10, 65535, false);
-    next
+    c.with_send(10, 65535, false)
 }
 
 fn busy(rows: usize, state: State) -> State {
     let mut next = state;
-    let mut i: usize = 0;
-    while i < 16 {
-        next = busied(next, i, rows);
-        i += 1;
+    for (i, c) in next.connections.iter_mut().enumerate() {
+        if i < rows {
+            *c = busied(*c, i);
+        }
     }
     next
 }
 
-// A state in which every timer of connection i, where the table has it, runs: it is online and holds ten bytes to send, and its alive timer
-// is at its row's limit.
-fn wound_one(image: &[u8], state: State, i: usize, rows: usize) -> State {
-    if rows <= i {
-        return state;
-    }
-    if 16 <= i {
-        return state;
-    }
-    let c = state.connections[i];
-    let row = connection_row(image, i);
+// Connection i, of which every timer runs: it is online and holds ten bytes to send, and its alive timer is at its row's limit.
+fn wound_one(image: &[u8], c: Connection, i: usize) -> Connection {
     let watch = Watch {
-        alive: row.alive,
+        alive: row_of::<ConnectionRow>(image, i).alive,
         remote_set: false,
     };
-    let up = c.connected();
-    let held = up.with_send(10, 65535, false);
-    let mut next = state;
-    next.connections[i] = held.with_watch(watch);
-    next
+    c.connected().with_send(10, 65535, false).with_watch(watch)
 }
 
-// Every timer of every connection runs.
+// Every timer of every connection that the table has runs.
 pub fn wound(image: &[u8], state: State) -> State {
     let rows = rows_of(image, Kind::Connection);
     let mut next = state;
-    let mut i: usize = 0;
-    while i < 16 {
-        next = wound_one(image, next, i, rows);
-        i += 1;
+    for (i, c) in next.connections.iter_mut().enumerate() {
+        if i < rows {
+            *c = wound_one(image, *c, i);
+        }
     }
     next
 }

@@ -4,10 +4,10 @@
 #![tactic(auto)]
 
 use pieces::front;
-use table::{TableAnswer, check_table};
-use table_layout::{Kind, body_of, kind_number, row_bytes, row_in, rows_of};
+use table::{BadTable, check_table};
+use table_layout::{Kind, body_of, row_bytes, row_in, rows_of};
 use wire::{be8, be16};
-use words::{lay, phrase};
+use words::lay;
 use words_refusal::refuse;
 
 // A line out of a pattern, a number and a row.
@@ -20,48 +20,56 @@ fn say(pattern: &[u8], n: usize, row: &[u8]) {
 // ---- the rows
 
 fn heading(k: Kind, n: usize) {
-    let patterns = b"\
-        /\
-        groups: @ row^\n/\
-        connections: @ row^\n/\
-        receive routes: @ row^\n/\
-        destinations: @ row^\n/";
-    say(phrase(patterns, kind_number(k)), n, b"");
+    let pattern: &[u8] = match k {
+        Kind::Group => b"groups: @ row^\n",
+        Kind::Connection => b"connections: @ row^\n",
+        Kind::Route => b"receive routes: @ row^\n",
+        Kind::Destination => b"destinations: @ row^\n",
+    };
+    say(pattern, n, b"");
 }
 
-// The pattern of a row: its kind's, and another for a route that is marked for transfers and a connection with an alive limit.
-fn shape_of(k: Kind, row: &[u8]) -> usize {
-    let kind = kind_number(k);
-    if (kind == 2) & (be16(row, 10) != 0) {
-        return 6;
+// A connection with an alive limit, and one without.
+fn connection_pattern(row: &[u8]) -> &'static [u8] {
+    if be16(row, 10) == 0 {
+        return b"  connection @: group %b00, %f01, remote %q02 port %r06, send size %h08 byte^, start switches 0x%i12\n";
     }
-    if (kind == 3) & (be8(row, 1) == 1) {
-        return 5;
+    b"  connection @: group %b00, %f01, remote %q02 port %r06, send size %h08 byte^, alive limit %h10 tick^, start switches 0x%i12\n"
+}
+
+// A route that is marked for transfers, and one that is not.
+fn route_pattern(row: &[u8]) -> &'static [u8] {
+    if be8(row, 1) == 1 {
+        return b"\
+            \x20 receive route @: connection %b00, transfer (TP), header id 0x%i04, upper PDU 0x%p08, longest payload %h02 byte^, \
+            routing groups 0x%i12\n";
     }
-    kind
+    b"  receive route @: connection %b00, header id 0x%i04, upper PDU 0x%p08, longest payload %h02 byte^, routing groups 0x%i12\n"
+}
+
+fn row_pattern(k: Kind, row: &[u8]) -> &'static [u8] {
+    match k {
+        Kind::Group => b"  group @: %u00\n",
+        Kind::Connection => connection_pattern(row),
+        Kind::Route => route_pattern(row),
+        Kind::Destination => {
+            b"\
+            \x20 destination @: PDU 0x%p08, connection %b00, header id 0x%i04, longest payload %h02 byte^, trigger %b01, \
+            timeout %h10 tick^, routing groups 0x%i12\n"
+        }
+    }
 }
 
 fn row_of_kind(image: &[u8], k: Kind, i: usize) {
-    let patterns = b"\
-        /\
-        \x20 group @: %u00\n/\
-        \x20 connection @: group %b00, %f01, remote %q02 port %r06, send size %h08 byte^, start switches 0x%i12\n/\
-        \x20 receive route @: connection %b00, header id 0x%i04, upper PDU 0x%p08, longest payload %h02 byte^, routing groups 0x%i12\n/\
-        \x20 destination @: PDU 0x%p08, connection %b00, header id 0x%i04, longest payload %h02 byte^, trigger %b01, \
-        timeout %h10 tick^, routing groups 0x%i12\n/\
-        \x20 receive route @: connection %b00, transfer (TP), header id 0x%i04, upper PDU 0x%p08, longest payload %h02 byte^, routing groups 0x%i12\n/\
-        \x20 connection @: group %b00, %f01, remote %q02 port %r06, send size %h08 byte^, alive limit %h10 tick^, start switches 0x%i12\n/";
     let row = row_in(body_of(image, k), row_bytes(image, k), i);
-    say(phrase(patterns, shape_of(k, row)), i, row);
+    say(row_pattern(k, row), i, row);
 }
 
 fn rows_of_kind(image: &[u8], k: Kind) {
     let n = rows_of(image, k);
     heading(k, n);
-    let mut i = 0;
-    while i < n {
+    for i in 0..n {
         row_of_kind(image, k, i);
-        i += 1;
     }
 }
 
@@ -79,8 +87,8 @@ fn list(image: &[u8]) {
 fn report(image: &[u8]) {
     let answer = check_table(image);
     match answer {
-        TableAnswer::Accepted => list(image),
-        TableAnswer::Refused(place) => refuse(image, place),
+        Ok(()) => list(image),
+        Err(BadTable::At(place)) => refuse(image, place),
     }
 }
 

@@ -1,4 +1,5 @@
 -- The two ways of an event, and of a tick.
+use Rattle.std.proofs.Common.{Ok}
 use Prim.Native.Nat.{ℕ, ◌-◌}
 use native.Mathlib.Omega.{arith}
 use mathlib.Core.Path.{◌≡◌, refl, sym, ap, ◌∙◌}
@@ -12,7 +13,6 @@ use Rattle.connection.specs.declared.Mode.TheVariants.{Offline, Reconnect, Onlin
 use Rattle.connection.specs.declared.Connection.{Connection}
 use Rattle.connection.specs.declared.Config.{Config}
 use Rattle.connection.specs.declared.Refusal.TheVariants.{Missing, Denied}
-use Rattle.connection.specs.declared.Answer.TheVariants.{Done}
 use Rattle.connection.specs.declared.Event.{Event}
 use Rattle.connection.specs.Connection.{is_reconnect, is_online, wildcard, alive_at, with_watch, closed_of, started_of}
 use Rattle.connection.specs.Connection.{reach_of, run_of, expires, let_go_of, sunk_of, onward, tick_of}
@@ -25,7 +25,7 @@ unfolding step_of
 step-either e g c P p q = go (known e) (allowed e g c) refl p
   where
     go : (k a : Bool) → allowed e g c ≡ a → ((k && a) ≡ false → P c)
-        → P (cond (not k) (refused_by Missing c) (cond (not a) (refused_by Denied c) (record { answer = Done; connection = record_after e g c }))).connection
+        → P (cond (not k) (refused_by Missing c) (cond (not a) (refused_by Denied c) (record { answer = Ok tt; connection = record_after e g c }))).connection
     go false a x p = p refl
     go true false x p = p refl
     go true true x p = q x

@@ -1,13 +1,11 @@
 -- The connection events that concern the record alone: when each is allowed (R4.5), what it leaves (section 8 of the rules), and the
 -- numbers of answers (R4.1).
-use Rattle.std.specs.Prelude.{ℕ, ltb, Bool, true, false, cond, not, ◌&&◌, ◌||◌}
+use Rattle.std.specs.Prelude.{ℕ, ltb, Bool, true, false, cond, not, ◌&&◌, ◌||◌, Result, Ok, Err}
 use Rattle.receive_part.specs.Part.{transferring}
 use Rattle.connection.specs.declared.Connection.{Connection}
 use Rattle.connection.specs.declared.Config.{Config}
 use Rattle.connection.specs.declared.Refusal.{Refusal}
 use Rattle.connection.specs.declared.Refusal.TheVariants.{Memory, Unsound, Missing, Denied}
-use Rattle.connection.specs.declared.Answer.{Answer}
-use Rattle.connection.specs.declared.Answer.TheVariants.{Done, Refused}
 use Rattle.connection.specs.declared.Stepped.{Stepped}
 use Rattle.connection.specs.declared.Event.{Event}
 use Rattle.connection.specs.declared.Event.TheVariants.{Open, Close, Connected, Lost, SetRemote, Switch, Cancel}
@@ -20,9 +18,9 @@ refusal_number Unsound = 12
 refusal_number Missing = 2
 refusal_number Denied = 3
 
-abbrev pub answer_number : Answer → ℕ
-answer_number Done = 0
-answer_number (Refused r) = refusal_number r
+abbrev pub answer_number : Result Unit Refusal → ℕ
+answer_number (Ok tt) = 0
+answer_number (Err r) = refusal_number r
 
 -- R4.5, open: non-automatic, offline, no close wanted
 abbrev pub open_allowed : Config → Connection → Bool
@@ -102,11 +100,11 @@ deniable (Switch n on) = false
 deniable Cancel = true
 
 abbrev pub refused_by : Refusal → Connection → Stepped
-refused_by r c = record { answer = Refused r; connection = c }
+refused_by r c = record { answer = Err r; connection = c }
 
 -- one event: 2, then 3, else done; a refusal leaves the record
 unfoldable pub step_of : Event → Config → Connection → Stepped
 step_of e g c =
     cond (not (known e)) (refused_by Missing c)
     (cond (not (allowed e g c)) (refused_by Denied c)
-    (record { answer = Done; connection = record_after e g c }))
+    (record { answer = Ok tt; connection = record_after e g c }))

@@ -9,7 +9,7 @@ ghost use Rattle.connection.specs.Sound as Sd;
 
 use receive_part::Part;
 
-#[derive(Clone, Copy)]
+#[derive(Clone, Copy, PartialEq, Eq)]
 pub enum Mode {
     Offline,
     Reconnect,
@@ -17,7 +17,7 @@ pub enum Mode {
 }
 
 // A remote. Only `equal_fields` and `wild_fields` compare its fields.
-#[derive(Clone, Copy)]
+#[derive(Clone, Copy, PartialEq, Eq)]
 pub struct Remote {
     pub address: u32,
     pub port: u16,
@@ -63,7 +63,7 @@ pub struct Config {
 }
 
 // Why an event is refused before it does anything: 11, 12, 2, 3.
-#[derive(Clone, Copy)]
+#[derive(Clone, Copy, PartialEq, Eq)]
 pub enum Refusal {
     Memory,
     Unsound,
@@ -71,16 +71,10 @@ pub enum Refusal {
     Denied,
 }
 
-#[derive(Clone, Copy)]
-pub enum Answer {
-    Done,
-    Refused(Refusal),
-}
-
 // The answer of an event, with the record after it.
 #[derive(Clone, Copy)]
 pub struct Stepped {
-    pub answer: Answer,
+    pub answer: Result<(), Refusal>,
     pub connection: Connection,
 }
 
@@ -96,62 +90,54 @@ pub enum Event {
     Cancel,
 }
 
-pub fn is_offline(mode: Mode) -> bool
-    ensures { result ≡ Is.is_offline mode }
-{
-    match mode {
-        Mode::Offline => true,
-        Mode::Reconnect => false,
-        Mode::Online => false,
+impl Mode {
+    pub fn is_offline(self) -> bool
+        ensures { result ≡ Is.is_offline self }
+    {
+        matches!(self, Mode::Offline)
+    }
+
+    pub fn is_reconnect(self) -> bool
+        ensures { result ≡ Is.is_reconnect self }
+    {
+        matches!(self, Mode::Reconnect)
+    }
+
+    pub fn is_online(self) -> bool
+        ensures { result ≡ Is.is_online self }
+    {
+        matches!(self, Mode::Online)
     }
 }
 
-pub fn is_reconnect(mode: Mode) -> bool
-    ensures { result ≡ Is.is_reconnect mode }
-{
-    match mode {
-        Mode::Offline => false,
-        Mode::Reconnect => true,
-        Mode::Online => false,
+impl Remote {
+    // Which fields of two remotes are equal.
+    pub fn equal_fields(self, other: Remote) -> Fields
+        ensures { result ≡ Is.equal_fields self other }
+    {
+        Fields {
+            address: self.address == other.address,
+            port: self.port == other.port,
+        }
     }
-}
 
-pub fn is_online(mode: Mode) -> bool
-    ensures { result ≡ Is.is_online mode }
-{
-    match mode {
-        Mode::Offline => false,
-        Mode::Reconnect => false,
-        Mode::Online => true,
+    // Which fields of a remote are a wildcard.
+    pub fn wild_fields(self) -> Fields
+        ensures { result ≡ Is.wild_fields self }
+    {
+        Fields {
+            address: self.address == 0,
+            port: self.port == 0,
+        }
     }
-}
 
-// Which fields of two remotes are equal.
-pub fn equal_fields(a: Remote, b: Remote) -> Fields
-    ensures { result ≡ Is.equal_fields a b }
-{
-    Fields {
-        address: a.address == b.address,
-        port: a.port == b.port,
+    // A remote has a wildcard when address or port is one.
+    pub fn has_wildcard(self) -> bool
+        ensures { result ≡ Is.wildcard self }
+    {
+        let wild = self.wild_fields();
+        wild.address | wild.port
     }
-}
-
-// Which fields of a remote are a wildcard.
-pub fn wild_fields(remote: Remote) -> Fields
-    ensures { result ≡ Is.wild_fields remote }
-{
-    Fields {
-        address: remote.address == 0,
-        port: remote.port == 0,
-    }
-}
-
-// A remote has a wildcard when address or port is one.
-pub fn has_wildcard(remote: Remote) -> bool
-    ensures { result ≡ Is.wildcard remote }
-{
-    let wild = wild_fields(remote);
-    wild.address | wild.port
 }
 
 // No alive timer runs, and the upper layer has not set the remote.
@@ -168,19 +154,18 @@ fn unwatched() -> Watch
 pub fn fresh(config: Config) -> Connection
     ensures { result ≡ Is.fresh_of config }
 {
-    let remote = config.remote;
     let watch = unwatched();
     Connection {
         mode: Mode::Offline,
         open_wanted: false,
         close_wanted: false,
-        remote: remote,
+        remote: config.remote,
         switches: config.switches,
         part: Part::Header { held: 0, value: 0 },
         used: 0,
         timer: 0,
         due: false,
-        watch: watch,
+        watch,
     }
 }
 
@@ -237,8 +222,8 @@ impl Connection {
             remote_set: true,
         };
         Connection {
-            remote: remote,
-            watch: watch,
+            remote,
+            watch,
             ..self
         }
     }
@@ -247,10 +232,12 @@ impl Connection {
     fn alive_after(self, config: Config) -> u16
         ensures { result ≡ Is.alive_after config self }
     {
-        let remote = self.remote;
-        let alive = self.watch.alive;
-        let starts = has_wildcard(remote) | (0 < alive);
-        if starts { config.alive } else { alive }
+        let starts = self.remote.has_wildcard() | (0 < self.watch.alive);
+        if starts {
+            config.alive
+        } else {
+            self.watch.alive
+        }
     }
 
     // Met by a source: online, with the source as remote.
@@ -264,7 +251,7 @@ impl Connection {
         Connection {
             mode: Mode::Online,
             remote: source,
-            watch: watch,
+            watch,
             ..self
         }
     }
@@ -273,11 +260,10 @@ impl Connection {
     pub fn reset(self, config: Config) -> Connection
         ensures { result ≡ Is.reset_of config self }
     {
-        let remote = config.remote;
         let watch = unwatched();
         Connection {
-            remote: remote,
-            watch: watch,
+            remote: config.remote,
+            watch,
             ..self
         }
     }
@@ -311,18 +297,14 @@ impl Connection {
     fn sink(self) -> Connection
         ensures { result ≡ Is.sunk_of self }
     {
-        let alive = self.watch.alive;
-        if alive == 0 {
+        if self.watch.alive == 0 {
             return self;
         }
         let watch = Watch {
-            alive: alive - 1,
+            alive: self.watch.alive - 1,
             remote_set: self.watch.remote_set,
         };
-        Connection {
-            watch: watch,
-            ..self
-        }
+        Connection { watch, ..self }
     }
 
     pub fn switch(mut self, number: u8, on: bool) -> Connection
@@ -336,7 +318,7 @@ impl Connection {
     pub fn with_part(self, part: Part) -> Connection
         ensures { result ≡ Is.with_part part self }
     {
-        Connection { part: part, ..self }
+        Connection { part, ..self }
     }
 
     // Other send bytes, timer and due mark.
@@ -353,10 +335,7 @@ impl Connection {
     pub fn with_watch(self, watch: Watch) -> Connection
         ensures { result ≡ Is.with_watch watch self }
     {
-        Connection {
-            watch: watch,
-            ..self
-        }
+        Connection { watch, ..self }
     }
 
     // A wanted close at a tick: the fresh record except switches.
@@ -372,8 +351,7 @@ impl Connection {
     pub fn start(self, config: Config) -> Connection
         ensures { result ≡ Is.started_of config self }
     {
-        let mode = self.mode;
-        let starts = is_offline(mode) & (self.open_wanted | config.automatic);
+        let starts = self.mode.is_offline() & (self.open_wanted | config.automatic);
         if starts {
             Connection {
                 mode: Mode::Reconnect,
@@ -389,9 +367,7 @@ impl Connection {
     pub fn reach(self, config: Config) -> Connection
         ensures { result ≡ Is.reach_of config self }
     {
-        let mode = self.mode;
-        let remote = self.remote;
-        let reaches = is_reconnect(mode) & !config.tcp & !has_wildcard(remote);
+        let reaches = self.mode.is_reconnect() & !config.tcp & !self.remote.has_wildcard();
         if reaches { self.connected() } else { self }
     }
 
@@ -438,13 +414,8 @@ pub fn is_known(event: Event) -> bool
     ensures { result ≡ Ev.known event }
 {
     match event {
-        Event::Open => true,
-        Event::Close => true,
-        Event::Connected => true,
-        Event::Lost => true,
-        Event::SetRemote(_) => true,
         Event::Switch { number, on: _ } => number < 32,
-        Event::Cancel => true,
+        _ => true,
     }
 }
 
@@ -453,8 +424,8 @@ fn refused(reason: Refusal, connection: Connection) -> Stepped
     ensures { result ≡ Ev.refused_by reason connection }
 {
     Stepped {
-        answer: Answer::Refused(reason),
-        connection: connection,
+        answer: Err(reason),
+        connection,
     }
 }
 
@@ -463,14 +434,11 @@ impl Connection {
     pub fn allows(self, config: Config, event: Event) -> bool
         ensures { result ≡ Ev.allowed event config self }
     {
-        let mode = self.mode;
-        let remote = self.remote;
-        let offline = is_offline(mode);
-        let reconnect = is_reconnect(mode);
-        let online = is_online(mode);
-        let wild = has_wildcard(remote);
-        let part = self.part;
-        let transfer = receive_part::is_transfer(part);
+        let offline = self.mode.is_offline();
+        let reconnect = self.mode.is_reconnect();
+        let online = self.mode.is_online();
+        let wild = self.remote.has_wildcard();
+        let transfer = receive_part::is_transfer(self.part);
         match event {
             Event::Open => !config.automatic & offline & !self.close_wanted,
             Event::Close => !config.automatic & (self.open_wanted | !offline),
@@ -511,7 +479,7 @@ impl Connection {
             return refused(Refusal::Denied, self);
         }
         Stepped {
-            answer: Answer::Done,
+            answer: Ok(()),
             connection: next,
         }
     }
@@ -520,14 +488,11 @@ impl Connection {
     pub fn sound(self, config: Config) -> bool
         ensures { result ≡ Sd.sound_of config self }
     {
-        let mode = self.mode;
-        let part = self.part;
-        let remote = self.remote;
-        let online = is_online(mode);
-        let offline = is_offline(mode);
-        let shaped = receive_part::is_shaped(part);
-        let empty = receive_part::is_empty(part);
-        let wild = has_wildcard(remote);
+        let online = self.mode.is_online();
+        let offline = self.mode.is_offline();
+        let shaped = receive_part::is_shaped(self.part);
+        let empty = receive_part::is_empty(self.part);
+        let wild = self.remote.has_wildcard();
         (self.used <= config.size)
             & shaped
             & (empty | (online & config.tcp))
@@ -545,12 +510,9 @@ impl Connection {
     pub fn is_zero(self) -> bool
         ensures { result ≡ Sd.zero_of self }
     {
-        let mode = self.mode;
-        let part = self.part;
-        let remote = self.remote;
-        let offline = is_offline(mode);
-        let empty = receive_part::is_empty(part);
-        let wild = wild_fields(remote);
+        let offline = self.mode.is_offline();
+        let empty = receive_part::is_empty(self.part);
+        let wild = self.remote.wild_fields();
         if !empty {
             return false;
         }

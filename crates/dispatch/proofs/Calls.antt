@@ -7,40 +7,41 @@ use native.Mathlib.Omega.{arith}
 use borrow.Author.Tests.{leb-true}
 use lib.Dec.{eqb, leb}
 use lib.ListN.{length, drop, length-drop}
+use Rattle.std.proofs.Common.{Result, Ok, Err}
 use Rattle.wire.specs.Be.{be}
 use Rattle.lists.proofs.Both.{and_right}
 use Rattle.connection.specs.declared.Event.TheVariants.{Open, Close, Connected, SetRemote, Switch, Cancel}
 use Rattle.event_decode.specs.declared.Call.{Call}
-use Rattle.event_decode.specs.declared.Call.TheVariants.{Unknown, Unfit, Ticks, Own, Lost, Segment, Walk}
+use Rattle.event_decode.specs.declared.BadCall.{BadCall}
+use Rattle.event_decode.specs.declared.Call.TheVariants.{Ticks, Own, Lost, Segment, Walk}
 use Rattle.event_decode.specs.declared.Call.TheVariants.{TakeWaiting, Datagram, Accept, Transmit, SwitchAll, ReadCount, ClearCount}
 use Rattle.event_decode.specs.Calls.{fitted, plain, length_fits, addressed, remote_in, positioned, call_of, bytes_from}
 use Rattle.dispatch_receive.specs.Long.{longest_body}
 
 -- the bytes that a segment or walk call carries
-unfoldable pub carried : List ℕ → Call → ℕ
-carried b Unknown = 0
-carried b Unfit = 0
-carried b (Ticks n) = 0
-carried b (Own c e) = 0
-carried b (Lost c) = 0
-carried b (Segment c at) = length (drop at b)
-carried b (Walk c p at) = length (drop at b)
-carried b (TakeWaiting c n) = 0
-carried b (Datagram g r) = 0
-carried b (Accept g r) = 0
-carried b (Transmit p at) = 0
-carried b (SwitchAll n on) = 0
-carried b (ReadCount p) = 0
-carried b (ClearCount p) = 0
+unfoldable pub carried : List ℕ → Result Call BadCall → ℕ
+carried b (Err bad) = 0
+carried b (Ok (Ticks n)) = 0
+carried b (Ok (Own c e)) = 0
+carried b (Ok (Lost c)) = 0
+carried b (Ok (Segment c at)) = length (drop at b)
+carried b (Ok (Walk c p at)) = length (drop at b)
+carried b (Ok (TakeWaiting c n)) = 0
+carried b (Ok (Datagram g r)) = 0
+carried b (Ok (Accept g r)) = 0
+carried b (Ok (Transmit p at)) = 0
+carried b (Ok (SwitchAll n on)) = 0
+carried b (Ok (ReadCount p)) = 0
+carried b (Ok (ClearCount p)) = 0
 
-abbrev pub Short : List ℕ → Call → Type 0
+abbrev pub Short : List ℕ → Result Call BadCall → Type 0
 Short b call = carried b call ≤ 4090
 
-either : (b : List ℕ) (t : Bool) (x y : Call) → Short b x → Short b y → Short b (cond t x y)
+either : (b : List ℕ) (t : Bool) (x y : Result Call BadCall) → Short b x → Short b y → Short b (cond t x y)
 either b true x y p q = p
 either b false x y p q = q
 
-fits-short : (b : List ℕ) (t : Bool) (x : Call) → (t ≡ true → Short b x) → Short b (fitted t x)
+fits-short : (b : List ℕ) (t : Bool) (x : Call) → (t ≡ true → Short b (Ok x)) → Short b (fitted t x)
 unfolding carried
 fits-short b true x p = p refl
 fits-short b false x p = omega arith
@@ -54,11 +55,11 @@ counted-short b at e =
       leb-true (length b) 4096 (and_right (eqb (be 4 b at + (at + 4)) (length b) && eqb (be 1 b 0) 0) (leb (length b) 4096) e),
     )
 
-segment-short : (b : List ℕ) → length_fits b 2 ≡ true → Short b (Segment (be 1 b 1) 6)
+segment-short : (b : List ℕ) → length_fits b 2 ≡ true → Short b (Ok (Segment (be 1 b 1) 6))
 unfolding carried
 segment-short b e = counted-short b 2 e
 
-walk-short : (b : List ℕ) → length_fits b 6 ≡ true → Short b (Walk (be 1 b 1) (be 4 b 2) 10)
+walk-short : (b : List ℕ) → length_fits b 6 ≡ true → Short b (Ok (Walk (be 1 b 1) (be 4 b 2) 10))
 unfolding carried
 walk-short b e = omega (arith, counted-short b 6 e)
 
@@ -85,10 +86,10 @@ call_short n b =
     (omega arith)))))))))))))))))
 
 -- so they are not too long for an event
-pub segment-fits : (b : List ℕ) (c at : ℕ) → Short b (Segment c at) → length (bytes_from b at) ≤ longest_body
+pub segment-fits : (b : List ℕ) (c at : ℕ) → Short b (Ok (Segment c at)) → length (bytes_from b at) ≤ longest_body
 unfolding carried
 segment-fits b c at h = omega (arith, h)
 
-pub walk-fits : (b : List ℕ) (c place at : ℕ) → Short b (Walk c place at) → length (bytes_from b at) ≤ longest_body
+pub walk-fits : (b : List ℕ) (c place at : ℕ) → Short b (Ok (Walk c place at)) → length (bytes_from b at) ≤ longest_body
 unfolding carried
 walk-fits b c place at h = omega (arith, h)

@@ -4,3 +4,4 @@ pub mod Sizes
 pub mod Whole
 pub mod Short
 pub mod Kept
+pub mod Stays

@@ -1,4 +1,5 @@
 -- EVERY ANSWER OF THE DISPATCHER STANDS WHOLE in its out buffer of 16,384 bytes: nothing is left out.
+use Rattle.std.proofs.Common.{Ok, Err, Result}
 use Prim.Native.Nat.{ℕ, ◌+◌, ◌≤◌}
 use mathlib.Core.Path.{◌≡◌, refl, sym, ap, ◌∙◌, subst}
 use mathlib.Core.Bool.{Bool, true, false, cond}
@@ -12,7 +13,9 @@ use Rattle.wire.proofs.Lay.{lay-fits}
 use Rattle.connection.specs.declared.Event.{Event}
 use Rattle.connection.specs.declared.Remote.{Remote}
 use Rattle.event_decode.specs.declared.Call.{Call}
-use Rattle.event_decode.specs.declared.Call.TheVariants.{Unknown, Unfit, Ticks, Own, Lost, Segment, Walk}
+use Rattle.event_decode.specs.declared.BadCall.{BadCall}
+use Rattle.event_decode.specs.declared.BadCall.TheVariants.{Unknown, Unfit}
+use Rattle.event_decode.specs.declared.Call.TheVariants.{Ticks, Own, Lost, Segment, Walk}
 use Rattle.event_decode.specs.declared.Call.TheVariants.{TakeWaiting, Datagram, Accept, Transmit, SwitchAll, ReadCount, ClearCount}
 use Rattle.event_decode.specs.Calls.{call_of, bytes_from}
 use Rattle.entry_events.specs.Change.{event_of, loss_of}
@@ -22,7 +25,7 @@ use Rattle.entry_ticks.specs.Tick.{ticks_event}
 use Rattle.entry_receive.specs.Walk.{walk_of}
 use Rattle.entry_arrivals.specs.Arrivals.{datagram_of, accept_of}
 use Rattle.entry_send.specs.Sending.{send_of, taken_waiting, taken_out}
-use Rattle.event_answer.specs.declared.Verdict.TheVariants.{Done, Small}
+use Rattle.event_answer.specs.declared.NoAnswer.TheVariants.{Small}
 use Rattle.event_answer.specs.Answers.{Effect, untouched, room, if_room}
 use Rattle.event_answer.proofs.Short.{with-room}
 use Rattle.dispatch_events.specs.Events.{told_effect, loss_effect, ticked, counted_effect, own_effect}
@@ -44,10 +47,10 @@ module _ (l : Loan) (out : List ℕ) (long : room ≤ length out) where
   Told e = StandsWhole out e.verdict e.out
 
   -- bytes laid at the front, where there is room, are all there
-  laid : (bytes : List ℕ) → length bytes ≤ room → StandsWhole out (Done (length bytes)) (lay out 0 bytes)
+  laid : (bytes : List ℕ) → length bytes ≤ room → StandsWhole out (Ok (length bytes)) (lay out 0 bytes)
   laid bytes h =
       let z : 0 + length bytes ≡ length bytes = omega arith in
-      subst (StandsWhole out (Done (length bytes))) (sym (lay-fits out 0 bytes (omega arith) ∙ ap (λ (k : ℕ). bytes ++ drop k out) z)) (answer bytes h)
+      subst (StandsWhole out (Ok (length bytes))) (sym (lay-fits out 0 bytes (omega arith) ∙ ap (λ (k : ℕ). bytes ++ drop k out) z)) (answer bytes h)
 
   -- such a buffer is not refused
   past : (e : Effect) → Told e → Told (if_room l.state l.rx l.tx out e)
@@ -112,22 +115,22 @@ module _ (l : Loan) (out : List ℕ) (long : room ≤ length out) where
   transmit-whole pdu payload = past (sent_effect l out pdu payload) (laid _ (omega (arith, transmission_size (send_of l pdu payload).answer)))
 
   -- the step of a call whose segment or datagram, where it has one, is short enough
-  call_whole : (body : List ℕ) (call : Call) → Short body call → Told (effect_of l out body call)
+  call_whole : (body : List ℕ) (call : Result Call BadCall) → Short body call → Told (effect_of l out body call)
   unfolding effect_of
-  call_whole body Unknown h = unknown
-  call_whole body Unfit h = unfit
-  call_whole body (Ticks n) h = ticks-whole n
-  call_whole body (Own c e) h = own-whole c e
-  call_whole body (Lost c) h = lost-whole c
-  call_whole body (Segment c at) h = segment-whole c (bytes_from body at) (segment-fits body c at h)
-  call_whole body (Walk c place at) h = walk-whole c place (bytes_from body at) (walk-fits body c place at h)
-  call_whole body (TakeWaiting c n) h = take_whole c n
-  call_whole body (Datagram group source) h = datagram-whole group source
-  call_whole body (Accept group source) h = accept-whole group source
-  call_whole body (Transmit pdu at) h = transmit-whole pdu (bytes_from body at)
-  call_whole body (SwitchAll number on) h = switch_all-whole number on
-  call_whole body (ReadCount protocol) h = read_whole protocol
-  call_whole body (ClearCount protocol) h = clear_whole protocol
+  call_whole body (Err Unknown) h = unknown
+  call_whole body (Err Unfit) h = unfit
+  call_whole body (Ok (Ticks n)) h = ticks-whole n
+  call_whole body (Ok (Own c e)) h = own-whole c e
+  call_whole body (Ok (Lost c)) h = lost-whole c
+  call_whole body (Ok (Segment c at)) h = segment-whole c (bytes_from body at) (segment-fits body c at h)
+  call_whole body (Ok (Walk c place at)) h = walk-whole c place (bytes_from body at) (walk-fits body c place at h)
+  call_whole body (Ok (TakeWaiting c n)) h = take_whole c n
+  call_whole body (Ok (Datagram group source)) h = datagram-whole group source
+  call_whole body (Ok (Accept group source)) h = accept-whole group source
+  call_whole body (Ok (Transmit pdu at)) h = transmit-whole pdu (bytes_from body at)
+  call_whole body (Ok (SwitchAll number on)) h = switch_all-whole number on
+  call_whole body (Ok (ReadCount protocol)) h = read_whole protocol
+  call_whole body (Ok (ClearCount protocol)) h = clear_whole protocol
 
 -- EVERY ANSWER, of any image, state, memories, number, body and out buffer
 pub answer-whole : (l : Loan) (out : List ℕ) (number : ℕ) (body : List ℕ)
@@ -136,7 +139,7 @@ unfolding dispatch_of
 answer-whole l out number body = go (ltb (length out) room) refl
   where
     go : (b : Bool) → ltb (length out) room ≡ b
-        → StandsWhole out (cond b (untouched Small l.state l.rx l.tx out) (effect_of l out body (call_of number body))).verdict
-        (cond b (untouched Small l.state l.rx l.tx out) (effect_of l out body (call_of number body))).out
+        → StandsWhole out (cond b (untouched (Err Small) l.state l.rx l.tx out) (effect_of l out body (call_of number body))).verdict
+        (cond b (untouched (Err Small) l.state l.rx l.tx out) (effect_of l out body (call_of number body))).out
     go true e = small
     go false e = call_whole l out (ltb-false (length out) room e) body (call_of number body) (call_short number body)

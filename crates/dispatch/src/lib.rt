@@ -6,7 +6,7 @@ ghost use Rattle.event_answer.specs.Answers.{dispatched};
 ghost use Rattle.dispatch.specs.Dispatch.{effect_of, dispatch_of};
 ghost use Rattle.gate.specs.Lent.{loan};
 
-use event_answer::{Dispatched, Verdict};
+use event_answer::{Answered, NoAnswer, has_room};
 use event_decode::{Call, bytes_from, call_of};
 use state::State;
 
@@ -19,25 +19,17 @@ fn answer_call(
     body: &[u8],
     call: Call,
     out: &mut [u8],
-) -> Dispatched
+) -> Result<Answered, NoAnswer>
     ensures value { result ≡ dispatched
-        (effect_of (loan image.now state rx.old tx.old) out.old body.now call) }
+        (effect_of (loan image.now state rx.old tx.old) out.old body.now (Ok call)) }
     ensures rx_after { rx.new
-        ≡ (effect_of (loan image.now state rx.old tx.old) out.old body.now call).rx }
+        ≡ (effect_of (loan image.now state rx.old tx.old) out.old body.now (Ok call)).rx }
     ensures tx_after { tx.new
-        ≡ (effect_of (loan image.now state rx.old tx.old) out.old body.now call).tx }
+        ≡ (effect_of (loan image.now state rx.old tx.old) out.old body.now (Ok call)).tx }
     ensures out_after { out.new
-        ≡ (effect_of (loan image.now state rx.old tx.old) out.old body.now call).out }
+        ≡ (effect_of (loan image.now state rx.old tx.old) out.old body.now (Ok call)).out }
 {
     match call {
-        Call::Unknown => Dispatched {
-            verdict: Verdict::Unknown,
-            state: state,
-        },
-        Call::Unfit => Dispatched {
-            verdict: Verdict::Unfit,
-            state: state,
-        },
         Call::Ticks(n) => dispatch_events::many_ticks(image, state, rx, tx, n, out),
         Call::Own { connection, event } => {
             dispatch_events::own(image, state, rx, tx, connection, event, out)
@@ -98,7 +90,7 @@ pub fn dispatch(
     number: u16,
     body: &[u8],
     out: &mut [u8],
-) -> Dispatched
+) -> Result<Answered, NoAnswer>
     ensures value { result ≡ dispatched
         (dispatch_of (loan image.now state rx.old tx.old) out.old number body.now) }
     ensures rx_after { rx.new
@@ -108,12 +100,7 @@ pub fn dispatch(
     ensures out_after { out.new
         ≡ (dispatch_of (loan image.now state rx.old tx.old) out.old number body.now).out }
 {
-    if out.len() < 16384 {
-        return Dispatched {
-            verdict: Verdict::Small,
-            state: state,
-        };
-    }
-    let call = call_of(number, body);
+    has_room(out)?;
+    let call = call_of(number, body)?;
     answer_call(image, state, rx, tx, body, call, out)
 }

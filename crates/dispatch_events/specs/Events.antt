@@ -1,9 +1,5 @@
 -- The answers of the events that write no memory, as bytes (R16.2; docs/EVENTS.md, "The answer").
-use Rattle.std.specs.Prelude.{ℕ, Bool, cond, List}
-use Rattle.connection.specs.declared.Answer.{Answer}
-use Rattle.connection.specs.declared.Answer.TheVariants.{Done, Refused}
-use Rattle.entry_events.specs.declared.CountAnswer.{CountAnswer}
-use Rattle.entry_events.specs.declared.CountAnswer.TheVariants.{Count, Refused as Uncounted}
+use Rattle.std.specs.Prelude.{ℕ, Bool, cond, List, Result, Ok, Err}
 use Rattle.connection.specs.declared.Event.{Event}
 use Rattle.entry_events.specs.declared.Told.{Told}
 use Rattle.entry_events.specs.declared.Loss.{Loss}
@@ -15,29 +11,30 @@ use Rattle.entry_ticks.specs.declared.Ticked.{Ticked}
 use Rattle.entry_ticks.specs.Tick.{ticks_event}
 use Rattle.gate.specs.Lent.{Loan, sizes}
 use Rattle.event_answer.specs.Answers.{Effect, answers, if_room, refusal, done_alone, done_with}
+use Rattle.connection.specs.declared.Refusal.{Refusal}
 
 -- "any other: nothing"
-abbrev pub told_bytes : Answer → List ℕ
-told_bytes Done = done_alone
-told_bytes (Refused r) = refusal r
+abbrev pub told_bytes : Result Unit Refusal → List ℕ
+told_bytes (Ok tt) = done_alone
+told_bytes (Err r) = refusal r
 
 -- "lost: failed (1), 0 or 1"
 abbrev pub failed_byte : Bool → ℕ
 failed_byte failed = cond failed 1 0
 
-abbrev pub loss_bytes : Answer → Bool → List ℕ
-loss_bytes Done failed = done_with 1 (failed_byte failed)
-loss_bytes (Refused r) failed = refusal r
+abbrev pub loss_bytes : Result Unit Refusal → Bool → List ℕ
+loss_bytes (Ok tt) failed = done_with 1 (failed_byte failed)
+loss_bytes (Err r) failed = refusal r
 
 -- "n ticks: failed connections (2), bit k (worth 2 to the k) for connection k"
-abbrev pub ticks_bytes : Answer → ℕ → List ℕ
-ticks_bytes Done failed = done_with 2 failed
-ticks_bytes (Refused r) failed = refusal r
+abbrev pub ticks_bytes : Result Unit Refusal → ℕ → List ℕ
+ticks_bytes (Ok tt) failed = done_with 2 failed
+ticks_bytes (Err r) failed = refusal r
 
 -- "counts: value (4)"
-abbrev pub count_bytes : CountAnswer → List ℕ
-count_bytes (Count v) = done_with 4 v
-count_bytes (Uncounted r) = refusal r
+abbrev pub count_bytes : Result ℕ Refusal → List ℕ
+count_bytes (Ok v) = done_with 4 v
+count_bytes (Err r) = refusal r
 
 -- what each leaves where there is room: the state that its entry point gives, both memories as they were
 abbrev pub told_effect : Told → List ℕ → List ℕ → List ℕ → Effect

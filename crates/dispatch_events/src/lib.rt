@@ -8,57 +8,51 @@ ghost use Rattle.event_answer.specs.Answers.{dispatched};
 ghost use Rattle.dispatch_events.specs.Events as Is;
 ghost use Rattle.gate.specs.Lent.{loan};
 
-use connection::{Answer, Event, failed};
-use entry_events::CountAnswer;
-use event_answer::{Dispatched, Verdict, put_done, put_done1, put_done2, put_done4, put_refusal};
-use gate::{Gate, ask_at};
+use connection::{Event, Refusal, failed};
+use event_answer::{Answered, NoAnswer, has_room, put_done, put_done_with, put_refusal};
+use gate::ask_at;
 use state::{State, config_laid};
 
-fn put_told(out: &mut [u8], answer: Answer) -> usize
+fn put_told(out: &mut [u8], answer: Result<(), Refusal>) -> usize
     ensures value { result ≡ length (Is.told_bytes answer) }
     ensures out_after { out.new ≡ lay out.old 0 (Is.told_bytes answer) }
 {
     match answer {
-        Answer::Done => put_done(out),
-        Answer::Refused(reason) => put_refusal(out, reason),
+        Ok(()) => put_done(out),
+        Err(reason) => put_refusal(out, reason),
     }
 }
 
-// Failed as a byte.
-fn failed_byte(failed: bool) -> u8
-    ensures { result ≡ Is.failed_byte failed }
-{
-    if failed { 1 } else { 0 }
-}
-
-fn put_loss(out: &mut [u8], answer: Answer, failed: bool) -> usize
+#[tactic(auto, using(event_answer::proofs::Bytes::one_byte))]
+fn put_loss(out: &mut [u8], answer: Result<(), Refusal>, failed: bool) -> usize
     ensures value { result ≡ length (Is.loss_bytes answer failed) }
     ensures out_after { out.new ≡ lay out.old 0 (Is.loss_bytes answer failed) }
 {
-    let byte = failed_byte(failed);
     match answer {
-        Answer::Done => put_done1(out, byte),
-        Answer::Refused(reason) => put_refusal(out, reason),
+        Ok(()) => put_done_with(out, &[u8::from(failed)]),
+        Err(reason) => put_refusal(out, reason),
     }
 }
 
-fn put_ticks(out: &mut [u8], answer: Answer, failed: u16) -> usize
+#[tactic(auto, using(event_answer::proofs::Bytes::two_bytes))]
+fn put_ticks(out: &mut [u8], answer: Result<(), Refusal>, failed: u16) -> usize
     ensures value { result ≡ length (Is.ticks_bytes answer failed) }
     ensures out_after { out.new ≡ lay out.old 0 (Is.ticks_bytes answer failed) }
 {
     match answer {
-        Answer::Done => put_done2(out, failed),
-        Answer::Refused(reason) => put_refusal(out, reason),
+        Ok(()) => put_done_with(out, &failed.to_be_bytes()),
+        Err(reason) => put_refusal(out, reason),
     }
 }
 
-fn put_count(out: &mut [u8], answer: CountAnswer) -> usize
+#[tactic(auto, using(event_answer::proofs::Bytes::four_bytes))]
+fn put_count(out: &mut [u8], answer: Result<u32, Refusal>) -> usize
     ensures value { result ≡ length (Is.count_bytes answer) }
     ensures out_after { out.new ≡ lay out.old 0 (Is.count_bytes answer) }
 {
     match answer {
-        CountAnswer::Count(value) => put_done4(out, value),
-        CountAnswer::Refused(reason) => put_refusal(out, reason),
+        Ok(value) => put_done_with(out, &value.to_be_bytes()),
+        Err(reason) => put_refusal(out, reason),
     }
 }
 
@@ -66,102 +60,52 @@ fn put_count(out: &mut [u8], answer: CountAnswer) -> usize
 // back.
 pub fn own(
     image: &[u8],
-    state: State,
+    mut state: State,
     rx: &[u8],
     tx: &[u8],
     connection: u8,
     event: Event,
     out: &mut [u8],
-) -> Dispatched
+) -> Result<Answered, NoAnswer>
     ensures value { result ≡ dispatched (Is.own_effect (loan image.now state rx.now tx.now) out.old connection event) }
     ensures out_after { out.new
         ≡ (Is.own_effect (loan image.now state rx.now tx.now) out.old connection event).out }
 {
-    if out.len() < 16384 {
-        return Dispatched {
-            verdict: Verdict::Small,
-            state: state,
-        };
-    }
+    has_room(out)?;
     let n = connection as usize;
-    let records = state.connections;
-    let mut after = State {
-        connections: records,
-        udp_drops: state.udp_drops,
-        tcp_drops: state.tcp_drops,
-    };
-    let asked = ask_at(image, after, rx.len(), tx.len(), n);
-    match asked {
-        Gate::Refused(reason) => {
-            let long = put_refusal(out, reason);
-            return Dispatched {
-                verdict: Verdict::Done(long),
-                state: after,
-            };
-        }
-        Gate::Pass => {
-            let before = after.connections[n];
-            let stepped = before.step(config_laid(image, n), event);
-            let answer = stepped.answer;
-            let next = stepped.connection;
-            after.connections[n] = next;
-            let long = put_told(out, answer);
-            return Dispatched {
-                verdict: Verdict::Done(long),
-                state: after,
-            };
-        }
+    if let Err(reason) = ask_at(image, &state, rx.len(), tx.len(), n) {
+        let length = put_refusal(out, reason);
+        return Ok(Answered { state, length });
     }
+    let stepped = state.connections[n].step(config_laid(image, n), event);
+    state.connections[n] = stepped.connection;
+    let length = put_told(out, stepped.answer);
+    Ok(Answered { state, length })
 }
 
 pub fn lost(
     image: &[u8],
-    state: State,
+    mut state: State,
     rx: &[u8],
     tx: &[u8],
     connection: u8,
     out: &mut [u8],
-) -> Dispatched
+) -> Result<Answered, NoAnswer>
     ensures value { result ≡ dispatched (Is.lost_effect (loan image.now state rx.now tx.now) out.old connection) }
     ensures out_after { out.new
         ≡ (Is.lost_effect (loan image.now state rx.now tx.now) out.old connection).out }
 {
-    if out.len() < 16384 {
-        return Dispatched {
-            verdict: Verdict::Small,
-            state: state,
-        };
-    }
+    has_room(out)?;
     let n = connection as usize;
-    let records = state.connections;
-    let mut after = State {
-        connections: records,
-        udp_drops: state.udp_drops,
-        tcp_drops: state.tcp_drops,
-    };
-    let asked = ask_at(image, after, rx.len(), tx.len(), n);
-    match asked {
-        Gate::Refused(reason) => {
-            let long = put_refusal(out, reason);
-            return Dispatched {
-                verdict: Verdict::Done(long),
-                state: after,
-            };
-        }
-        Gate::Pass => {
-            let before = after.connections[n];
-            let stepped = before.step(config_laid(image, n), Event::Lost);
-            let answer = stepped.answer;
-            let next = stepped.connection;
-            after.connections[n] = next;
-            let now = after.connections[n];
-            let long = put_loss(out, answer, failed(before, now));
-            return Dispatched {
-                verdict: Verdict::Done(long),
-                state: after,
-            };
-        }
+    if let Err(reason) = ask_at(image, &state, rx.len(), tx.len(), n) {
+        let length = put_refusal(out, reason);
+        return Ok(Answered { state, length });
     }
+    let before = state.connections[n];
+    let stepped = before.step(config_laid(image, n), Event::Lost);
+    state.connections[n] = stepped.connection;
+    let length = put_loss(out, stepped.answer, failed(before, state.connections[n]));
+    Ok(Answered { state, length })
 }
 
 pub fn many_ticks(
@@ -171,24 +115,17 @@ pub fn many_ticks(
     tx: &[u8],
     count: u32,
     out: &mut [u8],
-) -> Dispatched
+) -> Result<Answered, NoAnswer>
     ensures value { result ≡ dispatched (Is.ticks_effect (loan image.now state rx.now tx.now) out.old count) }
     ensures out_after { out.new ≡ (Is.ticks_effect (loan image.now state rx.now tx.now) out.old count).out }
 {
-    if out.len() < 16384 {
-        return Dispatched {
-            verdict: Verdict::Small,
-            state: state,
-        };
-    }
+    has_room(out)?;
     let entry = entry_ticks::ticks_by(image, state, rx.len(), tx.len(), count);
-    let answer = entry.answer;
-    let after = entry.state;
-    let n = put_ticks(out, answer, entry.failed);
-    Dispatched {
-        verdict: Verdict::Done(n),
-        state: after,
-    }
+    let length = put_ticks(out, entry.answer, entry.failed);
+    Ok(Answered {
+        state: entry.state,
+        length,
+    })
 }
 
 pub fn switch_all(
@@ -199,25 +136,18 @@ pub fn switch_all(
     number: u8,
     on: bool,
     out: &mut [u8],
-) -> Dispatched
+) -> Result<Answered, NoAnswer>
     ensures value { result ≡ dispatched (Is.switch_all_effect (loan image.now state rx.now tx.now) out.old number on) }
     ensures out_after { out.new
         ≡ (Is.switch_all_effect (loan image.now state rx.now tx.now) out.old number on).out }
 {
-    if out.len() < 16384 {
-        return Dispatched {
-            verdict: Verdict::Small,
-            state: state,
-        };
-    }
+    has_room(out)?;
     let entry = entry_events::switch_all(image, state, rx, tx, number, on);
-    let answer = entry.answer;
-    let after = entry.state;
-    let n = put_told(out, answer);
-    Dispatched {
-        verdict: Verdict::Done(n),
-        state: after,
-    }
+    let length = put_told(out, entry.answer);
+    Ok(Answered {
+        state: entry.state,
+        length,
+    })
 }
 
 pub fn read_count(
@@ -227,24 +157,17 @@ pub fn read_count(
     tx: &[u8],
     protocol: u8,
     out: &mut [u8],
-) -> Dispatched
+) -> Result<Answered, NoAnswer>
     ensures value { result ≡ dispatched (Is.read_effect (loan image.now state rx.now tx.now) out.old protocol) }
     ensures out_after { out.new ≡ (Is.read_effect (loan image.now state rx.now tx.now) out.old protocol).out }
 {
-    if out.len() < 16384 {
-        return Dispatched {
-            verdict: Verdict::Small,
-            state: state,
-        };
-    }
+    has_room(out)?;
     let entry = entry_events::read_count(image, state, rx, tx, protocol);
-    let answer = entry.answer;
-    let after = entry.state;
-    let n = put_count(out, answer);
-    Dispatched {
-        verdict: Verdict::Done(n),
-        state: after,
-    }
+    let length = put_count(out, entry.answer);
+    Ok(Answered {
+        state: entry.state,
+        length,
+    })
 }
 
 pub fn clear_count(
@@ -254,22 +177,15 @@ pub fn clear_count(
     tx: &[u8],
     protocol: u8,
     out: &mut [u8],
-) -> Dispatched
+) -> Result<Answered, NoAnswer>
     ensures value { result ≡ dispatched (Is.clear_effect (loan image.now state rx.now tx.now) out.old protocol) }
     ensures out_after { out.new ≡ (Is.clear_effect (loan image.now state rx.now tx.now) out.old protocol).out }
 {
-    if out.len() < 16384 {
-        return Dispatched {
-            verdict: Verdict::Small,
-            state: state,
-        };
-    }
+    has_room(out)?;
     let entry = entry_events::clear_count(image, state, rx, tx, protocol);
-    let answer = entry.answer;
-    let after = entry.state;
-    let n = put_count(out, answer);
-    Dispatched {
-        verdict: Verdict::Done(n),
-        state: after,
-    }
+    let length = put_count(out, entry.answer);
+    Ok(Answered {
+        state: entry.state,
+        length,
+    })
 }

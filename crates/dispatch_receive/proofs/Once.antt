@@ -1,4 +1,5 @@
 -- One take past the gate is the entry point's, on the state that part and drop count are put back into.
+use Rattle.std.proofs.Common.{Result, Ok, Err}
 use Prim.Native.Nat.{ℕ, ◌+◌, ◌-◌, ◌*◌, ◌<◌, ◌≤◌}
 use mathlib.Core.Path.{◌≡◌, refl, sym, ap, ap₂, ◌∙◌}
 use mathlib.Core.Bool.{true, false}
@@ -24,8 +25,7 @@ use Rattle.receive_stream.specs.declared.Taken.{Taken}
 use Rattle.receive_stream.specs.Stream.{taken_of, rx_after}
 use Rattle.receive_stream.proofs.Leaves.{leaves-length}
 use Rattle.entry_receive.proofs.Taking.{stretch-all, mid_laid}
-use Rattle.entry_receive.specs.declared.Answer.{Answer}
-use Rattle.entry_receive.specs.declared.Answer.TheVariants.{Done, Refused, NotReceiving}
+use Rattle.entry_receive.specs.declared.NotReceived.TheVariants.{Refused, NotReceiving}
 use Rattle.entry_receive.specs.declared.SegmentTaken.{SegmentTaken}
 use Rattle.entry_receive.specs.Answer.{is_done}
 use Rattle.entry_receive.specs.Segment.{drops_after, count_take, taken_at, take_on, memory_on, segment_answer, payload_of}
@@ -34,17 +34,18 @@ use Rattle.dispatch_receive.specs.declared.Turn.{Turn}
 use Rattle.dispatch_receive.specs.Segment.{take_bytes, bytes_if_done, take_at, memory_at, bytes_at}
 use Rattle.dispatch_receive.specs.Turn.{taken_from, memory_from, turn_bytes, take_turn, Goes, put_back}
 use Rattle.dispatch_receive.proofs.Room.{taken_is, memory-is}
+use Rattle.entry_receive.specs.declared.NotReceived.{NotReceived}
 
 -- a refused take has no bytes, another has them
-pub refused_none : (a : Answer) (x : List ℕ) → is_done a ≡ false → [] ≡ bytes_if_done a x
-refused_none Done x e = let z : ◌≡◌ {A = ℕ} 0 1 = cc in absurd (omega arith)
-refused_none (Refused r) x e = refl
-refused_none NotReceiving x e = refl
+pub refused_none : (a : Result Unit NotReceived) (x : List ℕ) → is_done a ≡ false → [] ≡ bytes_if_done a x
+refused_none (Ok tt) x e = let z : ◌≡◌ {A = ℕ} 0 1 = cc in absurd (omega arith)
+refused_none (Err (Refused r)) x e = refl
+refused_none (Err NotReceiving) x e = refl
 
-pub done_all : (a : Answer) (x : List ℕ) → is_done a ≡ true → x ≡ bytes_if_done a x
-done_all Done x e = refl
-done_all (Refused r) x e = let z : ◌≡◌ {A = ℕ} 0 1 = cc in absurd (omega arith)
-done_all NotReceiving x e = let z : ◌≡◌ {A = ℕ} 0 1 = cc in absurd (omega arith)
+pub done_all : (a : Result Unit NotReceived) (x : List ℕ) → is_done a ≡ true → x ≡ bytes_if_done a x
+done_all (Ok tt) x e = refl
+done_all (Err (Refused r)) x e = let z : ◌≡◌ {A = ℕ} 0 1 = cc in absurd (omega arith)
+done_all (Err NotReceiving) x e = let z : ◌≡◌ {A = ℕ} 0 1 = cc in absurd (omega arith)
 
 -- part and drop count put back
 module _ (s : State) (k : ℕ) where
@@ -86,7 +87,7 @@ module _ (l : Loan) (k : ℕ) (segment : List ℕ) (t : Turn) (rx : List ℕ) (t
   memory = memory_from (body_of image Routes) (record_at s k).switches k segment t rx
 
   abbrev pub turned : SegmentTaken
-  turned = record { answer = Done; read = taken.read; outcome = taken.outcome; state = put_back s k taken.part (drops_after taken.outcome t.drops) }
+  turned = record { answer = Ok tt; read = taken.read; outcome = taken.outcome; state = put_back s k taken.part (drops_after taken.outcome t.drops) }
 
   same_taken : taken_at image at_turn rx k (drop t.at segment) ≡ taken
   same_taken =
@@ -98,7 +99,7 @@ module _ (l : Loan) (k : ℕ) (segment : List ℕ) (t : Turn) (rx : List ℕ) (t
   turn-taken =
       taken_is (received l at_turn rx) k (drop t.at segment) clear
       ∙ ap (λ (x : State). record {
-        answer = Done;
+        answer = Ok tt;
         read = (taken_at image at_turn rx k (drop t.at segment)).read;
         outcome =
             (taken_at image at_turn rx k (drop t.at segment)).outcome;
@@ -107,7 +108,7 @@ module _ (l : Loan) (k : ℕ) (segment : List ℕ) (t : Turn) (rx : List ℕ) (t
       (joined_again s k there t.part t.drops (taken_at image at_turn rx k (drop t.at segment)).part
       (taken_at image at_turn rx k (drop t.at segment)).outcome)
       ∙ ap (λ (u : Taken). record
-      { answer = Done; read = u.read; outcome = u.outcome; state = put_back s k u.part (drops_after u.outcome t.drops) }) same_taken
+      { answer = Ok tt; read = u.read; outcome = u.outcome; state = put_back s k u.part (drops_after u.outcome t.drops) }) same_taken
 
   pub turn-memory : memory_at (received l at_turn rx) k segment t.at ≡ memory
   unfolding memory_on

@@ -1,6 +1,7 @@
 -- THE WHOLE ANSWER OF A SEGMENT EVENT FITS: whatever the takes find, it has no more bytes than `answer_room` says, and an out buffer that is
 -- not refused has so many; and no more than `plain_room` where no route is marked. A take after another is never refused. And what is
 -- refused for its length.
+use Rattle.std.proofs.Common.{Result, Ok, Err}
 use Prim.Native.Nat.{ℕ, zero, suc, ◌+◌, ◌-◌, ◌*◌, ◌/◌, ◌≤◌, ◌<◌}
 use mathlib.Core.Path.{◌≡◌, refl, sym, ap, ap₂, ◌∙◌, subst}
 use mathlib.Core.Bool.{Bool, true, false, cond, not, false≢true}
@@ -38,15 +39,13 @@ use Rattle.gate.proofs.Pass.{passed_gate_at}
 use Rattle.gate.proofs.Records.{row-routed, record-at}
 use Rattle.receive_stream.specs.Stream.{cell_of, id_of, took_of, taken_of}
 use Rattle.state.specs.Memory.{stretch}
-use Rattle.entry_receive.specs.declared.Answer.{Answer}
-use Rattle.entry_receive.specs.declared.Answer.TheVariants.{Done, Refused, NotReceiving}
+use Rattle.entry_receive.specs.declared.NotReceived.TheVariants.{Refused, NotReceiving}
 use Rattle.entry_receive.specs.declared.SegmentTaken.{SegmentTaken}
 use Rattle.entry_receive.specs.Answer.{is_done, judged_of, judged_answer}
 use Rattle.entry_receive.specs.Segment.{taken_at, take_on, memory_on, none_taken, segment_answer, segment_of, memory_of, payload_of}
 use Rattle.entry_receive.proofs.Answers.{Clear, done_clear}
 use Rattle.entry_receive.proofs.Keeps.{in_range, count-records, take_clear}
-use Rattle.event_answer.specs.declared.Verdict.{Verdict}
-use Rattle.event_answer.specs.declared.Verdict.TheVariants.{Unfit, Small}
+use Rattle.event_answer.specs.declared.NoAnswer.TheVariants.{Unfit, Small}
 use Rattle.event_answer.specs.Answers.{Effect, untouched, room, done_with}
 use Rattle.event_answer.proofs.Chain.{length_found}
 use Rattle.event_answer.proofs.Short.{no_room, room_keeps}
@@ -56,16 +55,18 @@ use Rattle.dispatch_receive.specs.Segment.{lent_next, take_bytes, bytes_if_done,
 use Rattle.dispatch_receive.specs.Segment.{take_follows, takes_up_to, all_takes, event_bytes, takes_effect, answer_room, none_marked, plain_room}
 use Rattle.dispatch_receive.specs.Segment.{segment_effect}
 use Rattle.dispatch_receive.proofs.Size.{NoneMarked, Pays, whole, most, most-all, most_least, spent_within, spent_goes}
+use Rattle.entry_receive.specs.declared.NotReceived.{NotReceived}
+use Rattle.event_answer.specs.Answers.{Verdict}
 
 -- what nothing refuses is done
 clear_done : (l : Lent) (k : ℕ) (allowed : Bool) → Clear l k allowed → is_done (judged_answer l k allowed) ≡ true
 unfolding judged_answer judged_of
 clear_done l k allowed c = rw (passed_gate_at l k c.passed c.there, c.allows, c.receives) refl
 
-bytes_of-within : (a : Answer) (x : List ℕ) → length (bytes_if_done a x) ≤ length x
-bytes_of-within Done x = omega arith
-bytes_of-within (Refused r) x = omega arith
-bytes_of-within NotReceiving x = omega arith
+bytes_of-within : (a : Result Unit NotReceived) (x : List ℕ) → length (bytes_if_done a x) ≤ length x
+bytes_of-within (Ok tt) x = omega arith
+bytes_of-within (Err (Refused r)) x = omega arith
+bytes_of-within (Err NotReceiving) x = omega arith
 
 rows-within : (routes : List ℕ) → rows_in routes ≤ length routes / 16
 unfolding rows_in
@@ -113,7 +114,7 @@ module _ (l : Loan) (k : ℕ) (seg : List ℕ) where
   abbrev rx : List ℕ
   rx = l.rx
 
-  abbrev answer : Answer
+  abbrev answer : Result Unit NotReceived
   answer = segment_answer (sizes l) k
 
   abbrev bytes_from : ℕ → List ℕ → SegmentTaken → List ℕ
@@ -288,12 +289,13 @@ module _ (l : Loan) (k : ℕ) (segment : List ℕ) where
   plain-takes : none_marked l.image ≡ true → 4 + length (all_takes l k segment).bytes ≤ plain_room segment
   plain-takes none = omega (arith, run_fits (plain none) (length segment) (begun l.state l.rx), most-all (record_at l.state k).part)
 
-  event_size : (room : ℕ) (a : Answer) (count : ℕ) (bytes : List ℕ) → 6 ≤ room → 4 + length bytes ≤ room → length (event_bytes a count bytes) ≤ room
-  event_size room Done count bytes six h =
+  event_size : (room : ℕ) (a : Result Unit NotReceived) (count : ℕ) (bytes : List ℕ) → 6 ≤ room → 4 + length bytes ≤ room
+      → length (event_bytes a count bytes) ≤ room
+  event_size room (Ok tt) count bytes six h =
       omega (arith, h, length-append (done_with 2 count) bytes, length-append (spell 2 0) (spell 2 count), length-spell 2 0, length-spell 2 count)
-  event_size room (Refused r) count bytes six h =
+  event_size room (Err (Refused r)) count bytes six h =
       omega (arith, six, length-append (spell 2 (refusal_number r)) (spell 4 0), length-spell 2 (refusal_number r), length-spell 4 0)
-  event_size room NotReceiving count bytes six h = omega (arith, six, length-append (spell 2 4) (spell 4 0), length-spell 2 4, length-spell 4 0)
+  event_size room (Err NotReceiving) count bytes six h = omega (arith, six, length-append (spell 2 4) (spell 4 0), length-spell 2 4, length-spell 4 0)
 
   abbrev whole-bytes : List ℕ
   whole-bytes = event_bytes (all_takes l k segment).answer (all_takes l k segment).count (all_takes l k segment).bytes
@@ -311,21 +313,21 @@ module _ (l : Loan) (k : ℕ) (segment : List ℕ) where
 -- WHAT IS REFUSED: an out buffer that is too short, and then bytes that are too long; nothing else
 module _ (l : Loan) (out bytes : List ℕ) (e : Effect) where
   abbrev judged : Bool → Bool → Effect
-  judged small long = cond small (untouched Small l.state l.rx l.tx out) (cond long (untouched Unfit l.state l.rx l.tx out) e)
+  judged small long = cond small (untouched (Err Small) l.state l.rx l.tx out) (cond long (untouched (Err Unfit) l.state l.rx l.tx out) e)
 
   pub fits-is : room ≤ length out → length bytes ≤ longest_body → if_fits l out bytes e ≡ e
   fits-is roomy short = ap₂ judged (le-ltb (length out) room roomy) (le-ltb longest_body (length bytes) short)
 
-  pub long-is : room ≤ length out → longest_body < length bytes → if_fits l out bytes e ≡ untouched Unfit l.state l.rx l.tx out
+  pub long-is : room ≤ length out → longest_body < length bytes → if_fits l out bytes e ≡ untouched (Err Unfit) l.state l.rx l.tx out
   long-is roomy long = ap₂ judged (le-ltb (length out) room roomy) (lt-ltb longest_body (length bytes) long)
 
   -- what the event leaves as it was, a refusal does
   pub fits_keeps : {A : Type 0} (f : Effect → A) (x : A)
       → ((v : Verdict) → x ≡ f (untouched v l.state l.rx l.tx out)) → x ≡ f e → x ≡ f (if_fits l out bytes e)
-  fits_keeps f x refusing h = room_keeps l.state l.rx l.tx out _ f x (refusing Small) (go (too_long bytes))
+  fits_keeps f x refusing h = room_keeps l.state l.rx l.tx out _ f x (refusing (Err Small)) (go (too_long bytes))
     where
       go : (long : Bool) → x ≡ f (judged false long)
-      go true = refusing Unfit
+      go true = refusing (Err Unfit)
       go false = h
 
 -- .. of a segment
@@ -333,11 +335,11 @@ module _ (l : Loan) (out : List ℕ) (k : ℕ) (segment : List ℕ) where
   abbrev taken : Effect
   taken = takes_effect (all_takes l k segment) l.tx out
 
-  pub segment-small : length out < room → segment_effect l out k segment ≡ untouched Small l.state l.rx l.tx out
+  pub segment-small : length out < room → segment_effect l out k segment ≡ untouched (Err Small) l.state l.rx l.tx out
   unfolding segment_effect
   segment-small small = no_room l.state l.rx l.tx out _ small
 
-  pub segment-long : room ≤ length out → longest_body < length segment → segment_effect l out k segment ≡ untouched Unfit l.state l.rx l.tx out
+  pub segment-long : room ≤ length out → longest_body < length segment → segment_effect l out k segment ≡ untouched (Err Unfit) l.state l.rx l.tx out
   unfolding segment_effect
   segment-long roomy long = long-is l out segment taken roomy long
 
@@ -355,11 +357,11 @@ module _ (l : Loan) (out : List ℕ) (k place : ℕ) (datagram : List ℕ) where
   abbrev walked : Effect
   walked = walked_effect l out k place datagram
 
-  pub walk-small : length out < room → walk_effect l out k place datagram ≡ untouched Small l.state l.rx l.tx out
+  pub walk-small : length out < room → walk_effect l out k place datagram ≡ untouched (Err Small) l.state l.rx l.tx out
   unfolding walk_effect
   walk-small small = no_room l.state l.rx l.tx out _ small
 
-  pub walk-long : room ≤ length out → longest_body < length datagram → walk_effect l out k place datagram ≡ untouched Unfit l.state l.rx l.tx out
+  pub walk-long : room ≤ length out → longest_body < length datagram → walk_effect l out k place datagram ≡ untouched (Err Unfit) l.state l.rx l.tx out
   unfolding walk_effect
   walk-long roomy long = long-is l out datagram walked roomy long
 

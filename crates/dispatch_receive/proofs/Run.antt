@@ -1,4 +1,5 @@
 -- The takes of a segment event, one after the other.
+use Rattle.std.proofs.Common.{Result, Ok, Err}
 use Prim.Native.Nat.{ℕ, zero, suc, ◌+◌, ◌-◌, ◌*◌, ◌≤◌, ◌<◌}
 use mathlib.Core.Path.{◌≡◌, refl, sym, ap, ap₂, ◌∙◌}
 use mathlib.Core.Bool.{Bool, true, false, cond, false≢true}
@@ -24,13 +25,12 @@ use Rattle.receive_route.specs.Route.{lookup_of}
 use Rattle.state.specs.State.{record_at}
 use Rattle.state.specs.Memory.{stretch}
 use Rattle.receive_stream.specs.Stream.{cell_of, taken_of, took_of}
-use Rattle.entry_receive.specs.declared.Answer.{Answer}
-use Rattle.entry_receive.specs.declared.Answer.TheVariants.{Done, Refused, NotReceiving}
+use Rattle.entry_receive.specs.declared.NotReceived.TheVariants.{Refused, NotReceiving}
 use Rattle.entry_receive.specs.declared.SegmentTaken.{SegmentTaken}
 use Rattle.entry_receive.specs.Answer.{is_done}
 use Rattle.entry_receive.specs.Segment.{segment_of, segment_answer, take_on, none_taken}
-use Rattle.event_answer.specs.declared.Verdict.TheVariants.{Done as Written}
-use Rattle.event_answer.specs.declared.Dispatched.{Dispatched}
+use Rattle.event_answer.specs.declared.NoAnswer.{NoAnswer}
+use Rattle.event_answer.specs.declared.Answered.{Answered}
 use Rattle.event_answer.specs.Answers.{dispatched, done_with}
 use Rattle.dispatch_receive.specs.declared.Takes.{Takes}
 use Rattle.dispatch_receive.specs.Long.{longest_body}
@@ -41,6 +41,7 @@ use Rattle.dispatch_receive.proofs.Once.{refused_none, done_all}
 use Rattle.dispatch_receive.proofs.Size.{most, most-all}
 use Rattle.gate.specs.Lent.{Loan, sizes, received}
 use Rattle.dispatch_receive.proofs.Room.{any, none_is, memory-stays, answer-is, bytes-within, bytes_go, bytes_next}
+use Rattle.entry_receive.specs.declared.NotReceived.{NotReceived}
 
 -- a take reads no more than there is, and of what is not empty a byte at least
 rest_less : (R : Routes) (c : Cell) (seg : List ℕ) → 0 < length seg → length (take_b R c seg).rest < length seg
@@ -71,14 +72,14 @@ module _ (l : Loan) (connection : ℕ) (seg : List ℕ) where
       )
       go false e i = let z : ◌≡◌ {A = ℕ} 0 1 = cc in absurd (omega arith)
 
-pub is-done : (a : Answer) → is_done a ≡ true → a ≡ Done
-is-done Done e = refl
-is-done (Refused r) e = absurd (false≢true e)
-is-done NotReceiving e = absurd (false≢true e)
+pub is-done : (a : Result Unit NotReceived) → is_done a ≡ true → a ≡ Ok tt
+is-done (Ok tt) e = refl
+is-done (Err (Refused r)) e = absurd (false≢true e)
+is-done (Err NotReceiving) e = absurd (false≢true e)
 
 -- how far the loop is: the run with the records, memory, bytes and places as they are
 abbrev pub run_at : State → List ℕ → List ℕ → ℕ → ℕ → Progress
-run_at s rx bytes count at = record { answer = Done; state = s; rx = rx; bytes = bytes; count = count; at = at }
+run_at s rx bytes count at = record { answer = Ok tt; state = s; rx = rx; bytes = bytes; count = count; at = at }
 
 module _ (l : Loan) (connection : ℕ) (segment : List ℕ) where
   stops : (n : ℕ) (r : Progress) → take_follows l connection segment (one_take l connection segment r) ≡ false
@@ -142,7 +143,7 @@ module _ (l : Loan) (connection : ℕ) (segment : List ℕ) where
       go false e h = omega (arith, low, inside)
 
   -- the answer of the last take is not asked for the next
-  blind : (n : ℕ) (a : Answer) (s : State) (rx bytes : List ℕ) (count at : ℕ)
+  blind : (n : ℕ) (a : Result Unit NotReceived) (s : State) (rx bytes : List ℕ) (count at : ℕ)
       → takes_up_to l connection segment n (run_at s rx bytes count at)
       ≡ takes_up_to l connection segment n (record { answer = a; state = s; rx = rx; bytes = bytes; count = count; at = at })
   unfolding takes_up_to one_take
@@ -240,7 +241,7 @@ module _ (l : Loan) (connection : ℕ) (segment : List ℕ) where
 
       -- where all is read
       pub going_end : length segment ≤ at + taken.read
-          → (record { answer = Done; count = count + 1; place = place_after out place more_bytes; state = taken.state }
+          → (record { answer = Ok tt; count = count + 1; place = place_after out place more_bytes; state = taken.state }
           ≡ takes_of (all_takes l connection segment))
           × ((memory_at (received l s rx) connection segment at ≡ (all_takes l connection segment).rx)
           × (lay out place more_bytes ≡ lay out₀ 4 (taken_bytes (all_takes l connection segment))))
@@ -249,16 +250,16 @@ module _ (l : Loan) (connection : ℕ) (segment : List ℕ) where
           let r : one_take l connection segment (run_at s rx g.bytes count at) ≡ all_takes l connection segment =
           sym (stops (length segment - count) (run_at s rx g.bytes count at) (and_second (is_done taken.answer) _ (le-ltb _ _ left))) ∙ g.same in
           let b : g.bytes ++ more_bytes ≡ bytes_if_done taken.answer (g.bytes ++ more_bytes) = done_all taken.answer (g.bytes ++ more_bytes) done in (
-            ap₂ (λ (a : Answer) (p : ℕ). kept a (count + 1) p taken.state)
+            ap₂ (λ (a : Result Unit NotReceived) (p : ℕ). kept a (count + 1) p taken.state)
                 (sym (is-done taken.answer done)) (all_placed ∙ ap (λ (x : List ℕ). 4 + length x) b) ∙ ap takes_of r,
             (ap (λ (u : Progress). u.rx) r, all-wrote ∙ ap (lay out₀ 4) b ∙ ap (λ (u : Progress). lay out₀ 4 (taken_bytes u)) r),
           )
         where
-          kept : Answer → ℕ → ℕ → State → Takes
+          kept : Result Unit NotReceived → ℕ → ℕ → State → Takes
           kept a n p u = record { answer = a; count = n; place = p; state = u }
 
   -- THE FIRST TAKE IS REFUSED: it is the only one, and has no bytes
-  pub refused-first : (out : List ℕ) (a : Answer) → a ≡ segment_answer (sizes l) connection → is_done a ≡ false
+  pub refused-first : (out : List ℕ) (a : Result Unit NotReceived) → a ≡ segment_answer (sizes l) connection → is_done a ≡ false
       → (record { answer = a; count = 1; place = 4; state = l.state } ≡ takes_of (all_takes l connection segment))
       × ((l.rx ≡ (all_takes l connection segment).rx) × (out ≡ lay out 4 (taken_bytes (all_takes l connection segment))))
   unfolding one_take
@@ -269,7 +270,7 @@ module _ (l : Loan) (connection : ℕ) (segment : List ℕ) where
       sym (stops (length segment) (begun l.state l.rx) (and_first (is_done (take_at l connection segment 0).answer) _ d)) in
       let n : [] ≡ bytes_if_done (take_at l connection segment 0).answer ([] ++ bytes_at l connection segment 0) =
       refused_none (take_at l connection segment 0).answer ([] ++ bytes_at l connection segment 0) d in (
-        ap (λ (x : Answer). kept x [] l.state) e
+        ap (λ (x : Result Unit NotReceived). kept x [] l.state) e
             ∙ ap (λ (t : SegmentTaken). kept t.answer [] t.state) (sym (none_is l connection (drop 0 segment) f))
             ∙ ap (λ (x : List ℕ). kept (take_at l connection segment 0).answer x (take_at l connection segment 0).state) n
             ∙ ap takes_of r,
@@ -279,7 +280,7 @@ module _ (l : Loan) (connection : ℕ) (segment : List ℕ) where
         ),
       )
     where
-      kept : Answer → List ℕ → State → Takes
+      kept : Result Unit NotReceived → List ℕ → State → Takes
       kept x bytes u = record { answer = x; count = 1; place = 4 + length bytes; state = u }
 
 -- THE NUMBER OF TAKES over a segment that is not too long: an empty one has one take. So two bytes spell it
@@ -305,19 +306,20 @@ lay-front d m x y e h =
     ∙ ap (λ (k : ℕ). x ++ y ++ drop k d) q
     ∙ sym (lay-fits d 0 (x ++ y) (omega arith))
 
-told_length : (a : Answer) (count : ℕ) (bytes : List ℕ) → answer_length a (4 + length (bytes_if_done a bytes)) ≡ length (event_bytes a count bytes)
-told_length Done count bytes = simp (length-append, length-spell)
-told_length (Refused r) count bytes = refl
-told_length NotReceiving count bytes = refl
+told_length : (a : Result Unit NotReceived) (count : ℕ) (bytes : List ℕ)
+    → answer_length a (4 + length (bytes_if_done a bytes)) ≡ length (event_bytes a count bytes)
+told_length (Ok tt) count bytes = simp (length-append, length-spell)
+told_length (Err (Refused r)) count bytes = refl
+told_length (Err NotReceiving) count bytes = refl
 
-told_out : (a : Answer) (count : ℕ) (bytes out : List ℕ) → 4 + length bytes ≤ length out
+told_out : (a : Result Unit NotReceived) (count : ℕ) (bytes out : List ℕ) → 4 + length bytes ≤ length out
     → lay (lay out 4 (bytes_if_done a bytes)) 0 (front_of a count) ≡ lay out 0 (event_bytes a count bytes)
-told_out Done count bytes out h = lay-front out 4 (done_with 2 count) bytes (simp (length-append, length-spell)) h
-told_out (Refused r) count bytes out h = ap (λ (o : List ℕ). lay o 0 (front_of (Refused r) count)) (lay-nothing out 4)
-told_out NotReceiving count bytes out h = ap (λ (o : List ℕ). lay o 0 (front_of NotReceiving count)) (lay-nothing out 4)
+told_out (Ok tt) count bytes out h = lay-front out 4 (done_with 2 count) bytes (simp (length-append, length-spell)) h
+told_out (Err (Refused r)) count bytes out h = ap (λ (o : List ℕ). lay o 0 (front_of (Err (Refused r)) count)) (lay-nothing out 4)
+told_out (Err NotReceiving) count bytes out h = ap (λ (o : List ℕ). lay o 0 (front_of (Err NotReceiving) count)) (lay-nothing out 4)
 
-abbrev handed : ℕ → State → Dispatched
-handed n s = record { verdict = Written n; state = s }
+abbrev handed : ℕ → State → Result Answered NoAnswer
+handed n s = Ok (record { state = s; length = n })
 
 -- the takes' answer is put before their bytes, and handed back
 pub all_told : {k : Takes} {n : ℕ} {rx o o' : List ℕ} (r : Progress) (tx out : List ℕ) → 4 + length r.bytes ≤ length out

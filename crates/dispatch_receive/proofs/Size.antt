@@ -10,6 +10,7 @@ use native.Mathlib.Nat.{mul-le-mul_left}
 use native.Mathlib.Omega.{arith}
 use lib.Dec.{leb, ltb}
 use lib.ListN.{length, take, drop, length-take, length-drop}
+use Rattle.reading.specs.Reasons.{reason_number}
 use Rattle.reading.specs.declared.Decision.{Decision}
 use Rattle.reading.specs.declared.Decision.TheVariants.{Accept, Refuse, Transfer as Move}
 use Rattle.reading.specs.Feed.{Routes, PieceKind, header, payload, skip, Cell, cell, transfer, Out, nothing, pdu, dropped, start, piece, Fed}
@@ -203,14 +204,14 @@ module _ (from read : ℕ) (seg m : List ℕ) (k : ℕ) where
         part-within (stretch 1464 k m) 0 (length p),
         stretch-within k m,
       )
-  any_size ids s (dropped reason id n) = omega (arith, length_found read 2 reason id n)
+  any_size ids s (dropped reason id n) = omega (arith, length_found read 2 (reason_number reason) id n)
   any_size ids s (start r i n b) = omega (arith, length_found read 3 r i n)
   any_size ids s (piece r p b) = omega (arith, length-piece read r (ids r) (length p) b from (read - length p))
 
   here_size : (ids : ℕ → ℕ) (o : Out) → 9 * length (bytes (take_outcome ids true read o)) ≤ 171
   here_size ids nothing = omega (arith, length_found read 0 0 0 0)
   here_size ids (pdu r p) = omega (arith, length-here read r (ids r) (length p) from (read - length p))
-  here_size ids (dropped reason id n) = omega (arith, length_found read 2 reason id n)
+  here_size ids (dropped reason id n) = omega (arith, length_found read 2 (reason_number reason) id n)
   here_size ids (start r i n b) = omega (arith, length_found read 3 r i n)
   here_size ids (piece r p b) = omega (arith, length-piece read r (ids r) (length p) b from (read - length p))
 
@@ -218,7 +219,7 @@ module _ (from read : ℕ) (seg m : List ℕ) (k : ℕ) where
   here-leaves : (ids : ℕ → ℕ) (o : Out) → 9 * length (bytes (take_outcome ids true read o)) + leaves o ≤ 427
   here-leaves ids nothing = omega (arith, length_found read 0 0 0 0)
   here-leaves ids (pdu r p) = omega (arith, length-here read r (ids r) (length p) from (read - length p))
-  here-leaves ids (dropped reason id n) = omega (arith, length_found read 2 reason id n)
+  here-leaves ids (dropped reason id n) = omega (arith, length_found read 2 (reason_number reason) id n)
   here-leaves ids (start r i n b) = omega (arith, length_found read 3 r i n)
   here-leaves ids (piece r p b) = omega (arith, length-piece read r (ids r) (length p) b from (read - length p))
 

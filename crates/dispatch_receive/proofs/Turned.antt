@@ -1,4 +1,5 @@
 -- The takes of a segment event past its one gate: a turn of the loop over part and drop count is a take of the event.
+use Rattle.std.proofs.Common.{Result, Ok}
 use Prim.Native.Nat.{ℕ, ◌+◌, ◌<◌, ◌≤◌}
 use mathlib.Core.Path.{◌≡◌, sym, ap, ap₂, ◌∙◌, subst}
 use mathlib.Core.Bool.{true}
@@ -16,8 +17,6 @@ use Rattle.state.specs.Fresh.{config_of}
 use Rattle.state.specs.Memory.{stretch}
 use Rattle.receive_stream.specs.Stream.{Fit}
 use Rattle.pieces.specs.Pieces.{place_after}
-use Rattle.entry_receive.specs.declared.Answer.{Answer}
-use Rattle.entry_receive.specs.declared.Answer.TheVariants.{Done}
 use Rattle.entry_receive.specs.Answer.{is_done}
 use Rattle.entry_receive.specs.declared.SegmentTaken.{SegmentTaken}
 use Rattle.entry_receive.specs.Segment.{Takes, segment_answer}
@@ -31,6 +30,7 @@ use Rattle.dispatch_receive.specs.Segment.{Progress, take_at, memory_at, bytes_a
 use Rattle.dispatch_receive.specs.Turn.{memory_from, turn_bytes, take_turn, Goes, put_back, taken_bytes, takes_of}
 use Rattle.dispatch_receive.proofs.Once.{joined-own, record_joined, turned, turn-taken, turn-memory, turn-bytes}
 use Rattle.dispatch_receive.proofs.Run.{is-done, Going, going_start, going_on, going_end}
+use Rattle.entry_receive.specs.declared.NotReceived.{NotReceived}
 
 -- WHERE THE GATE IS OPEN the image is laid out, and the connection is there
 pub record Open (l : Lent) (k : ℕ) : Type 0 where
@@ -39,7 +39,7 @@ pub record Open (l : Lent) (k : ℕ) : Type 0 where
   pub small : k < 16
   pub there : k < length l.state.connections
 
-pub gate_open : {a : Answer} (l : Lent) (k : ℕ) → a ≡ segment_answer l k → is_done a ≡ true → Open l k
+pub gate_open : {a : Result Unit NotReceived} (l : Lent) (k : ℕ) → a ≡ segment_answer l k → is_done a ≡ true → Open l k
 gate_open l k e done =
     let d : is_done (segment_answer l k) ≡ true = ap is_done (sym e) ∙ done in
     let c : Clear l k (config_of l.image k).tcp = done_clear l k (config_of l.image k).tcp d in
@@ -67,7 +67,7 @@ module _ (l : Loan) (k : ℕ) (segment : List ℕ) (out₀ : List ℕ) where
   -- the event's end, after a turn
   abbrev pub Ends : Turn → List ℕ → List ℕ → Type 0
   Ends t rx out =
-      (record { answer = Done; count = t.count; place = t.place; state = put_back s k t.part t.drops } ≡ takes_of all)
+      (record { answer = Ok tt; count = t.count; place = t.place; state = put_back s k t.part t.drops } ≡ takes_of all)
       × ((rx ≡ all.rx) × (out ≡ lay out₀ 4 (taken_bytes all)))
 
   -- the first
@@ -77,11 +77,18 @@ module _ (l : Loan) (k : ℕ) (segment : List ℕ) (out₀ : List ℕ) where
       subst (λ (x : State). Going l k segment out₀ x l.rx out₀ 4 0 0) (joined-own s k) (going_start l k segment out₀ room clear)
 
   -- the state put together
-  pub put_together : (t : Turn) {rx out : List ℕ} → Ends t rx out → {a : Answer} → is_done a ≡ true → {d : Connection} → d ≡ with_part t.part (record_at s k)
+  pub put_together : (t : Turn) {rx out : List ℕ} → Ends t rx out → {a : Result Unit NotReceived} → is_done a ≡ true → {d : Connection}
+      → d ≡ with_part t.part (record_at s k)
       → (record { answer = a; count = t.count; place = t.place; state = with_count true t.drops (with_record k d s) } ≡ takes_of all)
       × ((rx ≡ all.rx) × (out ≡ lay out₀ 4 (taken_bytes all)))
   put_together t e {a} done is = (
-    ap₂ (λ (x : Answer) (d : Connection). record { answer = x; count = t.count; place = t.place; state = with_count true t.drops (with_record k d s) })
+    ap₂ (λ (x : Result Unit NotReceived) (d : Connection). record {
+      answer = x;
+      count = t.count;
+      place = t.place;
+      state = with_count true t.drops
+          (with_record k d s);
+    })
         (is-done a done) is
         ∙ e.0,
     e.1,
@@ -156,7 +163,7 @@ module _ (l : Loan) (k : ℕ) (segment : List ℕ) (out₀ : List ℕ) where
       turn-ends h =
           to Ends
           (moved (λ (u : SegmentTaken) (m b : List ℕ).
-          (record { answer = Done; count = t.count + 1; place = place_after out t.place b; state = u.state } ≡ takes_of all)
+          (record { answer = Ok tt; count = t.count + 1; place = place_after out t.place b; state = u.state } ≡ takes_of all)
           × ((m ≡ all.rx) × (lay out t.place b ≡ lay out₀ 4 (taken_bytes all))))
           (going_end l k segment at_turn rx out t.place t.count t.at g (subst (λ (n : ℕ). length segment ≤ n) far h)))
 

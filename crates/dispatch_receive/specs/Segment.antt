@@ -1,5 +1,6 @@
 -- A segment event (R5.14), the takes over one segment until all is read, one at least; and its answer as bytes (R16.2; docs/EVENTS.md).
-use Rattle.std.specs.Prelude.{ℕ, zero, suc, ◌+◌, ◌*◌, ◌/◌, Bool, true, false, cond, not, ◌&&◌, List, [], ◌++◌, ltb, length, drop}
+use Rattle.std.specs.Prelude.{ℕ, zero, suc, ◌+◌, ◌*◌, ◌/◌, Bool, true, false, cond, not, ◌&&◌, List, [], ◌++◌, ltb, length, drop, Result, Ok, Err}
+use Rattle.reading.specs.Reasons.{reason_number}
 use Rattle.wire.specs.Lay.{spell}
 use Rattle.lists.specs.Search.{every}
 use Rattle.table_layout.specs.Layout.{row_bytes, body_of}
@@ -8,8 +9,7 @@ use Rattle.table_rows.specs.Rows.{route_of}
 use Rattle.state.specs.declared.State.{State}
 use Rattle.receive_stream.specs.declared.Outcome.{Outcome}
 use Rattle.receive_stream.specs.declared.Outcome.TheVariants.{More, Pdu, Drop, Start, Piece}
-use Rattle.entry_receive.specs.declared.Answer.{Answer}
-use Rattle.entry_receive.specs.declared.Answer.TheVariants.{Done, Refused, NotReceiving}
+use Rattle.entry_receive.specs.declared.NotReceived.TheVariants.{Refused, NotReceiving}
 use Rattle.entry_receive.specs.declared.SegmentTaken.{SegmentTaken}
 use Rattle.entry_receive.specs.Answer.{is_done}
 use Rattle.entry_receive.specs.Segment.{segment_of, memory_of, payload_of}
@@ -17,6 +17,7 @@ use Rattle.event_answer.specs.Answers.{Effect, answers, done_with, found_bytes}
 use Rattle.dispatch_receive.specs.Long.{if_fits}
 use Rattle.gate.specs.Lent.{Loan, received}
 use Rattle.dispatch_receive.specs.Walk.{or_refused}
+use Rattle.entry_receive.specs.declared.NotReceived.{NotReceived}
 
 -- a PDU: "where its payload stood: 0 (1) and the place in the segment (4)", for a take that began at the place from of the segment ..
 abbrev pub here_bytes : ℕ → ℕ → ℕ → ℕ → ℕ → ℕ → List ℕ
@@ -40,20 +41,20 @@ abbrev pub take_bytes : ℕ → ℕ → Outcome → List ℕ → List ℕ
 take_bytes from read More payload = found_bytes read 0 0 0 0
 take_bytes from read (Pdu route id true at n) payload = here_bytes read route id n from at
 take_bytes from read (Pdu route id false at n) payload = held_bytes read route id n payload
-take_bytes from read (Drop reason id n) payload = found_bytes read 2 reason id n
+take_bytes from read (Drop reason id n) payload = found_bytes read 2 (reason_number reason) id n
 take_bytes from read (Start route id n last) payload = found_bytes read 3 route id n
 take_bytes from read (Piece route id at n last) payload = piece_spelt read route id n last from at
 
 -- a refused take has none
-abbrev pub bytes_if_done : Answer → List ℕ → List ℕ
-bytes_if_done Done bytes = bytes
-bytes_if_done (Refused r) bytes = []
-bytes_if_done NotReceiving bytes = []
+abbrev pub bytes_if_done : Result Unit NotReceived → List ℕ → List ℕ
+bytes_if_done (Ok tt) bytes = bytes
+bytes_if_done (Err (Refused r)) bytes = []
+bytes_if_done (Err NotReceiving) bytes = []
 
 -- HOW FAR A SEGMENT EVENT IS: the answer of its last take, state and receive memory after it, the bytes of the takes so far, how many
 -- takes, and the bytes read
 pub record Progress : Type 0 where
-  pub answer : Answer
+  pub answer : Result Unit NotReceived
   pub state : State
   pub rx : List ℕ
   pub bytes : List ℕ
@@ -62,7 +63,7 @@ pub record Progress : Type 0 where
 
 -- before the first take
 abbrev pub begun : State → List ℕ → Progress
-begun s rx = record { answer = Done; state = s; rx = rx; bytes = []; count = 0; at = 0 }
+begun s rx = record { answer = Ok tt; state = s; rx = rx; bytes = []; count = 0; at = 0 }
 
 -- THE TAKE over what is left of the segment, receive memory after it, and its bytes of the answer
 module _ (l : Loan) (connection : ℕ) (segment : List ℕ) (at : ℕ) where
@@ -107,7 +108,7 @@ module _ (l : Loan) (connection : ℕ) (segment : List ℕ) where
 
 -- "number of takes (2), then for every take" its bytes; "a refusal of the first take is the event's answer (later takes are never
 -- refused)": so the last take's answer is the first's (proofs/Run `first-answer`)
-abbrev pub event_bytes : Answer → ℕ → List ℕ → List ℕ
+abbrev pub event_bytes : Result Unit NotReceived → ℕ → List ℕ → List ℕ
 event_bytes a count bytes = or_refused a (done_with 2 count ++ bytes)
 
 abbrev pub takes_effect : Progress → List ℕ → List ℕ → Effect

@@ -1,5 +1,5 @@
 -- What the inner functions hand back of a take and of all takes, and the front of the event's answer.
-use Rattle.std.specs.Prelude.{ℕ, ◌+◌, ◌*◌, ◌<◌, ◌≤◌, ◌≡◌, true, List, length, drop}
+use Rattle.std.specs.Prelude.{ℕ, ◌+◌, ◌*◌, ◌<◌, ◌≤◌, ◌≡◌, true, List, length, drop, Result, Ok, Err}
 use Rattle.wire.specs.Lay.{lay}
 use Rattle.receive_part.specs.declared.Part.{Part}
 use Rattle.connection.specs.Connection.{with_part}
@@ -8,8 +8,7 @@ use Rattle.state.specs.State.{record_at, with_record, with_count}
 use Rattle.state.specs.Memory.{stretch}
 use Rattle.receive_stream.specs.declared.Taken.{Taken}
 use Rattle.receive_stream.specs.Stream.{taken_of, rx_after, Fit}
-use Rattle.entry_receive.specs.declared.Answer.{Answer}
-use Rattle.entry_receive.specs.declared.Answer.TheVariants.{Done, Refused, NotReceiving}
+use Rattle.entry_receive.specs.declared.NotReceived.TheVariants.{Refused, NotReceiving}
 use Rattle.entry_receive.specs.Segment.{drops_after, payload_of}
 use Rattle.pieces.specs.Pieces.{place_after}
 use Rattle.event_answer.specs.Answers.{refused, refusal, done_with}
@@ -17,6 +16,7 @@ use Rattle.dispatch_receive.specs.declared.Turn as turn
 use Rattle.dispatch_receive.specs.declared.Takes as takes
 use Rattle.dispatch_receive.specs.Walk.{or_refused}
 use Rattle.dispatch_receive.specs.Segment.{take_bytes, bytes_if_done, Progress}
+use Rattle.entry_receive.specs.declared.NotReceived.{NotReceived}
 
 -- PAST THE GATE, over the routes and the switches of a connection: the take over what is left of the segment, receive memory after it,
 -- and its bytes of the answer
@@ -61,11 +61,11 @@ abbrev pub takes_of : Progress → takes.Takes
 takes_of r = record { answer = r.answer; count = r.count; place = 4 + length (taken_bytes r); state = r.state }
 
 -- the number of takes before their bytes, or the refusal of the first
-abbrev pub front_of : Answer → ℕ → List ℕ
+abbrev pub front_of : Result Unit NotReceived → ℕ → List ℕ
 front_of a count = or_refused a (done_with 2 count)
 
 -- the length of the answer: up to the place after the last take's bytes
-abbrev pub answer_length : Answer → ℕ → ℕ
-answer_length Done place = place
-answer_length (Refused r) place = length (refusal r)
-answer_length NotReceiving place = length (refused 4 0)
+abbrev pub answer_length : Result Unit NotReceived → ℕ → ℕ
+answer_length (Ok tt) place = place
+answer_length (Err (Refused r)) place = length (refusal r)
+answer_length (Err NotReceiving) place = length (refused 4 0)

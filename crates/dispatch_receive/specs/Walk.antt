@@ -1,21 +1,22 @@
 -- The answer of a walk as bytes (R16.2; docs/EVENTS.md, "The answer").
-use Rattle.std.specs.Prelude.{ℕ, List, ◌++◌}
+use Rattle.std.specs.Prelude.{ℕ, List, ◌++◌, Result, Ok, Err}
+use Rattle.reading.specs.Reasons.{reason_number}
 use Rattle.wire.specs.Lay.{spell}
 use Rattle.receive_datagram.specs.declared.Outcome.{Outcome}
 use Rattle.receive_datagram.specs.declared.Outcome.TheVariants.{End, Pdu, Drop}
-use Rattle.entry_receive.specs.declared.Answer.{Answer}
-use Rattle.entry_receive.specs.declared.Answer.TheVariants.{Done, Refused, NotReceiving}
+use Rattle.entry_receive.specs.declared.NotReceived.TheVariants.{Refused, NotReceiving}
 use Rattle.entry_receive.specs.declared.DatagramWalked.{DatagramWalked}
 use Rattle.entry_receive.specs.Walk.{walk_of}
 use Rattle.event_answer.specs.Answers.{Effect, answers, refused, refusal, done_alone, found_bytes}
 use Rattle.gate.specs.Lent.{Loan, sizes}
 use Rattle.dispatch_receive.specs.Long.{if_fits}
+use Rattle.entry_receive.specs.declared.NotReceived.{NotReceived}
 
 -- a refusal's bytes; where there is none, these
-abbrev pub or_refused : Answer → List ℕ → List ℕ
-or_refused Done bytes = bytes
-or_refused (Refused r) bytes = refusal r
-or_refused NotReceiving bytes = refused 4 0
+abbrev pub or_refused : Result Unit NotReceived → List ℕ → List ℕ
+or_refused (Ok tt) bytes = bytes
+or_refused (Err (Refused r)) bytes = refusal r
+or_refused (Err NotReceiving) bytes = refused 4 0
 
 -- "next place (4), kind (1: 0 the end, 1 PDU, 2 drop), route or reason (1), id (4), length (4)"
 abbrev pub step_bytes : ℕ → ℕ → ℕ → ℕ → ℕ → List ℕ
@@ -29,7 +30,7 @@ pdu_bytes next route id n at = step_bytes next 1 route id n ++ spell 4 at
 abbrev pub walk_bytes : ℕ → Outcome → List ℕ
 walk_bytes next End = step_bytes next 0 0 0 0
 walk_bytes next (Pdu route id at n) = pdu_bytes next route id n at
-walk_bytes next (Drop reason id n) = step_bytes next 2 reason id n
+walk_bytes next (Drop reason id n) = step_bytes next 2 (reason_number reason) id n
 
 abbrev pub walked_bytes : DatagramWalked → List ℕ
 walked_bytes w = or_refused w.answer (walk_bytes w.next w.outcome)

@@ -12,9 +12,10 @@ ghost use Rattle.dispatch_receive.specs.Segment as Seg;
 ghost use Rattle.dispatch_receive.specs.Turn as Turning;
 ghost use Rattle.gate.specs.Lent.{loan};
 
-use entry_receive::{Answer, drops_after, may_take, segment_payload, walk_datagram};
+use entry_receive::{NotReceived, drops_after, may_take, segment_payload, walk_datagram};
 use event_answer::{
-    Dispatched, Verdict, put_done, put_done2, put_found, put_number, put_refusal, put_refused,
+    Answered, NoAnswer, has_room, put_done, put_done_with, put_found, put_number, put_refusal,
+    put_refused,
 };
 use event_decode::bytes_from;
 use pieces::after;
@@ -27,6 +28,7 @@ use wire::{copy_in, put8};
 // ---- a walk
 
 // What a walk found, after the answer number 0: 16 bytes.
+#[tactic(auto, using(event_answer::proofs::Laid::laid), unfolding(pieces::specs::Pieces::after_of))]
 fn put_step(out: &mut [u8], next: usize, kind: u8, which: u8, id: u32, n: u32) -> usize
     ensures value { result ≡ length (Wk.step_bytes next kind which id n) }
     ensures out_after { out.new ≡ lay out.old 0 (Wk.step_bytes next kind which id n) }
@@ -40,6 +42,7 @@ fn put_step(out: &mut [u8], next: usize, kind: u8, which: u8, id: u32, n: u32) -
 }
 
 // A PDU: with the payload's place, 20 bytes.
+#[tactic(auto, using(event_answer::proofs::Laid::laid), unfolding(pieces::specs::Pieces::after_of))]
 fn put_walk_pdu(out: &mut [u8], next: usize, route: u8, id: u32, n: u32, at: usize) -> usize
     ensures value { result ≡ length (Wk.pdu_bytes next route id n at) }
     ensures out_after { out.new ≡ lay out.old 0 (Wk.pdu_bytes next route id n at) }
@@ -65,14 +68,19 @@ fn put_walk(out: &mut [u8], next: usize, outcome: receive_datagram::Outcome) -> 
             length,
         } => put_walk_pdu(out, next, route, id, length, at),
         receive_datagram::Outcome::Drop { reason, id, length } => put_step(
-            out, next, 2, reason, id, length,
+            out,
+            next,
+            2,
+            u8::from(reason),
+            id,
+            length,
         ),
     }
 }
 
 fn put_walked(
     out: &mut [u8],
-    answer: Answer,
+    answer: Result<(), NotReceived>,
     next: usize,
     outcome: receive_datagram::Outcome,
 ) -> usize
@@ -80,9 +88,9 @@ fn put_walked(
     ensures out_after { out.new ≡ lay out.old 0 (Wk.or_refused answer (Wk.walk_bytes next outcome)) }
 {
     match answer {
-        Answer::Done => put_walk(out, next, outcome),
-        Answer::Refused(reason) => put_refusal(out, reason),
-        Answer::NotReceiving => put_refused(out, 4, 0),
+        Ok(()) => put_walk(out, next, outcome),
+        Err(NotReceived::Refused(reason)) => put_refusal(out, reason),
+        Err(NotReceived::NotReceiving) => put_refused(out, 4, 0),
     }
 }
 
@@ -96,33 +104,22 @@ pub fn walk(
     place: usize,
     datagram: &[u8],
     out: &mut [u8],
-) -> Dispatched
+) -> Result<Answered, NoAnswer>
     ensures value { result ≡ dispatched
         (Wk.walk_effect (loan image.now state rx.now tx.now) out.old connection place datagram.now) }
     ensures out_after { out.new ≡ (Wk.walk_effect (loan image.now state rx.now tx.now)
         out.old connection place datagram.now).out }
 {
-    if out.len() < 16384 {
-        return Dispatched {
-            verdict: Verdict::Small,
-            state: state,
-        };
-    }
+    has_room(out)?;
     if 4096 < datagram.len() {
-        return Dispatched {
-            verdict: Verdict::Unfit,
-            state: state,
-        };
+        return Err(NoAnswer::Unfit);
     }
     let walked = walk_datagram(image, state, rx, tx, connection, datagram, place);
-    let answer = walked.answer;
-    let outcome = walked.outcome;
-    let state = walked.state;
-    let n = put_walked(out, answer, walked.next, outcome);
-    Dispatched {
-        verdict: Verdict::Done(n),
-        state: state,
-    }
+    let length = put_walked(out, walked.answer, walked.next, walked.outcome);
+    Ok(Answered {
+        state: walked.state,
+        length,
+    })
 }
 
 // ---- a segment
@@ -135,6 +132,7 @@ fn put_sum(out: &mut [u8], at: usize, a: usize, b: usize)
 }
 
 // What a take found, and no more: 14 bytes.
+#[tactic(auto, using(event_answer::proofs::Laid::laid), unfolding(pieces::specs::Pieces::after_of))]
 fn put_row(out: &mut [u8], place: usize, read: usize, kind: u8, which: u8, id: u32, n: u32) -> usize
     ensures value { result ≡ place_after out.old place (found_bytes read kind which id n) }
     ensures out_after { out.new ≡ lay out.old place (found_bytes read kind which id n) }
@@ -145,6 +143,7 @@ fn put_row(out: &mut [u8], place: usize, read: usize, kind: u8, which: u8, id: u
 }
 
 // A PDU whose payload stands in the segment: 19 bytes.
+#[tactic(auto, using(event_answer::proofs::Laid::laid), unfolding(pieces::specs::Pieces::after_of))]
 fn put_here(
     out: &mut [u8],
     place: usize,
@@ -158,10 +157,7 @@ fn put_here(
     ensures value { result ≡ place_after out.old place (Seg.here_bytes read route id n from at) }
     ensures out_after { out.new ≡ lay out.old place (Seg.here_bytes read route id n from at) }
 {
-    if out.len() < place {
-        return place;
-    }
-    if out.len() - place < 19 {
+    if out.len() < place || out.len() - place < 19 {
         return place;
     }
     put_found(out, place, read, 1, route, id, n);
@@ -171,6 +167,7 @@ fn put_here(
 }
 
 // A PDU whose payload stands in receive memory: 15 bytes and the payload's.
+#[tactic(auto, using(event_answer::proofs::Laid::laid), unfolding(pieces::specs::Pieces::after_of))]
 fn put_held(
     out: &mut [u8],
     place: usize,
@@ -184,10 +181,7 @@ fn put_held(
     ensures out_after { out.new ≡ lay out.old place (Seg.held_bytes read route id n payload.now) }
 {
     let long = payload.len() + 15;
-    if out.len() < place {
-        return place;
-    }
-    if out.len() - place < long {
+    if out.len() < place || out.len() - place < long {
         return place;
     }
     put_found(out, place, read, 1, route, id, n);
@@ -203,6 +197,7 @@ fn piece_kind(last: bool) -> u8
 }
 
 // A piece of a transfer: 18 bytes.
+#[tactic(auto, using(event_answer::proofs::Laid::laid), unfolding(pieces::specs::Pieces::after_of))]
 fn put_piece(
     out: &mut [u8],
     place: usize,
@@ -217,15 +212,18 @@ fn put_piece(
     ensures value { result ≡ place_after out.old place (Seg.piece_spelt read route id n last from at) }
     ensures out_after { out.new ≡ lay out.old place (Seg.piece_spelt read route id n last from at) }
 {
-    if out.len() < place {
+    if out.len() < place || out.len() - place < 18 {
         return place;
     }
-    if out.len() - place < 18 {
-        return place;
-    }
-    let kind = piece_kind(last);
-    let low = (n % 4294967296) as u32;
-    put_found(out, place, read, kind, route, id, low);
+    put_found(
+        out,
+        place,
+        read,
+        piece_kind(last),
+        route,
+        id,
+        (n % 4294967296) as u32,
+    );
     put_sum(out, place + 14, from, at);
     place + 18
 }
@@ -257,7 +255,15 @@ fn put_take(
                 put_held(out, place, read, route, id, length as u32, payload)
             }
         }
-        Outcome::Drop { reason, id, length } => put_row(out, place, read, 2, reason, id, length),
+        Outcome::Drop { reason, id, length } => put_row(
+            out,
+            place,
+            read,
+            2,
+            u8::from(reason),
+            id,
+            length,
+        ),
         Outcome::Start {
             route,
             id,
@@ -274,14 +280,10 @@ fn put_take(
     }
 }
 
-fn is_done(answer: Answer) -> bool
+fn is_done(answer: Result<(), NotReceived>) -> bool
     ensures { result ≡ is_done answer }
 {
-    match answer {
-        Answer::Done => true,
-        Answer::Refused(_) => false,
-        Answer::NotReceiving => false,
-    }
+    answer.is_ok()
 }
 
 // How far a segment event is, past the gate: the connection's receive part, the TCP drop count, the bytes read of the segment, the place
@@ -312,26 +314,22 @@ fn take_once(
         ≡ lay out.old turn.place (Turning.turn_bytes routes.now switches connection segment.now turn rx.old) }
 {
     let rest = bytes_from(segment, turn.at);
-    let part = turn.part;
     let start = connection as usize * 1464;
-    let end = start + 1464;
     let taken = receive_stream::take(
         routes,
         connection,
         switches,
-        part,
-        &mut rx[start..end],
+        turn.part,
+        &mut rx[start..start + 1464],
         rest,
     );
-    let outcome = taken.outcome;
-    let left = taken.part;
-    let payload = segment_payload(rest, rx, connection, outcome);
-    let place = put_take(out, turn.place, turn.at, taken.read, outcome, payload);
+    let payload = segment_payload(rest, rx, connection, taken.outcome);
+    let place = put_take(out, turn.place, turn.at, taken.read, taken.outcome, payload);
     Turn {
-        part: left,
-        drops: drops_after(outcome, turn.drops),
+        part: taken.part,
+        drops: drops_after(taken.outcome, turn.drops),
         at: turn.at + taken.read,
-        place: place,
+        place,
         count: turn.count + 1,
     }
 }
@@ -340,7 +338,7 @@ fn take_once(
 #[derive(Clone, Copy)]
 struct Takes {
     state: State,
-    answer: Answer,
+    answer: Result<(), NotReceived>,
     count: usize,
     place: usize,
 }
@@ -376,10 +374,9 @@ fn take_all(
     }
     let n = connection as usize;
     let c = state.connections[n];
-    let part = c.part;
     let routes = body_laid(image, Kind::Route);
     let mut turn = Turn {
-        part: part,
+        part: c.part,
         drops: state.tcp_drops,
         at: 0,
         place: 4,
@@ -388,9 +385,8 @@ fn take_all(
     loop {
         turn = take_once(routes, c.switches, turn, rx, connection, segment, out);
         if segment.len() <= turn.at {
-            let left = turn.part;
             let mut next = state;
-            next.connections[n] = c.with_part(left);
+            next.connections[n] = c.with_part(turn.part);
             next.tcp_drops = turn.drops;
             return Takes {
                 answer: answer,
@@ -403,17 +399,17 @@ fn take_all(
 }
 
 // The number of takes before their bytes, or the refusal of the first.
-fn put_takes(out: &mut [u8], answer: Answer, count: usize, place: usize) -> usize
+fn put_takes(out: &mut [u8], answer: Result<(), NotReceived>, count: usize, place: usize) -> usize
     ensures value { result ≡ Turning.answer_length answer place }
     ensures out_after { out.new ≡ lay out.old 0 (Turning.front_of answer count) }
 {
     match answer {
-        Answer::Done => {
-            put_done2(out, (count % 65536) as u16);
+        Ok(()) => {
+            put_done_with(out, &((count % 65536) as u16).to_be_bytes());
             place
         }
-        Answer::Refused(reason) => put_refusal(out, reason),
-        Answer::NotReceiving => put_refused(out, 4, 0),
+        Err(NotReceived::Refused(reason)) => put_refusal(out, reason),
+        Err(NotReceived::NotReceiving) => put_refused(out, 4, 0),
     }
 }
 
@@ -426,7 +422,7 @@ pub fn segment(
     connection: u8,
     segment: &[u8],
     out: &mut [u8],
-) -> Dispatched
+) -> Result<Answered, NoAnswer>
     ensures value { result ≡ dispatched
         (Seg.segment_effect (loan image.now state rx.old tx.now) out.old connection segment.now) }
     ensures rx_after { rx.new
@@ -434,24 +430,14 @@ pub fn segment(
     ensures out_after { out.new
         ≡ (Seg.segment_effect (loan image.now state rx.old tx.now) out.old connection segment.now).out }
 {
-    if out.len() < 16384 {
-        return Dispatched {
-            verdict: Verdict::Small,
-            state: state,
-        };
-    }
+    has_room(out)?;
     if 4096 < segment.len() {
-        return Dispatched {
-            verdict: Verdict::Unfit,
-            state: state,
-        };
+        return Err(NoAnswer::Unfit);
     }
     let taken = take_all(image, state, rx, tx, connection, segment, out);
-    let answer = taken.answer;
-    let state = taken.state;
-    let n = put_takes(out, answer, taken.count, taken.place);
-    Dispatched {
-        verdict: Verdict::Done(n),
-        state: state,
-    }
+    let length = put_takes(out, taken.answer, taken.count, taken.place);
+    Ok(Answered {
+        state: taken.state,
+        length,
+    })
 }

@@ -1,4 +1,5 @@
 -- A RUN OF CALLS IS A RUN OF THE MACHINE over the events that they spell: so what demands say of runs holds of the dispatcher.
+use Rattle.std.proofs.Common.{Err, Result, Ok}
 use Prim.Native.Nat.{ℕ, zero, suc}
 use mathlib.Core.Path.{◌≡◌, refl, sym, ap, ◌∙◌, subst}
 use mathlib.Core.Bool.{Bool, true, false, cond}
@@ -8,10 +9,10 @@ use lib.ListN.{length, replicate}
 use Rattle.reading_lengths.specs.Listed.{Bytes}
 use Rattle.reading_lengths.proofs.Bytes.{bytes_drop}
 use Rattle.connection.specs.declared.Refusal.{Refusal}
-use Rattle.gate.specs.declared.Gate.TheVariants.{Refused}
 use Rattle.gate.specs.Gate.{gate_of}
 use Rattle.event_decode.specs.declared.Call.{Call}
-use Rattle.event_decode.specs.declared.Call.TheVariants.{Unknown, Unfit, Ticks, Own, Lost, Segment, Walk}
+use Rattle.event_decode.specs.declared.BadCall.{BadCall}
+use Rattle.event_decode.specs.declared.Call.TheVariants.{Ticks, Own, Lost, Segment, Walk}
 use Rattle.event_decode.specs.declared.Call.TheVariants.{TakeWaiting, Datagram, Accept, Transmit, SwitchAll, ReadCount, ClearCount}
 use Rattle.event_decode.specs.Calls.{call_of}
 use Rattle.event_answer.specs.Answers.{room}
@@ -43,22 +44,21 @@ pub ticks-bytes : (n : ℕ) → RunBytes (replicate n (on_whole tick))
 ticks-bytes zero = tt
 ticks-bytes (suc n) = (tt, ticks-bytes n)
 
-pub events_bytes : (body : List ℕ) → Bytes body → (call : Call) → RunBytes (events_of body call)
+pub events_bytes : (body : List ℕ) → Bytes body → (call : Result Call BadCall) → RunBytes (events_of body call)
 unfolding events_of
-events_bytes body b Unknown = tt
-events_bytes body b Unfit = tt
-events_bytes body b (Ticks n) = ticks-bytes n
-events_bytes body b (Own c e) = (tt, tt)
-events_bytes body b (Lost c) = (tt, tt)
-events_bytes body b (Segment c at) = (bytes_drop at body b, tt)
-events_bytes body b (Walk c place at) = (tt, tt)
-events_bytes body b (TakeWaiting c n) = (tt, tt)
-events_bytes body b (Datagram group source) = (tt, tt)
-events_bytes body b (Accept group source) = (tt, tt)
-events_bytes body b (Transmit pdu at) = (tt, tt)
-events_bytes body b (SwitchAll number position) = (tt, tt)
-events_bytes body b (ReadCount protocol) = (tt, tt)
-events_bytes body b (ClearCount protocol) = (tt, tt)
+events_bytes body b (Err bad) = tt
+events_bytes body b (Ok (Ticks n)) = ticks-bytes n
+events_bytes body b (Ok (Own c e)) = (tt, tt)
+events_bytes body b (Ok (Lost c)) = (tt, tt)
+events_bytes body b (Ok (Segment c at)) = (bytes_drop at body b, tt)
+events_bytes body b (Ok (Walk c place at)) = (tt, tt)
+events_bytes body b (Ok (TakeWaiting c n)) = (tt, tt)
+events_bytes body b (Ok (Datagram group source)) = (tt, tt)
+events_bytes body b (Ok (Accept group source)) = (tt, tt)
+events_bytes body b (Ok (Transmit pdu at)) = (tt, tt)
+events_bytes body b (Ok (SwitchAll number position)) = (tt, tt)
+events_bytes body b (Ok (ReadCount protocol)) = (tt, tt)
+events_bytes body b (Ok (ClearCount protocol)) = (tt, tt)
 
 both_bytes : (es fs : List Event) → RunBytes es → RunBytes fs → RunBytes (es ++ fs)
 both_bytes [] fs p q = q
@@ -82,6 +82,6 @@ pub calls_good : (image : List ℕ) (m : Machine) (cs : List Spoken) → CallByt
 calls_good image m cs b g = subst (Good image) (sym (calls-run image m cs)) (run_good image m (spelt_in cs) (spelt-bytes cs b) g)
 
 -- .. and where the gate refuses (11, 12), calls leave state and lent memory as they were
-pub calls_stay : (image : List ℕ) (m : Machine) (r : Refusal) → gate_of (lent_to image m) ≡ Refused r → (cs : List Spoken)
+pub calls_stay : (image : List ℕ) (m : Machine) (r : Refusal) → gate_of (lent_to image m) ≡ Err r → (cs : List Spoken)
     → after_dispatches image m cs ≡ m
 calls_stay image m r shut cs = calls-run image m cs ∙ run-stays image m r shut (spelt_in cs)

@@ -10,6 +10,8 @@ use borrow.Author.Tests.{ne_eqb}
 use lib.Dec.{eqb, ltb}
 use lib.ListN.{length, length-take}
 use Rattle.wire.specs.Be.{byte_at, be}
+use Rattle.reading.specs.Reasons.{reason_number}
+use Rattle.reading.proofs.Reasons.{reason_small}
 use Rattle.reading.specs.declared.Decision.{Decision}
 use Rattle.reading.specs.declared.Decision.TheVariants.{Accept, Refuse, Transfer}
 use Rattle.reading.specs.Feed.{Routes, header, payload, skip, Cell, cell, transfer, ready, Out, nothing, pdu, dropped, start, piece}
@@ -18,9 +20,6 @@ use Rattle.reading.proofs.Laws.{grow}
 use Rattle.reading_lengths.specs.Listed.{Bytes}
 use Rattle.reading_lengths.specs.Head.{Head, ended, short, beyond, whole, head_of}
 use Rattle.reading_lengths.proofs.Heads.{View, none_left, at-short, at-beyond, at-whole, view}
-use Rattle.receive_route.specs.Route.{lookup_of}
-use Rattle.receive_route.specs.Decided.{Decided, allowing, carrying, no_route, off, too_long}
-use Rattle.receive_route.proofs.Decided.{lookup_decided}
 use Rattle.receive_stream.proofs.Leaves.{Sane}
 
 -- the reason in one byte, id and length in four each
@@ -31,20 +30,9 @@ Spelt reason id n = (reason < 256) × ((id < 256 ^ 4) × (n < 256 ^ 4))
 abbrev pub OutFits : Out → Type 0
 OutFits nothing = Unit {0}
 OutFits (pdu r p) = Unit {0}
-OutFits (dropped q i n) = Spelt q i n
+OutFits (dropped q i n) = Spelt (reason_number q) i n
 OutFits (start r i n m) = Spelt r i n × (m ≡ eqb n 0)
 OutFits (piece r p m) = (r < 256) × (length p < 256 ^ 4)
-
--- what the routes refuse has one of the reasons 20, 21, 22
-pub reason_small : (routes : List ℕ) (k switches i n q : ℕ) → lookup_of routes k switches i n ≡ Refuse q → q < 256
-reason_small routes k switches i n q e = go (lookup_decided routes k switches i n) e
-  where
-    go : {d : Decision} → Decided routes k switches i n d → d ≡ Refuse q → q < 256
-    go (allowing r a) p = let z : ◌≡◌ {A = ℕ} 0 1 = cc in absurd (omega arith)
-    go (carrying r a) p = let z : ◌≡◌ {A = ℕ} 0 1 = cc in absurd (omega arith)
-    go (no_route h) p = let z : 20 ≡ q = cc in omega arith
-    go (off r b h) p = let z : 21 ≡ q = cc in omega arith
-    go (too_long r x) p = let z : 22 ≡ q = cc in omega arith
 
 -- eight bytes are two numbers of four
 half : (w : ℕ) → w < 256 ^ 8 → (w / 2 ^ 32 < 256 ^ 4) × (w % 2 ^ 32 < 256 ^ 4)
@@ -63,15 +51,15 @@ sane_heads P M low (cell n (payload r h)) s = tt
 sane_heads P M low (cell n skip) s = tt
 sane_heads P M low (transfer n r) s = low r s.1
 
-module _ (R : Routes) (small : (i n q : ℕ) → R i n ≡ Refuse q → q < 256) (moved : (i n r : ℕ) → R i n ≡ Transfer r → r < 256) where
-  decided-fits : (d : Decision) (i n : ℕ) → i < 256 ^ 4 → n < 256 ^ 4 → ((q : ℕ) → d ≡ Refuse q → q < 256) → ((r : ℕ) → d ≡ Transfer r → r < 256)
+module _ (R : Routes) (moved : (i n r : ℕ) → R i n ≡ Transfer r → r < 256) where
+  decided-fits : (d : Decision) (i n : ℕ) → i < 256 ^ 4 → n < 256 ^ 4 → ((r : ℕ) → d ≡ Transfer r → r < 256)
       → Heads (decided d i n).to × OutFits (decided d i n).out
-  decided-fits (Accept r) i zero a b s m = ((omega arith, omega arith), tt)
-  decided-fits (Accept r) i (suc n) a b s m = (tt, tt)
-  decided-fits (Refuse q) i zero a b s m = ((omega arith, omega arith), (s q refl, (a, b)))
-  decided-fits (Refuse q) i (suc n) a b s m = (tt, (s q refl, (a, b)))
-  decided-fits (Transfer r) i zero a b s m = ((omega arith, omega arith), ((m r refl, (a, b)), refl))
-  decided-fits (Transfer r) i (suc n) a b s m = (m r refl, ((m r refl, (a, b)), sym (ne_eqb (suc n) 0 (λ z. omega (arith, z)))))
+  decided-fits (Accept r) i zero a b m = ((omega arith, omega arith), tt)
+  decided-fits (Accept r) i (suc n) a b m = (tt, tt)
+  decided-fits (Refuse q) i zero a b m = ((omega arith, omega arith), (reason_small q, (a, b)))
+  decided-fits (Refuse q) i (suc n) a b m = (tt, (reason_small q, (a, b)))
+  decided-fits (Transfer r) i zero a b m = ((omega arith, omega arith), ((m r refl, (a, b)), refl))
+  decided-fits (Transfer r) i (suc n) a b m = (m r refl, ((m r refl, (a, b)), sym (ne_eqb (suc n) 0 (λ z. omega (arith, z)))))
 
   feed-fits : (c : Cell) (b : ℕ) → b < 256 → Heads c → Heads (feed R c b).to × OutFits (feed R c b).out
   unfolding feed piece_done
@@ -79,7 +67,7 @@ module _ (R : Routes) (small : (i n q : ℕ) → R i n ≡ Refuse q → q < 256)
   feed-fits (cell (suc zero) (header v)) b hb s =
       let w : ℕ = v * 256 + b in
       let h : (w / 2 ^ 32 < 256 ^ 4) × (w % 2 ^ 32 < 256 ^ 4) = half w (grow 7 v b s.1 hb) in
-      decided-fits (R (w / 2 ^ 32) (w % 2 ^ 32)) (w / 2 ^ 32) (w % 2 ^ 32) h.0 h.1 (small (w / 2 ^ 32) (w % 2 ^ 32)) (moved (w / 2 ^ 32) (w % 2 ^ 32))
+      decided-fits (R (w / 2 ^ 32) (w % 2 ^ 32)) (w / 2 ^ 32) (w % 2 ^ 32) h.0 h.1 (moved (w / 2 ^ 32) (w % 2 ^ 32))
   feed-fits (cell (suc zero) (payload r h)) b hb s = ((omega arith, omega arith), tt)
   feed-fits (cell (suc zero) skip) b hb s = ((omega arith, omega arith), tt)
   feed-fits (cell (suc (suc n)) (header v)) b hb s =

@@ -1,5 +1,6 @@
 -- A CALL OF THE DISPATCHER LEAVES WHAT ITS EVENTS MAKE OF THE MACHINE: of any image, state, memories, number, body and out buffer, refusals
 -- included.
+use Rattle.std.proofs.Common.{Err, Result, Ok}
 use Prim.Native.Nat.{ℕ, ◌≤◌}
 use mathlib.Core.Path.{◌≡◌, refl, ap, ◌∙◌}
 use mathlib.Core.Bool.{Bool, true, false, cond}
@@ -14,10 +15,11 @@ use Rattle.entry_events.specs.Change.{loss_of}
 use Rattle.entry_send.specs.declared.Taken.{Taken}
 use Rattle.entry_send.specs.Sending.{not_taken, take_past, taken_waiting}
 use Rattle.event_decode.specs.declared.Call.{Call}
-use Rattle.event_decode.specs.declared.Call.TheVariants.{Unknown, Unfit, Ticks, Own, Lost, Segment, Walk}
+use Rattle.event_decode.specs.declared.BadCall.{BadCall}
+use Rattle.event_decode.specs.declared.Call.TheVariants.{Ticks, Own, Lost, Segment, Walk}
 use Rattle.event_decode.specs.declared.Call.TheVariants.{TakeWaiting, Datagram, Accept, Transmit, SwitchAll, ReadCount, ClearCount}
 use Rattle.event_decode.specs.Calls.{call_of, bytes_from}
-use Rattle.event_answer.specs.declared.Verdict.TheVariants.{Small}
+use Rattle.event_answer.specs.declared.NoAnswer.TheVariants.{Small}
 use Rattle.event_answer.specs.Answers.{Effect, untouched, room, if_room}
 use Rattle.event_answer.proofs.Short.{with-room}
 use Rattle.dispatch_events.specs.Events.{own_effect, lost_effect, ticks_effect, switch_all_effect, read_effect, clear_effect}
@@ -47,28 +49,28 @@ module _ (image : List ℕ) (m : Machine) (out body : List ℕ) (long : room ≤
   past e = ap machine_of (with-room m.state m.rx m.tx out e long)
 
   -- the step of a call whose segment or datagram, where it has one, is short enough
-  call_events : (call : Call) → Short body call → machine_of (effect_of (loan_to image m) out body call) ≡ after_run image m (events_of body call)
+  call_events : (call : Result Call BadCall) → Short body call
+      → machine_of (effect_of (loan_to image m) out body call) ≡ after_run image m (events_of body call)
   unfolding effect_of events_of after_run after_event after_own after_whole own_effect lost_effect loss_of
       ticks_effect switch_all_effect read_effect clear_effect datagram_effect accept_effect transmit_effect take_effect
-  call_events Unknown h = refl
-  call_events Unfit h = refl
-  call_events (Ticks n) h = past _ ∙ ticks-run image m.rx m.tx m.state n
-  call_events (Own c e) h = past _
-  call_events (Lost c) h = past _
-  call_events (Segment c at) h =
+  call_events (Err bad) h = refl
+  call_events (Ok (Ticks n)) h = past _ ∙ ticks-run image m.rx m.tx m.state n
+  call_events (Ok (Own c e)) h = past _
+  call_events (Ok (Lost c)) h = past _
+  call_events (Ok (Segment c at)) h =
       ap machine_of (segment-roomy (loan_to image m) out c (bytes_from body at) long (segment-fits body c at h))
       ∙ segment-machine image c (bytes_from body at) m
-  call_events (Walk c place at) h = ap machine_of (walk-short (loan_to image m) out c place (bytes_from body at) long (walk-fits body c place at h))
-  call_events (TakeWaiting c n) h =
+  call_events (Ok (Walk c place at)) h = ap machine_of (walk-short (loan_to image m) out c place (bytes_from body at) long (walk-fits body c place at h))
+  call_events (Ok (TakeWaiting c n)) h =
       past _
       ∙ ap (λ (t : Taken). machine t.state m.rx m.tx)
       (take-room (loan_to image m) c (front (room_of n) (replicate 1472 0)) (replicate (room_of n) 0) (buffer_room n))
-  call_events (Datagram group source) h = past _
-  call_events (Accept group source) h = past _
-  call_events (Transmit pdu at) h = past _
-  call_events (SwitchAll number position) h = past _
-  call_events (ReadCount protocol) h = past _
-  call_events (ClearCount protocol) h = past _
+  call_events (Ok (Datagram group source)) h = past _
+  call_events (Ok (Accept group source)) h = past _
+  call_events (Ok (Transmit pdu at)) h = past _
+  call_events (Ok (SwitchAll number position)) h = past _
+  call_events (Ok (ReadCount protocol)) h = past _
+  call_events (Ok (ClearCount protocol)) h = past _
 
 -- ONE CALL
 pub dispatched_events : (image : List ℕ) (m : Machine) (c : Spoken) → after_dispatch image c m ≡ after_run image m (spelt_by c)
@@ -76,7 +78,7 @@ unfolding dispatch_of spelt_by after_run
 dispatched_events image m c = go (ltb (length c.out) room) refl
   where
     go : (b : Bool) → ltb (length c.out) room ≡ b
-        → machine_of (cond b (untouched Small m.state m.rx m.tx c.out) (effect_of (loan_to image m) c.out c.body (call_of c.number c.body)))
+        → machine_of (cond b (untouched (Err Small) m.state m.rx m.tx c.out) (effect_of (loan_to image m) c.out c.body (call_of c.number c.body)))
         ≡ after_run image m (cond b [] (events_of c.body (call_of c.number c.body)))
     go true e = refl
     go false e =

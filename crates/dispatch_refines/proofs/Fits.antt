@@ -1,5 +1,6 @@
 -- THE ANSWERS ARE READ BACK: what takes and walks find fits the widths that the answer spells it in, so a reader of the bytes gets exactly
 -- the PDUs, drops, starts and pieces that the call tells.
+use Rattle.std.proofs.Common.{Result, Ok, Err}
 use Prim.Native.Nat.{ℕ, zero, suc, ◌+◌, ◌-◌, ◌/◌, ◌≤◌, ◌<◌}
 use mathlib.Core.Path.{◌≡◌, refl, sym, ap, ◌∙◌, subst}
 use mathlib.Core.Bool.{Bool, true, false, cond, true≢false}
@@ -10,6 +11,7 @@ use borrow.Author.Tests.{leb-true}
 use lib.Dec.{eqb, leb, ltb}
 use lib.ListN.{length, drop, length-drop}
 use lib.Seq.{length-take-le}
+use Rattle.reading.proofs.Reasons.{reason_small}
 use Rattle.wire.proofs.Lay.{lay-length}
 use Rattle.table_layout.specs.Layout.{body_of, part_of}
 use Rattle.table_layout.specs.declared.Kind.TheVariants.{Route as RouteRows}
@@ -39,8 +41,7 @@ use Rattle.receive_stream.proofs.Leaves.{PartHolds, Owns, Moves, Told, take_sane
 use Rattle.receive_datagram.specs.declared.Outcome.TheVariants as Met
 use Rattle.receive_datagram.specs.Datagram.{walked_of}
 use Rattle.receive_datagram.specs.Datagram as met
-use Rattle.entry_receive.specs.declared.Answer.{Answer}
-use Rattle.entry_receive.specs.declared.Answer.TheVariants.{Done, Refused, NotReceiving}
+use Rattle.entry_receive.specs.declared.NotReceived.TheVariants.{Refused, NotReceiving}
 use Rattle.entry_receive.specs.Answer.{is_done}
 use Rattle.entry_receive.specs.Segment.{Takes, stretch_at, take_on, memory_on, segment_answer, segment_of, memory_of, payload_of}
 use Rattle.entry_receive.specs.Walk.{walk_on, none_walked, walk_answer, walk_of}
@@ -49,7 +50,8 @@ use Rattle.entry_receive.proofs.Keeps.{in_range}
 use Rattle.entry_receive.proofs.Past.{stretch-length, passed-takes}
 use Rattle.entry_receive.proofs.Routed.{routed_owns}
 use Rattle.event_decode.specs.declared.Call.{Call}
-use Rattle.event_decode.specs.declared.Call.TheVariants.{Unknown, Unfit, Ticks, Own, Lost, Segment, Walk}
+use Rattle.event_decode.specs.declared.BadCall.{BadCall}
+use Rattle.event_decode.specs.declared.Call.TheVariants.{Ticks, Own, Lost, Segment, Walk}
 use Rattle.event_decode.specs.declared.Call.TheVariants.{TakeWaiting, Datagram, Accept, Transmit, SwitchAll, ReadCount, ClearCount}
 use Rattle.event_decode.specs.Calls.{call_of, bytes_from}
 use Rattle.dispatch_receive.specs.Long.{longest_body}
@@ -66,7 +68,8 @@ use Rattle.dispatch_refines.specs.Answer.{takes_over, takes_answer as answer_to,
 use Rattle.dispatch_refines.specs.Read.{takes_read, segment_read, walk_read, call_read}
 use Rattle.dispatch_refines.proofs.Answer.{takes_count}
 use Rattle.dispatch_refines.proofs.Read.{TakeFits, more_back, done_back, refused_back, StepFits, walk-read_back}
-use Rattle.dispatch_refines.proofs.Drops.{OutFits, reason_small, sane_heads, take-fits as outs-fit, head_small}
+use Rattle.dispatch_refines.proofs.Drops.{OutFits, sane_heads, take-fits as outs-fit, head_small}
+use Rattle.entry_receive.specs.declared.NotReceived.{NotReceived}
 
 -- ROUTE AND LENGTH of each PDU that is handed out: a row of the table, and no more than it allows; and a transfer's route
 abbrev Within : ℕ → ℕ → Type 0
@@ -184,7 +187,7 @@ module _ (start : Loan) (k : ℕ) (seg : List ℕ) (bytes : Bytes seg) (not_long
 
     spelt : OutFits (take_b R part rest).out
     spelt =
-        outs-fit R (reason_small routes k (record_at s k).switches) (λ i n r e. omega (arith, moves i n r e)) part rest (bytes_drop at seg bytes)
+        outs-fit R (λ i n r e. omega (arith, moves i n r e)) part rest (bytes_drop at seg bytes)
         (omega (arith, not_long, length-drop at seg)) (sane_heads Within Row (λ r low. omega (arith, low)) part sane)
 
     outcome-is : (segment_of l k rest).outcome
@@ -233,13 +236,13 @@ segment-read l k seg bytes not_long = go (all_takes l k seg).answer refl
     none : is_done (all_takes l k seg).answer ≡ false → ts ≡ []
     none e = none-taken l k seg bytes not_long (length seg) (begun l.state l.rx) (sym (ap is_done (first-answer l k seg bytes)) ∙ e)
 
-    go : (a : Answer) → (all_takes l k seg).answer ≡ a → segment_read seg (event_bytes a (length ts) (bytes_in ts)) ≡ outs_in seg ts
-    go Done e =
+    go : (a : Result Unit NotReceived) → (all_takes l k seg).answer ≡ a → segment_read seg (event_bytes a (length ts) (bytes_in ts)) ≡ outs_in seg ts
+    go (Ok tt) e =
         done_back seg ts
         (omega (arith, zero-add (length ts), takes_count l k seg (length seg) (begun l.state l.rx) (ap is_done e), count_fits l k seg not_long))
         (takes_back l k seg bytes not_long (length seg) (begun l.state l.rx) (omega arith))
-    go (Refused r) e = refused_back seg (Refused r) (length ts) (bytes_in ts) refl ∙ sym (ap (outs_in seg) (none (ap is_done e)))
-    go NotReceiving e = refused_back seg NotReceiving (length ts) (bytes_in ts) refl ∙ sym (ap (outs_in seg) (none (ap is_done e)))
+    go (Err (Refused r)) e = refused_back seg (Err (Refused r)) (length ts) (bytes_in ts) refl ∙ sym (ap (outs_in seg) (none (ap is_done e)))
+    go (Err NotReceiving) e = refused_back seg (Err NotReceiving) (length ts) (bytes_in ts) refl ∙ sym (ap (outs_in seg) (none (ap is_done e)))
 
 -- A WALK
 walk-read : (l : Lent) (k : ℕ) (datagram : List ℕ) (place : ℕ) → Bytes datagram → length datagram ≤ longest_body
@@ -261,7 +264,7 @@ walk-read l k datagram place bytes not_long = go (is_done (walk_answer l k datag
     decided (Decided.Transfer r) i n a e = pdu-fits r i n (moved_row (body_of l.image RouteRows) k (record_at l.state k).switches i n r a) e
     decided (Decided.Refuse j) i n a e =
         let h = head_small (drop place datagram) (bytes_drop place datagram bytes) (whole i n) e in
-        (reason_small (body_of l.image RouteRows) k (record_at l.state k).switches i n j a, (h.0, h.1))
+        (reason_small j, (h.0, h.1))
 
     fits : (h : Head) → head_of (drop place datagram) ≡ h → StepFits (met.walk_outcome (walk_step R (length datagram) place h).found)
     fits ended e = tt
@@ -273,31 +276,30 @@ walk-read l k datagram place bytes not_long = go (is_done (walk_answer l k datag
         → walk_read datagram (walked_bytes (cond b (walk_on l.image l.state k datagram place) (none_walked l.state place (walk_answer l k datagram place))))
         ≡ told_walk datagram (cond b (walk_on l.image l.state k datagram place) (none_walked l.state place (walk_answer l k datagram place))).outcome
     go true =
-        walk-read_back datagram Done (walk_on l.image l.state k datagram place).next
+        walk-read_back datagram (Ok tt) (walk_on l.image l.state k datagram place).next
         (walk_on l.image l.state k datagram place).outcome (fits (head_of (drop place datagram)) refl) (λ z. absurd (true≢false z))
     go false = walk-read_back datagram (walk_answer l k datagram place) place Met.End tt (λ z. refl)
 
 -- THE ANSWER OF A CALL, whose body is bytes: reading it gives exactly what the call tells
-call-read : (image : List ℕ) (k : ℕ) (m : Machine) (body : List ℕ) (call : Call) → Bytes body → Short body call
+call-read : (image : List ℕ) (k : ℕ) (m : Machine) (body : List ℕ) (call : Result Call BadCall) → Bytes body → Short body call
     → call_read k body call (answer_of (loan_to image m) body call) ≡ tells_of image k m body call
 unfolding call_read answer_of tells_of
-call-read image k m body Unknown bytes h = refl
-call-read image k m body Unfit bytes h = refl
-call-read image k m body (Ticks n) bytes h = refl
-call-read image k m body (Own c e) bytes h = refl
-call-read image k m body (Lost c) bytes h = refl
-call-read image k m body (Segment c at) bytes h =
+call-read image k m body (Err bad) bytes h = refl
+call-read image k m body (Ok (Ticks n)) bytes h = refl
+call-read image k m body (Ok (Own c e)) bytes h = refl
+call-read image k m body (Ok (Lost c)) bytes h = refl
+call-read image k m body (Ok (Segment c at)) bytes h =
     ap (λ (l : List Out). cond (eqb c k) l []) (segment-read (loan_to image m) c (bytes_from body at) (bytes_drop at body bytes) (segment-fits body c at h))
-call-read image k m body (Walk c place at) bytes h =
+call-read image k m body (Ok (Walk c place at)) bytes h =
     ap (λ (l : List Out). cond (eqb c k) l [])
     (walk-read (lent_to image m) c (bytes_from body at) place (bytes_drop at body bytes) (walk-fits body c place at h))
-call-read image k m body (TakeWaiting c n) bytes h = refl
-call-read image k m body (Datagram group source) bytes h = refl
-call-read image k m body (Accept group source) bytes h = refl
-call-read image k m body (Transmit number at) bytes h = refl
-call-read image k m body (SwitchAll number position) bytes h = refl
-call-read image k m body (ReadCount protocol) bytes h = refl
-call-read image k m body (ClearCount protocol) bytes h = refl
+call-read image k m body (Ok (TakeWaiting c n)) bytes h = refl
+call-read image k m body (Ok (Datagram group source)) bytes h = refl
+call-read image k m body (Ok (Accept group source)) bytes h = refl
+call-read image k m body (Ok (Transmit number at)) bytes h = refl
+call-read image k m body (Ok (SwitchAll number position)) bytes h = refl
+call-read image k m body (Ok (ReadCount protocol)) bytes h = refl
+call-read image k m body (Ok (ClearCount protocol)) bytes h = refl
 
 pub answers-read : (image : List ℕ) (k : ℕ) (m : Machine) (c : Spoken) → Bytes c.body
     → call_read k c.body (call_of c.number c.body) (answer_by image m c) ≡ tells_of image k m c.body (call_of c.number c.body)

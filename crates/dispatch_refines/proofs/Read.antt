@@ -1,5 +1,6 @@
 -- WHAT STANDS IN THE BYTES OF A TAKE OR A WALK IS READ BACK: kind, route or reason, id, length, place and payload, where they fit their
 -- widths.
+use Rattle.std.proofs.Common.{Result, Ok, Err}
 use Prim.Native.Nat.{ℕ, ◌+◌, ◌^◌, ◌<◌}
 use mathlib.Core.Path.{◌≡◌, refl, sym, ap, ap₂, ◌∙◌}
 use mathlib.Core.Bool.{Bool, true, false}
@@ -8,6 +9,9 @@ use native.Mathlib.Omega.{arith}
 use lib.Dec.{eqb}
 use lib.ListN.{length, take, drop, length-append}
 use lib.Seq.{take_at, drop_at}
+use Rattle.reading.specs.declared.DropReason.{DropReason}
+use Rattle.reading.specs.Reasons.{reason_number}
+use Rattle.reading.proofs.Reasons.{reason_back}
 use Rattle.wire.specs.Be.{be}
 use Rattle.wire.specs.Lay.{spell}
 use Rattle.wire.proofs.Spell.{length-spell, be-spell}
@@ -20,8 +24,7 @@ use Rattle.receive_stream.specs.declared.Outcome.{Outcome}
 use Rattle.receive_stream.specs.declared.Outcome.TheVariants as Found
 use Rattle.receive_datagram.specs.declared.Outcome.{Outcome as Step}
 use Rattle.receive_datagram.specs.declared.Outcome.TheVariants as Met
-use Rattle.entry_receive.specs.declared.Answer.{Answer}
-use Rattle.entry_receive.specs.declared.Answer.TheVariants.{Done, Refused, NotReceiving}
+use Rattle.entry_receive.specs.declared.NotReceived.TheVariants.{Refused, NotReceiving}
 use Rattle.entry_receive.specs.Answer.{is_done}
 use Rattle.event_answer.specs.Answers.{refused, done_with, found_bytes}
 use Rattle.event_answer.proofs.Chain.{length_found}
@@ -32,6 +35,7 @@ use Rattle.model_refines.specs.Run.{told_walk}
 use Rattle.dispatch_refines.specs.Told.{Take, bytes_in, out_in, outs_in, took_then}
 use Rattle.dispatch_refines.specs.Read.{payload_read, take_read, take_long, takes_read, step_read, if_done, segment_read, walk_read}
 use Rattle.dispatch_refines.proofs.Drops.{Spelt}
+use Rattle.entry_receive.specs.declared.NotReceived.{NotReceived}
 
 -- a number behind other bytes
 pub number_at : (w v : ℕ) (a r : List ℕ) {l : List ℕ} (at : ℕ) → v < 256 ^ w → length a ≡ at → l ≡ a ++ (spell w v ++ r) → be w l at ≡ v
@@ -61,7 +65,7 @@ abbrev pub TakeFits : ℕ → Outcome → List ℕ → Type 0
 TakeFits begins Found.More payload = Unit {0}
 TakeFits begins (Found.Pdu route id true at n) payload = (route < 256) × ((n < 256 ^ 4) × (begins + at < 256 ^ 4))
 TakeFits begins (Found.Pdu route id false at n) payload = (route < 256) × ((n < 256 ^ 4) × (length payload ≡ n))
-TakeFits begins (Found.Drop reason id n) payload = Spelt reason id n
+TakeFits begins (Found.Drop reason id n) payload = Spelt (reason_number reason) id n
 TakeFits begins (Found.Start route id n last) payload = Spelt route id n × (last ≡ eqb n 0)
 TakeFits begins (Found.Piece route id at n last) payload = (route < 256) × ((n < 256 ^ 4) × (begins + at < 256 ^ 4))
 
@@ -75,10 +79,10 @@ module _ (segment : List ℕ) where
   unfolding take_read take_long
   none_read l e = (rw e refl, rw e refl)
 
-  drop-read : (l : List ℕ) (reason id n : ℕ) → be 1 l 4 ≡ 2 → be 1 l 5 ≡ reason → be 4 l 6 ≡ id → be 4 l 10 ≡ n
+  drop-read : (l : List ℕ) (reason : DropReason) (id n : ℕ) → be 1 l 4 ≡ 2 → be 1 l 5 ≡ reason_number reason → be 4 l 6 ≡ id → be 4 l 10 ≡ n
       → (take_read segment l ≡ dropped reason id n ∷ []) × (take_long l ≡ 14)
   unfolding take_read take_long
-  drop-read l reason id n e w i m = (rw (e, w, i, m) refl, rw e refl)
+  drop-read l reason id n e w i m = (rw (e, w, reason_back reason, i, m) refl, rw e refl)
 
   start-read : (l : List ℕ) (route id n : ℕ) → be 1 l 4 ≡ 3 → be 1 l 5 ≡ route → be 4 l 6 ≡ id → be 4 l 10 ≡ n
       → (take_read segment l ≡ start route id n (eqb n 0) ∷ []) × (take_long l ≡ 14)
@@ -118,11 +122,11 @@ module _ (segment : List ℕ) where
       let t = none_read l (kind_at read 0 0 0 0 rest refl (omega arith)) in
       (t.0, drop_at (found_bytes read 0 0 0 0) rest (take_long l) (length_found read 0 0 0 0 ∙ sym t.1))
   take_back begins read (Found.Drop reason id n) payload rest h =
-      let l : List ℕ = found_bytes read 2 reason id n ++ rest in
+      let l : List ℕ = found_bytes read 2 (reason_number reason) id n ++ rest in
       let t =
-      drop-read l reason id n (kind_at read 2 reason id n rest refl (omega arith)) (which_at read 2 reason id n rest refl h.0)
-      (id-at read 2 reason id n rest refl h.1.0) (length_at read 2 reason id n rest refl h.1.1) in
-      (t.0, drop_at (found_bytes read 2 reason id n) rest (take_long l) (length_found read 2 reason id n ∙ sym t.1))
+      drop-read l reason id n (kind_at read 2 (reason_number reason) id n rest refl (omega arith)) (which_at read 2 (reason_number reason) id n rest refl h.0)
+      (id-at read 2 (reason_number reason) id n rest refl h.1.0) (length_at read 2 (reason_number reason) id n rest refl h.1.1) in
+      (t.0, drop_at (found_bytes read 2 (reason_number reason) id n) rest (take_long l) (length_found read 2 (reason_number reason) id n ∙ sym t.1))
   take_back begins read (Found.Start route id n last) payload rest h =
       let l : List ℕ = found_bytes read 3 route id n ++ rest in
       let t =
@@ -192,10 +196,10 @@ module _ (segment : List ℕ) where
 
   -- THE ANSWER OF A SEGMENT EVENT
   pub done_back : (ts : List Take) → length ts < 256 ^ 2 → takes_read segment (length ts) (bytes_in ts) ≡ outs_in segment ts
-      → segment_read segment (event_bytes Done (length ts) (bytes_in ts)) ≡ outs_in segment ts
+      → segment_read segment (event_bytes (Ok tt) (length ts) (bytes_in ts)) ≡ outs_in segment ts
   unfolding segment_read
   done_back ts few later =
-      let l : List ℕ = event_bytes Done (length ts) (bytes_in ts) in
+      let l : List ℕ = event_bytes (Ok tt) (length ts) (bytes_in ts) in
       let zero-at : be 2 l 0 ≡ 0 = number_at 2 0 [] (spell 2 (length ts) ++ bytes_in ts) 0 (omega arith) refl (simp append_assoc) in
       let count : be 2 l 2 ≡ length ts = number_at 2 (length ts) (spell 2 0) (bytes_in ts) 2 few (length-spell 2 0) (simp append_assoc) in
       let rest : drop 4 l ≡ bytes_in ts = drop_at (done_with 2 (length ts)) (bytes_in ts) 4 (simp (length-append, length-spell)) in
@@ -213,17 +217,18 @@ not_read number read h e =
     let z : be 2 (refused number 0) 0 ≡ number = number_at 2 number [] (spell 4 0) 0 h refl refl in
     rw (z, e) refl
 
-pub refused_back : (segment : List ℕ) (a : Answer) (count : ℕ) (bytes : List ℕ) → is_done a ≡ false → segment_read segment (event_bytes a count bytes) ≡ []
+pub refused_back : (segment : List ℕ) (a : Result Unit NotReceived) (count : ℕ) (bytes : List ℕ) → is_done a ≡ false
+    → segment_read segment (event_bytes a count bytes) ≡ []
 unfolding segment_read
-refused_back segment Done count bytes e = let z : ◌≡◌ {A = ℕ} 0 1 = cc in absurd (omega arith)
-refused_back segment (Refused r) count bytes e = not_read (refusal_number r) _ (some_number r).0 (some_number r).1
-refused_back segment NotReceiving count bytes e = not_read 4 _ (omega arith) refl
+refused_back segment (Ok tt) count bytes e = let z : ◌≡◌ {A = ℕ} 0 1 = cc in absurd (omega arith)
+refused_back segment (Err (Refused r)) count bytes e = not_read (refusal_number r) _ (some_number r).0 (some_number r).1
+refused_back segment (Err NotReceiving) count bytes e = not_read 4 _ (omega arith) refl
 
 -- A WALK
 abbrev pub StepFits : Step → Type 0
 StepFits Met.End = Unit {0}
 StepFits (Met.Pdu route id at n) = (route < 256) × ((n < 256 ^ 4) × (at < 256 ^ 4))
-StepFits (Met.Drop reason id n) = Spelt reason id n
+StepFits (Met.Drop reason id n) = Spelt (reason_number reason) id n
 
 module _ (datagram : List ℕ) where
   -- the bytes of a step that found no PDU
@@ -241,16 +246,18 @@ module _ (datagram : List ℕ) where
   unfolding walk_read step_read
   none_step next = rw (is-done next 0 0 0 0, kind_at next 0 0 0 0 [] (behind next 0 0 0 0) (omega arith)) refl
 
-  drop-step : (next reason id n : ℕ) → Spelt reason id n → walk_read datagram (step_bytes next 2 reason id n) ≡ dropped reason id n ∷ []
+  drop-step : (next : ℕ) (reason : DropReason) (id n : ℕ) → Spelt (reason_number reason) id n
+      → walk_read datagram (step_bytes next 2 (reason_number reason) id n) ≡ dropped reason id n ∷ []
   unfolding walk_read step_read
   drop-step next reason id n h =
-      let is = behind next 2 reason id n in
+      let is = behind next 2 (reason_number reason) id n in
       rw (
-        is-done next 2 reason id n,
-        kind_at next 2 reason id n [] is (omega arith),
-        which_at next 2 reason id n [] is h.0,
-        id-at next 2 reason id n [] is h.1.0,
-        length_at next 2 reason id n [] is h.1.1,
+        is-done next 2 (reason_number reason) id n,
+        kind_at next 2 (reason_number reason) id n [] is (omega arith),
+        which_at next 2 (reason_number reason) id n [] is h.0,
+        reason_back reason,
+        id-at next 2 (reason_number reason) id n [] is h.1.0,
+        length_at next 2 (reason_number reason) id n [] is h.1.1,
       )
       refl
 
@@ -272,9 +279,9 @@ module _ (datagram : List ℕ) where
       (is ∙ ap (λ (x : List ℕ). found_bytes next 1 route id n ++ x) (sym (append-nil (spell 4 at)))) in
       rw (zero-at, k, w, m, p) refl
 
-  pub walk-read_back : (a : Answer) (next : ℕ) (o : Step) → StepFits o → (is_done a ≡ false → o ≡ Met.End)
+  pub walk-read_back : (a : Result Unit NotReceived) (next : ℕ) (o : Step) → StepFits o → (is_done a ≡ false → o ≡ Met.End)
       → walk_read datagram (or_refused a (walk_bytes next o)) ≡ told_walk datagram o
   unfolding walk_read
-  walk-read_back Done next o h none = step_back next o h
-  walk-read_back (Refused r) next o h none = not_read (refusal_number r) _ (some_number r).0 (some_number r).1 ∙ sym (ap (told_walk datagram) (none refl))
-  walk-read_back NotReceiving next o h none = not_read 4 _ (omega arith) refl ∙ sym (ap (told_walk datagram) (none refl))
+  walk-read_back (Ok tt) next o h none = step_back next o h
+  walk-read_back (Err (Refused r)) next o h none = not_read (refusal_number r) _ (some_number r).0 (some_number r).1 ∙ sym (ap (told_walk datagram) (none refl))
+  walk-read_back (Err NotReceiving) next o h none = not_read 4 _ (omega arith) refl ∙ sym (ap (told_walk datagram) (none refl))

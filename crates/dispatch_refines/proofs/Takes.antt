@@ -1,5 +1,6 @@
 -- THE ANSWER OF A SEGMENT EVENT TELLS ITS TAKES, one after the other, and the outcomes that they tell are those that the machine's segment
 -- event hands out. Of any image, state, memory and segment.
+use Rattle.std.proofs.Common.{Result, Ok, Err}
 use Prim.Native.Nat.{ℕ, zero, suc, ◌+◌}
 use mathlib.Core.Path.{◌≡◌, refl, sym, ap, ap₂, ◌∙◌}
 use mathlib.Core.Bool.{Bool, true, false, cond, ◌&&◌, true≢false}
@@ -13,8 +14,7 @@ use Rattle.reading.specs.Feed.{Out, pdu, piece}
 use Rattle.receive_stream.specs.declared.Outcome.{Outcome}
 use Rattle.receive_stream.specs.declared.Outcome.TheVariants as Found
 use Rattle.table_layout.specs.Layout.{part_of}
-use Rattle.entry_receive.specs.declared.Answer.{Answer}
-use Rattle.entry_receive.specs.declared.Answer.TheVariants.{Done, Refused, NotReceiving}
+use Rattle.entry_receive.specs.declared.NotReceived.TheVariants.{Refused, NotReceiving}
 use Rattle.entry_receive.specs.Answer.{is_done}
 use Rattle.entry_receive.specs.Segment.{segment_of, segment_answer, take_on, none_taken, payload_of}
 use Rattle.dispatch_receive.specs.Segment.{lent_next, take_bytes, bytes_if_done, Progress, begun, bytes_at, one_take, takes_up_to, all_takes}
@@ -22,27 +22,28 @@ use Rattle.model_refines.specs.Machine.{Machine, taken, after_one, rest_of, pdu_
 use Rattle.dispatch_refines.specs.Told.{Take, bytes_in, out_in, outs_in, next_take, took_then, takes_from}
 use Rattle.gate.specs.Lent.{Loan, sizes}
 use Rattle.dispatch_refines.proofs.Segment.{either_way, goes-alike, machine_at}
+use Rattle.entry_receive.specs.declared.NotReceived.{NotReceived}
 
 -- THE BYTES: a take that is done adds its own, and none comes behind one that is refused
 abbrev bytes_for : Take → List ℕ
 bytes_for t = take_bytes t.begins t.read t.outcome t.payload
 
-last_bytes : (a : Answer) (before : List ℕ) (t : Take) (ts : List Take)
+last_bytes : (a : Result Unit NotReceived) (before : List ℕ) (t : Take) (ts : List Take)
     → before ++ bytes_if_done a (bytes_for t) ≡ before ++ bytes_in (took_then (is_done a) false t ts)
 unfolding bytes_in
-last_bytes Done before t ts = ap (λ (l : List ℕ). before ++ l) (sym (append-nil (bytes_for t)))
-last_bytes (Refused r) before t ts = refl
-last_bytes NotReceiving before t ts = refl
+last_bytes (Ok tt) before t ts = ap (λ (l : List ℕ). before ++ l) (sym (append-nil (bytes_for t)))
+last_bytes (Err (Refused r)) before t ts = refl
+last_bytes (Err NotReceiving) before t ts = refl
 
-more_bytes : (a : Answer) (left : Bool) (x y : Progress) (before : List ℕ) (t : Take) (ts : List Take)
+more_bytes : (a : Result Unit NotReceived) (left : Bool) (x y : Progress) (before : List ℕ) (t : Take) (ts : List Take)
     → y.bytes ≡ before ++ bytes_if_done a (bytes_for t)
     → x.bytes ≡ y.bytes ++ bytes_in ts
     → (cond (is_done a && left) x y).bytes ≡ before ++ bytes_in (took_then (is_done a) left t ts)
 unfolding bytes_in
-more_bytes Done true x y before t ts e h = h ∙ ap (λ (l : List ℕ). l ++ bytes_in ts) e ∙ append_assoc before (bytes_for t) (bytes_in ts)
-more_bytes Done false x y before t ts e h = e ∙ last_bytes Done before t ts
-more_bytes (Refused r) left x y before t ts e h = e
-more_bytes NotReceiving left x y before t ts e h = e
+more_bytes (Ok tt) true x y before t ts e h = h ∙ ap (λ (l : List ℕ). l ++ bytes_in ts) e ∙ append_assoc before (bytes_for t) (bytes_in ts)
+more_bytes (Ok tt) false x y before t ts e h = e ∙ last_bytes (Ok tt) before t ts
+more_bytes (Err (Refused r)) left x y before t ts e h = e
+more_bytes (Err NotReceiving) left x y before t ts e h = e
 
 module _ (l : Loan) (k : ℕ) (seg : List ℕ) where
   abbrev next : Progress → Progress

@@ -1,12 +1,11 @@
 -- MANY TICKS UNDER ONE CHECK ARE A RUN of that many tick events: of any image, state and memory.
+use Rattle.std.proofs.Common.{Result, Ok, Err}
 use Prim.Native.Nat.{ℕ, zero, suc}
 use mathlib.Core.Path.{◌≡◌, refl, sym, ap, ◌∙◌}
 use mathlib.Core.List.{List}
 use lib.ListN.{replicate}
 use Rattle.connection.specs.declared.Refusal.{Refusal}
 use Rattle.state.specs.declared.State.{State}
-use Rattle.gate.specs.declared.Gate.{Gate}
-use Rattle.gate.specs.declared.Gate.TheVariants.{Pass, Refused}
 use Rattle.gate.specs.Gate.{gate_of}
 use Rattle.gate.proofs.Pass.{gate_passed}
 use Rattle.entry_ticks.specs.declared.Ticked.{Ticked}
@@ -28,7 +27,7 @@ module _ (image rx tx : List ℕ) where
   ticked-run (suc n) s = ticked-run n (tick_event (lent_to image (machine s rx tx))).state
 
   -- where the gate refuses, no tick changes anything
-  module _ (s : State) (r : Refusal) (shut : gate_of (lent_to image (machine s rx tx)) ≡ Refused r) where
+  module _ (s : State) (r : Refusal) (shut : gate_of (lent_to image (machine s rx tx)) ≡ Err r) where
     no_tick : (tick_event (lent_to image (machine s rx tx))).state ≡ s
     unfolding tick_event
     no_tick = rw shut
@@ -45,9 +44,9 @@ module _ (image rx tx : List ℕ) where
   pub ticks-run : (s : State) (n : ℕ) → machine (ticks_event (lent_to image (machine s rx tx)) n).state rx tx ≡ after_run image (machine s rx tx) (ticks_of n)
   ticks-run s n = go (gate_of (lent_to image (machine s rx tx))) refl
     where
-      go : (g : Gate) → gate_of (lent_to image (machine s rx tx)) ≡ g
+      go : (g : Result Unit Refusal) → gate_of (lent_to image (machine s rx tx)) ≡ g
           → machine (ticks_event (lent_to image (machine s rx tx)) n).state rx tx ≡ after_run image (machine s rx tx) (ticks_of n)
-      go Pass e =
+      go (Ok tt) e =
           ap (λ (t : Ticked). machine t.state rx tx) (ticks-single (lent_to image (machine s rx tx)) n (gate_passed (lent_to image (machine s rx tx)) e))
           ∙ ticked-run n s
-      go (Refused r) e = ap (λ (t : State). machine t rx tx) (no_ticks s r e n) ∙ sym (still s r e n)
+      go (Err r) e = ap (λ (t : State). machine t rx tx) (no_ticks s r e n) ∙ sym (still s r e n)

@@ -1,4 +1,5 @@
 -- THE ANSWERS OF CALLS TELL THE OUTCOMES THAT THE MACHINE GIVES in the run that they spell: so demand 3 holds of the dispatcher.
+use Rattle.std.proofs.Common.{Result, Ok, Err}
 use Prim.Native.Nat.{ℕ, zero, suc}
 use mathlib.Core.Path.{◌≡◌, refl, sym, ap, ap₂, ◌∙◌}
 use mathlib.Core.Bool.{Bool, true, false, cond}
@@ -8,7 +9,8 @@ use lib.ListN.{length, replicate}
 use Rattle.reading.specs.Feed.{Out, compared}
 use Rattle.reading_lengths.specs.Listed.{Bytes}
 use Rattle.event_decode.specs.declared.Call.{Call}
-use Rattle.event_decode.specs.declared.Call.TheVariants.{Unknown, Unfit, Ticks, Own, Lost, Segment, Walk}
+use Rattle.event_decode.specs.declared.BadCall.{BadCall}
+use Rattle.event_decode.specs.declared.Call.TheVariants.{Ticks, Own, Lost, Segment, Walk}
 use Rattle.event_decode.specs.declared.Call.TheVariants.{TakeWaiting, Datagram, Accept, Transmit, SwitchAll, ReadCount, ClearCount}
 use Rattle.event_decode.specs.Calls.{call_of, bytes_from}
 use Rattle.event_answer.specs.Answers.{room}
@@ -33,23 +35,22 @@ module _ (image : List ℕ) (k : ℕ) where
   ticks_tell zero m = refl
   ticks_tell (suc n) m = ticks_tell n (after_event image (on_whole tick) m)
 
-  call_tells : (m : Machine) (body : List ℕ) (call : Call) → tells_of image k m body call ≡ given_in image k m (events_of body call)
+  call_tells : (m : Machine) (body : List ℕ) (call : Result Call BadCall) → tells_of image k m body call ≡ given_in image k m (events_of body call)
   unfolding tells_of events_of given_in given
-  call_tells m body Unknown = refl
-  call_tells m body Unfit = refl
-  call_tells m body (Ticks n) = ticks_tell n m
-  call_tells m body (Own c e) = refl
-  call_tells m body (Lost c) = refl
-  call_tells m body (Segment c at) =
+  call_tells m body (Err bad) = refl
+  call_tells m body (Ok (Ticks n)) = ticks_tell n m
+  call_tells m body (Ok (Own c e)) = refl
+  call_tells m body (Ok (Lost c)) = refl
+  call_tells m body (Ok (Segment c at)) =
       ap (λ (l : List Out). cond (eqb c k) l []) (segment-takes_told image c (bytes_from body at) m) ∙ sym (append-nil _)
-  call_tells m body (Walk c place at) = sym (append-nil _)
-  call_tells m body (TakeWaiting c n) = refl
-  call_tells m body (Datagram group source) = refl
-  call_tells m body (Accept group source) = refl
-  call_tells m body (Transmit number at) = refl
-  call_tells m body (SwitchAll number position) = refl
-  call_tells m body (ReadCount protocol) = refl
-  call_tells m body (ClearCount protocol) = refl
+  call_tells m body (Ok (Walk c place at)) = sym (append-nil _)
+  call_tells m body (Ok (TakeWaiting c n)) = refl
+  call_tells m body (Ok (Datagram group source)) = refl
+  call_tells m body (Ok (Accept group source)) = refl
+  call_tells m body (Ok (Transmit number at)) = refl
+  call_tells m body (Ok (SwitchAll number position)) = refl
+  call_tells m body (Ok (ReadCount protocol)) = refl
+  call_tells m body (Ok (ClearCount protocol)) = refl
 
   -- ONE CALL, by the takes or the walk that it answers; and by the bytes of its answer
   call_told : (m : Machine) (c : Spoken) → tells_by image k m c ≡ given_in image k m (spelt_by c)

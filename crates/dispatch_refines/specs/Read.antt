@@ -1,26 +1,16 @@
 -- READING AN ANSWER (R16.3; docs/EVENTS.md, "The answer"): the PDUs, drops, starts and pieces that a caller gets out of the bytes of an
 -- answer, with the segment or datagram that he handed in, and by nothing else.
 use Rattle.std.specs.Prelude.{ℕ, zero, suc, ◌+◌, Bool, cond, ◌||◌, List, [], ◌∷◌, ◌++◌, eqb, ltb, length, take, drop}
+use Rattle.std.specs.Prelude.{Option, Some, None, Result, Ok, Err}
 use Rattle.wire.specs.Be.{be}
 use Rattle.table_layout.specs.Layout.{part_of}
+use Rattle.reading.specs.declared.DropReason.{DropReason}
+use Rattle.reading.specs.Reasons.{reason_of_number}
 use Rattle.reading.specs.Feed.{Out, pdu, dropped, start, piece}
 use Rattle.event_decode.specs.declared.Call.{Call}
-use Rattle.event_decode.specs.declared.Call.TheVariants.{
-  Unknown,
-  Unfit,
-  Ticks,
-  Own,
-  Lost,
-  Segment,
-  Walk,
-  TakeWaiting,
-  Datagram,
-  Accept,
-  Transmit,
-  SwitchAll,
-  ReadCount,
-  ClearCount,
-}
+use Rattle.event_decode.specs.declared.BadCall.{BadCall}
+use Rattle.event_decode.specs.declared.Call.TheVariants.{Ticks, Own, Lost, Segment, Walk, TakeWaiting, Datagram, Accept, Transmit}
+use Rattle.event_decode.specs.declared.Call.TheVariants.{SwitchAll, ReadCount, ClearCount}
 use Rattle.event_decode.specs.Calls.{call_of, bytes_from}
 use Rattle.event_answer.specs.Answers.{room}
 use Rattle.model_refines.specs.Machine.{Machine}
@@ -53,9 +43,14 @@ id_read l = be 4 l 6
 abbrev pub length_read : List ℕ → ℕ
 length_read l = be 4 l 10
 
--- a drop: its reason, id and length; else there is nothing to tell
+-- a drop: its reason, id and length; a number that is no reason's tells none
+abbrev pub drop_told : Option DropReason → ℕ → ℕ → List Out
+drop_told (Some reason) id n = dropped reason id n ∷ []
+drop_told None id n = []
+
+-- .. and else there is nothing to tell
 abbrev pub drop_read : List ℕ → List Out
-drop_read l = cond (is_drop l) (dropped (which_read l) (id_read l) (length_read l) ∷ []) []
+drop_read l = cond (is_drop l) (drop_told (reason_of_number (which_read l)) (id_read l) (length_read l)) []
 
 -- of a take: "For a PDU then where its payload stood: 0 (1) and the place in the segment (4), or 1 (1) and the payload's bytes"
 abbrev pub from_segment : List ℕ → Bool
@@ -104,21 +99,20 @@ unfoldable pub walk_read : List ℕ → List ℕ → List Out
 walk_read datagram answer = if_done answer (step_read datagram (drop 2 answer))
 
 -- the answer of a call, for connection k
-unfoldable pub call_read : ℕ → List ℕ → Call → List ℕ → List Out
-call_read k body Unknown answer = []
-call_read k body Unfit answer = []
-call_read k body (Ticks n) answer = []
-call_read k body (Own c e) answer = []
-call_read k body (Lost c) answer = []
-call_read k body (Segment c at) answer = cond (eqb c k) (segment_read (bytes_from body at) answer) []
-call_read k body (Walk c place at) answer = cond (eqb c k) (walk_read (bytes_from body at) answer) []
-call_read k body (TakeWaiting c n) answer = []
-call_read k body (Datagram group source) answer = []
-call_read k body (Accept group source) answer = []
-call_read k body (Transmit number at) answer = []
-call_read k body (SwitchAll number position) answer = []
-call_read k body (ReadCount protocol) answer = []
-call_read k body (ClearCount protocol) answer = []
+unfoldable pub call_read : ℕ → List ℕ → Result Call BadCall → List ℕ → List Out
+call_read k body (Err bad) answer = []
+call_read k body (Ok (Ticks n)) answer = []
+call_read k body (Ok (Own c e)) answer = []
+call_read k body (Ok (Lost c)) answer = []
+call_read k body (Ok (Segment c at)) answer = cond (eqb c k) (segment_read (bytes_from body at) answer) []
+call_read k body (Ok (Walk c place at)) answer = cond (eqb c k) (walk_read (bytes_from body at) answer) []
+call_read k body (Ok (TakeWaiting c n)) answer = []
+call_read k body (Ok (Datagram group source)) answer = []
+call_read k body (Ok (Accept group source)) answer = []
+call_read k body (Ok (Transmit number at)) answer = []
+call_read k body (Ok (SwitchAll number position)) answer = []
+call_read k body (Ok (ReadCount protocol)) answer = []
+call_read k body (Ok (ClearCount protocol)) answer = []
 
 module _ (image : List ℕ) (k : ℕ) where
   -- what a call of the dispatcher has told for connection k; an out buffer that is too short has no answer

@@ -1,25 +1,12 @@
 -- THE EVENTS THAT A CALL OF THE DISPATCHER SPELLS (R16.3; docs/EVENTS.md, "Event numbers and bodies"), and calls one after the other, each
 -- lent the memory that the last one left.
-use Rattle.std.specs.Prelude.{ℕ, cond, List, [], ◌∷◌, ◌++◌, ltb, length, replicate}
+use Rattle.std.specs.Prelude.{ℕ, cond, List, [], ◌∷◌, ◌++◌, ltb, length, replicate, Result, Ok, Err}
 use Rattle.connection.specs.declared.Event.TheVariants.{Lost as Loses}
 use Rattle.reading_lengths.specs.Listed.{Bytes}
 use Rattle.event_decode.specs.declared.Call.{Call}
-use Rattle.event_decode.specs.declared.Call.TheVariants.{
-  Unknown,
-  Unfit,
-  Ticks,
-  Own,
-  Lost,
-  Segment,
-  Walk,
-  TakeWaiting,
-  Datagram,
-  Accept,
-  Transmit,
-  SwitchAll,
-  ReadCount,
-  ClearCount,
-}
+use Rattle.event_decode.specs.declared.BadCall.{BadCall}
+use Rattle.event_decode.specs.declared.Call.TheVariants.{Ticks, Own, Lost, Segment, Walk, TakeWaiting, Datagram, Accept, Transmit}
+use Rattle.event_decode.specs.declared.Call.TheVariants.{SwitchAll, ReadCount, ClearCount}
 use Rattle.event_decode.specs.Calls.{call_of, bytes_from}
 use Rattle.event_answer.specs.Answers.{Effect, room}
 use Rattle.dispatch_send.specs.Send.{room_of}
@@ -29,21 +16,20 @@ use Rattle.model_refines.specs.Machine.{Machine, machine, loan_to}
 
 -- the events of a call whose bytes stand in the body: "n ticks" are n events; "a room above 1,472 answers as 1,472"; "refused and changes
 -- nothing" is no event
-unfoldable pub events_of : List ℕ → Call → List Event
-events_of body Unknown = []
-events_of body Unfit = []
-events_of body (Ticks n) = replicate n (on_whole tick)
-events_of body (Own c e) = on c (change e) ∷ []
-events_of body (Lost c) = on c (change Loses) ∷ []
-events_of body (Segment c at) = on c (segment (bytes_from body at)) ∷ []
-events_of body (Walk c place at) = on c (walk (bytes_from body at) place) ∷ []
-events_of body (TakeWaiting c n) = on c (take_waiting (room_of n)) ∷ []
-events_of body (Datagram group source) = on_whole (datagram group source) ∷ []
-events_of body (Accept group source) = on_whole (accept group source) ∷ []
-events_of body (Transmit pdu at) = on_whole (transmit pdu (bytes_from body at)) ∷ []
-events_of body (SwitchAll number position) = on_whole (switch_all number position) ∷ []
-events_of body (ReadCount protocol) = on_whole (read_count protocol) ∷ []
-events_of body (ClearCount protocol) = on_whole (clear_count protocol) ∷ []
+unfoldable pub events_of : List ℕ → Result Call BadCall → List Event
+events_of body (Err bad) = []
+events_of body (Ok (Ticks n)) = replicate n (on_whole tick)
+events_of body (Ok (Own c e)) = on c (change e) ∷ []
+events_of body (Ok (Lost c)) = on c (change Loses) ∷ []
+events_of body (Ok (Segment c at)) = on c (segment (bytes_from body at)) ∷ []
+events_of body (Ok (Walk c place at)) = on c (walk (bytes_from body at) place) ∷ []
+events_of body (Ok (TakeWaiting c n)) = on c (take_waiting (room_of n)) ∷ []
+events_of body (Ok (Datagram group source)) = on_whole (datagram group source) ∷ []
+events_of body (Ok (Accept group source)) = on_whole (accept group source) ∷ []
+events_of body (Ok (Transmit pdu at)) = on_whole (transmit pdu (bytes_from body at)) ∷ []
+events_of body (Ok (SwitchAll number position)) = on_whole (switch_all number position) ∷ []
+events_of body (Ok (ReadCount protocol)) = on_whole (read_count protocol) ∷ []
+events_of body (Ok (ClearCount protocol)) = on_whole (clear_count protocol) ∷ []
 
 -- ONE CALL OF THE DISPATCHER: an event number, a body, and an out buffer
 pub record Spoken : Type 0 where

@@ -1,6 +1,6 @@
 -- THE TAKES WHOSE BYTES AN ANSWER IS (R16.3; docs/EVENTS.md, "The answer"): those of a segment event, each as its answer tells it, and
 -- the outcomes that they tell, and that a walk's answer tells: PDUs, drops, and of transfers the start and the pieces.
-use Rattle.std.specs.Prelude.{ℕ, zero, suc, ◌+◌, Bool, true, false, cond, List, [], ◌∷◌, ◌++◌, eqb, ltb, length, drop}
+use Rattle.std.specs.Prelude.{ℕ, zero, suc, ◌+◌, Bool, true, false, cond, List, [], ◌∷◌, ◌++◌, eqb, ltb, length, drop, Result, Ok, Err}
 use Rattle.table_layout.specs.Layout.{part_of}
 use Rattle.reading.specs.Feed.{Out, pdu, dropped, start, piece}
 use Rattle.receive_stream.specs.declared.Outcome.{Outcome}
@@ -10,22 +10,9 @@ use Rattle.entry_receive.specs.Answer.{is_done}
 use Rattle.entry_receive.specs.Segment.{payload_of}
 use Rattle.entry_receive.specs.Walk.{walk_of}
 use Rattle.event_decode.specs.declared.Call.{Call}
-use Rattle.event_decode.specs.declared.Call.TheVariants.{
-  Unknown,
-  Unfit,
-  Ticks,
-  Own,
-  Lost,
-  Segment,
-  Walk,
-  TakeWaiting,
-  Datagram,
-  Accept,
-  Transmit,
-  SwitchAll,
-  ReadCount,
-  ClearCount,
-}
+use Rattle.event_decode.specs.declared.BadCall.{BadCall}
+use Rattle.event_decode.specs.declared.Call.TheVariants.{Ticks, Own, Lost, Segment, Walk, TakeWaiting, Datagram, Accept, Transmit}
+use Rattle.event_decode.specs.declared.Call.TheVariants.{SwitchAll, ReadCount, ClearCount}
 use Rattle.event_decode.specs.Calls.{call_of, bytes_from}
 use Rattle.dispatch_receive.specs.Segment.{lent_next, take_bytes, Progress, begun, take_at, memory_at, one_take}
 use Rattle.model_refines.specs.Machine.{Machine, lent_to, loan_to}
@@ -86,25 +73,24 @@ module _ (l : Loan) (connection : ℕ) (segment : List ℕ) where
 
 module _ (image : List ℕ) (k : ℕ) where
   -- the outcomes that the answer of a call tells for connection k, by the takes or the walk that it answers
-  unfoldable pub tells_of : Machine → List ℕ → Call → List Out
-  tells_of m body Unknown = []
-  tells_of m body Unfit = []
-  tells_of m body (Ticks n) = []
-  tells_of m body (Own c e) = []
-  tells_of m body (Lost c) = []
-  tells_of m body (Segment c at) =
+  unfoldable pub tells_of : Machine → List ℕ → Result Call BadCall → List Out
+  tells_of m body (Err bad) = []
+  tells_of m body (Ok (Ticks n)) = []
+  tells_of m body (Ok (Own c e)) = []
+  tells_of m body (Ok (Lost c)) = []
+  tells_of m body (Ok (Segment c at)) =
       cond (eqb c k)
       (outs_in (bytes_from body at) (takes_from (loan_to image m) c (bytes_from body at) (length (bytes_from body at)) (begun m.state m.rx)))
       []
-  tells_of m body (Walk c place at) =
+  tells_of m body (Ok (Walk c place at)) =
       cond (eqb c k) (told_walk (bytes_from body at) (walk_of (lent_to image m) c (bytes_from body at) place).outcome) []
-  tells_of m body (TakeWaiting c n) = []
-  tells_of m body (Datagram group source) = []
-  tells_of m body (Accept group source) = []
-  tells_of m body (Transmit number at) = []
-  tells_of m body (SwitchAll number position) = []
-  tells_of m body (ReadCount protocol) = []
-  tells_of m body (ClearCount protocol) = []
+  tells_of m body (Ok (TakeWaiting c n)) = []
+  tells_of m body (Ok (Datagram group source)) = []
+  tells_of m body (Ok (Accept group source)) = []
+  tells_of m body (Ok (Transmit number at)) = []
+  tells_of m body (Ok (SwitchAll number position)) = []
+  tells_of m body (Ok (ReadCount protocol)) = []
+  tells_of m body (Ok (ClearCount protocol)) = []
 
   -- an out buffer that is too short has no answer
   unfoldable pub tells_by : Machine → Spoken → List Out

@@ -1,37 +1,37 @@
 -- The answers of a datagram, an accept, a transmit and a take of waiting bytes, as bytes (R16.2; docs/EVENTS.md, "The answer").
-use Rattle.std.specs.Prelude.{ℕ, min, List, take, replicate}
+use Rattle.std.specs.Prelude.{ℕ, min, List, take, replicate, Result, Ok, Err}
 use Rattle.connection.specs.declared.Remote.{Remote}
-use Rattle.select.specs.declared.Arrival.{Arrival}
-use Rattle.select.specs.declared.Arrival.TheVariants.{Met, Refused, Unmatched}
+use Rattle.select.specs.declared.NotMet.{NotMet}
+use Rattle.select.specs.declared.NotMet.TheVariants.{Refused, Unmatched}
 use Rattle.select.specs.declared.Arrived.{Arrived}
 use Rattle.entry_arrivals.specs.Arrivals.{datagram_of, accept_of}
-use Rattle.send.specs.declared.Transmission.{Transmission}
-use Rattle.send.specs.declared.Transmission.TheVariants.{Stored, Refused as NotSent, NoDestination, SwitchedOff, RefusedAt}
-use Rattle.send_waiting.specs.declared.Taking.{Taking}
-use Rattle.send_waiting.specs.declared.Taking.TheVariants.{Bytes, Refused as NotTaken, Short}
+use Rattle.send.specs.declared.NotSent.{NotSent}
+use Rattle.send.specs.declared.NotSent.TheVariants.{Refused as Unsent, NoDestination, SwitchedOff, RefusedAt}
+use Rattle.send_waiting.specs.declared.NotTaken.{NotTaken}
+use Rattle.send_waiting.specs.declared.NotTaken.TheVariants.{Refused as Untaken, Short}
 use Rattle.entry_send.specs.Sending.{send_of, sent_memory, taken_waiting, taken_out}
 use Rattle.gate.specs.Lent.{Loan, sizes}
 use Rattle.event_answer.specs.Answers.{Effect, answers, if_room, refused, refusal, done_alone, done_with, waiting}
 
 -- "datagram, accept: connection (1)"
-abbrev pub arrival_bytes : Arrival → List ℕ
-arrival_bytes (Met k) = done_with 1 k
-arrival_bytes (Refused r) = refusal r
-arrival_bytes Unmatched = refused 10 0
+abbrev pub arrival_bytes : Result ℕ NotMet → List ℕ
+arrival_bytes (Ok k) = done_with 1 k
+arrival_bytes (Err (Refused r)) = refusal r
+arrival_bytes (Err Unmatched) = refused 10 0
 
 -- "the destination's row number (4)" after 4, 7 and 8
-abbrev pub transmission_bytes : Transmission → List ℕ
-transmission_bytes Stored = done_alone
-transmission_bytes (NotSent r) = refusal r
-transmission_bytes NoDestination = refused 5 0
-transmission_bytes SwitchedOff = refused 6 0
-transmission_bytes (RefusedAt number destination) = refused number destination
+abbrev pub transmission_bytes : Result Unit NotSent → List ℕ
+transmission_bytes (Ok tt) = done_alone
+transmission_bytes (Err (Unsent r)) = refusal r
+transmission_bytes (Err NoDestination) = refused 5 0
+transmission_bytes (Err SwitchedOff) = refused 6 0
+transmission_bytes (Err (RefusedAt number destination)) = refused number destination
 
 -- "take waiting: count (4), address (19): the remote before the call, bytes": the first of the call's own out buffer
-abbrev pub taking_bytes : Taking → List ℕ → List ℕ
-taking_bytes (Bytes count remote) buffer = waiting remote (take count buffer)
-taking_bytes (NotTaken r) buffer = refusal r
-taking_bytes Short buffer = refused 9 0
+abbrev pub taking_bytes : Result (ℕ × Remote) NotTaken → List ℕ → List ℕ
+taking_bytes (Ok (count, remote)) buffer = waiting remote (take count buffer)
+taking_bytes (Err (Untaken r)) buffer = refusal r
+taking_bytes (Err Short) buffer = refused 9 0
 
 -- "a room above 1,472 answers as 1,472"
 abbrev pub room_of : ℕ → ℕ

@@ -10,49 +10,52 @@ ghost use Rattle.gate.specs.Lent.{loan};
 
 use connection::Remote;
 use event_answer::{
-    Dispatched, Verdict, put_done, put_done1, put_refusal, put_refused, put_waiting,
+    Answered, NoAnswer, has_room, put_done, put_done_with, put_refusal, put_refused, put_waiting,
 };
 use pieces::front;
-use select::Arrival;
-use send::Transmission;
-use send_waiting::Taking;
+use select::NotMet;
+use send::NotSent;
+use send_waiting::NotTaken;
 use state::State;
 
-fn put_arrival(out: &mut [u8], answer: Arrival) -> usize
+#[tactic(auto, using(event_answer::proofs::Bytes::one_byte))]
+fn put_arrival(out: &mut [u8], answer: Result<u8, NotMet>) -> usize
     ensures value { result ≡ length (Is.arrival_bytes answer) }
     ensures out_after { out.new ≡ lay out.old 0 (Is.arrival_bytes answer) }
 {
     match answer {
-        Arrival::Met(connection) => put_done1(out, connection),
-        Arrival::Refused(reason) => put_refusal(out, reason),
-        Arrival::Unmatched => put_refused(out, 10, 0),
+        Ok(connection) => put_done_with(out, &[connection]),
+        Err(NotMet::Refused(reason)) => put_refusal(out, reason),
+        Err(NotMet::Unmatched) => put_refused(out, 10, 0),
     }
 }
 
-fn put_transmission(out: &mut [u8], answer: Transmission) -> usize
+fn put_transmission(out: &mut [u8], answer: Result<(), NotSent>) -> usize
     ensures value { result ≡ length (Is.transmission_bytes answer) }
     ensures out_after { out.new ≡ lay out.old 0 (Is.transmission_bytes answer) }
 {
     match answer {
-        Transmission::Stored => put_done(out),
-        Transmission::Refused(reason) => put_refusal(out, reason),
-        Transmission::NoDestination => put_refused(out, 5, 0),
-        Transmission::SwitchedOff => put_refused(out, 6, 0),
-        Transmission::RefusedAt {
-            number,
-            destination,
-        } => put_refused(out, number as u16, destination),
+        Ok(()) => put_done(out),
+        Err(NotSent::Refused(reason)) => put_refusal(out, reason),
+        Err(NotSent::NoDestination) => put_refused(out, 5, 0),
+        Err(NotSent::SwitchedOff) => put_refused(out, 6, 0),
+        Err(
+            NotSent::RefusedAt {
+                number,
+                destination,
+            },
+        ) => put_refused(out, number as u16, destination),
     }
 }
 
-fn put_taking(out: &mut [u8], answer: Taking, buffer: &[u8]) -> usize
+fn put_taking(out: &mut [u8], answer: Result<(u16, Remote), NotTaken>, buffer: &[u8]) -> usize
     ensures value { result ≡ length (Is.taking_bytes answer buffer.now) }
     ensures out_after { out.new ≡ lay out.old 0 (Is.taking_bytes answer buffer.now) }
 {
     match answer {
-        Taking::Bytes { count, remote } => put_waiting(out, remote, front(buffer, count as usize)),
-        Taking::Refused(reason) => put_refusal(out, reason),
-        Taking::Short => put_refused(out, 9, 0),
+        Ok((count, remote)) => put_waiting(out, remote, front(buffer, count as usize)),
+        Err(NotTaken::Refused(reason)) => put_refusal(out, reason),
+        Err(NotTaken::Short) => put_refused(out, 9, 0),
     }
 }
 
@@ -64,26 +67,19 @@ pub fn datagram(
     group: u8,
     source: Remote,
     out: &mut [u8],
-) -> Dispatched
+) -> Result<Answered, NoAnswer>
     ensures value { result ≡ dispatched
         (Is.datagram_effect (loan image.now state rx.now tx.now) out.old group source) }
     ensures out_after { out.new
         ≡ (Is.datagram_effect (loan image.now state rx.now tx.now) out.old group source).out }
 {
-    if out.len() < 16384 {
-        return Dispatched {
-            verdict: Verdict::Small,
-            state: state,
-        };
-    }
+    has_room(out)?;
     let entry = entry_arrivals::arrive(image, state, rx.len(), tx.len(), false, group, source);
-    let answer = entry.answer;
-    let after = entry.state;
-    let n = put_arrival(out, answer);
-    Dispatched {
-        verdict: Verdict::Done(n),
-        state: after,
-    }
+    let length = put_arrival(out, entry.answer);
+    Ok(Answered {
+        state: entry.state,
+        length,
+    })
 }
 
 pub fn accept(
@@ -94,25 +90,18 @@ pub fn accept(
     group: u8,
     source: Remote,
     out: &mut [u8],
-) -> Dispatched
+) -> Result<Answered, NoAnswer>
     ensures value { result ≡ dispatched (Is.accept_effect (loan image.now state rx.now tx.now) out.old group source) }
     ensures out_after { out.new
         ≡ (Is.accept_effect (loan image.now state rx.now tx.now) out.old group source).out }
 {
-    if out.len() < 16384 {
-        return Dispatched {
-            verdict: Verdict::Small,
-            state: state,
-        };
-    }
+    has_room(out)?;
     let entry = entry_arrivals::arrive(image, state, rx.len(), tx.len(), true, group, source);
-    let answer = entry.answer;
-    let after = entry.state;
-    let n = put_arrival(out, answer);
-    Dispatched {
-        verdict: Verdict::Done(n),
-        state: after,
-    }
+    let length = put_arrival(out, entry.answer);
+    Ok(Answered {
+        state: entry.state,
+        length,
+    })
 }
 
 pub fn transmit(
@@ -123,7 +112,7 @@ pub fn transmit(
     pdu: u16,
     payload: &[u8],
     out: &mut [u8],
-) -> Dispatched
+) -> Result<Answered, NoAnswer>
     ensures value { result ≡ dispatched
         (Is.transmit_effect (loan image.now state rx.now tx.old) out.old pdu payload.now) }
     ensures tx_after { tx.new
@@ -131,29 +120,13 @@ pub fn transmit(
     ensures out_after { out.new
         ≡ (Is.transmit_effect (loan image.now state rx.now tx.old) out.old pdu payload.now).out }
 {
-    if out.len() < 16384 {
-        return Dispatched {
-            verdict: Verdict::Small,
-            state: state,
-        };
-    }
+    has_room(out)?;
     let entry = entry_send::transmit(image, state, rx, tx, pdu, payload);
-    let answer = entry.answer;
-    let after = entry.state;
-    let n = put_transmission(out, answer);
-    Dispatched {
-        verdict: Verdict::Done(n),
-        state: after,
-    }
-}
-
-fn room_of(room: u32) -> usize
-    ensures { (result ≡ Is.room_of room) × (result ≤ 1472) }
-{
-    if room < 1472 {
-        return room as usize;
-    }
-    1472
+    let length = put_transmission(out, entry.answer);
+    Ok(Answered {
+        state: entry.state,
+        length,
+    })
 }
 
 // Into a buffer of the call's own, and from there to the answer.
@@ -165,19 +138,17 @@ fn take_into(
     connection: u8,
     buffer: &mut [u8],
     out: &mut [u8],
-) -> Dispatched
-    ensures value { result ≡ dispatched
+) -> Answered
+    ensures value { Ok result ≡ dispatched
         (Is.take_into (loan image.now state rx.now tx.now) out.old connection buffer.old) }
     ensures out_after { out.new
         ≡ (Is.take_into (loan image.now state rx.now tx.now) out.old connection buffer.old).out }
 {
     let entry = entry_send::take_waiting(image, state, rx, tx, connection, buffer);
-    let answer = entry.answer;
-    let after = entry.state;
-    let n = put_taking(out, answer, buffer);
-    Dispatched {
-        verdict: Verdict::Done(n),
-        state: after,
+    let length = put_taking(out, entry.answer, buffer);
+    Answered {
+        state: entry.state,
+        length,
     }
 }
 
@@ -189,19 +160,13 @@ pub fn take_waiting(
     connection: u8,
     room: u32,
     out: &mut [u8],
-) -> Dispatched
+) -> Result<Answered, NoAnswer>
     ensures value { result ≡ dispatched (Is.take_effect (loan image.now state rx.now tx.now) out.old connection room) }
     ensures out_after { out.new
         ≡ (Is.take_effect (loan image.now state rx.now tx.now) out.old connection room).out }
 {
-    let short = out.len() < 16384;
-    if short {
-        return Dispatched {
-            verdict: Verdict::Small,
-            state: state,
-        };
-    }
+    has_room(out)?; // before they are taken: else they wait on
     let mut buffer = [0u8; 1472];
-    let n = room_of(room);
-    take_into(image, state, rx, tx, connection, &mut buffer[..n], out)
+    let n = room.min(1472) as usize;
+    Ok(take_into(image, state, rx, tx, connection, &mut buffer[..n], out))
 }

@@ -9,23 +9,28 @@ ghost use Rattle.gate.specs.Gate.{through};
 ghost use Rattle.select.specs.Choose.{answer_before};
 ghost use Rattle.table_layout.specs.Layout.{Laid};
 
-use connection::Remote;
-use gate::Gate;
-use select::{Arrival, Arrived};
+use connection::{Refusal, Remote};
+use select::{Arrived, NotMet};
 use state::State;
 
 // The gate's refusal, or past the gate what is answered before any member is looked at.
-fn past(asked: Gate, image: &[u8], accept: bool, group: u8, source: Remote) -> Arrival
-    requires { asked ≡ Gate.Pass → Laid image.now }
-    ensures { result ≡ through asked Arrival.Refused (answer_before image.now accept group source) }
+fn past(
+    asked: Result<(), Refusal>,
+    image: &[u8],
+    accept: bool,
+    group: u8,
+    source: Remote,
+) -> Result<u8, NotMet>
+    requires { asked ≡ Ok tt → Laid image.now }
+    ensures { result ≡ through asked (λ x. Err (NotMet.Refused x)) (answer_before image.now accept group source) }
 {
     match asked {
-        Gate::Refused(reason) => Arrival::Refused(reason),
-        Gate::Pass => select::answer_before(image, accept, group, source),
+        Err(reason) => Err(NotMet::Refused(reason)),
+        Ok(()) => select::answer_before(image, accept, group, source),
     }
 }
 
-// Either of them, by the lengths of both memories. The state is taken apart once, into the copy that the gate is lent, the search goes over
+// Either of them, by the lengths of both memories. The state is copied once: the gate is lent the copy, the search goes over it,
 // and the record is replaced in; where nobody is met the same record is put back, so that there is one way out, and one copy.
 pub fn arrive(
     image: &[u8],
@@ -38,24 +43,17 @@ pub fn arrive(
 ) -> Arrived
     ensures { result ≡ arrival_of (lent image.now state rx tx) accept group source }
 {
-    let records = state.connections;
-    let mut after = State {
-        connections: records,
-        udp_drops: state.udp_drops,
-        tcp_drops: state.tcp_drops,
-    };
-    let asked = gate::ask(image, after, rx, tx);
+    let mut after = state;
+    let asked = gate::ask(image, &after, rx, tx);
     let before = past(asked, image, accept, group, source);
     let body = select::searched(before, image);
     let rows = body.len() / 16;
     let mut best = select::Pick { score: 0, at: 0 };
-    let mut i: usize = 0;
-    while i < rows {
+    for i in 0..rows {
         let start = i * 16;
         let row = &body[start..start + 16];
         let c = after.connections[i];
         best = select::better(best, row, i, c, accept, group, source);
-        i += 1;
     }
     let answer = select::answer_after(before, best);
     let k = select::place_of(answer);
@@ -64,7 +62,7 @@ pub fn arrive(
     after.connections[k] = next;
     Arrived {
         state: after,
-        answer: answer,
+        answer,
     }
 }
 

@@ -1,4 +1,5 @@
 -- What an event past the gate answers, with the record put back: in a refusal it is the one that stood there.
+use Rattle.std.proofs.Common.{Ok}
 use Prim.Native.Nat.{ℕ}
 use mathlib.Core.Path.{◌≡◌, refl, ap, ◌∙◌}
 use mathlib.Core.Bool.{Bool, true, false, cond, not}
@@ -6,7 +7,6 @@ use mathlib.Core.List.{List}
 use Rattle.connection.specs.declared.Config.{Config}
 use Rattle.connection.specs.declared.Refusal.{Refusal}
 use Rattle.connection.specs.declared.Refusal.TheVariants.{Missing, Denied}
-use Rattle.connection.specs.declared.Answer.TheVariants.{Done}
 use Rattle.connection.specs.declared.Stepped.{Stepped}
 use Rattle.connection.specs.declared.Event.{Event}
 use Rattle.connection.specs.Event.{known, allowed, record_after, refused_by, step_of}
@@ -33,7 +33,7 @@ past s n e g = go (not (known e)) (not (allowed e g (record_at s n)))
   where
     step : Bool → Bool → Stepped
     step a b = cond a (refused_by Missing (record_at s n))
-        (cond b (refused_by Denied (record_at s n)) (record { answer = Done; connection = record_after e g (record_at s n) }))
+        (cond b (refused_by Denied (record_at s n)) (record { answer = Ok tt; connection = record_after e g (record_at s n) }))
 
     go : (a b : Bool) → told s n (step a b) ≡ told_of s n (step a b).answer (step a b).connection
     go true b = back s n Missing

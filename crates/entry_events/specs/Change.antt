@@ -1,10 +1,8 @@
 -- R8.2, the connection events that concern the record alone, as a caller sees them: the gate (11, 12, 2), then the event's own
 -- 2 and 3, then one record replaced. A refusal carries its number, and the state stays.
-use Rattle.std.specs.Prelude.{ℕ, List}
+use Rattle.std.specs.Prelude.{ℕ, List, Result, Ok, Err}
 use Rattle.connection.specs.declared.Connection.{Connection}
 use Rattle.connection.specs.declared.Refusal.{Refusal}
-use Rattle.connection.specs.declared.Answer.{Answer}
-use Rattle.connection.specs.declared.Answer.TheVariants.{Done, Refused}
 use Rattle.connection.specs.declared.Event.{Event}
 use Rattle.connection.specs.declared.Event.TheVariants.{Lost}
 use Rattle.connection.specs.Connection.{failed_of}
@@ -19,12 +17,12 @@ use Rattle.entry_events.specs.declared.Loss.{Loss}
 
 -- the number of a refusal, and the state as it was
 abbrev pub refused_told : State → Refusal → Told
-refused_told s r = record { answer = Refused r; state = s }
+refused_told s r = record { answer = Err r; state = s }
 
 -- an answer with the record that it leaves
-unfoldable pub told_of : State → ℕ → Answer → Connection → Told
-told_of s n Done c = record { answer = Done; state = with_record n c s }
-told_of s n (Refused r) c = refused_told s r
+unfoldable pub told_of : State → ℕ → Result Unit Refusal → Connection → Told
+told_of s n (Ok tt) c = record { answer = Ok tt; state = with_record n c s }
+told_of s n (Err r) c = refused_told s r
 
 -- past the gate
 unfoldable pub change_of : List ℕ → State → ℕ → Event → Told

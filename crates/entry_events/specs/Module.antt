@@ -1,10 +1,9 @@
 -- A switch on all connections. A refusal carries its number, and the state stays.
-use Rattle.std.specs.Prelude.{ℕ, Bool, cond, ltb}
+use Rattle.std.specs.Prelude.{ℕ, Bool, cond, ltb, Ok}
 use Rattle.table_layout.specs.Layout.{rows_of}
 use Rattle.table_layout.specs.declared.Kind.TheVariants.{Connection as Connections}
 use Rattle.connection.specs.declared.Connection.{Connection}
 use Rattle.connection.specs.declared.Refusal.TheVariants.{Missing}
-use Rattle.connection.specs.declared.Answer.TheVariants.{Done}
 use Rattle.connection.specs.Connection.{switched_of}
 use Rattle.lists.specs.Each.{each_to}
 use Rattle.state.specs.declared.State.{State}
@@ -25,4 +24,4 @@ switched_all rows number on s = with_records (each_to (switch_at number on) 0 ro
 unfoldable pub switch_all_of : Lent → ℕ → Bool → Told
 switch_all_of l number on =
     through (gate_of l) (refused_told l.state)
-    (cond (ltb number 32) (record { answer = Done; state = switched_all (rows_of l.image Connections) number on l.state }) (refused_told l.state Missing))
+    (cond (ltb number 32) (record { answer = Ok tt; state = switched_all (rows_of l.image Connections) number on l.state }) (refused_told l.state Missing))

@@ -9,8 +9,7 @@ ghost use Rattle.entry_events.specs.Module.{switched_all, switch_all_of};
 ghost use Rattle.entry_events.specs.Count.{read_past, clear_past, read_of, clear_of};
 ghost use Rattle.gate.specs.Lent.{lent_by};
 
-use connection::{Answer, Connection, Event, Refusal, Remote};
-use gate::Gate;
+use connection::{Connection, Event, Refusal, Remote};
 use state::{State, config_laid};
 use table_layout::{Kind, rows_of};
 
@@ -18,33 +17,26 @@ use table_layout::{Kind, rows_of};
 #[derive(Clone, Copy)]
 pub struct Told {
     pub state: State,
-    pub answer: Answer,
+    pub answer: Result<(), Refusal>,
 }
 
 // What a loss answers, the state after it, and whether it ended a transfer.
 #[derive(Clone, Copy)]
 pub struct Loss {
     pub state: State,
-    pub answer: Answer,
+    pub answer: Result<(), Refusal>,
     pub failed: bool,
-}
-
-// What reading a count answers.
-#[derive(Clone, Copy)]
-pub enum CountAnswer {
-    Count(u32),
-    Refused(Refusal),
 }
 
 // The answer, with the state after it.
 #[derive(Clone, Copy)]
 pub struct Counted {
     pub state: State,
-    pub answer: CountAnswer,
+    pub answer: Result<u32, Refusal>,
 }
 
-// Any connection event that concerns the record alone: past the gate the event's own 2 and 3, or the record replaced. The state is taken
-// apart once, into the copy that the gate is lent and the record is put back in; in a refusal it is the one that stood there.
+// Any connection event that concerns the record alone: past the gate the event's own 2 and 3, or the record replaced. The state is
+// copied once, and the record is put back in the copy; in a refusal it is the one that stood there.
 pub fn happen(
     image: &[u8],
     state: State,
@@ -56,29 +48,22 @@ pub fn happen(
     ensures { result ≡ event_of (lent_by image.now state rx.now tx.now) connection event }
 {
     let n = connection as usize;
-    let records = state.connections;
-    let mut after = State {
-        connections: records,
-        udp_drops: state.udp_drops,
-        tcp_drops: state.tcp_drops,
-    };
-    let asked = gate::ask_at(image, after, rx.len(), tx.len(), n);
+    let mut after = state;
+    let asked = gate::ask_at(image, &after, rx.len(), tx.len(), n);
     match asked {
-        Gate::Refused(reason) => {
+        Err(reason) => {
             return Told {
                 state: after,
-                answer: Answer::Refused(reason),
+                answer: Err(reason),
             };
         }
-        Gate::Pass => {
+        Ok(()) => {
             let before = after.connections[n];
             let stepped = before.step(config_laid(image, n), event);
-            let answer = stepped.answer;
-            let next = stepped.connection;
-            after.connections[n] = next;
+            after.connections[n] = stepped.connection;
             return Told {
                 state: after,
-                answer: answer,
+                answer: stepped.answer,
             };
         }
     }
@@ -113,20 +98,19 @@ pub fn lost(image: &[u8], state: State, rx: &[u8], tx: &[u8], connection: u8) ->
     ensures { result ≡ loss_of (lent_by image.now state rx.now tx.now) connection }
 {
     let told = happen(image, state, rx, tx, connection, Event::Lost);
-    let answer = told.answer;
     let after = told.state;
     let n = connection as usize;
     if n < 16 {
         let was = state.connections[n];
         let now = after.connections[n];
         return Loss {
-            answer: answer,
+            answer: told.answer,
             state: after,
             failed: connection::failed(was, now),
         };
     }
     Loss {
-        answer: answer,
+        answer: told.answer,
         state: after,
         failed: false,
     }
@@ -162,10 +146,7 @@ pub fn switch(
         rx,
         tx,
         connection,
-        Event::Switch {
-            number: number,
-            on: on,
-        },
+        Event::Switch { number, on },
     )
 }
 
@@ -174,12 +155,10 @@ fn switch_rows(rows: usize, mut state: State, number: u8, on: bool) -> State
     requires { rows ≤ 16 }
     ensures { result ≡ switched_all rows number on state }
 {
-    let mut i: usize = 0;
-    while i < rows {
+    for i in 0..rows {
         let connection = state.connections[i];
         let next = connection.switch(number, on);
         state.connections[i] = next;
-        i += 1;
     }
     state
 }
@@ -187,23 +166,23 @@ fn switch_rows(rows: usize, mut state: State, number: u8, on: bool) -> State
 pub fn switch_all(image: &[u8], state: State, rx: &[u8], tx: &[u8], number: u8, on: bool) -> Told
     ensures { result ≡ switch_all_of (lent_by image.now state rx.now tx.now) number on }
 {
-    let asked = gate::ask(image, state, rx.len(), tx.len());
+    let asked = gate::ask(image, &state, rx.len(), tx.len());
     match asked {
-        Gate::Refused(reason) => Told {
-            answer: Answer::Refused(reason),
-            state: state,
+        Err(reason) => Told {
+            answer: Err(reason),
+            state,
         },
-        Gate::Pass => {
+        Ok(()) => {
             if number < 32 {
                 let after = switch_rows(rows_of(image, Kind::Connection), state, number, on);
                 return Told {
-                    answer: Answer::Done,
+                    answer: Ok(()),
                     state: after,
                 };
             }
             Told {
-                answer: Answer::Refused(Refusal::Missing),
-                state: state,
+                answer: Err(Refusal::Missing),
+                state,
             }
         }
     }
@@ -215,16 +194,16 @@ fn read_past(state: State, protocol: u8) -> Counted
 {
     match protocol {
         1 => Counted {
-            answer: CountAnswer::Count(state.count(false)),
-            state: state,
+            answer: Ok(state.count(false)),
+            state,
         },
         2 => Counted {
-            answer: CountAnswer::Count(state.count(true)),
-            state: state,
+            answer: Ok(state.count(true)),
+            state,
         },
         _ => Counted {
-            answer: CountAnswer::Refused(Refusal::Denied),
-            state: state,
+            answer: Err(Refusal::Denied),
+            state,
         },
     }
 }
@@ -237,20 +216,20 @@ fn clear_past(state: State, protocol: u8) -> Counted
         1 => {
             let cleared = state.with_count(false, 0);
             Counted {
-                answer: CountAnswer::Count(state.count(false)),
+                answer: Ok(state.count(false)),
                 state: cleared,
             }
         }
         2 => {
             let cleared = state.with_count(true, 0);
             Counted {
-                answer: CountAnswer::Count(state.count(true)),
+                answer: Ok(state.count(true)),
                 state: cleared,
             }
         }
         _ => Counted {
-            answer: CountAnswer::Refused(Refusal::Denied),
-            state: state,
+            answer: Err(Refusal::Denied),
+            state,
         },
     }
 }
@@ -258,25 +237,25 @@ fn clear_past(state: State, protocol: u8) -> Counted
 pub fn read_count(image: &[u8], state: State, rx: &[u8], tx: &[u8], protocol: u8) -> Counted
     ensures { result ≡ read_of (lent_by image.now state rx.now tx.now) protocol }
 {
-    let asked = gate::ask(image, state, rx.len(), tx.len());
+    let asked = gate::ask(image, &state, rx.len(), tx.len());
     match asked {
-        Gate::Refused(reason) => Counted {
-            answer: CountAnswer::Refused(reason),
-            state: state,
+        Err(reason) => Counted {
+            answer: Err(reason),
+            state,
         },
-        Gate::Pass => read_past(state, protocol),
+        Ok(()) => read_past(state, protocol),
     }
 }
 
 pub fn clear_count(image: &[u8], state: State, rx: &[u8], tx: &[u8], protocol: u8) -> Counted
     ensures { result ≡ clear_of (lent_by image.now state rx.now tx.now) protocol }
 {
-    let asked = gate::ask(image, state, rx.len(), tx.len());
+    let asked = gate::ask(image, &state, rx.len(), tx.len());
     match asked {
-        Gate::Refused(reason) => Counted {
-            answer: CountAnswer::Refused(reason),
-            state: state,
+        Err(reason) => Counted {
+            answer: Err(reason),
+            state,
         },
-        Gate::Pass => clear_past(state, protocol),
+        Ok(()) => clear_past(state, protocol),
     }
 }

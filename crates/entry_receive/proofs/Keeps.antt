@@ -1,4 +1,5 @@
 -- A take and a walk leave a sound state sound, and receive memory as long as it was.
+use Rattle.std.proofs.Common.{Ok}
 use Prim.Native.Nat.{ℕ, ◌*◌, ◌/◌, ◌≤◌, ◌<◌}
 use mathlib.Core.Path.{◌≡◌, refl, sym, ap, ◌∙◌}
 use mathlib.Core.Bool.{Bool, true, false, cond, not, false≢true}
@@ -12,7 +13,6 @@ use Rattle.lists.proofs.Both.{and_left, and_both}
 use Rattle.table_layout.specs.Layout.{body_of}
 use Rattle.table_layout.specs.declared.Kind.TheVariants.{Route as Routes}
 use Rattle.table_layout.proofs.Parts.{body-rows}
-use Rattle.table.specs.declared.TableAnswer.TheVariants.{Accepted}
 use Rattle.table.specs.Table.{check_table}
 use Rattle.table.specs.Accepts.{Accepts}
 use Rattle.table.proofs.Facts.{accepted_facts}
@@ -50,7 +50,7 @@ in_range s k h = go (dec_lt k (length s.connections))
     go (no ge) = absurd (false≢true (sym (ap receiving (get_or-eq_default s.connections zero_record (omega arith))) ∙ h))
 
 -- an accepted table has 64 routes at most
-few_routes : (image : List ℕ) → check_table image ≡ Accepted → length (body_of image Routes) / 16 ≤ 64
+few_routes : (image : List ℕ) → check_table image ≡ Ok tt → length (body_of image Routes) / 16 ≤ 64
 few_routes image table =
     let facts : Accepts image = accepted_facts image table in
     omega (arith, body-rows image facts.laid Routes, facts.most Routes)

@@ -1,4 +1,5 @@
 -- What the gate shows to a take and to a walk.
+use Rattle.std.proofs.Common.{Ok}
 use Prim.Native.Nat.{ℕ, ◌*◌, ◌/◌, ◌<◌, ◌≤◌}
 use mathlib.Core.Path.{◌≡◌, refl, sym, subst}
 use mathlib.Core.Bool.{Bool, true, ◌&&◌}
@@ -15,7 +16,6 @@ use Rattle.table_layout.specs.Layout.{rows_of, body_of}
 use Rattle.table_layout.specs.declared.Kind.TheVariants.{Connection as Connections, Route as Routes}
 use Rattle.table_layout.proofs.Parts.{body-rows, row_none}
 use Rattle.table_rows.specs.Rows.{route_row, route_in}
-use Rattle.table.specs.declared.TableAnswer.TheVariants.{Accepted}
 use Rattle.table.specs.Table.{check_table}
 use Rattle.table.specs.Accepts.{Accepts}
 use Rattle.table.proofs.Facts.{accepted_facts}
@@ -36,7 +36,7 @@ use Rattle.state.specs.Memory.{stretch}
 use Rattle.entry_receive.specs.Segment.{Takes}
 
 -- an accepted table has sixteen connections at most, and no route of more than 1,464 bytes: a row that is not there allows none
-module _ (image : List ℕ) (ok : check_table image ≡ Accepted) where
+module _ (image : List ℕ) (ok : check_table image ≡ Ok tt) where
   facts : Accepts image
   facts = accepted_facts image ok
 

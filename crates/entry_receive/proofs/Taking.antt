@@ -1,4 +1,5 @@
 -- The take of a segment at each of its returns, and a stretch of receive memory.
+use Rattle.std.proofs.Common.{Result}
 use Prim.Native.Nat.{ℕ, ◌+◌, ◌-◌, ◌*◌, ◌%◌, ◌<◌}
 use mathlib.Core.Path.{◌≡◌, refl, sym, ap, ap₂, ◌∙◌, subst}
 use mathlib.Core.Bool.{Bool, true, false, cond}
@@ -23,17 +24,17 @@ use Rattle.receive_stream.specs.declared.Taken.{Taken}
 use Rattle.receive_stream.specs.Stream.{taken_of, rx_after, payload_at, payload_place, Fit}
 use Rattle.receive_stream.proofs.Leaves.{leaves-length}
 use Rattle.state.specs.Memory.{stretch}
-use Rattle.entry_receive.specs.declared.Answer.{Answer}
 use Rattle.entry_receive.specs.declared.SegmentTaken.{SegmentTaken}
 use Rattle.entry_receive.specs.declared.TakeStep.{TakeStep}
 use Rattle.gate.specs.Lent.{Lent, Loan, sizes}
-use Rattle.gate.specs.declared.Gate.{Gate}
 use Rattle.gate.specs.Gate.{gate_at}
 use Rattle.entry_receive.specs.Answer.{is_done, answer_past, stream_past}
 use Rattle.entry_receive.specs.Segment.{drops_after, taken_by, stretch_by, step_memory, step_taken, take_on, memory_on}
 use Rattle.entry_receive.specs.Segment.{Takes, none_taken, segment_answer, segment_of, memory_of, payload_of, payload_stands}
 use Rattle.entry_receive.proofs.Answers.{Clear, done_clear, is-done, answer-is, past-stream}
 use Rattle.entry_receive.proofs.Past.{below_sixteen, passed-takes}
+use Rattle.connection.specs.declared.Refusal.{Refusal}
+use Rattle.entry_receive.specs.declared.NotReceived.{NotReceived}
 
 -- what there is of a stretch: nothing, less than all, all of it
 module _ (n : ℕ) (rx : List ℕ) where
@@ -85,7 +86,7 @@ module _ (image : List ℕ) (c : Connection) (rx : List ℕ) (n : ℕ) (segment 
       subst (λ (l : List ℕ). Fit l c.part part) (sym er)
       (subst (Fit (body_of image Routes) c.part) (sym (stretch-all n rx)) takes.fit)
 
-  module _ (answer : Answer) (done : is_done answer ≡ true) where
+  module _ (answer : Result Unit NotReceived) (done : is_done answer ≡ true) where
     pub step_done : (t : Taken) (next : Connection) (drops after : ℕ) → t ≡ taken_of routes n c.switches c.part part segment
         → next ≡ with_part t.part c → after ≡ drops_after t.outcome drops
         → record { connection = next; drops = after; read = t.read; outcome = t.outcome } ≡ step_taken image c drops rx n segment answer
@@ -108,7 +109,7 @@ module _ (image : List ℕ) (c : Connection) (rx : List ℕ) (n : ℕ) (segment 
         rw done (ap (put_mid (n * 1464) (n * 1464 + 1464 - n * 1464) rx) same ∙ mid_laid n rx (stretch_by image c rx n segment) takes.small takes.room l)
 
 -- refused: nothing is read
-module _ (image : List ℕ) (c : Connection) (rx : List ℕ) (n : ℕ) (segment : List ℕ) (answer : Answer) (done : is_done answer ≡ false) where
+module _ (image : List ℕ) (c : Connection) (rx : List ℕ) (n : ℕ) (segment : List ℕ) (answer : Result Unit NotReceived) (done : is_done answer ≡ false) where
   pub step_none : (drops : ℕ) → record { connection = c; drops = drops; read = 0; outcome = More } ≡ step_taken image c drops rx n segment answer
   unfolding step_taken
   step_none drops = rw done
@@ -117,15 +118,15 @@ module _ (image : List ℕ) (c : Connection) (rx : List ℕ) (n : ℕ) (segment 
   unfolding step_memory
   memory_none = rw done
 
-pub segment-answer : (l : Lent) (n : ℕ) (asked : Gate) → asked ≡ gate_at l n → (tcp : Bool) → tcp ≡ stream_past asked (config_of l.image n).tcp
-    → (c : Connection) → c ≡ record_at l.state (n % 16) → (a : Answer) → a ≡ answer_past asked tcp c → a ≡ segment_answer l n
+pub segment-answer : (l : Lent) (n : ℕ) (asked : Result Unit Refusal) → asked ≡ gate_at l n → (tcp : Bool) → tcp ≡ stream_past asked (config_of l.image n).tcp
+    → (c : Connection) → c ≡ record_at l.state (n % 16) → (a : Result Unit NotReceived) → a ≡ answer_past asked tcp c → a ≡ segment_answer l n
 segment-answer l n asked eg tcp et c ec a e =
     let t : Bool = (config_of l.image n).tcp in
     answer-is l n t asked eg c ec a (e ∙ ap (λ (b : Bool). answer_past asked b c) et ∙ past-stream asked (λ (b : Bool). b) t c)
 
 -- THE ENTRY: record n modulo 16 is replaced, in a refusal by itself
 module _ (l : Loan) (n : ℕ) (segment : List ℕ) (c : Connection) (ec : c ≡ record_at l.state (n % 16))
-    (answer : Answer) (ea : answer ≡ segment_answer (sizes l) n) where
+    (answer : Result Unit NotReceived) (ea : answer ≡ segment_answer (sizes l) n) where
   cleared : is_done answer ≡ true → Clear (sizes l) n (config_of l.image n).tcp
   cleared p = done_clear (sizes l) n (config_of l.image n).tcp (ap is_done (sym ea) ∙ p)
 
@@ -143,7 +144,7 @@ module _ (l : Loan) (n : ℕ) (segment : List ℕ) (c : Connection) (ec : c ≡ 
       subst (λ (x : Connection). Takes l.image x l.rx n) (sym (own p)) (passed-takes l n k.passed k.there)
 
   -- what is told of a step, its record put back at a number
-  abbrev told : Answer → TakeStep → ℕ → SegmentTaken
+  abbrev told : Result Unit NotReceived → TakeStep → ℕ → SegmentTaken
   told a u k = record { state = with_count true u.drops (with_record k u.connection l.state); answer = a; read = u.read; outcome = u.outcome }
 
   abbrev taken : Connection → TakeStep
@@ -165,7 +166,7 @@ module _ (l : Loan) (n : ℕ) (segment : List ℕ) (c : Connection) (ec : c ≡ 
         let steps : t ≡ taken c = et ∙ ap (λ (b : Bool). cond b (taken c) stays) p in
         ap (λ (u : TakeStep). told answer u (n % 16)) steps
         ∙ ap₂ (λ (x : Connection) (k : ℕ). told answer (taken x) k) (own p) (within p)
-        ∙ ap (λ (a : Answer). told a (taken (record_at l.state n)) n) (is-done answer p)
+        ∙ ap (λ (a : Result Unit NotReceived). told a (taken (record_at l.state n)) n) (is-done answer p)
         ∙ sym
         (ap (λ (b : Bool). cond b (take_on l.image l.state l.rx n segment) (none_taken l.state (segment_answer (sizes l) n)))
         (ap is_done (sym ea) ∙ p))

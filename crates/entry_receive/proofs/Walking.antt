@@ -1,4 +1,5 @@
 -- The walk over a datagram at each of its returns.
+use Rattle.std.proofs.Common.{Result, Ok}
 use Prim.Native.Nat.{ℕ, ◌%◌, ◌<◌}
 use mathlib.Core.Path.{◌≡◌, refl, sym, ap, ap₂, ◌∙◌}
 use mathlib.Core.Bool.{Bool, true, false, cond, not, ◌&&◌}
@@ -17,20 +18,19 @@ use Rattle.receive_datagram.specs.declared.Outcome.TheVariants.{End, Pdu, Drop}
 use Rattle.receive_datagram.specs.declared.Walked.{Walked}
 use Rattle.receive_datagram.specs.Datagram.{walked_of}
 use Rattle.gate.specs.Lent.{Lent}
-use Rattle.gate.specs.declared.Gate.{Gate}
 use Rattle.gate.specs.Gate.{gate_at}
 use Rattle.gate.proofs.Pass.{passed-laid}
-use Rattle.entry_receive.specs.declared.Answer.{Answer}
-use Rattle.entry_receive.specs.declared.Answer.TheVariants.{Done}
 use Rattle.entry_receive.specs.declared.DatagramWalked.{DatagramWalked}
 use Rattle.entry_receive.specs.declared.WalkStep.{WalkStep}
 use Rattle.entry_receive.specs.Answer.{is_done, answer_past, stream_past}
 use Rattle.entry_receive.specs.Walk.{count_walk, walk_drops, step_walked, walked_at, walk_on, none_walked, walk_allowed, walk_answer, walk_of}
 use Rattle.entry_receive.proofs.Answers.{Clear, done_clear, is-done, answer-is, past-stream}
 use Rattle.entry_receive.proofs.Past.{below_sixteen}
+use Rattle.connection.specs.declared.Refusal.{Refusal}
+use Rattle.entry_receive.specs.declared.NotReceived.{NotReceived}
 
 -- A STEP: where nothing refuses it, the walk
-module _ (image : List ℕ) (switches drops n : ℕ) (datagram : List ℕ) (place : ℕ) (answer : Answer) where
+module _ (image : List ℕ) (switches drops n : ℕ) (datagram : List ℕ) (place : ℕ) (answer : Result Unit NotReceived) where
   pub step_done : is_done answer ≡ true → (routes : List ℕ) → routes ≡ body_of image Routes → (w : Walked) → w ≡ walked_of datagram place routes n switches
       → (after : ℕ) → after ≡ walk_drops w.outcome drops
       → record { drops = after; outcome = w.outcome; next = w.next } ≡ step_walked image switches drops n datagram place answer
@@ -51,9 +51,9 @@ count-is End s = refl
 count-is (Pdu route id at n) s = refl
 count-is (Drop reason id n) s = refl
 
-pub walk-answer : (l : Lent) (n : ℕ) (datagram : List ℕ) (place : ℕ) (asked : Gate) → asked ≡ gate_at l n
+pub walk-answer : (l : Lent) (n : ℕ) (datagram : List ℕ) (place : ℕ) (asked : Result Unit Refusal) → asked ≡ gate_at l n
     → (tcp : Bool) → tcp ≡ stream_past asked (config_of l.image n).tcp
-    → (c : Connection) → c ≡ record_at l.state (n % 16) → (a : Answer)
+    → (c : Connection) → c ≡ record_at l.state (n % 16) → (a : Result Unit NotReceived)
     → a ≡ answer_past asked (not tcp && leb place (length datagram)) c → a ≡ walk_answer l n datagram place
 walk-answer l n datagram place asked eg tcp et c ec a e =
     let t : Bool = (config_of l.image n).tcp in
@@ -62,7 +62,7 @@ walk-answer l n datagram place asked eg tcp et c ec a e =
 
 -- THE ENTRY
 module _ (l : Lent) (n : ℕ) (datagram : List ℕ) (place : ℕ) (c : Connection) (ec : c ≡ record_at l.state (n % 16))
-    (answer : Answer) (ea : answer ≡ walk_answer l n datagram place) where
+    (answer : Result Unit NotReceived) (ea : answer ≡ walk_answer l n datagram place) where
   cleared : is_done answer ≡ true → Clear l n (walk_allowed l.image n datagram place)
   cleared p = done_clear l n (walk_allowed l.image n datagram place) (ap is_done (sym ea) ∙ p)
 
@@ -77,7 +77,7 @@ module _ (l : Lent) (n : ℕ) (datagram : List ℕ) (place : ℕ) (c : Connectio
       ec ∙ ap (record_at l.state) same
 
   -- what is told of a step
-  abbrev told : Answer → WalkStep → DatagramWalked
+  abbrev told : Result Unit NotReceived → WalkStep → DatagramWalked
   told a u = record { state = with_count false u.drops l.state; answer = a; outcome = u.outcome; next = u.next }
 
   abbrev walked : ℕ → WalkStep
@@ -97,12 +97,12 @@ module _ (l : Lent) (n : ℕ) (datagram : List ℕ) (place : ℕ) (c : Connectio
     walk_done p =
         let steps : t ≡ walked c.switches = et ∙ ap (λ (b : Bool). cond b (walked c.switches) stays) p in
         ap (told answer) steps
-        ∙ ap₂ (λ (a : Answer) (x : Connection). told a (walked x.switches)) (is-done answer p) (own p)
+        ∙ ap₂ (λ (a : Result Unit NotReceived) (x : Connection). told a (walked x.switches)) (is-done answer p) (own p)
         ∙ ap
         (λ (s : State).
         record {
           state = s;
-          answer = Done;
+          answer = Ok tt;
           outcome = (walked_at l.image l.state n datagram place).outcome;
           next =
               (walked_at l.image l.state n datagram place).next;

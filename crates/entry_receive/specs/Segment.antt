@@ -1,6 +1,6 @@
 -- A take of a segment on one of the sixteen connections: the whole answer, and all of receive memory afterwards; and the payload
 -- that it hands out.
-use Rattle.std.specs.Prelude.{ℕ, ◌*◌, ◌<◌, ◌≡◌, true, cond, List, [], length}
+use Rattle.std.specs.Prelude.{ℕ, ◌*◌, ◌<◌, ◌≡◌, true, cond, List, [], length, Result, Ok}
 use Rattle.wire.specs.Lay.{lay}
 use Rattle.wire.specs.Place.{behind, from_at}
 use Rattle.table_layout.specs.Layout.{body_of, part_of, part_at, Laid}
@@ -16,11 +16,10 @@ use Rattle.receive_stream.specs.declared.Taken.{Taken}
 use Rattle.receive_stream.specs.Stream.{taken_of, rx_after, payload_at, payload_place, Fit}
 use Rattle.state.specs.Memory.{stretch}
 use Rattle.gate.specs.Lent.{Lent, Loan, sizes}
-use Rattle.entry_receive.specs.declared.Answer.{Answer}
-use Rattle.entry_receive.specs.declared.Answer.TheVariants.{Done}
 use Rattle.entry_receive.specs.declared.SegmentTaken.{SegmentTaken}
 use Rattle.entry_receive.specs.declared.TakeStep.{TakeStep}
 use Rattle.entry_receive.specs.Answer.{is_done, judged_answer}
+use Rattle.entry_receive.specs.declared.NotReceived.{NotReceived}
 
 -- R5.6: a drop adds 1 to its protocol's count, TCP's; a transfer's start and its pieces add none
 abbrev pub drops_after : Outcome → ℕ → ℕ
@@ -46,7 +45,7 @@ module _ (image : List ℕ) (s : State) (rx : List ℕ) (connection : ℕ) (segm
   unfoldable pub take_on : SegmentTaken
   take_on =
       record {
-        answer = Done;
+        answer = Ok tt;
         read = taken_at.read;
         outcome = taken_at.outcome;
         state = count_take taken_at.outcome (with_record connection (with_part taken_at.part (record_at s connection)) s);
@@ -72,11 +71,11 @@ module _ (image : List ℕ) (c : Connection) (rx : List ℕ) (connection : ℕ) 
   stretch_by = rx_after (body_of image Routes) connection c.switches c.part (stretch 1464 connection rx) segment
 
   -- receive memory after an answer
-  unfoldable pub step_memory : Answer → List ℕ
+  unfoldable pub step_memory : Result Unit NotReceived → List ℕ
   step_memory answer = cond (is_done answer) (lay rx (connection * 1464) stretch_by) rx
 
 -- what changes after an answer, and what is told: in a refusal nothing is read, and record and count stay
-unfoldable pub step_taken : List ℕ → Connection → ℕ → List ℕ → ℕ → List ℕ → Answer → TakeStep
+unfoldable pub step_taken : List ℕ → Connection → ℕ → List ℕ → ℕ → List ℕ → Result Unit NotReceived → TakeStep
 step_taken image c drops rx connection segment answer =
     cond (is_done answer)
     (record {
@@ -88,11 +87,11 @@ step_taken image c drops rx connection segment answer =
     (record { connection = c; drops = drops; read = 0; outcome = More })
 
 -- a refusal: nothing is read, and the state stays
-abbrev pub none_taken : State → Answer → SegmentTaken
+abbrev pub none_taken : State → Result Unit NotReceived → SegmentTaken
 none_taken s a = record { answer = a; read = 0; outcome = More; state = s }
 
 -- R5.14: TCP, else 3
-abbrev pub segment_answer : Lent → ℕ → Answer
+abbrev pub segment_answer : Lent → ℕ → Result Unit NotReceived
 segment_answer l connection = judged_answer l connection (config_of l.image connection).tcp
 
 -- THE SEGMENT TAKE

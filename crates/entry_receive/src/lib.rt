@@ -13,17 +13,16 @@ ghost use Rattle.entry_receive.specs.Segment as Seg;
 ghost use Rattle.entry_receive.specs.Walk as Wk;
 ghost use Rattle.gate.specs.Lent.{lent, loan, lent_by};
 
-use connection::{Connection, Refusal, is_online};
-use gate::{Gate, ask_at};
+use connection::{Connection, Refusal};
+use gate::ask_at;
 use receive_stream::Outcome;
 use state::{State, counted_once};
 use table_layout::{Kind, body_laid, part_of};
 use table_rows::is_tcp;
 
-// 0; 11, 12, 2, 3; 4.
-#[derive(Clone, Copy)]
-pub enum Answer {
-    Done,
+// Why nothing is received: 11, 12, 2, 3; 4.
+#[derive(Clone, Copy, PartialEq, Eq)]
+pub enum NotReceived {
     Refused(Refusal),
     NotReceiving,
 }
@@ -32,7 +31,7 @@ pub enum Answer {
 #[derive(Clone, Copy)]
 pub struct SegmentTaken {
     pub state: State,
-    pub answer: Answer,
+    pub answer: Result<(), NotReceived>,
     pub read: usize,
     pub outcome: Outcome,
 }
@@ -41,7 +40,7 @@ pub struct SegmentTaken {
 #[derive(Clone, Copy)]
 pub struct DatagramWalked {
     pub state: State,
-    pub answer: Answer,
+    pub answer: Result<(), NotReceived>,
     pub outcome: receive_datagram::Outcome,
     pub next: usize,
 }
@@ -63,49 +62,44 @@ struct WalkStep {
     next: usize,
 }
 
-fn is_done(answer: Answer) -> bool
+fn is_done(answer: Result<(), NotReceived>) -> bool
     ensures { result ≡ Is.is_done answer }
 {
-    match answer {
-        Answer::Done => true,
-        Answer::Refused(_) => false,
-        Answer::NotReceiving => false,
-    }
+    answer.is_ok()
 }
 
 // Past the gate: 3, then 4.
-fn judge(allowed: bool, c: Connection) -> Answer
+fn judge(allowed: bool, c: Connection) -> Result<(), NotReceived>
     ensures { result ≡ Is.judged_of allowed c }
 {
-    let mode = c.mode;
-    let receives = is_online(mode) & !c.close_wanted;
+    let receives = c.mode.is_online() & !c.close_wanted;
     if !allowed {
-        return Answer::Refused(Refusal::Denied);
+        return Err(NotReceived::Refused(Refusal::Denied));
     }
     if receives {
-        return Answer::Done;
+        return Ok(());
     }
-    Answer::NotReceiving
+    Err(NotReceived::NotReceiving)
 }
 
 // The gate's refusal; past the gate, of the record: 3, then 4.
-fn answer_past(asked: Gate, allowed: bool, c: Connection) -> Answer
+fn answer_past(asked: Result<(), Refusal>, allowed: bool, c: Connection) -> Result<(), NotReceived>
     ensures { result ≡ Is.answer_past asked allowed c }
 {
     match asked {
-        Gate::Refused(reason) => Answer::Refused(reason),
-        Gate::Pass => judge(allowed, c),
+        Err(reason) => Err(NotReceived::Refused(reason)),
+        Ok(()) => judge(allowed, c),
     }
 }
 
 // Past the gate, whether connection n is a TCP connection: its row's group is asked for, and no more.
-fn is_stream(asked: Gate, image: &[u8], n: usize) -> bool
-    requires { asked ≡ Gate.Pass → Laid image.now }
+fn is_stream(asked: Result<(), Refusal>, image: &[u8], n: usize) -> bool
+    requires { asked ≡ Ok tt → Laid image.now }
     ensures { result ≡ Is.stream_past asked (config_of image.now n).tcp }
 {
     match asked {
-        Gate::Refused(_) => false,
-        Gate::Pass => {
+        Err(_) => false,
+        Ok(()) => {
             let connections = body_laid(image, Kind::Connection);
             let groups = body_laid(image, Kind::Group);
             is_tcp(connections, groups, n)
@@ -113,19 +107,20 @@ fn is_stream(asked: Gate, image: &[u8], n: usize) -> bool
     }
 }
 
-// What a take on a connection is answered. The state is taken apart once, into the copy that the gate is lent and the record is read from.
-pub fn may_take(image: &[u8], state: State, rx: usize, tx: usize, connection: u8) -> Answer
+// What a take on a connection is answered. The gate is lent the state.
+pub fn may_take(
+    image: &[u8],
+    state: State,
+    rx: usize,
+    tx: usize,
+    connection: u8,
+) -> Result<(), NotReceived>
     ensures { result ≡ Seg.segment_answer (lent image.now state rx tx) connection }
 {
     let n = connection as usize;
-    let records = state.connections;
-    let given = State {
-        connections: records,
-        udp_drops: state.udp_drops,
-        tcp_drops: state.tcp_drops,
-    };
+    let given = state;
     let c = given.connections[n % 16];
-    let asked = ask_at(image, given, rx, tx, n);
+    let asked = ask_at(image, &given, rx, tx, n);
     let tcp = is_stream(asked, image, n);
     answer_past(asked, tcp, c)
 }
@@ -172,7 +167,7 @@ fn take_step(
     rx: &mut [u8],
     connection: u8,
     segment: &[u8],
-    answer: Answer,
+    answer: Result<(), NotReceived>,
 ) -> TakeStep
     requires { Is.is_done answer ≡ true → Seg.Takes image.now c rx.old connection }
     ensures value { result ≡ Seg.step_taken image.now c drops rx.old connection segment.now answer }
@@ -182,12 +177,11 @@ fn take_step(
     if !done {
         return TakeStep {
             connection: c,
-            drops: drops,
+            drops,
             read: 0,
             outcome: Outcome::More,
         };
     }
-    let part = c.part;
     let routes = body_laid(image, Kind::Route);
     let start = connection as usize * 1464;
     let end = start + 1464;
@@ -195,23 +189,20 @@ fn take_step(
         routes,
         connection,
         c.switches,
-        part,
+        c.part,
         &mut rx[start..end],
         segment,
     );
-    let left = taken.part;
-    let outcome = taken.outcome;
     TakeStep {
-        connection: c.with_part(left),
-        drops: drops_after(outcome, drops),
+        connection: c.with_part(taken.part),
+        drops: drops_after(taken.outcome, drops),
         read: taken.read,
-        outcome: outcome,
+        outcome: taken.outcome,
     }
 }
 
 // A take of a segment: up to the end of its first complete PDU, dropped header or transfer's start; or a piece of a running transfer. The
-// state is taken apart once, into the copy that the gate is lent and the record is replaced in; a refusal puts the same record back, so
-// that there is one way out, and one copy.
+// state is copied once, and the record is replaced in the copy; a refusal puts the same record back, so that there is one way out, and one copy.
 pub fn segment_take(
     image: &[u8],
     state: State,
@@ -225,26 +216,19 @@ pub fn segment_take(
 {
     let n = connection as usize;
     let k = n % 16;
-    let records = state.connections;
-    let mut after = State {
-        connections: records,
-        udp_drops: state.udp_drops,
-        tcp_drops: state.tcp_drops,
-    };
+    let mut after = state;
     let c = after.connections[k];
-    let asked = ask_at(image, after, rx.len(), tx.len(), n);
+    let asked = ask_at(image, &after, rx.len(), tx.len(), n);
     let tcp = is_stream(asked, image, n);
     let answer = answer_past(asked, tcp, c);
     let step = take_step(image, c, after.tcp_drops, rx, connection, segment, answer);
-    let next = step.connection;
-    let outcome = step.outcome;
-    after.connections[k] = next;
+    after.connections[k] = step.connection;
     after.tcp_drops = step.drops;
     SegmentTaken {
         state: after,
-        answer: answer,
+        answer,
         read: step.read,
-        outcome: outcome,
+        outcome: step.outcome,
     }
 }
 
@@ -333,7 +317,7 @@ fn walk_step(
     connection: u8,
     datagram: &[u8],
     place: usize,
-    answer: Answer,
+    answer: Result<(), NotReceived>,
 ) -> WalkStep
     requires { Is.is_done answer ≡ true → Laid image.now }
     ensures { result ≡ Wk.step_walked image.now switches drops connection datagram.now place answer }
@@ -341,17 +325,16 @@ fn walk_step(
     let done = is_done(answer);
     if !done {
         return WalkStep {
-            drops: drops,
+            drops,
             outcome: receive_datagram::Outcome::End,
             next: place,
         };
     }
     let routes = body_laid(image, Kind::Route);
     let walked = receive_datagram::walk(datagram, place, routes, connection, switches);
-    let outcome = walked.outcome;
     WalkStep {
-        drops: walk_drops(outcome, drops),
-        outcome: outcome,
+        drops: walk_drops(walked.outcome, drops),
+        outcome: walked.outcome,
         next: walked.next,
     }
 }
@@ -369,14 +352,9 @@ pub fn walk_datagram(
     ensures { result ≡ Wk.walk_of (lent_by image.now state rx.now tx.now) connection datagram.now place }
 {
     let n = connection as usize;
-    let records = state.connections;
-    let mut after = State {
-        connections: records,
-        udp_drops: state.udp_drops,
-        tcp_drops: state.tcp_drops,
-    };
+    let mut after = state;
     let c = after.connections[n % 16];
-    let asked = ask_at(image, after, rx.len(), tx.len(), n);
+    let asked = ask_at(image, &after, rx.len(), tx.len(), n);
     let tcp = is_stream(asked, image, n);
     let allowed = !tcp & (place <= datagram.len());
     let answer = answer_past(asked, allowed, c);
@@ -389,12 +367,11 @@ pub fn walk_datagram(
         place,
         answer,
     );
-    let outcome = step.outcome;
     after.udp_drops = step.drops;
     DatagramWalked {
         state: after,
-        answer: answer,
-        outcome: outcome,
+        answer,
+        outcome: step.outcome,
         next: step.next,
     }
 }

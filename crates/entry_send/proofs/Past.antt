@@ -1,4 +1,5 @@
 -- What the gate hands on to a transmit and to a take.
+use Rattle.std.proofs.Common.{Result, Ok, Err}
 use Prim.Native.Nat.{ℕ, ◌<◌}
 use mathlib.Core.Path.{◌≡◌, sym, ap, subst, ◌∙◌}
 use mathlib.Core.List.{List}
@@ -11,8 +12,6 @@ use Rattle.table.specs.Accepts.{Accepts}
 use Rattle.table.proofs.Facts.{accepted_facts}
 use Rattle.connection.specs.declared.Refusal.{Refusal}
 use Rattle.gate.specs.Lent.{Lent, Loan, sizes}
-use Rattle.gate.specs.declared.Gate.{Gate}
-use Rattle.gate.specs.declared.Gate.TheVariants.{Pass, Refused}
 use Rattle.gate.specs.Gate.{gate_of, gate_at}
 use Rattle.gate.proofs.Pass.{gate_passed}
 use Rattle.table_rows.specs.Rows.{destination_of}
@@ -42,7 +41,7 @@ ready_from image a =
       apart = λ i j l h. a.destinations_apart i j l (counted image a j h);
     }
 
-pub past_gate : (l : Lent) (g : Gate) → g ≡ gate_of l → g ≡ Pass → Ready l.image × (l.tx ≡ 23552)
+pub past_gate : (l : Lent) (g : Result Unit Refusal) → g ≡ gate_of l → g ≡ Ok tt → Ready l.image × (l.tx ≡ 23552)
 past_gate l g e p = let q = gate_passed l (sym e ∙ p) in (ready_from l.image (accepted_facts l.image q.table), q.send)
 
 -- past the gate, what the code makes of one record is the definition's
@@ -57,7 +56,7 @@ module _ (image : List ℕ) (s : State) (n room : ℕ) where
       ap from q ∙ ap (λ (g : Config). from (record { answer = taking_of room (record_at s n); connection = take_of g room (record_at s n) })) p
 
 -- where the gate refuses, nothing is taken: the state and the out buffer stay
-pub not_taken_lem : (l : Loan) (n : ℕ) (out : List ℕ) (g : Gate) (r : Refusal) → g ≡ gate_at (sizes l) n → g ≡ Refused r
+pub not_taken_lem : (l : Loan) (n : ℕ) (out : List ℕ) (g : Result Unit Refusal) (r : Refusal) → g ≡ gate_at (sizes l) n → g ≡ Err r
     → (not_taken l.state r ≡ taken_waiting l n out) × (out ≡ taken_out l n out)
 unfolding taken_waiting taken_out
 not_taken_lem l n out g r e f = (rw (← e, f), rw (← e, f))

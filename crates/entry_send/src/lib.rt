@@ -6,20 +6,20 @@ ghost use Rattle.std.specs.Prelude.{◌≡◌};
 ghost use Rattle.entry_send.specs.Sending.{send_of, sent_memory, taken_waiting, taken_out};
 ghost use Rattle.gate.specs.Lent.{loan};
 
-use gate::Gate;
-use send::{Transmission, Transmitted};
-use send_waiting::Taking;
+use connection::Remote;
+use send::{NotSent, Transmitted};
+use send_waiting::NotTaken;
 use state::State;
 
 // What a take is answered, with the state after it.
 #[derive(Clone, Copy)]
 pub struct Taken {
     pub state: State,
-    pub answer: Taking,
+    pub answer: Result<(u16, Remote), NotTaken>,
 }
 
-// A payload for all switched-on destinations of a PDU, or for none. The state is taken apart once, into the copy that the gate and the
-// passes are lent.
+// A payload for all switched-on destinations of a PDU, or for none. The state is copied once: the gate is lent the copy,
+// and the passes go on with it.
 pub fn transmit(
     image: &[u8],
     state: State,
@@ -31,28 +31,23 @@ pub fn transmit(
     ensures value { result ≡ send_of (loan image.now state rx.now tx.old) pdu payload.now }
     ensures tx_after { tx.new ≡ sent_memory (loan image.now state rx.now tx.old) pdu payload.now }
 {
-    let records = state.connections;
-    let after = State {
-        connections: records,
-        udp_drops: state.udp_drops,
-        tcp_drops: state.tcp_drops,
-    };
-    let asked = gate::ask(image, after, rx.len(), tx.len());
+    let after = state;
+    let asked = gate::ask(image, &after, rx.len(), tx.len());
     match asked {
-        Gate::Refused(reason) => {
+        Err(reason) => {
             return Transmitted {
-                answer: Transmission::Refused(reason),
+                answer: Err(NotSent::Refused(reason)),
                 state: after,
             };
         }
-        Gate::Pass => {
+        Ok(()) => {
             return send::transmit(image, after, tx, pdu, payload);
         }
     }
 }
 
-// The waiting bytes of a connection to the front of an out buffer. The state is taken apart once, into the copy that the gate is lent and
-// the record is replaced in.
+// The waiting bytes of a connection to the front of an out buffer. The state is copied once, and the record is
+// replaced in the copy.
 pub fn take_waiting(
     image: &[u8],
     state: State,
@@ -65,31 +60,24 @@ pub fn take_waiting(
     ensures out_after { out.new ≡ taken_out (loan image.now state rx.now tx.now) connection out.old }
 {
     let n = connection as usize;
-    let records = state.connections;
-    let mut after = State {
-        connections: records,
-        udp_drops: state.udp_drops,
-        tcp_drops: state.tcp_drops,
-    };
-    let asked = gate::ask_at(image, after, rx.len(), tx.len(), n);
+    let mut after = state;
+    let asked = gate::ask_at(image, &after, rx.len(), tx.len(), n);
     match asked {
-        Gate::Refused(reason) => {
+        Err(reason) => {
             return Taken {
                 state: after,
-                answer: Taking::Refused(reason),
+                answer: Err(NotTaken::Refused(reason)),
             };
         }
-        Gate::Pass => {
+        Ok(()) => {
             let c = after.connections[n];
             let config = state::config_laid(image, n);
             let waiting = send_waiting::waiting_of(tx, connection, c.used);
             let drained = send_waiting::take(c, config, waiting, out);
-            let answer = drained.answer;
-            let next = drained.connection;
-            after.connections[n] = next;
+            after.connections[n] = drained.connection;
             return Taken {
                 state: after,
-                answer: answer,
+                answer: drained.answer,
             };
         }
     }

@@ -1,11 +1,10 @@
 -- WORDS APPLIED TO A STATE (R18.6), as a caller sees it: the gate (11, 12), then 3 for words with a bit in both, then every row's switches forced.
 -- A refusal carries its number, and the state stays.
-use Rattle.std.specs.Prelude.{ℕ, cond}
+use Rattle.std.specs.Prelude.{ℕ, cond, Ok}
 use Rattle.table_layout.specs.Layout.{rows_of}
 use Rattle.table_layout.specs.declared.Kind.TheVariants.{Connection as Connections}
 use Rattle.connection.specs.declared.Connection.{Connection}
 use Rattle.connection.specs.declared.Refusal.TheVariants.{Denied}
-use Rattle.connection.specs.declared.Answer.TheVariants.{Done}
 use Rattle.connection.specs.Connection.{with_switches}
 use Rattle.lists.specs.Each.{each_to}
 use Rattle.state.specs.declared.State.{State}
@@ -33,4 +32,4 @@ forced_rows rows ws s = with_records (each_to (force_at ws) 0 rows s.connections
 unfoldable pub apply_of : Lent → Words → Told
 apply_of l ws =
     through (gate_of l) (refused_told l.state)
-    (cond (agreeing ws) (record { answer = Done; state = forced_rows (rows_of l.image Connections) ws l.state }) (refused_told l.state Denied))
+    (cond (agreeing ws) (record { answer = Ok tt; state = forced_rows (rows_of l.image Connections) ws l.state }) (refused_told l.state Denied))

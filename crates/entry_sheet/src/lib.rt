@@ -6,9 +6,8 @@ ghost use Rattle.std.specs.Prelude.{◌≡◌, ◌≤◌};
 ghost use Rattle.entry_sheet.specs.Apply.{forced_of, forced_rows, apply_of};
 ghost use Rattle.gate.specs.Lent.{lent_by};
 
-use connection::{Answer, Connection, Refusal};
+use connection::{Connection, Refusal};
 use entry_events::Told;
-use gate::Gate;
 use sheet::{Pair, Words};
 use state::State;
 use table_layout::{Kind, rows_of};
@@ -28,12 +27,8 @@ fn force_rows(rows: usize, state: State, words: Words) -> State
     ensures { result ≡ forced_rows rows words state }
 {
     let mut after = state;
-    let mut i: usize = 0;
-    while i < rows {
-        let connection = after.connections[i];
-        let next = forced(words.pairs[i], connection);
-        after.connections[i] = next;
-        i += 1;
+    for i in 0..rows {
+        after.connections[i] = forced(words.pairs[i], after.connections[i]);
     }
     after
 }
@@ -42,23 +37,23 @@ fn force_rows(rows: usize, state: State, words: Words) -> State
 pub fn apply(image: &[u8], state: State, rx: &[u8], tx: &[u8], words: Words) -> Told
     ensures { result ≡ apply_of (lent_by image.now state rx.now tx.now) words }
 {
-    let asked = gate::ask(image, state, rx.len(), tx.len());
+    let asked = gate::ask(image, &state, rx.len(), tx.len());
     match asked {
-        Gate::Refused(reason) => Told {
-            answer: Answer::Refused(reason),
-            state: state,
+        Err(reason) => Told {
+            answer: Err(reason),
+            state,
         },
-        Gate::Pass => {
+        Ok(()) => {
             if sheet::agrees(words) {
                 let after = force_rows(rows_of(image, Kind::Connection), state, words);
                 return Told {
-                    answer: Answer::Done,
+                    answer: Ok(()),
                     state: after,
                 };
             }
             Told {
-                answer: Answer::Refused(Refusal::Denied),
-                state: state,
+                answer: Err(Refusal::Denied),
+                state,
             }
         }
     }

@@ -1,11 +1,11 @@
 -- One turn of the loop over the records, as far as it marks whose transfers end.
+use Rattle.std.proofs.Common.{Result}
 use Prim.Native.Nat.{ℕ, ◌+◌, ◌<◌, ◌≤◌}
 use mathlib.Core.Path.{◌≡◌, refl, sym, ap, ◌∙◌}
 use mathlib.Core.Bool.{Bool, false, true, not}
 use mathlib.Core.List.{List}
 use borrow.Author.Tests.{not-true}
 use lib.ListN.{length}
-use Rattle.connection.specs.declared.Answer.{Answer}
 use Rattle.connection.specs.declared.Config.{Config}
 use Rattle.connection.specs.declared.Connection.{Connection}
 use Rattle.connection.specs.Connection.{failed_of}
@@ -21,6 +21,7 @@ use Rattle.entry_ticks.specs.Many.{many_of, up_of}
 use Rattle.entry_ticks.specs.Tick.{ticks_to, marked_of, fails_at, failed_bit, failed_to}
 use Rattle.entry_ticks.proofs.Many.{many_at}
 use Rattle.entry_ticks.proofs.Fails.{kept_part, ticked-at}
+use Rattle.connection.specs.declared.Refusal.{Refusal}
 
 -- the marks of the connections below i
 abbrev pub Marked : List ℕ → ℕ → ℕ → State → ℕ → ℕ → Type 0
@@ -54,7 +55,7 @@ module _ (image : List ℕ) (rows count : ℕ) (s n : State) (i w : ℕ) (low : 
       fold_on (failed_bit s (ticks_to image rows count s)) rows 0 i w w so low (sym (ap (λ (b : Bool). marked_of i b w) none))
 
 -- all of them, whatever is answered
-pub marks_whole : (image : List ℕ) (rows count : ℕ) (s n : State) (i w : ℕ) (answer : Answer) → rows ≤ i → Marked image rows count s i w
+pub marks_whole : (image : List ℕ) (rows count : ℕ) (s n : State) (i w : ℕ) (answer : Result Unit Refusal) → rows ≤ i → Marked image rows count s i w
     → n ≡ ticks_to image rows count s
     → ◌≡◌ {A = Ticked} (record { answer = answer; state = n; failed = w })
     (record { answer = answer; state = ticks_to image rows count s; failed = failed_to rows s (ticks_to image rows count s) })

@@ -1,12 +1,10 @@
 -- A tick, and many, and which transfers they end. A refusal carries its number, and the state stays.
-use Rattle.std.specs.Prelude.{ℕ, ◌^◌, Bool, cond, List}
+use Rattle.std.specs.Prelude.{ℕ, ◌^◌, Bool, cond, List, Result, Ok, Err}
 use Rattle.std.specs.Int.Bits.{bit_or}
 use Rattle.table_layout.specs.Layout.{rows_of}
 use Rattle.table_layout.specs.declared.Kind.TheVariants.{Connection as Connections}
 use Rattle.connection.specs.declared.Connection.{Connection}
 use Rattle.connection.specs.declared.Refusal.{Refusal}
-use Rattle.connection.specs.declared.Answer.{Answer}
-use Rattle.connection.specs.declared.Answer.TheVariants.{Done, Refused}
 use Rattle.connection.specs.Connection.{tick_of, failed_of}
 use Rattle.lists.specs.Each.{each_to}
 use Rattle.lists.specs.Fold.{fold_from}
@@ -14,7 +12,6 @@ use Rattle.state.specs.declared.State.{State}
 use Rattle.state.specs.State.{record_at, with_records}
 use Rattle.state.specs.Fresh.{config_of}
 use Rattle.gate.specs.Lent.{Lent}
-use Rattle.gate.specs.declared.Gate.{Gate}
 use Rattle.gate.specs.Gate.{gate_of, through}
 use Rattle.entry_ticks.specs.declared.Ticked.{Ticked}
 
@@ -50,19 +47,19 @@ unfoldable pub failed_to : ℕ → State → State → ℕ
 failed_to rows s t = fold_from (failed_bit s t) rows 0 0
 
 abbrev pub unticked : State → Refusal → Ticked
-unticked s r = record { answer = Refused r; state = s; failed = 0 }
+unticked s r = record { answer = Err r; state = s; failed = 0 }
 
 -- done, from the state s to the state t
 abbrev pub ticked_from : ℕ → State → State → Ticked
-ticked_from rows s t = record { answer = Done; state = t; failed = failed_to rows s t }
+ticked_from rows s t = record { answer = Ok tt; state = t; failed = failed_to rows s t }
 
 -- the rows that tick: none where the gate refuses
-abbrev pub rows_past : Gate → List ℕ → ℕ
+abbrev pub rows_past : Result Unit Refusal → List ℕ → ℕ
 rows_past asked image = through asked (λ (r : Refusal). 0) (rows_of image Connections)
 
 -- what ticks answer
-abbrev pub ticks_answer : Gate → Answer
-ticks_answer asked = through asked Refused Done
+abbrev pub ticks_answer : Result Unit Refusal → Result Unit Refusal
+ticks_answer asked = through asked Err (Ok tt)
 
 -- a tick: 11, 12, else done
 unfoldable pub tick_event : Lent → Ticked

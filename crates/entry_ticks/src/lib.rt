@@ -7,8 +7,7 @@ ghost use Rattle.gate.specs.Lent.{lent, lent_by};
 ghost use Rattle.entry_ticks.specs.Many.{many_of, turns_next, up_of, still_of, ends_in, stays_of, later_by, settled_of};
 ghost use Rattle.entry_ticks.specs.Tick.{marked_of, rows_past, ticks_answer, tick_event, ticks_event};
 
-use connection::{Answer, Config, Connection, has_wildcard, is_offline, is_online, is_reconnect};
-use gate::Gate;
+use connection::{Config, Connection, Refusal};
 use state::{State, config_laid};
 use table_layout::{Kind, rows_laid};
 
@@ -16,7 +15,7 @@ use table_layout::{Kind, rows_laid};
 #[derive(Clone, Copy)]
 pub struct Ticked {
     pub state: State,
-    pub answer: Answer,
+    pub answer: Result<(), Refusal>,
     pub failed: u16,
 }
 
@@ -24,8 +23,7 @@ pub struct Ticked {
 fn is_up(c: Connection) -> bool
     ensures { result ≡ up_of c }
 {
-    let mode = c.mode;
-    !c.close_wanted & is_online(mode)
+    !c.close_wanted & c.mode.is_online()
 }
 
 // Whether no timer runs.
@@ -63,12 +61,10 @@ fn turns_next(config: Config, c: Connection) -> bool
     if c.close_wanted {
         return true;
     }
-    let mode = c.mode;
-    let remote = c.remote;
-    if is_offline(mode) {
+    if c.mode.is_offline() {
         return c.open_wanted | config.automatic;
     }
-    is_reconnect(mode) & !config.tcp & !has_wildcard(remote)
+    c.mode.is_reconnect() & !config.tcp & !c.remote.has_wildcard()
 }
 
 // A timer that falls by n, and not below 0.
@@ -113,17 +109,13 @@ fn tick_many(config: Config, c: Connection, count: u32) -> Connection
     ensures { result ≡ many_of config count c }
 {
     let mut next = c;
-    let mut left = count;
-    loop {
-        if left == 0 {
-            return next;
-        }
+    for done in 0..count {
         if !turns_next(config, next) {
-            return settled(config, next, left);
+            return settled(config, next, count - done);
         }
         next = next.tick(config);
-        left -= 1;
     }
+    next
 }
 
 // A word with bit k set as well.
@@ -139,72 +131,59 @@ fn marked(word: u16, k: usize, on: bool) -> u16
 }
 
 // The rows that tick: none where the gate refuses.
-fn rows_past(asked: Gate, image: &[u8]) -> usize
-    requires { asked ≡ Gate.Pass → Laid image.now }
+fn rows_past(asked: Result<(), Refusal>, image: &[u8]) -> usize
+    requires { asked ≡ Ok tt → Laid image.now }
     ensures { result ≡ rows_past asked image.now }
 {
     match asked {
-        Gate::Refused(_) => 0,
-        Gate::Pass => rows_laid(image, Kind::Connection),
+        Err(_) => 0,
+        Ok(()) => rows_laid(image, Kind::Connection),
     }
 }
 
 // What ticks answer.
-fn answer_past(asked: Gate) -> Answer
+fn answer_past(asked: Result<(), Refusal>) -> Result<(), Refusal>
     ensures { result ≡ ticks_answer asked }
 {
-    match asked {
-        Gate::Refused(reason) => Answer::Refused(reason),
-        Gate::Pass => Answer::Done,
-    }
+    asked
 }
 
-// `count` ticks of each connection of the table, in order, and whose transfers they end, by the lengths of both memories. The state is taken
-// apart once, into the copy that the gate is lent and the records are put back in; in a refusal no row ticks, so that there is one way out,
-// and one copy. Of a connection that is up the row is asked for only where they may let it go, and its transfer goes on; only of one that is
+// `count` ticks of each connection of the table, in order, and whose transfers they end, by the lengths of both memories. The state is
+// copied once: the gate is lent the copy, and the records are put back in it; in a refusal no row ticks, so that there is one way out, and
+// one copy. Of a connection that is up the row is asked for only where they may let it go, and its transfer goes on; only of one that is
 // not up the whole record is read.
 pub fn ticks_by(image: &[u8], state: State, rx: usize, tx: usize, count: u32) -> Ticked
     ensures { result ≡ ticks_event (lent image.now state rx tx) count }
 {
-    let records = state.connections;
-    let mut after = State {
-        connections: records,
-        udp_drops: state.udp_drops,
-        tcp_drops: state.tcp_drops,
-    };
-    let asked = gate::ask(image, after, rx, tx);
+    let mut after = state;
+    let asked = gate::ask(image, &after, rx, tx);
     let rows = rows_past(asked, image);
     let mut failed: u16 = 0;
-    let mut i: usize = 0;
-    while i < rows {
+    for i in 0..rows {
         let connection = after.connections[i];
         if !is_up(connection) {
             let whole = after.connections[i];
             let next = tick_many(config_laid(image, i), whole, count);
             after.connections[i] = next;
             failed = marked(failed, i, connection::failed(whole, next));
-            i += 1;
             continue;
         }
         if is_still(connection) {
-            i += 1;
             continue;
         }
         if stays(connection, count) {
             let next = later(connection, count);
             after.connections[i] = next;
-            i += 1;
             continue;
         }
         let next = settled(config_laid(image, i), connection, count);
         after.connections[i] = next;
-        i += 1;
     }
     let answer = answer_past(asked);
     Ticked {
-        answer: answer,
+        answer,
         state: after,
-        failed: failed,
+        failed,
     }
 }
 

@@ -2,3 +2,5 @@
 pub mod Chain
 pub mod Reply
 pub mod Short
+pub mod Laid
+pub mod Bytes

@@ -1,13 +1,15 @@
 -- The answer of an event as bytes (R16.2; docs/EVENTS.md, "The answer").
-use Rattle.std.specs.Prelude.{ℕ, cond, List, ◌++◌, ltb, length}
+use Rattle.std.specs.Prelude.{ℕ, cond, List, ◌++◌, ltb, length, Result, Ok, Err}
 use Rattle.wire.specs.Lay.{spell, lay}
 use Rattle.connection.specs.declared.Remote.{Remote}
 use Rattle.connection.specs.declared.Refusal.{Refusal}
 use Rattle.connection.specs.Event.{refusal_number}
 use Rattle.state.specs.declared.State.{State}
-use Rattle.event_answer.specs.declared.Verdict.{Verdict}
-use Rattle.event_answer.specs.declared.Verdict.TheVariants.{Done, Small}
-use Rattle.event_answer.specs.declared.Dispatched.{Dispatched}
+use Rattle.event_decode.specs.declared.BadCall.{BadCall}
+use Rattle.event_decode.specs.declared.BadCall.TheVariants.{Unknown as NoEvent, Unfit as DoesNotFit}
+use Rattle.event_answer.specs.declared.NoAnswer.{NoAnswer}
+use Rattle.event_answer.specs.declared.NoAnswer.TheVariants.{Unknown, Unfit, Small}
+use Rattle.event_answer.specs.declared.Answered.{Answered}
 
 -- "Answer number (2). Then, when it is not 0: the destination's row number (4) with a transmit's 4, 7 and 8; else 0 (4)"
 abbrev pub refused : ℕ → ℕ → List ℕ
@@ -16,6 +18,15 @@ refused number destination = spell 2 number ++ spell 4 destination
 -- 11, 12, 2, 3
 abbrev pub refusal : Refusal → List ℕ
 refusal reason = refused (refusal_number reason) 0
+
+-- what spells no call has no answer
+abbrev pub no_answer : BadCall → NoAnswer
+no_answer NoEvent = Unknown
+no_answer DoesNotFit = Unfit
+
+-- an answer of so many bytes, or why there is none
+abbrev pub Verdict : Type 0
+Verdict = Result ℕ NoAnswer
 
 -- WHAT AN EVENT LEAVES: its verdict, the state, both lent memories, and the out buffer
 pub record Effect : Type 0 where
@@ -27,7 +38,7 @@ pub record Effect : Type 0 where
 
 -- an answer of these bytes, at the front of the out buffer
 abbrev pub answers : List ℕ → State → List ℕ → List ℕ → List ℕ → Effect
-answers bytes s rx tx out = record { verdict = Done (length bytes); state = s; rx = rx; tx = tx; out = lay out 0 bytes }
+answers bytes s rx tx out = record { verdict = Ok (length bytes); state = s; rx = rx; tx = tx; out = lay out 0 bytes }
 
 -- "refused and changes nothing"
 abbrev pub untouched : Verdict → State → List ℕ → List ℕ → List ℕ → Effect
@@ -40,19 +51,31 @@ room = 16384
 
 -- "An out buffer shorter than 16,384 bytes is refused and changes nothing"; with any other, what the event leaves
 abbrev pub if_room : State → List ℕ → List ℕ → List ℕ → Effect → Effect
-if_room s rx tx out e = cond (ltb (length out) room) (untouched Small s rx tx out) e
+if_room s rx tx out e = cond (ltb (length out) room) (untouched (Err Small) s rx tx out) e
 
--- what is handed back by value
-abbrev pub dispatched : Effect → Dispatched
-dispatched e = record { verdict = e.verdict; state = e.state }
+-- the test of it
+abbrev pub has_room : List ℕ → Result Unit NoAnswer
+has_room out = cond (ltb (length out) room) (Err Small) (Ok tt)
+
+-- what is handed back by value: the state with an answer; where there is none, the state is as it was
+abbrev pub handed_back : State → Verdict → Result Answered NoAnswer
+handed_back s (Ok n) = Ok (record { state = s; length = n })
+handed_back s (Err why) = Err why
+
+abbrev pub dispatched : Effect → Result Answered NoAnswer
+dispatched e = handed_back e.state e.verdict
 
 -- "any other: nothing"
 abbrev pub done_alone : List ℕ
 done_alone = spell 2 0
 
--- a value of w bytes after the answer number 0: failed connections (2), failed (1), connection (1), value (4)
+-- a value after the answer number 0
+abbrev pub done_bytes : List ℕ → List ℕ
+done_bytes value = spell 2 0 ++ value
+
+-- one of w bytes: failed connections (2), failed (1), connection (1), value (4)
 abbrev pub done_with : ℕ → ℕ → List ℕ
-done_with w v = spell 2 0 ++ spell w v
+done_with w v = done_bytes (spell w v)
 
 -- an address: family, "sixteen bytes (16), of which the first twelve are 0 and the last four the IPv4 address", port
 abbrev pub address : Remote → List ℕ

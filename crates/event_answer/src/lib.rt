@@ -8,24 +8,46 @@ ghost use Rattle.connection.specs.Event.{refusal_number};
 ghost use Rattle.event_answer.specs.Answers as Is;
 
 use connection::{Refusal, Remote};
+use event_decode::BadCall;
 use state::State;
 use wire::{copy_in, put8, put16, put32};
 
-// What becomes of an event number and a body: an answer of so many bytes; a number that is no event's; a body that does not fit; an
-// out buffer that is too short.
-#[derive(Clone, Copy)]
-pub enum Verdict {
-    Done(usize),
+// Why an event number and a body have no answer: a number that is no event's; a body that does not fit; an out buffer that is too
+// short. Nothing is changed then.
+#[derive(Clone, Copy, Debug, PartialEq, Eq)]
+pub enum NoAnswer {
     Unknown,
     Unfit,
     Small,
 }
 
-// The verdict, with the state after it.
+// What spells no call has no answer.
+impl From<BadCall> for NoAnswer {
+    ghost from_gives = { λ bad why. why ≡ Is.no_answer bad };
+
+    fn from(bad: BadCall) -> NoAnswer {
+        match bad {
+            BadCall::Unknown => NoAnswer::Unknown,
+            BadCall::Unfit => NoAnswer::Unfit,
+        }
+    }
+}
+
+// An answer of so many bytes, and the state after it.
 #[derive(Clone, Copy)]
-pub struct Dispatched {
+pub struct Answered {
     pub state: State,
-    pub verdict: Verdict,
+    pub length: usize,
+}
+
+// What every function with an answer asks of its out buffer first.
+pub fn has_room(out: &[u8]) -> Result<(), NoAnswer>
+    ensures { result ≡ Is.has_room out.now }
+{
+    if out.len() < 16384 {
+        return Err(NoAnswer::Small);
+    }
+    Ok(())
 }
 
 // A number in four bytes.
@@ -35,6 +57,7 @@ pub fn put_number(out: &mut [u8], at: usize, v: usize)
     put32(out, at, (v % 4294967296) as u32);
 }
 
+#[tactic(auto, using(crate::proofs::Laid::laid))]
 pub fn put_refused(out: &mut [u8], number: u16, place: usize) -> usize
     ensures value { result ≡ length (Is.refused number place) }
     ensures out_after { out.new ≡ lay out.old 0 (Is.refused number place) }
@@ -66,6 +89,7 @@ pub fn put_refusal(out: &mut [u8], reason: Refusal) -> usize
     put_refused(out, refusal_number(reason), 0)
 }
 
+#[tactic(auto, using(crate::proofs::Laid::laid))]
 pub fn put_done(out: &mut [u8]) -> usize
     ensures value { result ≡ length Is.done_alone }
     ensures out_after { out.new ≡ lay out.old 0 Is.done_alone }
@@ -74,50 +98,27 @@ pub fn put_done(out: &mut [u8]) -> usize
     2
 }
 
-pub fn put_done1(out: &mut [u8], v: u8) -> usize
-    ensures value { result ≡ length (Is.done_with 1 v) }
-    ensures out_after { out.new ≡ lay out.old 0 (Is.done_with 1 v) }
+// A value after the answer number 0.
+#[tactic(auto, using(crate::proofs::Laid::laid))]
+pub fn put_done_with(out: &mut [u8], value: &[u8]) -> usize
+    ensures value { result ≡ length (Is.done_bytes value.now) }
+    ensures out_after { out.new ≡ lay out.old 0 (Is.done_bytes value.now) }
 {
-    if out.len() < 3 {
-        return 3;
+    let n = value.len();
+    if out.len() < 2 + n {
+        return 2 + n;
     }
     put16(out, 0, 0);
-    put8(out, 2, v);
-    3
-}
-
-pub fn put_done2(out: &mut [u8], v: u16) -> usize
-    ensures value { result ≡ length (Is.done_with 2 v) }
-    ensures out_after { out.new ≡ lay out.old 0 (Is.done_with 2 v) }
-{
-    if out.len() < 4 {
-        return 4;
-    }
-    put16(out, 0, 0);
-    put16(out, 2, v);
-    4
-}
-
-pub fn put_done4(out: &mut [u8], v: u32) -> usize
-    ensures value { result ≡ length (Is.done_with 4 v) }
-    ensures out_after { out.new ≡ lay out.old 0 (Is.done_with 4 v) }
-{
-    if out.len() < 6 {
-        return 6;
-    }
-    put16(out, 0, 0);
-    put32(out, 2, v);
-    6
+    copy_in(out, 2, value);
+    2 + n
 }
 
 // Twelve bytes 0.
+#[tactic(auto, using(crate::proofs::Laid::laid))]
 fn put_zeros(out: &mut [u8], at: usize)
     ensures { out.new ≡ lay out.old at (spell 12 0) }
 {
-    if out.len() < 12 {
-        return;
-    }
-    if out.len() - 12 < at {
+    if out.len() < 12 || out.len() - 12 < at {
         return;
     }
     put32(out, at, 0);
@@ -125,13 +126,11 @@ fn put_zeros(out: &mut [u8], at: usize)
     put32(out, at + 8, 0);
 }
 
+#[tactic(auto, using(crate::proofs::Laid::laid))]
 pub fn put_address(out: &mut [u8], at: usize, remote: Remote)
     ensures { out.new ≡ lay out.old at (Is.address remote) }
 {
-    if out.len() < 19 {
-        return;
-    }
-    if out.len() - 19 < at {
+    if out.len() < 19 || out.len() - 19 < at {
         return;
     }
     put8(out, at, 4);
@@ -140,6 +139,7 @@ pub fn put_address(out: &mut [u8], at: usize, remote: Remote)
     put16(out, at + 17, remote.port);
 }
 
+#[tactic(auto, using(crate::proofs::Laid::laid))]
 pub fn put_waiting(out: &mut [u8], remote: Remote, bytes: &[u8]) -> usize
     ensures value { result ≡ length (Is.waiting remote bytes.now) }
     ensures out_after { out.new ≡ lay out.old 0 (Is.waiting remote bytes.now) }
@@ -156,13 +156,11 @@ pub fn put_waiting(out: &mut [u8], remote: Remote, bytes: &[u8]) -> usize
 }
 
 // What a take or a walk found.
+#[tactic(auto, using(crate::proofs::Laid::laid))]
 pub fn put_found(out: &mut [u8], at: usize, first: usize, kind: u8, which: u8, id: u32, n: u32)
     ensures { out.new ≡ lay out.old at (Is.found_bytes first kind which id n) }
 {
-    if out.len() < 14 {
-        return;
-    }
-    if out.len() - 14 < at {
+    if out.len() < 14 || out.len() - 14 < at {
         return;
     }
     put_number(out, at, first);

@@ -1,16 +1,18 @@
 -- The call that an event number and a body spell, row by row as docs/EVENTS.md has them ("Event numbers and bodies"): R16.1.
-use Rattle.std.specs.Prelude.{ℕ, ◌+◌, Bool, true, false, cond, ◌&&◌, List, eqb, leb, length, drop}
+use Rattle.std.specs.Prelude.{ℕ, ◌+◌, Bool, true, false, cond, ◌&&◌, List, eqb, leb, length, drop, Result, Ok, Err}
 use Rattle.wire.specs.Be.{be}
 use Rattle.connection.specs.declared.Remote.{Remote}
 use Rattle.event_decode.specs.declared.Call.{Call}
-use Rattle.event_decode.specs.declared.Call.TheVariants.{Unknown, Unfit, Ticks, Own, Lost, Segment, Walk}
+use Rattle.event_decode.specs.declared.BadCall.{BadCall}
+use Rattle.event_decode.specs.declared.BadCall.TheVariants.{Unknown, Unfit}
+use Rattle.event_decode.specs.declared.Call.TheVariants.{Ticks, Own, Lost, Segment, Walk}
 use Rattle.event_decode.specs.declared.Call.TheVariants.{TakeWaiting, Datagram, Accept, Transmit, SwitchAll, ReadCount, ClearCount}
 use Rattle.connection.specs.declared.Event.TheVariants.{Open, Close, Connected, SetRemote, Switch, Cancel}
 
 -- "a body that does not fit is refused"
-abbrev pub fitted : Bool → Call → Call
-fitted true call = call
-fitted false call = Unfit
+abbrev pub fitted : Bool → Call → Result Call BadCall
+fitted true call = Ok call
+fitted false call = Err Unfit
 
 -- a body of n bytes that starts with "a party (1), which is 0"
 abbrev pub plain : List ℕ → ℕ → Bool
@@ -37,7 +39,7 @@ abbrev pub positioned : List ℕ → ℕ → ℕ → Bool
 positioned body n at = plain body n && leb (be 1 body at) 1
 
 -- THE CALL
-unfoldable pub call_of : ℕ → List ℕ → Call
+unfoldable pub call_of : ℕ → List ℕ → Result Call BadCall
 call_of n b =
     cond (eqb n 0) (fitted (eqb (length b) 4) (Ticks (be 4 b 0)))
     (cond (eqb n 1) (fitted (plain b 2) (Own (be 1 b 1) Open))
@@ -56,7 +58,7 @@ call_of n b =
     (cond (eqb n 14) (fitted (plain b 2) (ReadCount (be 1 b 1)))
     (cond (eqb n 15) (fitted (plain b 2) (ClearCount (be 1 b 1)))
     (cond (eqb n 16) (fitted (plain b 2) (Own (be 1 b 1) Cancel))
-    Unknown))))))))))))))))
+    (Err Unknown)))))))))))))))))
 
 -- the bytes that a call names: those of the body from the place at on
 abbrev pub bytes_from : List ℕ → ℕ → List ℕ

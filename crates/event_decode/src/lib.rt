@@ -8,13 +8,11 @@ ghost use Rattle.wire.specs.Be.{be};
 ghost use Rattle.event_decode.specs.Calls as Is;
 
 use connection::{Event, Remote};
-use wire::{be8, be16, be32};
+use wire::{be32, u8_at, u16_at, u32_at};
 
-// An event with its arguments; or a number that is no event's; or a body that is not laid out as its event's.
+// An event with its arguments.
 #[derive(Clone, Copy)]
 pub enum Call {
-    Unknown,
-    Unfit,
     Ticks(u32),
     Own {
         connection: u8,
@@ -54,24 +52,11 @@ pub enum Call {
     ClearCount(u8),
 }
 
-// ---- numbers of a body, at their width
-
-pub fn one_byte(body: &[u8], at: usize) -> u8
-    ensures { result ≡ be 1 body.now at }
-{
-    be8(body, at) as u8
-}
-
-pub fn two_bytes(body: &[u8], at: usize) -> u16
-    ensures { result ≡ be 2 body.now at }
-{
-    be16(body, at) as u16
-}
-
-pub fn four_bytes(body: &[u8], at: usize) -> u32
-    ensures { result ≡ be 4 body.now at }
-{
-    be32(body, at) as u32
+// Why a number and a body spell no call: the number is no event's; the body is not laid out as its event's.
+#[derive(Clone, Copy, Debug, PartialEq, Eq)]
+pub enum BadCall {
+    Unknown,
+    Unfit,
 }
 
 // The bytes from a place on; none past the end.
@@ -79,10 +64,12 @@ pub fn bytes_from(body: &[u8], at: usize) -> &[u8]
     ensures bytes { result.now ≡ Is.bytes_from body.now at }
     ensures place { result.ref_ptr ≡ behind body.entry.ref_ptr (from_at body.now at) }
 {
+    // Kept: no plainer, because `get(at..)` says nothing of where its part stands, which the clause `place` names
     if body.len() < at {
-        return &body[..0];
+        &body[..0]
+    } else {
+        &body[at..]
     }
-    &body[at..]
 }
 
 // ---- when a body fits
@@ -90,29 +77,28 @@ pub fn bytes_from(body: &[u8], at: usize) -> &[u8]
 fn is_plain(body: &[u8], n: usize) -> bool
     ensures { result ≡ Is.plain body.now n }
 {
-    (body.len() == n) & (be8(body, 0) == 0)
+    body.len() == n && u8_at(body, 0) == 0
 }
 
 fn is_counted(body: &[u8], at: u8) -> bool
     ensures { result ≡ Is.length_fits body.now at }
 {
     let place = at as usize;
-    let long = body.len();
-    (be32(body, place) + (place + 4) == long) & (be8(body, 0) == 0) & (long <= 4096)
+    be32(body, place) + (place + 4) == body.len() && u8_at(body, 0) == 0 && body.len() <= 4096
 }
 
 pub fn is_address(s: &[u8]) -> bool
     ensures { result ≡ Is.address_fits s.now }
 {
-    (be8(s, 0) == 4) & (be32(s, 1) == 0) & (be32(s, 5) == 0) & (be32(s, 9) == 0)
+    u8_at(s, 0) == 4 && u32_at(s, 1) == 0 && u32_at(s, 5) == 0 && u32_at(s, 9) == 0
 }
 
 pub fn remote_in(s: &[u8]) -> Remote
     ensures { result ≡ Is.remote_in s.now }
 {
     Remote {
-        address: four_bytes(s, 13),
-        port: two_bytes(s, 17),
+        address: u32_at(s, 13),
+        port: u16_at(s, 17),
     }
 }
 
@@ -126,16 +112,13 @@ fn remote_of(body: &[u8]) -> Remote
 fn is_addressed(body: &[u8]) -> bool
     ensures { result ≡ Is.addressed body.now }
 {
-    if !is_plain(body, 21) {
-        return false;
-    }
-    is_address(bytes_from(body, 2))
+    is_plain(body, 21) && is_address(bytes_from(body, 2))
 }
 
 fn is_positioned(body: &[u8], n: usize, at: usize) -> bool
     ensures { result ≡ Is.positioned body.now n at }
 {
-    is_plain(body, n) & (be8(body, at) <= 1)
+    is_plain(body, n) && u8_at(body, at) <= 1
 }
 
 // ---- the call
@@ -144,13 +127,13 @@ fn is_positioned(body: &[u8], n: usize, at: usize) -> bool
 fn named(body: &[u8]) -> u8
     ensures { result ≡ be 1 body.now 1 }
 {
-    one_byte(body, 1)
+    u8_at(body, 1)
 }
 
-fn fitted(fits: bool, call: Call) -> Call
+fn fitted(fits: bool, call: Call) -> Result<Call, BadCall>
     ensures { result ≡ Is.fitted fits call }
 {
-    if fits { call } else { Call::Unfit }
+    if fits { Ok(call) } else { Err(BadCall::Unfit) }
 }
 
 // An event of a connection that concerns its record alone.
@@ -160,28 +143,27 @@ fn own(connection: u8, event: Event) -> Call
     Call::Own { connection, event }
 }
 
-pub fn call_of(number: u16, body: &[u8]) -> Call
+#[tactic(auto, unfolding(crate::specs::Calls::call_of))]
+pub fn call_of(number: u16, body: &[u8]) -> Result<Call, BadCall>
     ensures { result ≡ Is.call_of number body.now }
 {
     match number {
-        0 => fitted(body.len() == 4, Call::Ticks(four_bytes(body, 0))),
+        0 => fitted(body.len() == 4, Call::Ticks(u32_at(body, 0))),
         1 => fitted(is_plain(body, 2), own(named(body), Event::Open)),
         2 => fitted(is_plain(body, 2), own(named(body), Event::Close)),
         3 => fitted(is_plain(body, 2), own(named(body), Event::Connected)),
         4 => fitted(is_plain(body, 2), Call::Lost(named(body))),
-        5 => {
-            if !is_addressed(body) {
-                return Call::Unfit;
-            }
-            own(named(body), Event::SetRemote(remote_of(body)))
-        }
+        5 => fitted(
+            is_addressed(body),
+            own(named(body), Event::SetRemote(remote_of(body))),
+        ),
         6 => fitted(
             is_positioned(body, 4, 3),
             own(
                 named(body),
                 Event::Switch {
-                    number: one_byte(body, 2),
-                    on: be8(body, 3) == 1,
+                    number: u8_at(body, 2),
+                    on: u8_at(body, 3) == 1,
                 },
             ),
         ),
@@ -196,7 +178,7 @@ pub fn call_of(number: u16, body: &[u8]) -> Call
             is_counted(body, 6),
             Call::Walk {
                 connection: named(body),
-                place: four_bytes(body, 2),
+                place: u32_at(body, 2),
                 at: 10,
             },
         ),
@@ -204,31 +186,27 @@ pub fn call_of(number: u16, body: &[u8]) -> Call
             is_plain(body, 6),
             Call::TakeWaiting {
                 connection: named(body),
-                room: four_bytes(body, 2),
+                room: u32_at(body, 2),
             },
         ),
-        10 => {
-            if !is_addressed(body) {
-                return Call::Unfit;
-            }
+        10 => fitted(
+            is_addressed(body),
             Call::Datagram {
                 group: named(body),
                 source: remote_of(body),
-            }
-        }
-        11 => {
-            if !is_addressed(body) {
-                return Call::Unfit;
-            }
+            },
+        ),
+        11 => fitted(
+            is_addressed(body),
             Call::Accept {
                 group: named(body),
                 source: remote_of(body),
-            }
-        }
+            },
+        ),
         12 => fitted(
             is_counted(body, 3),
             Call::Transmit {
-                pdu: two_bytes(body, 1),
+                pdu: u16_at(body, 1),
                 at: 7,
             },
         ),
@@ -236,12 +214,12 @@ pub fn call_of(number: u16, body: &[u8]) -> Call
             is_positioned(body, 3, 2),
             Call::SwitchAll {
                 number: named(body),
-                on: be8(body, 2) == 1,
+                on: u8_at(body, 2) == 1,
             },
         ),
         14 => fitted(is_plain(body, 2), Call::ReadCount(named(body))),
         15 => fitted(is_plain(body, 2), Call::ClearCount(named(body))),
         16 => fitted(is_plain(body, 2), own(named(body), Event::Cancel)),
-        _ => Call::Unknown,
+        _ => Err(BadCall::Unknown),
     }
 }

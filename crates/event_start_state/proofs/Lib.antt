@@ -1,2 +1,2 @@
 -- The laws of the crate.
-pub mod Made
+pub mod Every

@@ -1,5 +1,5 @@
 -- The state that the bytes of a start state spell (R16.4; docs/EVENTS.md, "A start state").
-use Rattle.std.specs.Prelude.{ℕ, ◌*◌, Bool, cond, ◌&&◌, List, eqb, leb, length, drop}
+use Rattle.std.specs.Prelude.{ℕ, ◌*◌, Bool, cond, ◌&&◌, List, eqb, leb, length, drop, Option, Some, None}
 use Rattle.wire.specs.Be.{be}
 use Rattle.lists.specs.Search.{every}
 use Rattle.lists.specs.Each.{each}
@@ -13,7 +13,6 @@ use Rattle.state.specs.declared.State.{State}
 use Rattle.state.specs.State.{with_records}
 use Rattle.state.specs.Fresh.{empty_state}
 use Rattle.event_decode.specs.Calls.{address_fits, remote_in}
-use Rattle.event_start_state.specs.declared.Given.{Given}
 
 -- "mode: 0 offline, 1 reconnect, 2 online"
 abbrev pub mode_of : ℕ → Mode
@@ -85,8 +84,9 @@ abbrev pub records_in : List ℕ → State
 records_in bytes = with_records (each (given_at bytes) 0 empty_state.connections) empty_state
 
 -- ".. the two drop counts, then both lent memories: 47,720 bytes in all"
-abbrev pub state_in : List ℕ → State
+unfoldable pub state_in : List ℕ → State
 state_in bytes = record { connections = (records_in bytes).connections; udp_drops = be 4 bytes 736; tcp_drops = be 4 bytes 740 }
 
-unfoldable pub given_of : List ℕ → Given
-given_of bytes = record { fits = eqb (length bytes) 47720 && every (fits_at bytes) 16; state = state_in bytes }
+-- the state of bytes that fit
+unfoldable pub given_of : List ℕ → Option State
+given_of bytes = cond (eqb (length bytes) 47720 && every (fits_at bytes) 16) (Some (state_in bytes)) None

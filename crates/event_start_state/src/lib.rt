@@ -8,17 +8,10 @@ ghost use Rattle.lists.specs.Search.{every};
 ghost use Rattle.event_start_state.specs.Given as Is;
 
 use connection::{Connection, Mode, Watch};
-use event_decode::{bytes_from, four_bytes, is_address, one_byte, remote_in, two_bytes};
+use event_decode::{bytes_from, is_address, remote_in};
 use receive_part::Part;
 use state::{State, empty_state};
-use wire::{be8, be16, be32};
-
-// Whether the bytes fit, and the state that they spell.
-#[derive(Clone, Copy)]
-pub struct Given {
-    pub fits: bool,
-    pub state: State,
-}
+use wire::{be8, be32, u8_at, u16_at, u32_at};
 
 fn mode_of(n: usize) -> Mode
     ensures { result ≡ Is.mode_of n }
@@ -41,21 +34,20 @@ fn eight_bytes(s: &[u8], at: u8) -> u64
 fn part_of(s: &[u8]) -> Part
     ensures { result ≡ Is.part_given s.now }
 {
-    let kind = be8(s, 26);
-    match kind {
+    match u8_at(s, 26) {
         0 => Part::Header {
-            held: one_byte(s, 29),
+            held: u8_at(s, 29),
             value: eight_bytes(s, 30),
         },
         1 => Part::Payload {
-            route: one_byte(s, 27),
-            length: two_bytes(s, 36),
-            held: two_bytes(s, 28),
+            route: u8_at(s, 27),
+            length: u16_at(s, 36),
+            held: u16_at(s, 28),
         },
-        2 => Part::Skip(four_bytes(s, 34)),
+        2 => Part::Skip(u32_at(s, 34)),
         _ => Part::Transfer {
-            route: one_byte(s, 27),
-            left: four_bytes(s, 34),
+            route: u8_at(s, 27),
+            left: u32_at(s, 34),
         },
     }
 }
@@ -63,90 +55,77 @@ fn part_of(s: &[u8]) -> Part
 fn part_fits(s: &[u8]) -> bool
     ensures { result ≡ Is.part_fits s.now }
 {
-    let kind = be8(s, 26);
-    let route = be8(s, 27);
-    let high = be32(s, 30);
-    match kind {
-        0 => (route == 0) & (be8(s, 28) == 0),
-        1 => (high == 0) & (be16(s, 34) == 0),
-        2 => (route == 0) & (be16(s, 28) == 0) & (high == 0),
-        _ => (kind == 3) & ((be16(s, 28) == 0) & (high == 0)),
+    match u8_at(s, 26) {
+        0 => u8_at(s, 27) == 0 && u8_at(s, 28) == 0,
+        1 => u32_at(s, 30) == 0 && u16_at(s, 34) == 0,
+        2 => u8_at(s, 27) == 0 && u16_at(s, 28) == 0 && u32_at(s, 30) == 0,
+        3 => u16_at(s, 28) == 0 && u32_at(s, 30) == 0,
+        _ => false,
     }
 }
 
+#[tactic(auto, unfolding(crate::specs::Given::record_fits))]
 fn record_fits(s: &[u8]) -> bool
     ensures { result ≡ Is.record_fits s.now }
 {
-    let address = is_address(bytes_from(s, 3));
-    let part = part_fits(s);
-    let marks = (be8(s, 42) <= 1) & (be8(s, 45) <= 1);
-    (be8(s, 0) <= 2) & (be8(s, 1) <= 1) & (be8(s, 2) <= 1) & address & marks & part
+    let wishes = u8_at(s, 1) <= 1 && u8_at(s, 2) <= 1;
+    let marks = u8_at(s, 42) <= 1 && u8_at(s, 45) <= 1;
+    u8_at(s, 0) <= 2 && wishes && is_address(bytes_from(s, 3)) && marks && part_fits(s)
 }
 
 fn watch_in(s: &[u8]) -> Watch
     ensures { result ≡ Is.watch_in s.now }
 {
     Watch {
-        alive: two_bytes(s, 43),
-        remote_set: be8(s, 45) == 1,
+        alive: u16_at(s, 43),
+        remote_set: u8_at(s, 45) == 1,
     }
 }
 
+#[tactic(auto, unfolding(crate::specs::Given::record_in))]
 fn record_in(s: &[u8]) -> Connection
     ensures { result ≡ Is.record_in s.now }
 {
-    let mode = mode_of(be8(s, 0));
-    let remote = remote_in(bytes_from(s, 3));
-    let part = part_of(s);
-    let watch = watch_in(s);
     Connection {
-        mode: mode,
-        open_wanted: be8(s, 1) == 1,
-        close_wanted: be8(s, 2) == 1,
-        remote: remote,
-        switches: four_bytes(s, 22),
-        part: part,
-        used: two_bytes(s, 38),
-        timer: two_bytes(s, 40),
-        due: be8(s, 42) == 1,
-        watch: watch,
+        mode: mode_of(be8(s, 0)),
+        open_wanted: u8_at(s, 1) == 1,
+        close_wanted: u8_at(s, 2) == 1,
+        remote: remote_in(bytes_from(s, 3)),
+        switches: u32_at(s, 22),
+        part: part_of(s),
+        used: u16_at(s, 38),
+        timer: u16_at(s, 40),
+        due: u8_at(s, 42) == 1,
+        watch: watch_in(s),
     }
 }
 
 fn all_fit(bytes: &[u8]) -> bool
     ensures { result ≡ every (Is.fits_at bytes.now) 16 }
 {
-    let mut fits = true;
-    let mut i: usize = 0;
-    while i < 16 {
-        let one = record_fits(bytes_from(bytes, i * 46));
-        fits = fits & one;
-        i += 1;
-    }
-    fits
+    (0..16).all(|i| record_fits(bytes_from(bytes, i * 46)))
 }
 
-fn records_in(bytes: &[u8]) -> State
-    ensures { result ≡ Is.records_in bytes.now }
+fn state_in(bytes: &[u8]) -> State
+    ensures { result ≡ Is.state_in bytes.now }
 {
-    let mut next = empty_state();
-    let mut i: usize = 0;
-    while i < 16 {
-        let record = record_in(bytes_from(bytes, i * 46));
-        next.connections[i] = record;
-        i += 1;
+    let mut state = empty_state();
+    for i in 0..16 {
+        state.connections[i] = record_in(bytes_from(bytes, i * 46));
     }
-    next
+    state.udp_drops = u32_at(bytes, 736);
+    state.tcp_drops = u32_at(bytes, 740);
+    state
 }
 
-pub fn given_state(bytes: &[u8]) -> Given
+// The state that the bytes spell, where they fit.
+#[tactic(auto, unfolding(crate::specs::Given::given_of))]
+pub fn given_state(bytes: &[u8]) -> Option<State>
     ensures { result ≡ Is.given_of bytes.now }
 {
-    let mut state = records_in(bytes);
-    state.udp_drops = four_bytes(bytes, 736);
-    state.tcp_drops = four_bytes(bytes, 740);
-    Given {
-        fits: (bytes.len() == 47720) & all_fit(bytes),
-        state: state,
+    if bytes.len() == 47720 && all_fit(bytes) {
+        Some(state_in(bytes))
+    } else {
+        None
     }
 }

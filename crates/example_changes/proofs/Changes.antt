@@ -25,7 +25,7 @@ use Rattle.connection.specs.Sound.{sound_of, zero_of}
 use Rattle.state.specs.State.{counted}
 use Rattle.state.specs.Fresh.{config_of, fresh_state}
 use Rattle.switches.specs.Switches.{is_on}
-use Rattle.receive_route.specs.Route.{rows_in, counts, row_for, reason_in, reason_of, decision_of, lookup_of}
+use Rattle.receive_route.specs.Route.{rows_in, counts, row_for, row_found, row_decision, lookup_of}
 use Rattle.receive_stream.specs.Stream.{took_of, taken_of as takeFrom}
 use Rattle.receive_datagram.specs.Datagram.{walked_of}
 use Rattle.gate.specs.Sound.{sound_at, records_sound, sound_state}
@@ -53,7 +53,7 @@ unfolding image be bad_from every fold_from rows_of body_bytes start_of end_of r
     destination_row group_good
     connection_good route_good destination_good size_in group_tcp tcp_in routes_share destinations_share share clear_in good_in head_good entry_good rule
     then_check entries_place head_place all_rows_place check_table piece_done feed take_b head_of walk_at worth switch_of alive_after starts_of reach_of run_of
-    tick_of step_of sound_of zero_of counted config_of fresh_state is_on rows_in counts row_for reason_in reason_of decision_of lookup_of took_of takeFrom
+    tick_of step_of sound_of zero_of counted config_of fresh_state is_on rows_in counts row_for row_found row_decision lookup_of took_of takeFrom
     walked_of
     sound_at records_sound sound_state gate_of gate_at told_of change_of event_of loss_of switched_all switch_all_of of_protocol clear_past clear_of
     ticked_to ticks_to

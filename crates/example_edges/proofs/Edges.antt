@@ -21,7 +21,7 @@ use Rattle.reading.specs.Feed.{ready, piece_done, feed, take_b, takes, segment_r
 use Rattle.reading_lengths.specs.Head.{head_of}
 use Rattle.reading_walk.specs.Walk.{walk_at, outs_told}
 use Rattle.switches.specs.Switches.{is_on}
-use Rattle.receive_route.specs.Route.{rows_in, counts, row_for, reason_in, reason_of, decision_of, lookup_of}
+use Rattle.receive_route.specs.Route.{rows_in, counts, row_for, row_found, row_decision, lookup_of}
 use Rattle.select.specs.Best.{better, chosen_of}
 use Rattle.select.specs.Choose.{rank_of, score_of, score_at, chosen_in, denied_of, arrive_of}
 use Rattle.send_destination.specs.Destination.{refusal_of, look_of, timer_of}
@@ -46,7 +46,7 @@ unfolding image be bad_from every fold_from rows_of body_bytes start_of end_of r
     connection_good route_good destination_good size_in routes_share destinations_share share clear_in good_in head_good entry_good rule then_check
     entries_place
     head_place all_rows_place check_table config_of fresh_state piece_done feed take_b takes segment_ran segments head_of walk_at is_on rows_in counts row_for
-    reason_in reason_of decision_of lookup_of better chosen_of rank_of score_of score_at chosen_in denied_of arrive_of refusal_of look_of timer_of verdict_of
+    row_found row_decision lookup_of better chosen_of rank_of score_of score_at chosen_in denied_of arrive_of refusal_of look_of timer_of verdict_of
     look_at
     check_of group_tcp tcp_in step_of sound_of zero_of sound_at records_sound sound_state gate_of gate_at told_of change_of event_of loss_of alive_after
     starts_of
@@ -90,7 +90,7 @@ unfolding image be bad_from every fold_from rows_of body_bytes start_of end_of r
     connection_good route_good destination_good size_in routes_share destinations_share share clear_in good_in head_good entry_good rule then_check
     entries_place
     head_place all_rows_place check_table config_of fresh_state piece_done feed take_b takes segment_ran segments head_of walk_at is_on rows_in counts row_for
-    reason_in reason_of decision_of lookup_of better chosen_of rank_of score_of score_at chosen_in denied_of arrive_of refusal_of look_of timer_of verdict_of
+    row_found row_decision lookup_of better chosen_of rank_of score_of score_at chosen_in denied_of arrive_of refusal_of look_of timer_of verdict_of
     look_at
     check_of group_tcp tcp_in step_of sound_of zero_of sound_at records_sound sound_state gate_of gate_at told_of change_of event_of loss_of alive_after
     starts_of

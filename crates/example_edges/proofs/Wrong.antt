@@ -1,4 +1,5 @@
 -- The wrong programs are refuted: for each the input at which it fails.
+use Rattle.std.proofs.Common.{Ok}
 use Prim.Native.Nat.{ℕ}
 use mathlib.Core.Path.{◌≡◌, refl, sym, ap, ◌∙◌}
 use mathlib.Core.Bool.{true, false, true≢false}
@@ -35,9 +36,8 @@ use Rattle.entry_send.specs.Sending.{sent_memory}
 use Rattle.gate.specs.Lent.{lent}
 use Rattle.reading_lengths.specs.Head.{head_of}
 use Rattle.reading_walk.specs.Walk.{walk_at}
-use Rattle.receive_route.specs.Route.{rows_in, counts, row_for, reason_in, reason_of, decision_of, lookup_of}
+use Rattle.receive_route.specs.Route.{rows_in, counts, row_for, row_found, row_decision, lookup_of}
 use Rattle.receive_datagram.specs.Datagram.{walked_of}
-use Rattle.select.specs.declared.Arrival.TheVariants.{Met}
 use Rattle.select.specs.declared.Arrived.{Arrived}
 use Rattle.select.specs.Best.{better, chosen_of}
 use Rattle.select.specs.Choose.{rank_of, score_of, score_at, chosen_in, denied_of, arrive_of}
@@ -111,7 +111,7 @@ unfolding image be bad_from every fold_from rows_of body_bytes start_of end_of r
     then_check entries_place head_place all_rows_place check_table config_of fresh_state sound_of zero_of sound_at records_sound sound_state gate_of gate_at
     alive_after starts_of reach_of run_of tick_of ticked_to tick_event better chosen_of rank_of score_of score_at chosen_in denied_of arrive_of arrival_of
     head_of
-    walk_at is_on rows_in counts row_for reason_in reason_of decision_of lookup_of walked_of judged_of judged_answer walk_on walk_of
+    walk_at is_on rows_in counts row_for row_found row_decision lookup_of walked_of judged_of judged_answer walk_on walk_of
 lets_go = (refl, refl)
 
 -- of the table and the states before
@@ -123,11 +123,11 @@ unfolding image be bad_from every fold_from rows_of body_bytes start_of end_of r
     then_check entries_place head_place all_rows_place check_table config_of fresh_state sound_of zero_of sound_at records_sound sound_state gate_of gate_at
     alive_after starts_of reach_of run_of tick_of ticked_to tick_event better chosen_of rank_of score_of score_at chosen_in denied_of arrive_of arrival_of
     head_of
-    walk_at is_on rows_in counts row_for reason_in reason_of decision_of lookup_of walked_of judged_of judged_answer walk_on walk_of
+    walk_at is_on rows_in counts row_for row_found row_decision lookup_of walked_of judged_of judged_answer walk_on walk_of
 before-tick = (refl, refl, refl, refl)
 
 -- a stopped alive timer stays so at a datagram, and the mark stays; a step of a walk leaves a running one
-hears : ((datagram_of (lends (watching 0 true)) 0 exact).answer ≡ Met 0) × ((record_at (datagram_of (lends (watching 0 true)) 0 exact).state 0).watch.alive ≡ 0)
+hears : ((datagram_of (lends (watching 0 true)) 0 exact).answer ≡ Ok 0) × ((record_at (datagram_of (lends (watching 0 true)) 0 exact).state 0).watch.alive ≡ 0)
     × ((record_at (datagram_of (lends (watching 0 true)) 0 exact).state 0).watch.remote_set ≡ true)
     × ((record_at (walk_of (lends (watching 1 false)) 0 [] 0).state 0).watch.alive ≡ 1)
 unfolding image be bad_from every fold_from rows_of body_bytes start_of end_of row_at part_of body_of row_in group_row connection_row route_row
@@ -136,7 +136,7 @@ unfolding image be bad_from every fold_from rows_of body_bytes start_of end_of r
     then_check entries_place head_place all_rows_place check_table config_of fresh_state sound_of zero_of sound_at records_sound sound_state gate_of gate_at
     alive_after starts_of reach_of run_of tick_of ticked_to tick_event better chosen_of rank_of score_of score_at chosen_in denied_of arrive_of arrival_of
     head_of
-    walk_at is_on rows_in counts row_for reason_in reason_of decision_of lookup_of walked_of judged_of judged_answer walk_on walk_of
+    walk_at is_on rows_in counts row_for row_found row_decision lookup_of walked_of judged_of judged_answer walk_on walk_of
 hears = (refl, refl, refl, refl)
 
 pub no_kept_bytes : (f : Ticking) → IsTicking f → KeepsBytes f → ⊥
@@ -159,7 +159,7 @@ module _ (f : Hearing) (is : IsHearing f) where
   right : told ≡ datagram_of (lends (watching 0 true)) 0 exact
   right = is (lends (watching 0 true)) 0 exact
 
-  its : told.answer ≡ Met 0
+  its : told.answer ≡ Ok 0
   its = ap (λ (a : Arrived). a.answer) right ∙ hears.0
 
   pub no_any_start : AnyStarts f → ⊥

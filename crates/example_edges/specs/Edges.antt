@@ -1,6 +1,7 @@
 -- THE EDGES of transfers (R19.1 to R19.7) and of silent peers (R20.1 to R20.6), as one table: what the definitions give, and what the rules
 -- say, both as the rules' numbers. One statement says all of it: `Hold` of the table. The starred edges stand in example_entries, in the same numbers.
-use Rattle.std.specs.Prelude.{ℕ, Bool, true, false, cond, ◌&&◌, ◌≡◌, List, [], ◌∷◌, eqb, length}
+use Rattle.std.specs.Prelude.{ℕ, Bool, true, false, cond, ◌&&◌, ◌≡◌, List, [], ◌∷◌, eqb, length, Result, Ok, Err}
+use Rattle.reading.specs.Reasons.{reason_number}
 use Rattle.wire.specs.Be.{be}
 use Rattle.table_layout.specs.Layout.{body_of}
 use Rattle.table_layout.specs.declared.Kind.TheVariants.{Route}
@@ -18,9 +19,9 @@ use Rattle.gate.specs.Lent.{lent}
 use Rattle.entry_events.specs.Change.{event_of, loss_of}
 use Rattle.entry_ticks.specs.Tick.{ticks_event}
 use Rattle.entry_receive.specs.Walk.{walk_of}
-use Rattle.select.specs.declared.Arrival.{Arrival}
-use Rattle.select.specs.declared.Arrival.TheVariants.{Met, Refused, Unmatched}
+use Rattle.select.specs.declared.NotMet.TheVariants.{Refused, Unmatched}
 use Rattle.select.specs.Choose.{one_of, arrive_of, arrival_number}
+use Rattle.select.specs.declared.NotMet.{NotMet}
 use Rattle.example_edges.specs.Table.{
   image,
   marked_udp,
@@ -50,15 +51,15 @@ abbrev pub numbers : List Out → List ℕ
 numbers [] = []
 numbers (nothing ∷ os) = numbers os
 numbers (pdu r p ∷ os) = 0 ∷ r ∷ (route_of image r).id ∷ be (length p) p 0 ∷ length p ∷ numbers os
-numbers (dropped k i n ∷ os) = k ∷ i ∷ n ∷ numbers os
+numbers (dropped k i n ∷ os) = reason_number k ∷ i ∷ n ∷ numbers os
 numbers (start r i n m ∷ os) = 3 ∷ r ∷ i ∷ n ∷ one_of m ∷ numbers os
 numbers (piece r p m ∷ os) = cond m 5 4 ∷ r ∷ (route_of image r).id ∷ be (length p) p 0 ∷ length p ∷ numbers os
 
 -- an arrival by its number, and the connection that it names
-abbrev pub arrived_numbers : Arrival → List ℕ
-arrived_numbers (Met k) = 0 ∷ k ∷ []
-arrived_numbers (Refused r) = arrival_number (Refused r) ∷ []
-arrived_numbers Unmatched = arrival_number Unmatched ∷ []
+abbrev pub arrived_numbers : Result ℕ NotMet → List ℕ
+arrived_numbers (Ok k) = 0 ∷ k ∷ []
+arrived_numbers (Err (Refused r)) = arrival_number (Err (Refused r)) ∷ []
+arrived_numbers (Err Unmatched) = arrival_number (Err Unmatched) ∷ []
 
 -- a table's answer by its number, and the place that it gives
 abbrev pub table_numbers : List ℕ → List ℕ

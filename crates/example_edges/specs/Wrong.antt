@@ -1,6 +1,6 @@
 -- WRONG PROGRAMS (R13.3, R19.6, R20.3 to R20.5) that concern the state and the send bytes: each as a property of a function with an entry point's arguments and
 -- result; no function has it and meets the contract's definition.
-use Rattle.std.specs.Prelude.{ℕ, ◌<◌, ◌≡◌, true, false, List}
+use Rattle.std.specs.Prelude.{ℕ, ◌<◌, ◌≡◌, true, false, List, Ok}
 use Rattle.receive_part.specs.Part.{transferring}
 use Rattle.connection.specs.declared.Remote.{Remote}
 use Rattle.connection.specs.declared.Event.{Event}
@@ -14,7 +14,6 @@ use Rattle.gate.specs.Lent.{Lent, Loan}
 use Rattle.entry_ticks.specs.declared.Ticked.{Ticked}
 use Rattle.entry_ticks.specs.Tick.{tick_event}
 use Rattle.select.specs.declared.Arrived.{Arrived}
-use Rattle.select.specs.declared.Arrival.TheVariants.{Met}
 use Rattle.entry_arrivals.specs.Arrivals.{datagram_of}
 use Rattle.entry_receive.specs.declared.DatagramWalked.{DatagramWalked}
 use Rattle.entry_receive.specs.Walk.{walk_of}
@@ -73,13 +72,13 @@ IsHearing f = (l : Lent) (group : ℕ) (source : Remote) → f l group source �
 -- R20.3: any datagram starts the alive timer of the connection that it is for
 abbrev pub AnyStarts : Hearing → Type 0
 AnyStarts f =
-    (l : Lent) (group : ℕ) (source : Remote) (k : ℕ) → (f l group source).answer ≡ Met k
+    (l : Lent) (group : ℕ) (source : Remote) (k : ℕ) → (f l group source).answer ≡ Ok k
     → (record_at (f l group source).state k).watch.alive ≡ (config_of l.image k).alive
 
 -- R20.5: it clears the mark that the upper layer set the remote
 abbrev pub ClearsMark : Hearing → Type 0
 ClearsMark f =
-    (l : Lent) (group : ℕ) (source : Remote) (k : ℕ) → (f l group source).answer ≡ Met k
+    (l : Lent) (group : ℕ) (source : Remote) (k : ℕ) → (f l group source).answer ≡ Ok k
     → (record_at (f l group source).state k).watch.remote_set ≡ false
 
 -- a step of a walk: what it is lent, connection, datagram, place

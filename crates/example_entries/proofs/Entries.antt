@@ -42,7 +42,7 @@ use Rattle.model.specs.Events.{segment, walk, transmit, on, on_whole}
 use Rattle.model_runs.specs.Same.{cut}
 use Rattle.model_refines.specs.Run.{given, given_in, after_event, Good}
 use Rattle.theorems.specs.Trip.{Reader, Walker}
-use Rattle.receive_route.specs.Route.{rows_in, counts, row_for, reason_in, reason_of, decision_of, lookup_of}
+use Rattle.receive_route.specs.Route.{rows_in, counts, row_for, row_found, row_decision, lookup_of}
 use Rattle.theorems.specs.Waits.{sent_from, sent_to}
 use Rattle.theorems.proofs.Runs.{same-given}
 use Rattle.theorems.proofs.Refusals.{refusal-stays}
@@ -93,7 +93,7 @@ Plain w bs = fine (segment_ran (routes 2 w) ready bs).list ≡ (segment_ran (rou
 no_pieces : Plain 1 bar × Plain 1 (framed 2 2 (0x46 ∷ 0x50 ∷ [])) × Plain 1 (framed 1 0 [])
     × Plain 1 (framed 1 2 (7 ∷ 8 ∷ [])) × Plain 1 (framed 1 3 (7 ∷ 8 ∷ 9 ∷ [])) × Plain 0 (framed 2 1 (5 ∷ [])) × Plain 0 bar × Plain 1 skip_longest
 unfolding image be bad_from every rows_of body_bytes start_of part_of body_of row_in route_row piece_done
-    feed take_b takes segment_ran is_on rows_in counts row_for reason_in reason_of decision_of lookup_of fine
+    feed take_b takes segment_ran is_on rows_in counts row_for row_found row_decision lookup_of fine
 no_pieces = (refl, refl, refl, refl, refl, refl, refl, refl)
 
 module _ (rx tx : List ℕ) (long : length rx ≡ 23424) (wide : length tx ≡ 23552) where

@@ -1,4 +1,5 @@
 -- A PEER THAT FALLS SILENT IS LET GO at the second tick, its limit, and not before: theorem_alive's theorem, of a machine that meets all that it asks.
+use Rattle.std.proofs.Common.{Ok}
 use Prim.Native.Nat.{ℕ, ◌<◌, ◌-◌}
 use mathlib.Core.Path.{◌≡◌, refl, sym, ◌∙◌, subst}
 use mathlib.Core.Bool.{Bool, true, false, false≢true}
@@ -19,7 +20,6 @@ use Rattle.connection.specs.Sound.{sound_of, zero_of}
 use Rattle.state.specs.Fresh.{config_of, fresh_state}
 use Rattle.gate.specs.Sound.{sound_at, records_sound, sound_state}
 use Rattle.gate.proofs.Pass.{sound-passed, passed_gate}
-use Rattle.select.specs.declared.Arrival.TheVariants.{Met}
 use Rattle.select.specs.Best.{better, chosen_of}
 use Rattle.select.specs.Choose.{rank_of, score_of, score_at, chosen_in, denied_of, arrive_of}
 use Rattle.entry_arrivals.specs.Arrivals.{arrival_of, datagram_of}
@@ -68,7 +68,7 @@ there : 0 < rows_of image Connections
 unfolding image be rows_of
 there = omega arith
 
-meets : (arrive_of image anybody false 0 exact).answer ≡ Met 0
+meets : (arrive_of image anybody false 0 exact).answer ≡ Ok 0
 unfolding image be fold_from rows_of body_bytes start_of part_of body_of row_in group_row connection_row
     config_of fresh_state better chosen_of rank_of score_of score_at chosen_in denied_of arrive_of
 meets = refl
@@ -85,7 +85,7 @@ module _ (rx tx : List ℕ) (long : length rx ≡ 23424) (wide : length tx ≡ 2
   good : Good image m
   good = record { passed = sound-passed (lent_to image m) long wide sound-anybody; sixteen = sixteen }
 
-  is-met : (datagram_of (lent_to image m) 0 exact).answer ≡ Met 0
+  is-met : (datagram_of (lent_to image m) 0 exact).answer ≡ Ok 0
   unfolding arrival_of
   is-met = rw (passed_gate (lent_to image m) good.passed) meets
 

@@ -2,6 +2,7 @@
 -- rows for the routes.
 use Rattle.std.specs.Prelude.{ℕ, suc, ◌≡◌, Bool, true, false, cond, eqb, leb, take, drop}
 use mathlib.Core.List.{List, [], ◌∷◌, ◌++◌, flatten}
+use Rattle.reading.specs.declared.DropReason.TheVariants.{NoRoute, SwitchedOff, TooLong, CutShort}
 use Rattle.reading.specs.declared.Decision.TheVariants.{Accept, Refuse, Transfer}
 use Rattle.reading.specs.Feed.{Routes, payload, skip, cell, transfer, pdu, dropped, nothing, start, piece, ready, took, take_b, Ran, ran, segment_ran, segments}
 use Rattle.reading.specs.Feed.{began, middle, finished, compared, middle_of}
@@ -24,10 +25,10 @@ tp_row i g = record { id = i; longest = 0; groups = g; tp = true }
 
 -- R5.5, R19.1: 20 no route, 21 switched off, 22 longer than allowed on an unmarked route: rows numbered from k, switch word w
 unfoldable pub rows : ℕ → List ReadingRow → ℕ → Routes
-rows k [] w i n = Refuse 20
+rows k [] w i n = Refuse NoRoute
 rows k (r ∷ rs) w i n =
     cond (eqb r.id i)
-    (cond (is_on r.groups w) (cond r.tp (Transfer k) (cond (leb n r.longest) (Accept k) (Refuse 22))) (Refuse 21))
+    (cond (is_on r.groups w) (cond r.tp (Transfer k) (cond (leb n r.longest) (Accept k) (Refuse TooLong))) (Refuse SwitchedOff))
     (rows (suc k) rs w i n)
 
 -- three routes: 0x101 to 2 bytes under switch 0, 0x102 to 3 bytes that no switch turns off, and 0x104, marked, under switch 0
@@ -93,7 +94,7 @@ pub record TransferEdges : Type 0 where
   -- R19.2: a transfer of one byte, and the start of the longest; R5.5: switched off at the header it is dropped
   pub one_byte : segment_ran (reading_table 1) ready one_firmware ≡ ran ready (start 2 0x104 1 false ∷ piece 2 (7 ∷ []) true ∷ [])
   pub longest_one : segment_ran (reading_table 1) ready all_firmware ≡ ran (transfer 4294967295 2) (start 2 0x104 4294967295 false ∷ [])
-  pub off : segment_ran (reading_table 2) ready firmware ≡ ran ready (dropped 21 0x104 3 ∷ [])
+  pub off : segment_ran (reading_table 2) ready firmware ≡ ran ready (dropped SwitchedOff 0x104 3 ∷ [])
 
 -- R19.2 to R19.4, THE LONGEST TRANSFER, its header in one segment and its bytes in any segments after it: they are handed out, each once and
 -- in order, then its end, and the connection is at a header's first byte
@@ -104,26 +105,26 @@ pub record LongestTransfer (ss : List (List ℕ)) : Type 0 where
 -- what the starred edges (example_entries) leave out
 pub record ReadingEdges : Type 0 where
   -- no route: dropped and skipped, and the next PDU is read
-  pub no_route : segment_ran (reading_table 1) ready (frame_unknown ++ frame_bar) ≡ ran ready (dropped 20 0x103 2 ∷ pdu 0 (0 ∷ 180 ∷ []) ∷ [])
+  pub no_route : segment_ran (reading_table 1) ready (frame_unknown ++ frame_bar) ≡ ran ready (dropped NoRoute 0x103 2 ∷ pdu 0 (0 ∷ 180 ∷ []) ∷ [])
   -- too long: dropped and skipped, likewise
-  pub longest_2 : segment_ran (reading_table 1) ready (frame_three ++ frame_bar) ≡ ran ready (dropped 22 0x101 3 ∷ pdu 0 (0 ∷ 180 ∷ []) ∷ [])
+  pub longest_2 : segment_ran (reading_table 1) ready (frame_three ++ frame_bar) ≡ ran ready (dropped TooLong 0x101 3 ∷ pdu 0 (0 ∷ 180 ∷ []) ∷ [])
   -- R12.8: a length of 4,294,967,295 is to be skipped
-  pub skip-longest : segment_ran (reading_table 1) ready header_longest ≡ ran (cell 4294967295 skip) (dropped 20 0x103 4294967295 ∷ [])
+  pub skip-longest : segment_ran (reading_table 1) ready header_longest ≡ ran (cell 4294967295 skip) (dropped NoRoute 0x103 4294967295 ∷ [])
   -- a take ends at the first PDU, and at a dropped header
   pub take_pdu : take_b (reading_table 1) ready (frame_bar ++ frame_empty) ≡ took ready (pdu 0 (0 ∷ 180 ∷ [])) frame_empty
-  pub take_drop : take_b (reading_table 1) ready frame_unknown ≡ took (cell 2 skip) (dropped 20 0x103 2) (0 ∷ 180 ∷ [])
+  pub take_drop : take_b (reading_table 1) ready frame_unknown ≡ took (cell 2 skip) (dropped NoRoute 0x103 2) (0 ∷ 180 ∷ [])
   pub take_more : take_b (reading_table 1) ready (take 9 frame_bar) ≡ took (cell 1 (payload 0 (0 ∷ []))) nothing []
   -- R12.7: a datagram of 7 bytes is 23; and its neighbours
-  pub seven : walk_at (reading_table 1) (take 7 frame_bar) 0 ≡ walked (a_drop 23 0 0) 7
+  pub seven : walk_at (reading_table 1) (take 7 frame_bar) 0 ≡ walked (a_drop CutShort 0 0) 7
   pub eight : walk_at (reading_table 1) frame_empty 0 ≡ walked (a_pdu 0 8 0 0x101) 8
-  pub nine : walk_at (reading_table 1) (take 9 frame_bar) 0 ≡ walked (a_drop 23 0x101 2) 9
+  pub nine : walk_at (reading_table 1) (take 9 frame_bar) 0 ≡ walked (a_drop CutShort 0x101 2) 9
   pub ten : walk_at (reading_table 1) frame_bar 0 ≡ walked (a_pdu 0 8 2 0x101) 10
-  pub eleven : list_of (reading_table 1) (frame_bar ++ 0 ∷ []) ≡ pdu 0 (0 ∷ 180 ∷ []) ∷ dropped 23 0 0 ∷ []
+  pub eleven : list_of (reading_table 1) (frame_bar ++ 0 ∷ []) ≡ pdu 0 (0 ∷ 180 ∷ []) ∷ dropped CutShort 0 0 ∷ []
   pub end : walk_at (reading_table 1) frame_bar 10 ≡ walked the_end 10
   -- 23 is tested before 20, 21, 22: each in a datagram that is too short, and then in a whole one
-  pub beyond_unknown : walk_at (reading_table 1) header_longest 0 ≡ walked (a_drop 23 0x103 4294967295) 8
-  pub beyond_off : walk_at (reading_table 2) (take 9 frame_bar) 0 ≡ walked (a_drop 23 0x101 2) 9
-  pub beyond_too_long : walk_at (reading_table 1) (take 10 frame_three) 0 ≡ walked (a_drop 23 0x101 3) 10
-  pub unknown_walked : walk_at (reading_table 1) (frame_unknown ++ frame_bar) 0 ≡ walked (a_drop 20 0x103 2) 10
-  pub off_walked : walk_at (reading_table 2) frame_bar 0 ≡ walked (a_drop 21 0x101 2) 10
-  pub too_long_walked : walk_at (reading_table 1) frame_three 0 ≡ walked (a_drop 22 0x101 3) 11
+  pub beyond_unknown : walk_at (reading_table 1) header_longest 0 ≡ walked (a_drop CutShort 0x103 4294967295) 8
+  pub beyond_off : walk_at (reading_table 2) (take 9 frame_bar) 0 ≡ walked (a_drop CutShort 0x101 2) 9
+  pub beyond_too_long : walk_at (reading_table 1) (take 10 frame_three) 0 ≡ walked (a_drop CutShort 0x101 3) 10
+  pub unknown_walked : walk_at (reading_table 1) (frame_unknown ++ frame_bar) 0 ≡ walked (a_drop NoRoute 0x103 2) 10
+  pub off_walked : walk_at (reading_table 2) frame_bar 0 ≡ walked (a_drop SwitchedOff 0x101 2) 10
+  pub too_long_walked : walk_at (reading_table 1) frame_three 0 ≡ walked (a_drop TooLong 0x101 3) 11

@@ -1,7 +1,9 @@
 -- WRONG READINGS (R13.3, R12.11, R19.1 to R19.4): what each of them would do, of any function that answers as a take, a segment event or the list of a
 -- stream. None of them meets the definition.
 use Rattle.std.specs.Prelude.{ℕ, suc, ◌≤◌, ◌<◌, ◌≡◌, Bool, true, false, List, [], ◌∷◌, ◌++◌, map, length}
+use Rattle.reading.specs.declared.DropReason.TheVariants.{NoRoute}
 use Rattle.reading.specs.Feed.{Routes, Cell, transfer, Out, nothing, pdu, dropped, start, piece, ready, Took, take_b, bytes_read, Ran, segment_ran, Handed}
+use Rattle.reading.specs.declared.DropReason.TheVariants.{NoRoute}
 use Rattle.reading.specs.Feed.{compared}
 use Rattle.reading_lengths.specs.Listed.{Marked, mark, read_out}
 
@@ -62,7 +64,7 @@ FirstOnly s = (R : Routes) (c : Cell) (bs : List ℕ) → length (compared (s R 
 
 -- R12.11: closing on an unknown id instead of skipping: nothing comes after a drop 20
 abbrev pub Closing : SegmentReading → Type 0
-Closing s = (R : Routes) (c : Cell) (bs : List ℕ) (i n : ℕ) (os : List Out) → (s R c bs).list ≡ dropped 20 i n ∷ os → os ≡ []
+Closing s = (R : Routes) (c : Cell) (bs : List ℕ) (i n : ℕ) (os : List Out) → (s R c bs).list ≡ dropped NoRoute i n ∷ os → os ≡ []
 
 -- R12.11: the switch tested when the payload ends: the switches v at the payload decide, whatever those at the header were
 abbrev pub TestedLate : StreamReading → Type 0

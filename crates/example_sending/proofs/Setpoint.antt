@@ -1,4 +1,5 @@
 -- A SETPOINT FOR TWO VALVES: both get it or none does (`all_or_none`), and such states there are (`a_case`).
+use Rattle.std.proofs.Common.{Result, Ok, Err}
 use Prim.Native.Nat.{ℕ, zero, suc, ◌+◌, ◌<◌, ◌≤◌}
 use mathlib.Core.Path.{◌≡◌, refl, ap, ◌∙◌}
 use mathlib.Core.Bool.{Bool, true, false, cond}
@@ -25,14 +26,11 @@ use Rattle.state.specs.Fresh.{config_of}
 use Rattle.frame.specs.Frame.{frame}
 use Rattle.switches.specs.Switches.{is_on}
 use Rattle.gate.specs.Lent.{sizes}
-use Rattle.gate.specs.declared.Gate.{Gate}
-use Rattle.gate.specs.declared.Gate.TheVariants.{Pass}
 use Rattle.gate.specs.Gate.{gate_of, through}
 use Rattle.gate.specs.Sound.{sound_at, records_sound, sound_state}
 use Rattle.gate.proofs.Pass.{sound-passed, passed_gate}
 use Rattle.send_destination.specs.Destination.{refusal_of, look_of}
-use Rattle.send.specs.declared.Transmission.{Transmission}
-use Rattle.send.specs.declared.Transmission.TheVariants.{Stored, RefusedAt}
+use Rattle.send.specs.declared.NotSent.TheVariants.{RefusedAt}
 use Rattle.send.specs.declared.Transmitted.{Transmitted}
 use Rattle.send.specs.Verdict.{is_stored, verdict_of}
 use Rattle.send.specs.Send.{destinations, Sending, sending, look_at, check_of, wanted_at, transmit_of, transmitted_of}
@@ -42,6 +40,8 @@ use Rattle.law_turns.proofs.Entries.{transmit-turn}
 use Rattle.example_sending.specs.Valves.{valves, setpoint, both_valves}
 use Rattle.example_sending.specs.Setpoint.{valves_with, TwoValves, Room, Full, Both, Neither, AllOrNone}
 use Rattle.example_sending.proofs.Transmits.{nothing_stored}
+use Rattle.connection.specs.declared.Refusal.{Refusal}
+use Rattle.send.specs.declared.NotSent.{NotSent}
 
 -- ---- what a destination that is on says to a payload that it allows: 0 with room, 8 without
 module _ (len : ℕ) (d : DestinationRow) (c : Connection) (on : is_on d.groups c.switches ≡ true)
@@ -68,66 +68,66 @@ module _ (s : State) (rx tx payload : List ℕ) (v : TwoValves s rx tx payload) 
   rows = refl
 
 -- the verdict of two rows
-two_clear : (look : ℕ → ℕ) → look 0 ≡ 0 → look 1 ≡ 0 → verdict_of look 2 ≡ Stored
+two_clear : (look : ℕ → ℕ) → look 0 ≡ 0 → look 1 ≡ 0 → verdict_of look 2 ≡ Ok tt
 unfolding verdict_of every bad_from
 two_clear look a b = rw (a, b)
 
-second-says : (look : ℕ → ℕ) → look 0 ≡ 0 → look 1 ≡ 8 → verdict_of look 2 ≡ RefusedAt 8 1
+second-says : (look : ℕ → ℕ) → look 0 ≡ 0 → look 1 ≡ 8 → verdict_of look 2 ≡ Err (RefusedAt 8 1)
 unfolding verdict_of every bad_from
-second-says look a b = rw (a, b) (ap (λ (n : ℕ). RefusedAt n 1) b)
+second-says look a b = rw (a, b) (ap (λ (n : ℕ). Err (RefusedAt n 1)) b)
 
-first_says : (look : ℕ → ℕ) → look 0 ≡ 8 → verdict_of look 2 ≡ RefusedAt 8 0
+first_says : (look : ℕ → ℕ) → look 0 ≡ 8 → verdict_of look 2 ≡ Err (RefusedAt 8 0)
 unfolding verdict_of every bad_from
-first_says look a = rw a (ap (λ (n : ℕ). RefusedAt n 0) a)
+first_says look a = rw a (ap (λ (n : ℕ). Err (RefusedAt n 0)) a)
 
 -- ---- past the gate
 module _ (s : State) (rx tx payload : List ℕ) (v : TwoValves s rx tx payload) where
-  gate : gate_of (sizes (valves_with s rx tx)) ≡ Pass
+  gate : gate_of (sizes (valves_with s rx tx)) ≡ Ok tt
   gate = passed_gate (sizes (valves_with s rx tx)) v.passed
 
   sent_is : send_of (valves_with s rx tx) 9 payload ≡ transmitted_of valves s 9 payload tx
   unfolding send_of
-  sent_is = ap (λ (g : Gate). through g (not_sent s) (transmitted_of valves s 9 payload tx)) gate
+  sent_is = ap (λ (g : Result Unit Refusal). through g (not_sent s) (transmitted_of valves s 9 payload tx)) gate
 
   memory-is : sent_memory (valves_with s rx tx) 9 payload ≡ (transmit_of valves s 9 payload tx).memory
   unfolding sent_memory
-  memory-is = ap (λ (g : Gate). through g (λ r. tx) (transmit_of valves s 9 payload tx).memory) gate
+  memory-is = ap (λ (g : Result Unit Refusal). through g (λ r. tx) (transmit_of valves s 9 payload tx).memory) gate
 
-  answer-is : (t : Transmission) → check_of valves s 9 (length payload) ≡ t → (send_of (valves_with s rx tx) 9 payload).answer ≡ t
+  answer-is : (t : Result Unit NotSent) → check_of valves s 9 (length payload) ≡ t → (send_of (valves_with s rx tx) 9 payload).answer ≡ t
   answer-is t e = ap (λ (x : Transmitted). x.answer) sent_is ∙ e
 
-  check-is : (t : Transmission) → verdict_of (look_at valves s 9 (length payload)) 2 ≡ t → check_of valves s 9 (length payload) ≡ t
+  check-is : (t : Result Unit NotSent) → verdict_of (look_at valves s 9 (length payload)) 2 ≡ t → check_of valves s 9 (length payload) ≡ t
   unfolding check_of
   check-is t e = ap (verdict_of (look_at valves s 9 (length payload))) (rows s rx tx payload v) ∙ e
 
   -- where it is stored, each connection gets its frames
-  grows : check_of valves s 9 (length payload) ≡ Stored → (k : ℕ)
+  grows : check_of valves s 9 (length payload) ≡ Ok tt → (k : ℕ)
       → waits (send_of (valves_with s rx tx) 9 payload).state (sent_memory (valves_with s rx tx) 9 payload) k
       ≡ waits s tx k ++ frames_from valves s 9 payload k (destinations valves) 0
   unfolding added_to
   grows e k =
       transmit-turn (valves_with s rx tx) 9 payload v.sixteen v.passed.sound k
-      ∙ ap (λ (g : Gate). waits s tx k ++ through g (λ r. []) (added_to valves s 9 payload k)) gate
-      ∙ ap (λ (t : Transmission). waits s tx k ++ cond (is_stored t) (frames_from valves s 9 payload k (destinations valves) 0) []) e
+      ∙ ap (λ (g : Result Unit Refusal). waits s tx k ++ through g (λ r. []) (added_to valves s 9 payload k)) gate
+      ∙ ap (λ (t : Result Unit NotSent). waits s tx k ++ cond (is_stored t) (frames_from valves s 9 payload k (destinations valves) 0) []) e
 
   frames : (frames_from valves s 9 payload 0 (destinations valves) 0 ≡ frame 0x101 payload)
       × (frames_from valves s 9 payload 1 (destinations valves) 0 ≡ frame 0x102 payload)
   unfolding valves part_of body_of row_in start_of body_bytes rows_of destination_row be frames_from wanted_at is_on
   frames = (append-nil (frame 0x101 payload), append-nil (frame 0x102 payload))
 
-  gets : check_of valves s 9 (length payload) ≡ Stored → Both s rx tx payload
+  gets : check_of valves s 9 (length payload) ≡ Ok tt → Both s rx tx payload
   gets e =
       record {
-        answer = answer-is Stored e;
+        answer = answer-is (Ok tt) e;
         first = grows e 0 ∙ ap (λ (l : List ℕ). waits s tx 0 ++ l) frames.0;
         second = grows e 1 ∙ ap (λ (l : List ℕ). waits s tx 1 ++ l) frames.1;
       }
 
-  gets_not : (d : ℕ) → check_of valves s 9 (length payload) ≡ RefusedAt 8 d → Neither s rx tx payload d
+  gets_not : (d : ℕ) → check_of valves s 9 (length payload) ≡ Err (RefusedAt 8 d) → Neither s rx tx payload d
   gets_not d e =
       let left : transmit_of valves s 9 payload tx ≡ sending s tx = nothing_stored valves s 9 payload tx (ap is_stored e) in
       record {
-        answer = answer-is (RefusedAt 8 d) e;
+        answer = answer-is (Err (RefusedAt 8 d)) e;
         state = ap (λ (x : Transmitted). x.state) sent_is ∙ ap (λ (x : Sending). x.state) left;
         memory = memory-is ∙ ap (λ (x : Sending). x.memory) left;
       }
@@ -135,9 +135,9 @@ module _ (s : State) (rx tx payload : List ℕ) (v : TwoValves s rx tx payload) 
   pub all_or_none : AllOrNone s rx tx payload
   all_or_none =
       record {
-        both = λ a b. gets (check-is Stored (two_clear look (clear 0 (omega arith) a) (clear 1 (omega arith) b)));
-        second_full = λ a b. gets_not 1 (check-is (RefusedAt 8 1) (second-says look (clear 0 (omega arith) a) (full 1 (omega arith) b)));
-        first_full = λ a. gets_not 0 (check-is (RefusedAt 8 0) (first_says look (full 0 (omega arith) a)));
+        both = λ a b. gets (check-is (Ok tt) (two_clear look (clear 0 (omega arith) a) (clear 1 (omega arith) b)));
+        second_full = λ a b. gets_not 1 (check-is (Err (RefusedAt 8 1)) (second-says look (clear 0 (omega arith) a) (full 1 (omega arith) b)));
+        first_full = λ a. gets_not 0 (check-is (Err (RefusedAt 8 0)) (first_says look (full 0 (omega arith) a)));
       }
     where
       look : ℕ → ℕ

@@ -1,20 +1,21 @@
 -- The edges of taking the waiting bytes.
+use Rattle.std.proofs.Common.{Ok, Err}
 use mathlib.Core.Path.{◌≡◌, refl}
 use mathlib.Core.Bool.{true, false}
 use mathlib.Core.List.{[], ◌∷◌}
 use Rattle.connection.specs.declared.Mode.TheVariants.{Reconnect, Online}
 use Rattle.wire.specs.Lay.{lay}
-use Rattle.send_waiting.specs.declared.Taking.TheVariants.{Bytes, Short}
+use Rattle.send_waiting.specs.declared.NotTaken.TheVariants.{Short}
 use Rattle.send_waiting.specs.Waiting.{taking_of, take_of, out_of}
 use Rattle.example_sending.specs.Valves.{remote, record_of, holding, service}
 
 -- room for all, and one byte less
-pub room_exactly : (taking_of 1472 (holding 1472) ≡ Bytes 1472 (remote 1 1)) × (taking_of 1471 (holding 1472) ≡ Short)
+pub room_exactly : (taking_of 1472 (holding 1472) ≡ Ok (1472, (remote 1 1))) × (taking_of 1471 (holding 1472) ≡ Err Short)
 unfolding taking_of
 room_exactly = (refl, refl)
 
 -- nothing waiting: 0 bytes and the record's remote, never 9; nothing changes
-pub nothing-waiting : (taking_of 0 (holding 0) ≡ Bytes 0 (remote 1 1)) × (take_of (service true) 0 (holding 0) ≡ holding 0)
+pub nothing-waiting : (taking_of 0 (holding 0) ≡ Ok (0, (remote 1 1))) × (take_of (service true) 0 (holding 0) ≡ holding 0)
 unfolding taking_of take_of
 nothing-waiting = (refl, refl)
 

@@ -1,4 +1,5 @@
 -- The edges of a transmit.
+use Rattle.std.proofs.Common.{Ok, Err}
 use Prim.Native.Nat.{ℕ}
 use mathlib.Core.Path.{◌≡◌, refl, sym, ap, ◌∙◌}
 use mathlib.Core.Bool.{true, false}
@@ -14,7 +15,7 @@ use Rattle.switches.specs.Switches.{is_on}
 use Rattle.table_rows.specs.Rows.{connection_row, destination_row}
 use Rattle.wire.specs.Be.{be}
 use Rattle.state.specs.declared.State.{State}
-use Rattle.send.specs.declared.Transmission.TheVariants.{Stored, NoDestination, SwitchedOff, RefusedAt}
+use Rattle.send.specs.declared.NotSent.TheVariants.{NoDestination, SwitchedOff, RefusedAt}
 use Rattle.send.specs.Verdict.{is_stored, verdict_of}
 use Rattle.frame.specs.Frame.{frame}
 use Rattle.wire.specs.Lay.{spell, lay}
@@ -75,12 +76,12 @@ timers = (refl, refl, refl, refl, refl, refl)
 abbrev said : List ℕ → ℕ → ℕ
 said looks i = get_or looks i 5
 
-pub verdicts : (verdict_of (said []) 0 ≡ NoDestination)
-    × (verdict_of (said (5 ∷ 5 ∷ [])) 2 ≡ NoDestination)
-    × (verdict_of (said (5 ∷ 6 ∷ [])) 2 ≡ SwitchedOff)
-    × (verdict_of (said (6 ∷ 0 ∷ [])) 2 ≡ Stored)
-    × (verdict_of (said (6 ∷ 7 ∷ [])) 2 ≡ RefusedAt 7 1)
-    × (verdict_of (said (0 ∷ 8 ∷ 4 ∷ [])) 3 ≡ RefusedAt 8 1)
+pub verdicts : (verdict_of (said []) 0 ≡ Err NoDestination)
+    × (verdict_of (said (5 ∷ 5 ∷ [])) 2 ≡ Err NoDestination)
+    × (verdict_of (said (5 ∷ 6 ∷ [])) 2 ≡ Err SwitchedOff)
+    × (verdict_of (said (6 ∷ 0 ∷ [])) 2 ≡ Ok tt)
+    × (verdict_of (said (6 ∷ 7 ∷ [])) 2 ≡ Err (RefusedAt 7 1))
+    × (verdict_of (said (0 ∷ 8 ∷ 4 ∷ [])) 3 ≡ Err (RefusedAt 8 1))
 unfolding verdict_of every bad_from
 verdicts = (refl, refl, refl, refl, refl, refl)
 
@@ -92,7 +93,7 @@ pub nothing_stored : (image : List ℕ) (s : State) (pdu : ℕ) (payload tx : Li
 unfolding transmit_of
 nothing_stored image s pdu payload tx e = rw e
 
-pub other_pdu : check_of valves (both_valves 0 0) 8 2 ≡ NoDestination
+pub other_pdu : check_of valves (both_valves 0 0) 8 2 ≡ Err NoDestination
 unfolding valves check_of look_at look_of refusal_of is_on verdict_of every bad_from rows_of body_bytes start_of part_of body_of row_in connection_row
     destination_row be
 other_pdu = refl

@@ -1,36 +1,13 @@
--- Three writes, one after the other, are the frame; and the answers by the tests that led there.
-use Prim.Native.Nat.{ℕ, ◌+◌, ◌≤◌, ◌<◌}
+-- Three writes, one after the other, are the frame.
+use Prim.Native.Nat.{ℕ, ◌+◌, ◌≤◌}
 use mathlib.Core.Path.{◌≡◌, ap, ◌∙◌}
 use mathlib.Core.List.{List, ◌++◌, append_assoc}
 use native.Mathlib.Omega.{arith}
-use borrow.Author.Tests.{lt-ltb, le-ltb}
 use lib.ListN.{length, length-append}
 use Rattle.frame.specs.Frame.{frame}
 use Rattle.wire.specs.Lay.{spell, lay}
 use Rattle.wire.proofs.Lay.{lay-lay}
 use Rattle.wire.proofs.Spell.{length-spell}
-use Rattle.frame.specs.declared.Framed.{Framed}
-use Rattle.frame.specs.declared.Framed.TheVariants.{Done, TooLong, NoRoom}
-use Rattle.frame.specs.Framing.{framing_of, out_after, framed_out}
-
--- the two tests
-pub framing_too_long : (n room : ℕ) → 1464 < n → TooLong ≡ framing_of n room
-unfolding framing_of
-framing_too_long n room h = simp (lt-ltb 1464 n h)
-
-pub framing_no_room : (n room : ℕ) → n ≤ 1464 → room < 8 + n → NoRoom ≡ framing_of n room
-unfolding framing_of
-framing_no_room n room h g = simp (le-ltb 1464 n h, lt-ltb room (8 + n) g)
-
-pub framing_fits : (n room : ℕ) → n ≤ 1464 → 8 + n ≤ room → Done ≡ framing_of n room
-unfolding framing_of
-framing_fits n room h g = simp (le-ltb 1464 n h, le-ltb room (8 + n) g)
-
--- the buffer at an answer
-pub out_at : (id : ℕ) (payload out : List ℕ) (answer : Framed)
-    → answer ≡ framing_of (length payload) (length out) → out_after answer id payload out ≡ framed_out id payload out
-unfolding framed_out
-out_at id payload out answer e = ap (λ (a : Framed). out_after a id payload out) e
 
 -- id, length and payload, laid one after the other
 pub frame_is : (id : ℕ) (payload out d₁ d₂ d₃ : List ℕ) → 8 + length payload ≤ length out

@@ -17,7 +17,6 @@ use Rattle.lists.proofs.Both.{and_left, and_right, and_both, impossible}
 use Rattle.lists.proofs.Each.{all-at, all_set, all-turn, all-all}
 use Rattle.table_rows.specs.Rows.{connection_row}
 use Rattle.table_rows.specs.Rules.{size_in}
-use Rattle.state.specs.declared.State.{State}
 use Rattle.state.specs.Fresh.{config_in, config_of}
 use Rattle.lists.specs.Each.{all_from, all_to}
 use Rattle.gate.specs.Sound.{routed, sound_at, records_sound}
@@ -126,24 +125,24 @@ all_not f i xs d h p = go (all_from f 0 xs) refl
         impossible (sym p ∙ (rw z at (all-at f 0 i xs d q h)))
 
 -- what the loops over the records hold: those below i are sound
-module _ (rows : ℕ) (connections groups routes : List ℕ) (s : State) where
+module _ (rows : ℕ) (connections groups routes : List ℕ) (records : List Connection) where
   abbrev test : ℕ → Connection → Bool
   test = sound_in rows connections groups routes
 
   abbrev pub SoundTo : ℕ → Type 0
-  SoundTo i = (i ≤ 16) × (length s.connections ≡ 16) × (all_to test 0 i s.connections ≡ true)
+  SoundTo i = (i ≤ 16) × (length records ≡ 16) × (all_to test 0 i records ≡ true)
 
-  pub sound-turn : (i : ℕ) → SoundTo i → i < 16 → true ≡ test i (get_or s.connections i zero_record) → SoundTo (i + 1)
+  pub sound-turn : (i : ℕ) → SoundTo i → i < 16 → true ≡ test i (get_or records i zero_record) → SoundTo (i + 1)
   sound-turn i p h t =
-      let l : i < length s.connections = omega (arith, p.1) in
-      (omega arith, p.1, sym (all-turn test s.connections zero_record _ true _ _ l (sym p.2) t))
+      let l : i < length records = omega (arith, p.1) in
+      (omega arith, p.1, sym (all-turn test records zero_record _ true _ _ l (sym p.2) t))
 
-  pub sound_not : (i : ℕ) → SoundTo i → i < 16 → test i (get_or s.connections i zero_record) ≡ false → false ≡ all_from test 0 s.connections
+  pub sound_not : (i : ℕ) → SoundTo i → i < 16 → test i (get_or records i zero_record) ≡ false → false ≡ all_from test 0 records
   sound_not i p h t =
-      let l : i < length s.connections = omega (arith, p.1) in
-      all_not test i s.connections zero_record l t
+      let l : i < length records = omega (arith, p.1) in
+      all_not test i records zero_record l t
 
-  pub sound-all : (i : ℕ) → SoundTo i → 16 ≤ i → true ≡ all_from test 0 s.connections
+  pub sound-all : (i : ℕ) → SoundTo i → 16 ≤ i → true ≡ all_from test 0 records
   sound-all i p h =
-      let e : i ≡ length s.connections = omega (arith, p.0, p.1) in
-      sym p.2 ∙ ap (λ (k : ℕ). all_to test 0 k s.connections) e ∙ all-all test 0 s.connections
+      let e : i ≡ length records = omega (arith, p.0, p.1) in
+      sym p.2 ∙ ap (λ (k : ℕ). all_to test 0 k records) e ∙ all-all test 0 records

@@ -1,10 +1,8 @@
 -- When table and state are sound together (R3.1). The rules of a record by itself are crate connection's.
-use Rattle.std.specs.Prelude.{ℕ, ◌/◌, Bool, true, false, cond, not, ◌&&◌, List, eqb, leb, ltb, length}
+use Rattle.std.specs.Prelude.{ℕ, ◌/◌, Bool, true, false, cond, not, ◌&&◌, List, eqb, leb, ltb, length, Result, Ok, Err}
 use Rattle.table_layout.specs.Layout.{row_width, rows_of, body_of}
 use Rattle.table_layout.specs.declared.Kind.TheVariants.{Connection as Connections, Route as Routes}
 use Rattle.table_rows.specs.Rows.{route_in}
-use Rattle.table.specs.declared.TableAnswer.{TableAnswer}
-use Rattle.table.specs.declared.TableAnswer.TheVariants.{Accepted, Refused}
 use Rattle.table.specs.Table.{check_table}
 use Rattle.receive_part.specs.declared.Part.{Part}
 use Rattle.receive_part.specs.declared.Part.TheVariants.{Header, Payload, Skip, Transfer}
@@ -13,6 +11,7 @@ use Rattle.connection.specs.Sound.{sound_of, zero_of}
 use Rattle.lists.specs.Each.{all_from}
 use Rattle.state.specs.declared.State.{State}
 use Rattle.state.specs.Fresh.{config_of}
+use Rattle.table.specs.declared.BadTable.{BadTable}
 
 -- R3.4: the route of an unfinished payload is there, belongs to the connection, allows the length and is not marked; R19.8: the route of a
 -- transfer is there, belongs to the connection and is marked (over the body of the routes)
@@ -39,9 +38,9 @@ unfoldable pub records_sound : List ℕ → List Connection → Bool
 records_sound image cs = all_from (sound_at image) 0 cs
 
 -- R3.1: the table is accepted
-abbrev pub is_accepted : TableAnswer → Bool
-is_accepted Accepted = true
-is_accepted (Refused place) = false
+abbrev pub is_accepted : Result Unit BadTable → Bool
+is_accepted (Ok tt) = true
+is_accepted (Err e) = false
 
 -- state and table are sound
 unfoldable pub sound_state : List ℕ → State → Bool

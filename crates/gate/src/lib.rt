@@ -13,18 +13,12 @@ ghost use Rattle.table_layout.specs.Layout.{row_width, rows_of, Laid};
 ghost use Rattle.table_rows.specs.Rules.{size_in};
 ghost use Rattle.gate.specs.Gate.{gate_of, gate_at};
 
-use connection::{Config, Connection, Refusal, Remote, has_wildcard, is_offline, is_online};
+use connection::{Config, Connection, Refusal, Remote};
 use receive_part::Part;
 use state::State;
-use table::{TableAnswer, check_table};
+use table::check_table;
 use table_layout::{Kind, body_laid};
-use table_rows::{ConnectionBrief, GroupRow, brief_in, group_in, route_in, size_in};
-
-#[derive(Clone, Copy)]
-pub enum Gate {
-    Pass,
-    Refused(Refusal),
-}
+use table_rows::{ConnectionBrief, GroupRow, RouteRow, brief_in, row_at, size_in};
 
 // The route of an unfinished payload belongs to connection n, allows the length and is not marked; that of a transfer belongs to it and is
 // marked.
@@ -39,14 +33,14 @@ pub fn is_routed(routes: &[u8], n: usize, part: Part) -> bool
             held: _,
         } => {
             let i = route as usize;
-            let row = route_in(routes, i);
+            let row = row_at::<RouteRow>(routes, i);
             let owner = row.connection as usize;
             (i < routes.len() / 16) & (owner == n) & (length <= row.longest) & !row.transfer
         }
         Part::Skip(_) => true,
         Part::Transfer { route, left: _ } => {
             let i = route as usize;
-            let row = route_in(routes, i);
+            let row = row_at::<RouteRow>(routes, i);
             let owner = row.connection as usize;
             (i < routes.len() / 16) & (owner == n) & row.transfer
         }
@@ -76,7 +70,7 @@ fn rules_in(connections: &[u8], groups: &[u8], n: usize) -> Config
     ensures { result ≡ rules_in connections.now groups.now n }
 {
     let row = brief_in(connections, n);
-    let group = group_in(groups, row.group as usize);
+    let group = row_at::<GroupRow>(groups, row.group as usize);
     rules_from(row, group)
 }
 
@@ -84,9 +78,7 @@ fn rules_in(connections: &[u8], groups: &[u8], n: usize) -> Config
 fn is_reached(c: Connection) -> bool
     ensures { result ≡ online_remote c }
 {
-    let mode = c.mode;
-    let remote = c.remote;
-    !is_online(mode) | !has_wildcard(remote)
+    !c.mode.is_online() | !c.remote.has_wildcard()
 }
 
 // Whether a record has received nothing and wants nothing: then the rules ask of its row the send size alone, and where it is watched the
@@ -94,8 +86,7 @@ fn is_reached(c: Connection) -> bool
 fn is_idle(c: Connection) -> bool
     ensures { result ≡ idle c }
 {
-    let part = c.part;
-    receive_part::is_empty(part) & !c.open_wanted & !c.close_wanted
+    receive_part::is_empty(c.part) & !c.open_wanted & !c.close_wanted
 }
 
 // The alive timer runs only on an online UDP connection, and is at most the limit; where it is stopped, no row is asked.
@@ -105,9 +96,8 @@ fn is_watched(connections: &[u8], groups: &[u8], n: usize, c: Connection) -> boo
     if c.watch.alive == 0 {
         return true;
     }
-    let mode = c.mode;
     let rules = rules_in(connections, groups, n);
-    is_online(mode) & !rules.tcp & (c.watch.alive <= rules.alive)
+    c.mode.is_online() & !rules.tcp & (c.watch.alive <= rules.alive)
 }
 
 // The rules that are left of such a record: without send bytes no timer and no due mark; with them online, not both, and within the size.
@@ -120,8 +110,7 @@ fn is_idle_sound(connections: &[u8], n: usize, c: Connection) -> bool
     if c.used == 0 {
         return (c.timer == 0) & !c.due;
     }
-    let mode = c.mode;
-    let online = is_online(mode);
+    let online = c.mode.is_online();
     let size = size_in(connections, n);
     (c.used as usize <= size) & online & ((c.timer == 0) | !c.due)
 }
@@ -144,8 +133,7 @@ fn is_wished(connections: &[u8], groups: &[u8], n: usize, c: Connection) -> bool
     if !c.open_wanted & !c.close_wanted {
         return true;
     }
-    let mode = c.mode;
-    let offline = is_offline(mode);
+    let offline = c.mode.is_offline();
     let rules = rules_in(connections, groups, n);
     if c.open_wanted {
         return !rules.automatic & offline & !c.close_wanted;
@@ -163,28 +151,33 @@ fn is_sound(
 ) -> bool
     ensures { result ≡ row_sound connections.now groups.now routes.now n connection }
 {
-    let part = connection.part;
-    if receive_part::is_empty(part) {
+    if receive_part::is_empty(connection.part) {
         if !is_quiet(connections, groups, n, connection) {
             return false;
         }
         return is_wished(connections, groups, n, connection);
     }
     let rules = rules_in(connections, groups, n);
-    let has_route = is_routed(routes, n, part);
+    let has_route = is_routed(routes, n, connection.part);
     connection.sound(rules) & has_route
 }
 
 // Each record of a state, up to the first that is not sound. Most are idle, and the first loop is theirs; from the first that is not, the
-// second goes on with the rows, and the third with the records past them. They stand here, and not in functions of their own, because a
-// call would copy the state.
-fn each_sound(rows: usize, connections: &[u8], groups: &[u8], routes: &[u8], state: State) -> bool
+// second goes on with the rows, and the third with the records past them.
+fn each_sound(
+    rows: usize,
+    connections: &[u8],
+    groups: &[u8],
+    routes: &[u8],
+    records: &[Connection; 16],
+) -> bool
     requires { rows ≤ 16 }
-    ensures { result ≡ all_from (sound_in rows connections.now groups.now routes.now) 0 state.connections }
+    ensures { result ≡ all_from (sound_in rows connections.now groups.now routes.now) 0 records.now }
 {
+    // Kept: tried, misses the speed bar: with one `for` over the rows, the long way inside of it makes each turn dearer.
     let mut i: usize = 0;
     while i < rows {
-        let connection = state.connections[i];
+        let connection = records[i];
         if !is_idle(connection) {
             break;
         }
@@ -194,14 +187,14 @@ fn each_sound(rows: usize, connections: &[u8], groups: &[u8], routes: &[u8], sta
         i += 1;
     }
     while i < rows {
-        let connection = state.connections[i];
+        let connection = records[i];
         if !is_sound(connections, groups, routes, i, connection) {
             return false;
         }
         i += 1;
     }
     while i < 16 {
-        let past = state.connections[i];
+        let past = records[i];
         if !past.is_zero() {
             return false;
         }
@@ -211,48 +204,48 @@ fn each_sound(rows: usize, connections: &[u8], groups: &[u8], routes: &[u8], sta
 }
 
 // Whether every record is sound (R3.1); the bodies of the image are asked for once.
-fn are_sound(image: &[u8], state: State) -> bool
+fn are_sound(image: &[u8], state: &State) -> bool
     requires { Laid image.now × (rows_of image.now Kind.Connection ≤ 16) }
-    ensures { result ≡ records_sound image.now state.connections }
+    ensures { result ≡ records_sound image.now state.now.connections }
 {
     let connections = body_laid(image, Kind::Connection);
     let groups = body_laid(image, Kind::Group);
     let routes = body_laid(image, Kind::Route);
-    each_sound(connections.len() / 16, connections, groups, routes, state)
+    each_sound(
+        connections.len() / 16,
+        connections,
+        groups,
+        routes,
+        &state.connections,
+    )
 }
 
 // 11, then 12: before every event.
-pub fn ask(image: &[u8], state: State, rx: usize, tx: usize) -> Gate
-    ensures { result ≡ gate_of (lent image.now state rx tx) }
+#[tactic(auto, unfolding(crate::specs::Gate::gate_of, crate::specs::Sound::sound_state))]
+pub fn ask(image: &[u8], state: &State, rx: usize, tx: usize) -> Result<(), Refusal>
+    ensures { result ≡ gate_of (lent image.now state.now rx tx) }
 {
     if (rx != 23424) | (tx != 23552) {
-        return Gate::Refused(Refusal::Memory);
+        return Err(Refusal::Memory);
     }
-    let checked = check_table(image);
-    match checked {
-        TableAnswer::Refused(_) => Gate::Refused(Refusal::Unsound),
-        TableAnswer::Accepted => {
-            if are_sound(image, state) {
-                return Gate::Pass;
-            }
-            Gate::Refused(Refusal::Unsound)
-        }
+    if check_table(image).is_err() {
+        return Err(Refusal::Unsound);
     }
+    if !are_sound(image, state) {
+        return Err(Refusal::Unsound);
+    }
+    Ok(())
 }
 
 // 11, 12, then 2: before an event of connection n.
-pub fn ask_at(image: &[u8], state: State, rx: usize, tx: usize, n: usize) -> Gate
-    ensures { result ≡ gate_at (lent image.now state rx tx) n }
+#[tactic(auto, unfolding(crate::specs::Gate::gate_at))]
+pub fn ask_at(image: &[u8], state: &State, rx: usize, tx: usize, n: usize) -> Result<(), Refusal>
+    ensures { result ≡ gate_at (lent image.now state.now rx tx) n }
 {
-    let first = ask(image, state, rx, tx);
-    match first {
-        Gate::Refused(reason) => Gate::Refused(reason),
-        Gate::Pass => {
-            let connections = body_laid(image, Kind::Connection);
-            if n < connections.len() / 16 {
-                return Gate::Pass;
-            }
-            Gate::Refused(Refusal::Missing)
-        }
+    ask(image, state, rx, tx)?;
+    let connections = body_laid(image, Kind::Connection);
+    if n < connections.len() / 16 {
+        return Ok(());
     }
+    Err(Refusal::Missing)
 }

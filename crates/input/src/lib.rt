@@ -9,10 +9,7 @@ use table_layout::end_of;
 pub fn read_part(buffer: &mut [u8], at: usize, n: usize) -> usize
     ensures { result ≤ n }
 {
-    if buffer.len() < at {
-        return 0;
-    }
-    if buffer.len() - at < n {
+    if buffer.len() < at || buffer.len() - at < n {
         return 0;
     }
     let part = &mut buffer[at..at + n];
@@ -29,10 +26,7 @@ pub fn read_image(image: &mut [u8]) -> usize {
         return head;
     }
     let end = end_of(image);
-    if end < 36 {
-        return 36;
-    }
-    if MOST < end {
+    if end < 36 || MOST < end {
         return 36;
     }
     36 + read_part(image, 36, end - 36)

@@ -1,5 +1,5 @@
-// Recordings one after the other on standard input, each with its length before it (docs/RECORDING.md, "Several recordings"): the contents and the
-// bodies of one, never past its length, and what is left of it passed over.
+// Recordings on standard input (docs/RECORDING.md), one alone or several, each with its length before it: the contents and the bodies of one, never
+// past its length, and what is left of it passed over.
 #![tactic(auto)]
 
 ghost use Rattle.std.specs.Prelude.{◌≤◌};
@@ -12,27 +12,21 @@ use wire::be32;
 pub fn read_within(buffer: &mut [u8], at: usize, n: usize, left: usize) -> usize
     ensures { (result ≤ left) × (result ≤ n) }
 {
-    if left < n {
-        return read_part(buffer, at, left);
-    }
-    read_part(buffer, at, n)
+    read_part(buffer, at, n.min(left))
 }
 
 // The length before a part; none where the input ends.
-#[derive(Clone, Copy)]
-pub enum Next {
-    Ended,
-    Part(usize),
-}
-
-pub fn next_part() -> Next {
+pub fn next_part() -> Option<usize> {
     let mut four = [0u8; 4];
     let got = read_part(&mut four, 0, 4);
     if got < 4 {
-        return Next::Ended;
+        return None;
     }
-    Next::Part(be32(&four, 0))
+    Some(be32(&four, 0))
 }
+
+// The length of a recording that stands alone on the input: no bound.
+pub const ALONE: usize = usize::MAX;
 
 // The front of a recording of so many bytes and its contents, as far as they are there; of more than 4,000 rows the first 4,000.
 pub fn contents_within(contents: &mut [u8], long: usize) -> usize
@@ -42,8 +36,7 @@ pub fn contents_within(contents: &mut [u8], long: usize) -> usize
     if got < 4 {
         return got;
     }
-    let entries = entries_in(contents);
-    let rows = if entries < 4000 { entries } else { 4000 };
+    let rows = entries_in(contents).min(4000);
     4 + read_within(contents, 4, rows as usize * 12, long - 4)
 }
 
@@ -74,10 +67,10 @@ pub fn pass_over(left: usize) -> usize
 pub fn contents_named(contents: &[u8], long: usize) -> usize {
     let entries = entries_in(contents);
     let all = 4 + entries as usize * 12;
-    if (contents.len() < 48004) | (entries <= 4000) {
+    if contents.len() < 48004 || entries <= 4000 {
         return contents.len();
     }
-    let end = if long < all { long } else { all };
+    let end = long.min(all);
     if end < 48004 {
         return contents.len();
     }

@@ -3,15 +3,14 @@
 #![tactic(auto)]
 
 use input::read_part;
-use input_recording::{contents_long, count_of, read_contents, shown_of};
+use input_parts::{ALONE, contents_named, contents_within};
+use input_recording::{count_of, shown_of};
 use pieces::front;
 use recording::body_long;
-use replay_step::{Played, replay_step};
+use replay_step::{Compared, Unplayed, replay_step};
 use state::{State, fresh_state};
 use words_record::records;
-use words_replay::{
-    Last, Tale, differed, goes_on, next_row, ran, stamp_before, stopped, summary, untold, word,
-};
+use words_replay::{Ending, Tale, differed, next_row, ran, stamp_before, stopped, summary, word};
 
 // How far the replay is: the state, and its tale.
 #[derive(Clone, Copy)]
@@ -26,20 +25,20 @@ fn told(
     tale: Tale,
     row: &[u8],
     body: &[u8],
-    played: Played,
+    played: Result<Compared, Unplayed>,
     out: &[u8],
     kept: &mut [u8],
 ) -> Tale {
     match played {
-        Played::Same(written) => ran(text, tale, row, body, front(out, written)),
-        Played::Differs(written) => {
+        Ok(Compared::Same(written)) => ran(text, tale, row, body, front(out, written)),
+        Ok(Compared::Differs(written)) => {
             let today = front(out, written);
             ran(text, differed(tale, body, today, kept), row, body, today)
         }
-        Played::Cut => stopped(tale, Last::Cut(body.len())),
-        Played::Refused(fault) => stopped(tale, Last::Refused(fault)),
+        Err(Unplayed::Cut) => stopped(tale, Ending::Cut(body.len())),
+        Err(Unplayed::Refused(fault)) => stopped(tale, Ending::Refused(fault)),
         // cannot come: the out buffer has the room that a step asks for
-        Played::Small => stopped(tale, Last::Cut(body.len())),
+        Err(Unplayed::Small) => stopped(tale, Ending::Cut(body.len())),
     }
 }
 
@@ -55,19 +54,16 @@ fn entry(
 ) -> Going {
     let mut room = [0u8; 4096];
     let mut out = [0u8; 16384];
-    let state = going.state;
     let tale = going.tale;
     let row = next_row(contents, tale.run);
     let got = read_part(&mut room, 0, body_long(row));
     let body = front(&room, got);
     let before = stamp_before(tale.run, tale.before, row);
-    let left = replay_step(table, state, rx, tx, before, row, body, &mut out);
-    let played = left.played;
-    let after = left.state;
-    let now = told(text, tale, row, body, played, &out, kept);
+    let step = replay_step(table, going.state, rx, tx, before, row, body, &mut out);
+    let now = told(text, tale, row, body, step.played, &out, kept);
     io::write_all(1, front(text, now.end));
     Going {
-        state: after,
+        state: step.state,
         tale: now,
     }
 }
@@ -84,14 +80,11 @@ fn entries(
 ) -> Going {
     let mut going = Going {
         state: fresh_state(table),
-        tale: untold(),
+        tale: Tale::default(),
     };
-    let mut i: u16 = 0;
-    while i < count {
-        i += 1;
+    for _ in 0..count {
         going = entry(table, going, rx, tx, contents, kept, text);
-        let tale = going.tale;
-        if !goes_on(tale) {
+        if going.tale.ending.is_some() {
             return going;
         }
     }
@@ -110,11 +103,9 @@ fn replayed(
     let shown = shown_of(contents, long);
     let count = count_of(shown, contents);
     let going = entries(table, contents, count, rx, tx, kept, text);
-    let tale = going.tale;
-    let state = going.state;
-    let told = summary(text, contents, long, shown, tale, kept);
-    let end = records(text, told, table, state, rx, tx);
-    let last = word(text, end, shown, tale);
+    let told = summary(text, contents, long, shown, going.tale, kept);
+    let end = records(text, told, table, &going.state, rx, tx);
+    let last = word(text, end, shown, going.tale);
     io::write_all(1, front(text, last));
 }
 
@@ -132,7 +123,7 @@ fn replay(table: &[u8], contents: &[u8], long: usize) {
 // Under a table that was accepted; the front and the contents are read first.
 pub fn replay_under(table: &[u8]) {
     let mut buffer = [0u8; 48004];
-    let got = read_contents(&mut buffer);
+    let got = contents_within(&mut buffer, ALONE);
     let contents = front(&buffer, got);
-    replay(table, contents, contents_long(contents));
+    replay(table, contents, contents_named(contents, ALONE));
 }

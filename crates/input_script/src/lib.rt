@@ -3,43 +3,32 @@
 #![tactic(auto)]
 
 use dispatch::dispatch;
-use event_answer::Verdict;
 use event_start_state::given_state;
 use pieces::front;
 use state::{State, fresh_state};
 use words_record::records;
-use words_script::{Last, Told, goes_on, happened, read_entry, start_taken, word};
-
-// An entry as it was told, and the state after it.
-#[derive(Clone, Copy)]
-struct Ran {
-    told: Told,
-    state: State,
-}
-
-fn ran_to(told: Told, state: State) -> Ran {
-    Ran {
-        told: told,
-        state: state,
-    }
-}
+use words_script::{Last, Stop, answered, read_entry, start_taken, unanswered, word};
 
 // The first entry may give a state to start from.
-fn start(state: State, rx: &mut [u8], tx: &mut [u8], body: &[u8], text: &mut [u8], n: u64) -> Ran {
-    let given = given_state(body);
-    let other = given.state;
-    let fits = given.fits & (n == 1);
-    let told = start_taken(rx, tx, body, fits, text, n);
-    if fits {
-        return ran_to(told, other);
+fn start(
+    state: &mut State,
+    rx: &mut [u8],
+    tx: &mut [u8],
+    body: &[u8],
+    text: &mut [u8],
+    n: u64,
+) -> Result<usize, Stop> {
+    let given = if n == 1 { given_state(body) } else { None };
+    if let Some(other) = given {
+        *state = other;
     }
-    ran_to(told, state)
+    start_taken(rx, tx, body, given.is_some(), text, n)
 }
 
 // One event, through the dispatcher.
 fn happen(
     table: &[u8],
-    state: State,
+    state: &mut State,
     rx: &mut [u8],
     tx: &mut [u8],
     number: u16,
@@ -47,29 +36,28 @@ fn happen(
     text: &mut [u8],
     out: &mut [u8],
     n: u64,
-) -> Ran {
-    let done = dispatch(table, state, rx, tx, number, body, out);
-    let verdict: Verdict = done.verdict;
-    let after = done.state;
-    ran_to(happened(verdict, text, n, number, body, out), after)
+) -> Result<usize, Stop> {
+    match dispatch(table, *state, rx, tx, number, body, out) {
+        Ok(done) => {
+            *state = done.state;
+            Ok(answered(text, n, number, body, front(out, done.length)))
+        }
+        Err(why) => Err(unanswered(text, n, number, why)),
+    }
 }
 
-// An entry that was read: the first may give a state, any other is an event.
-fn step(
+// One entry of the script, and where its line ends: the first may give a state, any other is an event.
+fn entry(
     table: &[u8],
-    state: State,
+    state: &mut State,
     rx: &mut [u8],
     tx: &mut [u8],
-    read: Told,
-    room: &[u8],
+    room: &mut [u8],
     text: &mut [u8],
     out: &mut [u8],
     n: u64,
-) -> Ran {
-    let last = read.last;
-    if !goes_on(last) {
-        return ran_to(read, state);
-    }
+) -> Result<usize, Stop> {
+    let read = read_entry(room, text, n)?;
     let body = front(room, read.long);
     if read.number == 65535 {
         return start(state, rx, tx, body, text, n);
@@ -77,55 +65,28 @@ fn step(
     happen(table, state, rx, tx, read.number, body, text, out, n)
 }
 
-// One entry of the script, and its line.
-fn entry(
-    table: &[u8],
-    state: State,
-    rx: &mut [u8],
-    tx: &mut [u8],
-    room: &mut [u8],
-    text: &mut [u8],
-    out: &mut [u8],
-    n: u64,
-) -> Ran {
-    let read = read_entry(room, text, n);
-    let left = step(table, state, rx, tx, read, room, text, out, n);
-    let told = left.told;
-    io::write_all(1, front(text, told.end));
-    left
-}
-
-// Entry after entry.
+// Entry after entry, each with its line; how the run ends.
 fn entries(
     table: &[u8],
+    state: &mut State,
     rx: &mut [u8],
     tx: &mut [u8],
     room: &mut [u8],
     text: &mut [u8],
     out: &mut [u8],
-) -> Ran {
-    let mut state = fresh_state(table);
-    let mut n: u64 = 1;
-    while n < 18446744073709551615 {
-        let left = entry(table, state, rx, tx, room, text, out, n);
-        let told = left.told;
-        let last = told.last;
-        if !goes_on(last) {
-            return left;
+) -> Last {
+    for n in 1..u64::MAX {
+        match entry(table, state, rx, tx, room, text, out, n) {
+            Ok(end) => {
+                io::write_all(1, front(text, end));
+            }
+            Err(stop) => {
+                io::write_all(1, front(text, stop.end));
+                return stop.last;
+            }
         }
-        let after = left.state;
-        state = after;
-        n += 1;
     }
-    ran_to(
-        Told {
-            last: Last::Cut,
-            number: 0,
-            long: 0,
-            end: 0,
-        },
-        state,
-    )
+    Last::Cut
 }
 
 fn run_script(
@@ -136,11 +97,9 @@ fn run_script(
     text: &mut [u8],
     out: &mut [u8],
 ) {
-    let left = entries(table, rx, tx, room, text, out);
-    let state = left.state;
-    let told = left.told;
-    let last = told.last;
-    let end = records(text, 0, table, state, rx, tx);
+    let mut state = fresh_state(table);
+    let last = entries(table, &mut state, rx, tx, room, text, out);
+    let end = records(text, 0, table, &state, rx, tx);
     let all = word(text, end, last);
     io::write_all(1, front(text, all));
 }

@@ -1,4 +1,5 @@
 -- What passes the gate passes it again after a datagram or an accept.
+use Rattle.std.proofs.Common.{Option, ℕ, Some, None}
 use Prim.Native.Nat.{ℕ, ◌+◌, ◌<◌}
 use mathlib.Core.Path.{◌≡◌, refl}
 use mathlib.Core.Bool.{Bool, true, false, cond, not, ◌&&◌, ◌||◌}
@@ -22,8 +23,6 @@ use Rattle.state.specs.Fresh.{config_of}
 use Rattle.gate.specs.Lent.{Lent, next}
 use Rattle.gate.specs.Gate.{gate_of, Passed}
 use Rattle.gate.specs.Sound.{records_sound}
-use Rattle.select.specs.declared.Chosen.{Chosen}
-use Rattle.select.specs.declared.Chosen.TheVariants.{Nobody, At}
 use Rattle.select.specs.declared.Arrived.{Arrived}
 use Rattle.select.specs.Best.{IsChosen}
 use Rattle.select.specs.Choose.{rank_of, matches, member_counts, member, score_of, score_at, chosen_in, meet, arrival_refused, protocol_of, denied_of}
@@ -55,9 +54,9 @@ module _ (image : List ℕ) (a : Accepts image) (s : State) (accept : Bool) (gro
       (matches (equal_fields (record_at s k).remote source) (wild_fields (record_at s k).remote)) (rank_of (equal_fields (record_at s k).remote source)) l in
       (ltb-true _ _ (and_left (ltb k (rows_of image Connections)) _ p.0), p.1)
 
-  met-sound : (x : Chosen) → IsChosen (score_at image s accept group source) 16 x → records_sound image (meet image s source x).state.connections ≡ true
-  met-sound Nobody b = sound
-  met-sound (At k) b =
+  met-sound : (x : Option ℕ) → IsChosen (score_at image s accept group source) 16 x → records_sound image (meet image s source x).state.connections ≡ true
+  met-sound None b = sound
+  met-sound (Some k) b =
       let p = chosen k b.counts in
       row-set image s k (met_of (config_of image k) source (record_at s k)) sound p.0
       (λ q. met_keeps (config_of image k) (record_at s k) q source (unlimited-row image a k p.0) (counts_up accept (record_at s k) p.1) w) unchanged

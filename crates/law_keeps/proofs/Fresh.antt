@@ -1,4 +1,5 @@
 -- The fresh state of an accepted table passes the gate; without rows it is all zero.
+use Rattle.std.proofs.Common.{Ok}
 use Prim.Native.Nat.{ℕ, zero, suc, ◌≤◌}
 use mathlib.Core.Path.{◌≡◌, refl, sym, ap, ap₂, ◌∙◌}
 use mathlib.Core.Bool.{Bool, true, false}
@@ -12,7 +13,6 @@ use Rattle.table_layout.specs.Layout.{rows_of, body_of, row_of}
 use Rattle.table_layout.specs.declared.Kind.TheVariants.{Connection as Connections}
 use Rattle.table_layout.proofs.Parts.{row_none, body-rows}
 use Rattle.table_rows.specs.Rows.{connection_row}
-use Rattle.table.specs.declared.TableAnswer.TheVariants.{Accepted}
 use Rattle.table.specs.Table.{check_table}
 use Rattle.table.proofs.Facts.{accepted_facts}
 use Rattle.connection.specs.declared.Connection.{Connection}
@@ -29,7 +29,7 @@ use Rattle.gate.specs.Gate.{Passed}
 use Rattle.gate.proofs.Pass.{passed_by}
 use Rattle.gate.proofs.Records.{sound-row, zero-past}
 
-module _ (image : List ℕ) (accepted : check_table image ≡ Accepted) where
+module _ (image : List ℕ) (accepted : check_table image ≡ Ok tt) where
   -- past the rows the fresh record is the zero record
   no_row : (i : ℕ) → rows_of image Connections ≤ i → row_of image Connections i ≡ []
   no_row i h = sym (row_none 16 (body_of image Connections) i (rw (body-rows image (accepted_facts image accepted).laid Connections) h))
@@ -59,5 +59,5 @@ module _ (image : List ℕ) (accepted : check_table image ≡ Accepted) where
   fresh_empty e = ap (λ (l : List Connection). with_records l empty_state) (zeros e 16 0)
 
 -- so it passes the gate, with memory of the right lengths
-pub fresh-passed : (l : Lent) → check_table l.image ≡ Accepted → l.state ≡ fresh_state l.image → l.rx ≡ 23424 → l.tx ≡ 23552 → Passed l
+pub fresh-passed : (l : Lent) → check_table l.image ≡ Ok tt → l.state ≡ fresh_state l.image → l.rx ≡ 23424 → l.tx ≡ 23552 → Passed l
 fresh-passed l ok e rx tx = passed_by l rx tx ok (ap (λ (t : State). records_sound l.image t.connections) e ∙ fresh-all l.image ok)

@@ -1,5 +1,6 @@
 -- R3.13, every event leaves a sound state sound: what passes the gate passes it again after a connection event, a switch on all connections, a
 -- count read or cleared, and a tick.
+use Rattle.std.proofs.Common.{Result, Ok, Err}
 use Prim.Native.Nat.{ℕ, ◌<◌}
 use mathlib.Core.Path.{◌≡◌, ap, ◌∙◌}
 use mathlib.Core.Bool.{Bool, true, false, cond}
@@ -9,8 +10,6 @@ use lib.Dec.{ltb}
 use Rattle.table_layout.specs.Layout.{rows_of}
 use Rattle.table_layout.specs.declared.Kind.TheVariants.{Connection as Connections}
 use Rattle.connection.specs.declared.Connection.{Connection}
-use Rattle.connection.specs.declared.Answer.{Answer}
-use Rattle.connection.specs.declared.Answer.TheVariants as Answers
 use Rattle.connection.specs.declared.Refusal.TheVariants.{Missing}
 use Rattle.connection.specs.declared.Event.{Event}
 use Rattle.connection.specs.declared.Event.TheVariants.{Lost}
@@ -19,8 +18,6 @@ use Rattle.lists.proofs.Fold.{fold_keeps}
 use Rattle.state.specs.declared.State.{State}
 use Rattle.state.specs.State.{record_at}
 use Rattle.gate.specs.Lent.{Lent, next}
-use Rattle.gate.specs.declared.Gate.{Gate}
-use Rattle.gate.specs.declared.Gate.TheVariants.{Pass, Refused}
 use Rattle.gate.specs.Sound.{sound_at, records_sound}
 use Rattle.gate.specs.Gate.{gate_of, gate_at, through, Passed}
 use Rattle.gate.proofs.Pass.{gate_at-passed, passed-next}
@@ -35,6 +32,7 @@ use Rattle.entry_ticks.specs.declared.Ticked.{Ticked}
 use Rattle.entry_ticks.specs.Tick.{tick_at, ticked_to, tick_once, ticks_to, unticked, ticked_from, tick_event, ticks_event}
 use Rattle.law_keeps.proofs.Past.{past_or}
 use Rattle.law_keeps.proofs.Rows.{sound-row-at, step-sound, switch_sound, tick-sound}
+use Rattle.connection.specs.declared.Refusal.{Refusal}
 
 -- a tick of every row
 pub ticked-sound : (image : List ℕ) (s : State) → records_sound image s.connections ≡ true
@@ -58,10 +56,10 @@ module _ (l : Lent) (passed : Passed l) where
   s = l.state
 
   -- a connection event: past the gate its own record is replaced by a sound one
-  told_sound : (n : ℕ) (a : Answer) (c : Connection) → sound_at image n c ≡ true → records_sound image (told_of s n a c).state.connections ≡ true
+  told_sound : (n : ℕ) (a : Result Unit Refusal) (c : Connection) → sound_at image n c ≡ true → records_sound image (told_of s n a c).state.connections ≡ true
   unfolding told_of
-  told_sound n Answers.Done c p = record_set image s.connections n c passed.sound p
-  told_sound n (Answers.Refused r) c p = passed.sound
+  told_sound n (Ok tt) c p = record_set image s.connections n c passed.sound p
+  told_sound n (Err r) c p = passed.sound
 
   pub event-passed : (n : ℕ) (e : Event) → Passed (next l (event_of l n e).state)
   unfolding event_of change_of
@@ -86,12 +84,12 @@ module _ (l : Lent) (passed : Passed l) where
   unfolding switch_all_of
   switch_all-passed number on = go (gate_of l) (ltb number 32)
     where
-      go : (g : Gate) (b : Bool)
+      go : (g : Result Unit Refusal) (b : Bool)
           → Passed (next l (through g (refused_told s)
-          (cond b (record { answer = Answers.Done; state = switched_all (rows_of image Connections) number on s }) (refused_told s Missing))).state)
-      go (Refused r) b = passed
-      go Pass false = passed
-      go Pass true = passed-next l _ passed (switched-sound number on)
+          (cond b (record { answer = Ok tt; state = switched_all (rows_of image Connections) number on s }) (refused_told s Missing))).state)
+      go (Err r) b = passed
+      go (Ok tt) false = passed
+      go (Ok tt) true = passed-next l _ passed (switched-sound number on)
 
   -- the counts: the records stay
   pub read-passed : (p : ℕ) → Passed (next l (read_of l p).state)

@@ -1,4 +1,5 @@
 -- Many ticks under one check are single ticks, one call after the other.
+use Rattle.std.proofs.Common.{Result}
 use Prim.Native.Nat.{ℕ, zero, suc}
 use mathlib.Core.Path.{◌≡◌, refl, sym, ap, ◌∙◌}
 use mathlib.Core.List.{List}
@@ -7,12 +8,12 @@ use Rattle.table_layout.specs.declared.Kind.TheVariants.{Connection as Connectio
 use Rattle.lists.specs.Fold.{fold_from}
 use Rattle.state.specs.declared.State.{State}
 use Rattle.gate.specs.Lent.{Lent, next}
-use Rattle.gate.specs.declared.Gate.{Gate}
 use Rattle.gate.specs.Gate.{through, Passed}
 use Rattle.gate.proofs.Pass.{passed_gate}
 use Rattle.entry_ticks.specs.Tick.{ticked_to, tick_once, ticks_to, unticked, ticked_from, tick_event, ticks_event}
 use Rattle.law_keeps.specs.Calls.{calls}
 use Rattle.law_keeps.proofs.Keeps.{tick-passed}
+use Rattle.connection.specs.declared.Refusal.{Refusal}
 
 -- from which number on ticks are counted is no matter
 from : (image : List ℕ) (rows n k j : ℕ) (s : State) → fold_from (tick_once image rows) n k s ≡ fold_from (tick_once image rows) n j s
@@ -35,6 +36,6 @@ many (suc n) l p =
 pub ticks-single : (l : Lent) (n : ℕ) → Passed l → ticks_event l n ≡ ticked_from (rows_of l.image Connections) l.state (calls n l)
 unfolding ticks_event
 ticks-single l n p =
-    ap (λ (g : Gate). through g (unticked l.state)
+    ap (λ (g : Result Unit Refusal). through g (unticked l.state)
     (ticked_from (rows_of l.image Connections) l.state (ticks_to l.image (rows_of l.image Connections) n l.state))) (passed_gate l p)
     ∙ ap (ticked_from (rows_of l.image Connections) l.state) (many n l p)

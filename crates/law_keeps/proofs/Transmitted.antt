@@ -1,4 +1,5 @@
 -- A transmit leaves a sound state sound.
+use Rattle.std.proofs.Common.{Result, Ok, Err}
 use Prim.Native.Nat.{ℕ, ◌<◌, ◌≤◌}
 use mathlib.Core.Path.{◌≡◌, refl, sym, ap, subst}
 use mathlib.Core.Bool.{Bool, true, false, cond}
@@ -10,8 +11,6 @@ use borrow.Author.Tests.{leb-true}
 use Rattle.connection.specs.declared.Connection.{Connection}
 use Rattle.connection.specs.Connection.{zero_record}
 use Rattle.gate.specs.Lent.{Loan, sizes}
-use Rattle.gate.specs.declared.Gate.{Gate}
-use Rattle.gate.specs.declared.Gate.TheVariants.{Pass, Refused}
 use Rattle.gate.specs.Gate.{gate_of, through}
 use Rattle.gate.specs.Sound.{records_sound}
 use Rattle.gate.proofs.Pass.{gate_passed}
@@ -33,6 +32,7 @@ use Rattle.entry_send.proofs.Past.{ready_from, connection-there}
 use Rattle.law_waits.proofs.Held.{Fine, fine-step, begin-fine}
 use Rattle.law_keeps.proofs.Rows.{unchanged, sound-row-at, row-set}
 use Rattle.law_keeps.proofs.Records.{sent_keeps}
+use Rattle.connection.specs.declared.Refusal.{Refusal}
 
 -- no connection of a sound state has more bytes waiting than its stretch holds
 pub all_fit : (image : List ℕ) → Accepts image → (s : State) → records_sound image s.connections ≡ true → (k : ℕ) → (record_at s k).used ≤ 1472
@@ -102,9 +102,9 @@ transmit_keeps l pdu payload sixteen h = go (gate_of (sizes l)) refl
     inner a long true e = store_keeps l.image (ready_from l.image a) (connection-there l.image a)
         l.state pdu payload e l.tx sixteen long (all_fit l.image a l.state h) h
 
-    go : (q : Gate) → gate_of (sizes l) ≡ q
+    go : (q : Result Unit Refusal) → gate_of (sizes l) ≡ q
         → records_sound l.image (through q (not_sent l.state) (transmitted_of l.image l.state pdu payload l.tx)).state.connections ≡ true
-    go (Refused r) e = h
-    go Pass e =
+    go (Err r) e = h
+    go (Ok tt) e =
         let p = gate_passed (sizes l) e in
         inner (accepted_facts l.image p.table) p.send (is_stored (check_of l.image l.state pdu (length payload))) refl

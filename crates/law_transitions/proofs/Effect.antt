@@ -1,4 +1,5 @@
 -- The table is the events' effect on every sound record.
+use Rattle.std.proofs.Common.{Ok}
 use Prim.Native.Nat.{◌-◌}
 use lib.Dec.{eqb}
 use mathlib.Core.Path.{◌≡◌, refl, ap, ◌∙◌}
@@ -9,7 +10,6 @@ use Rattle.connection.specs.declared.Mode.TheVariants.{Offline, Reconnect, Onlin
 use Rattle.connection.specs.declared.Connection.{Connection}
 use Rattle.connection.specs.declared.Config.{Config}
 use Rattle.connection.specs.declared.Refusal.TheVariants.{Denied}
-use Rattle.connection.specs.declared.Answer.TheVariants.{Done}
 use Rattle.connection.specs.declared.Event.{Event}
 use Rattle.connection.specs.declared.Event.TheVariants.{Open, Close, Connected, Lost, SetRemote, Switch, Cancel}
 use Rattle.connection.specs.Connection.{is_offline, is_reconnect, is_online, wildcard, with_mode, with_send, become, closed_of}
@@ -178,7 +178,7 @@ rules g c s = and_both (and_both s.wishes.opening s.wishes.closing) (moving-onli
 
 -- an event that is allowed or not
 decided : (b : Bool) (c d : Connection)
-    → place_of (cond (not b) (refused_by Denied c) (record { answer = Done; connection = d })).connection ≡ cond b (place_of d) (place_of c)
+    → place_of (cond (not b) (refused_by Denied c) (record { answer = Ok tt; connection = d })).connection ≡ cond b (place_of d) (place_of c)
 decided true c d = refl
 decided false c d = refl
 

@@ -2,6 +2,7 @@
 -- close is wanted (`tick-fails-at`). Every other event that is no take leaves each connection's receive part: open, close, connected, set
 -- remote, switch and cancel (`event-part`), a switch on all connections, the counts, a datagram or an accept, a transmit, and taking the
 -- waiting bytes. What a take leaves of a transfer is the law of the segment.
+use Rattle.std.proofs.Common.{Result, Ok, Err, Option, ℕ, Some, None}
 use Prim.Native.Nat.{ℕ, ◌<◌}
 use mathlib.Core.Path.{◌≡◌, refl, sym, ap, ◌∙◌, subst}
 use mathlib.Core.Bool.{Bool, true, false, cond, not, ◌&&◌}
@@ -22,8 +23,6 @@ use Rattle.connection.specs.declared.Connection.{Connection}
 use Rattle.connection.specs.declared.Remote.{Remote}
 use Rattle.connection.specs.declared.Refusal.{Refusal}
 use Rattle.connection.specs.declared.Refusal.TheVariants as Refusals
-use Rattle.connection.specs.declared.Answer.{Answer}
-use Rattle.connection.specs.declared.Answer.TheVariants as Answers
 use Rattle.connection.specs.declared.Stepped.{Stepped}
 use Rattle.connection.specs.declared.Event.{Event}
 use Rattle.connection.specs.declared.Event.TheVariants.{Lost}
@@ -38,8 +37,6 @@ use Rattle.state.specs.declared.State.{State}
 use Rattle.state.specs.State.{record_at, with_record}
 use Rattle.state.specs.Fresh.{config_of}
 use Rattle.gate.specs.Lent.{Lent, Loan, sizes}
-use Rattle.gate.specs.declared.Gate.{Gate}
-use Rattle.gate.specs.declared.Gate.TheVariants.{Pass, Refused}
 use Rattle.gate.specs.Gate.{gate_of, gate_at, through, Passed}
 use Rattle.gate.proofs.Pass.{passed_gate}
 use Rattle.entry_events.specs.declared.Told.{Told}
@@ -49,8 +46,6 @@ use Rattle.entry_events.specs.Count.{uncounted, read_past, clear_past, read_of, 
 use Rattle.entry_events.proofs.Counts.{read-state, clear_records}
 use Rattle.entry_ticks.specs.Tick.{tick_event, ticked_to}
 use Rattle.entry_ticks.proofs.Fails.{failed-bit, tick_failed}
-use Rattle.select.specs.declared.Chosen.{Chosen}
-use Rattle.select.specs.declared.Chosen.TheVariants.{Nobody, At}
 use Rattle.select.specs.Choose.{chosen_in, meet, arrival_refused, denied_of, arrive_of}
 use Rattle.entry_arrivals.specs.Arrivals.{arrival_of}
 use Rattle.send.specs.Verdict.{is_stored}
@@ -69,10 +64,10 @@ part-set : (s : State) (n k : ℕ) (c : Connection) → c.part ≡ (record_at s 
 part-set s n k c e = part_kept zero_record (λ (x : Connection). x.part) s.connections n k c e
 
 -- through a gate: a refusal leaves the state
-past : {A : Type 0} (f : A → State) (s : State) (k : ℕ) (g : Gate) (refused : Refusal → A) (event : A)
+past : {A : Type 0} (f : A → State) (s : State) (k : ℕ) (g : Result Unit Refusal) (refused : Refusal → A) (event : A)
     → ((r : Refusal) → f (refused r) ≡ s) → PartStays s (f event) k → PartStays s (f (through g refused event)) k
-past f s k Pass refused event p q = q
-past f s k (Refused r) refused event p q = ap (λ (t : State). (record_at t k).part) (p r)
+past f s k (Ok tt) refused event p q = q
+past f s k (Err r) refused event p q = ap (λ (t : State). (record_at t k).part) (p r)
 
 step_part : (e : Event) (g : Config) (c : Connection) → empties e ≡ false → (step_of e g c).connection.part ≡ c.part
 step_part e g c n =
@@ -83,10 +78,10 @@ module _ (l : Lent) (k : ℕ) where
   abbrev s : State
   s = l.state
 
-  told_part : (n : ℕ) (a : Answer) (c : Connection) → c.part ≡ (record_at s n).part → PartStays s (told_of s n a c).state k
+  told_part : (n : ℕ) (a : Result Unit Refusal) (c : Connection) → c.part ≡ (record_at s n).part → PartStays s (told_of s n a c).state k
   unfolding told_of
-  told_part n Answers.Done c e = part-set s n k c e
-  told_part n (Answers.Refused r) c e = refl
+  told_part n (Ok tt) c e = part-set s n k c e
+  told_part n (Err r) c e = refl
 
   -- open, close, connected, set remote, switch, cancel: every event of the record alone but a loss
   pub event-part : (n : ℕ) (e : Event) → empties e ≡ false → PartStays s (event_of l n e).state k
@@ -104,7 +99,7 @@ module _ (l : Lent) (k : ℕ) where
       rows = rows_of l.image Connections
 
       go : (b : Bool)
-          → PartStays s (cond b (record { answer = Answers.Done; state = switched_all rows number on s }) (refused_told s Refusals.Missing)).state k
+          → PartStays s (cond b (record { answer = Ok tt; state = switched_all rows number on s }) (refused_told s Refusals.Missing)).state k
       go true = each_at zero_record (switch_at number on) (λ (c : Connection). c.part ≡ (record_at s k).part) 0 rows s.connections k refl refl
       go false = refl
 
@@ -126,12 +121,12 @@ module _ (l : Lent) (k : ℕ) where
       past (λ t. t.state) s k (gate_of l) (arrival_refused s) (arrive_of l.image s accept group source) (λ r. refl)
       (go (leb (rows_of l.image Group) group) (denied_of l.image accept group source) (chosen_in l.image s accept group source))
     where
-      go : (x y : Bool) (who : Chosen)
+      go : (x y : Bool) (who : Option ℕ)
           → PartStays s (cond x (arrival_refused s Refusals.Missing) (cond y (arrival_refused s Refusals.Denied) (meet l.image s source who))).state k
       go true y who = refl
       go false true who = refl
-      go false false Nobody = refl
-      go false false (At n) = part-set s n k _ refl
+      go false false None = refl
+      go false false (Some n) = part-set s n k _ refl
 
 -- A TRANSMIT
 module _ (l : Loan) (k : ℕ) where
@@ -180,7 +175,7 @@ put_fails s n d e = go (dec_lt n (length s.connections))
         subst (λ (c : Connection). failed_of c (record_at (with_record n d s) n) ≡ transferring c.part)
         (sym (get_or-eq_default s.connections zero_record (omega arith))) refl
 
-refused-number : (r : Refusal) → eqb (answer_number (Answers.Refused r)) 0 ≡ false
+refused-number : (r : Refusal) → eqb (answer_number (Err r)) 0 ≡ false
 refused-number Refusals.Memory = refl
 refused-number Refusals.Unsound = refl
 refused-number Refusals.Missing = refl
@@ -188,10 +183,10 @@ refused-number Refusals.Denied = refl
 
 module _ (l : Lent) (n : ℕ) where
   -- what a loss says, of an answer and the state that it leaves
-  abbrev Says : Answer → State → Type 0
+  abbrev Says : Result Unit Refusal → State → Type 0
   Says a t = failed_of (record_at l.state n) (record_at t n) ≡ (eqb (answer_number a) 0 && transferring (record_at l.state n).part)
 
-  refused_says : (r : Refusal) → Says (Answers.Refused r) l.state
+  refused_says : (r : Refusal) → Says (Err r) l.state
   refused_says r =
       kept_fails (record_at l.state n) (record_at l.state n) refl
       ∙ sym (ap (λ (b : Bool). b && transferring (record_at l.state n).part) (refused-number r))
@@ -208,7 +203,7 @@ module _ (l : Lent) (n : ℕ) where
       c = record_at l.state n
 
       done : Stepped
-      done = record { answer = Answers.Done; connection = lost_of g c }
+      done = record { answer = Ok tt; connection = lost_of g c }
 
       -- by what the record answers
       told : Stepped → Type 0
@@ -219,12 +214,12 @@ module _ (l : Lent) (n : ℕ) where
       go true = put_fails l.state n (lost_of g c) (after-fails g c Lost)
 
       -- by the gate
-      past_gate : Gate → Told
+      past_gate : Result Unit Refusal → Told
       past_gate q = through q (refused_told l.state) (change_of l.image l.state n Lost)
 
-      gone : (q : Gate) → Says (past_gate q).answer (past_gate q).state
-      gone (Refused r) = refused_says r
-      gone Pass = go (allowed Lost g c)
+      gone : (q : Result Unit Refusal) → Says (past_gate q).answer (past_gate q).state
+      gone (Err r) = refused_says r
+      gone (Ok tt) = go (allowed Lost g c)
 
 -- A TICK SAYS bit k exactly where connection k is there, is to be closed, and its transfer ran
 pub tick-fails-at : (l : Lent) (k : ℕ) → Passed l

@@ -1,5 +1,6 @@
 -- A transmit adds a frame for each of a connection's switched-on destinations, or nothing; a take hands out exactly what waited. (How many
 -- bytes wait after every other event: crate law_waits, proofs/Turns.)
+use Rattle.std.proofs.Common.{Result, Ok, Err}
 use Prim.Native.Nat.{ℕ, ◌+◌, ◌*◌, ◌<◌, ◌≤◌}
 use mathlib.Core.Path.{◌≡◌, refl, sym, ap, ◌∙◌}
 use mathlib.Core.Bool.{Bool, true, false, cond}
@@ -12,8 +13,6 @@ use Rattle.connection.specs.declared.Refusal.{Refusal}
 use Rattle.table.specs.Accepts.{Accepts}
 use Rattle.table.proofs.Facts.{accepted_facts}
 use Rattle.gate.specs.Lent.{Loan, sizes}
-use Rattle.gate.specs.declared.Gate.{Gate}
-use Rattle.gate.specs.declared.Gate.TheVariants.{Pass, Refused}
 use Rattle.gate.specs.Gate.{gate_of, gate_at, through}
 use Rattle.gate.specs.Sound.{records_sound}
 use Rattle.gate.proofs.Pass.{gate_passed, gate_at-passed, in_sixteen}
@@ -44,14 +43,14 @@ transmit-turn l pdu payload sixteen h k = go (gate_of (sizes l)) refl
     inner a long true e = waits-after l.image (ready_from l.image a) l.state pdu payload l.tx sixteen long (all_fit l.image a l.state h) e k
     inner a long false e = sym (append-nil (waits l.state l.tx k))
 
-    go : (q : Gate) → gate_of (sizes l) ≡ q
+    go : (q : Result Unit Refusal) → gate_of (sizes l) ≡ q
         → waits (through q (not_sent l.state) (transmitted_of l.image l.state pdu payload l.tx)).state
         (through q (λ (r : Refusal). l.tx) (transmit_of l.image l.state pdu payload l.tx).memory) k
         ≡ waits l.state l.tx k
         ++ through q (λ (r : Refusal). [])
         (cond (is_stored (check_of l.image l.state pdu (length payload))) (frames_from l.image l.state pdu payload k (destinations l.image) 0) [])
-    go (Refused r) e = sym (append-nil (waits l.state l.tx k))
-    go Pass e =
+    go (Err r) e = sym (append-nil (waits l.state l.tx k))
+    go (Ok tt) e =
         let p = gate_passed (sizes l) e in
         inner (accepted_facts l.image p.table) p.send (is_stored (check_of l.image l.state pdu (length payload))) refl
 
@@ -61,7 +60,7 @@ unfolding waiting_of
 waits-length tx n used l long fits = length-take-le used (drop (n * 1472) tx) (omega (arith, length-drop (n * 1472) tx))
 
 -- past the gate, where they fit: what waited stands at the front of the out buffer, and the bytes after it stay
-pub taken-bytes : (l : Loan) (n : ℕ) (out : List ℕ) → records_sound l.image l.state.connections ≡ true → gate_at (sizes l) n ≡ Pass
+pub taken-bytes : (l : Loan) (n : ℕ) (out : List ℕ) → records_sound l.image l.state.connections ≡ true → gate_at (sizes l) n ≡ Ok tt
     → (record_at l.state n).used ≤ length out
     → taken_out l n out ≡ waits l.state l.tx n ++ drop (record_at l.state n).used out
 unfolding taken_out out_of

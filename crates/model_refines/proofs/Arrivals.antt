@@ -1,4 +1,5 @@
 -- A DATAGRAM OR AN ACCEPT: one member becomes online with the source as remote, or nothing changes.
+use Rattle.std.proofs.Common.{Option, ℕ, Some, None}
 use Prim.Native.Nat.{ℕ}
 use mathlib.Core.Path.{◌≡◌, refl, sym, subst}
 use mathlib.Core.Bool.{Bool, true, false, cond}
@@ -14,8 +15,6 @@ use Rattle.connection.specs.Connection.{zero_record, met_of}
 use Rattle.state.specs.declared.State.{State}
 use Rattle.state.specs.State.{record_at, with_record}
 use Rattle.state.specs.Fresh.{config_of}
-use Rattle.select.specs.declared.Chosen.{Chosen}
-use Rattle.select.specs.declared.Chosen.TheVariants.{Nobody, At}
 use Rattle.select.specs.Choose.{meet, arrival_refused, denied_of, chosen_in, arrive_of}
 use Rattle.model.proofs.View.{Fewer, fewer-same, fewer-set}
 use Rattle.lists.proofs.Each.{one_at}
@@ -26,9 +25,9 @@ pub data Meeting (image : List ℕ) (s : State) (source : Remote) : State → Ty
   nobody : Meeting image s source s
   meeting_one : (j : ℕ) → Meeting image s source (with_record j (met_of (config_of image j) source (record_at s j)) s)
 
-meets : (image : List ℕ) (s : State) (source : Remote) (c : Chosen) → Meeting image s source (meet image s source c).state
-meets image s source Nobody = nobody
-meets image s source (At j) = meeting_one j
+meets : (image : List ℕ) (s : State) (source : Remote) (c : Option ℕ) → Meeting image s source (meet image s source c).state
+meets image s source None = nobody
+meets image s source (Some j) = meeting_one j
 
 pub arrive_is : (image : List ℕ) (s : State) (accept : Bool) (group : ℕ) (source : Remote)
     → Meeting image s source (arrive_of image s accept group source).state

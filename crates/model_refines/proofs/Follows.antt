@@ -1,5 +1,6 @@
 -- A CONNECTION EVENT THAT WRITES NO MEMORY and drops nothing: what its entry point leaves is the world's step. The six events of the
 -- record alone, and taking the waiting bytes.
+use Rattle.std.proofs.Common.{Result, Err}
 use Prim.Native.Nat.{ℕ}
 use mathlib.Core.Path.{◌≡◌, refl, sym, ap, ◌∙◌}
 use mathlib.Core.Bool.{Bool, true, false}
@@ -19,8 +20,6 @@ use Rattle.state.specs.State.{record_at, with_record}
 use Rattle.state.specs.Fresh.{config_of}
 use Rattle.state.proofs.Records.{put_back}
 use Rattle.gate.specs.Lent.{Loan, sizes}
-use Rattle.gate.specs.declared.Gate.{Gate}
-use Rattle.gate.specs.declared.Gate.TheVariants.{Refused}
 use Rattle.gate.specs.Gate.{gate_at, through, Passed}
 use Rattle.gate.proofs.Pass.{passed_gate, passed_gate_at}
 use Rattle.entry_events.specs.declared.Told.{Told}
@@ -68,15 +67,15 @@ module _ (l : Loan) (whole : Whole → World → World) (passed : Passed (sizes 
   passes : {A : Type 0} (refused : Refusal → A) (event : A) (k : ℕ)
       → ltb k (rows_of image Connections) ≡ true → through (gate_at (sizes l) k) refused event ≡ event
   passes refused event k h =
-      ap (λ (g : Gate). through g refused event) (passed_gate_at (sizes l) k passed (ltb-true k (rows_of image Connections) h))
+      ap (λ (g : Result Unit Refusal). through g refused event) (passed_gate_at (sizes l) k passed (ltb-true k (rows_of image Connections) h))
 
-  missing : (k : ℕ) → ltb k (rows_of image Connections) ≡ false → gate_at (sizes l) k ≡ Refused Missing
+  missing : (k : ℕ) → ltb k (rows_of image Connections) ≡ false → gate_at (sizes l) k ≡ Err Missing
   unfolding gate_at
   missing k h = rw (passed_gate (sizes l) passed, h)
 
   misses : {A : Type 0} (refused : Refusal → A) (event : A) (k : ℕ)
       → ltb k (rows_of image Connections) ≡ false → through (gate_at (sizes l) k) refused event ≡ refused Missing
-  misses refused event k h = ap (λ (g : Gate). through g refused event) (missing k h)
+  misses refused event k h = ap (λ (g : Result Unit Refusal). through g refused event) (missing k h)
 
   -- the world's side
   acts-there : (k : ℕ) (e : Own) → ltb k (rows_of image Connections) ≡ true → acts (table_of image) k e (held_at w k) ≡ does (table_of image) k e (held_at w k)

@@ -1,4 +1,5 @@
 -- EVERY EVENT LEAVES A GOOD MACHINE GOOD: the state sound, of sixteen records, and the memories as long as they were.
+use Rattle.std.proofs.Common.{Ok}
 use Prim.Native.Nat.{ℕ}
 use mathlib.Core.Path.{◌≡◌, refl, sym, ap, ◌∙◌}
 use mathlib.Core.Bool.{Bool, true, false, cond}
@@ -26,7 +27,6 @@ use Rattle.table_layout.specs.declared.Kind.TheVariants.{Connection as Connectio
 use Rattle.lists.proofs.Each.{each-length}
 use Rattle.connection.specs.declared.Remote.{Remote}
 use Rattle.connection.specs.declared.Refusal.TheVariants.{Missing}
-use Rattle.connection.specs.declared.Answer.TheVariants.{Done}
 use Rattle.select.specs.declared.Arrived.{Arrived}
 use Rattle.select.specs.Choose.{arrival_refused, arrive_of}
 use Rattle.entry_events.specs.declared.Told.{Told}
@@ -108,10 +108,10 @@ module _ (image : List ℕ) (m : Machine) (g : Good image m) where
   switches_good n b =
       with-state (switch_all_of (lent_to image m) n b).state (switch_all-passed (lent_to image m) g.passed n b)
       (past_or (λ (t : Told). Sixteen t.state) (gate_of (lent_to image m)) (not_told s)
-      (cond (ltb n 32) (record { answer = Done; state = switched_all (rows_of image Connections) n b s }) (not_told s Missing))
+      (cond (ltb n 32) (record { answer = Ok tt; state = switched_all (rows_of image Connections) n b s }) (not_told s Missing))
       (λ r. g.sixteen) (λ _. go (ltb n 32)))
     where
-      go : (x : Bool) → Sixteen (cond x (record { answer = Done; state = switched_all (rows_of image Connections) n b s }) (not_told s Missing)).state
+      go : (x : Bool) → Sixteen (cond x (record { answer = Ok tt; state = switched_all (rows_of image Connections) n b s }) (not_told s Missing)).state
       go true = each-length (switch_at n b) 0 (rows_of image Connections) s.connections ∙ g.sixteen
       go false = g.sixteen
 

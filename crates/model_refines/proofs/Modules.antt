@@ -1,4 +1,5 @@
 -- GROUP AND MODULE EVENTS that write no lent memory: what their entry points leave is the world's step.
+use Rattle.std.proofs.Common.{Result, Ok}
 use Prim.Native.Nat.{ℕ}
 use mathlib.Core.Path.{◌≡◌, refl, sym, ap, ◌∙◌, subst}
 use mathlib.Core.Bool.{Bool, true, false, cond}
@@ -8,13 +9,11 @@ use Rattle.table_layout.specs.Layout.{rows_of}
 use Rattle.table_layout.specs.declared.Kind.TheVariants.{Connection as Connections}
 use Rattle.connection.specs.declared.Connection.{Connection}
 use Rattle.connection.specs.declared.Remote.{Remote}
-use Rattle.connection.specs.declared.Answer.TheVariants.{Done}
 use Rattle.connection.specs.declared.Refusal.{Refusal}
 use Rattle.connection.specs.declared.Refusal.TheVariants.{Missing}
 use Rattle.state.specs.declared.State.{State}
 use Rattle.state.specs.Fresh.{config_of}
 use Rattle.gate.specs.Lent.{Loan, sizes}
-use Rattle.gate.specs.declared.Gate.{Gate}
 use Rattle.gate.specs.Gate.{gate_of, through, Passed}
 use Rattle.gate.proofs.Pass.{passed_gate}
 use Rattle.select.specs.Choose.{arrive_of}
@@ -65,7 +64,7 @@ module _ (l : Loan) where
 
   -- past the gate
   pub past : {A : Type 0} (refused : Refusal → A) (event : A) → Passed (sizes l) → through (gate_of (sizes l)) refused event ≡ event
-  past refused event p = ap (λ (g : Gate). through g refused event) (passed_gate (sizes l) p)
+  past refused event p = ap (λ (g : Result Unit Refusal). through g refused event) (passed_gate (sizes l) p)
 
   -- a tick
   pub tick_view : Passed (sizes l)
@@ -83,10 +82,11 @@ module _ (l : Loan) where
   unfolding switch_all_of step switched_all
   switch_all_view n b p =
       ap (λ (t : Told). view_of t.state rx tx)
-      (past (refused_told s) (cond (ltb n 32) (record { answer = Done; state = switched_all (rows_of image Connections) n b s }) (refused_told s Missing)) p)
+      (past (refused_told s) (cond (ltb n 32) (record { answer = Ok tt; state = switched_all (rows_of image Connections) n b s }) (refused_told s Missing)) p)
       ∙ go (ltb n 32)
     where
-      go : (x : Bool) → view_of (cond x (record { answer = Done; state = switched_all (rows_of image Connections) n b s }) (refused_told s Missing)).state rx tx
+      go : (x : Bool) → view_of (cond x (record { answer = Ok tt; state = switched_all (rows_of image Connections) n b s })
+          (refused_told s Missing)).state rx tx
           ≡ cond x (leaves (switched_all (rows_of image Connections) n b (state_of w)) w) w
       go true =
           leaves_view (switched_all (rows_of image Connections) n b) s rx tx

@@ -1,5 +1,6 @@
 -- THE SEGMENT EVENT, accepted or refused: what the caller's takes leave is the world's step, and what they hand out is the world's
 -- list; a sound machine stays sound.
+use Rattle.std.proofs.Common.{Result}
 use Prim.Native.Nat.{ℕ, zero, suc}
 use mathlib.Core.Path.{◌≡◌, refl, sym, ap, ap₂, ◌∙◌, subst}
 use mathlib.Core.Bool.{Bool, true, false, cond, ◌&&◌}
@@ -18,7 +19,6 @@ use Rattle.reading.specs.Feed.{segment_ran as segment_of, fine, finely}
 use Rattle.reading_lengths.specs.Listed.{Bytes}
 use Rattle.reading_lengths.proofs.Bytes.{bytes_drop}
 use Rattle.gate.specs.Gate.{Passed}
-use Rattle.entry_receive.specs.declared.Answer.{Answer}
 use Rattle.entry_receive.specs.declared.SegmentTaken.{SegmentTaken}
 use Rattle.entry_receive.specs.Answer.{is_done}
 use Rattle.entry_receive.specs.Segment.{none_taken, segment_answer, segment_of as segmentTaken, memory_of, payload_of}
@@ -35,10 +35,11 @@ use Rattle.model_refines.proofs.Left.{left-nothing, left-fine}
 use Rattle.model_refines.proofs.Answered.{done_is}
 use Rattle.model_refines.proofs.Take.{Open, open_after}
 use Rattle.model_refines.proofs.Takes.{R, C, takes_view, takes_told}
+use Rattle.entry_receive.specs.declared.NotReceived.{NotReceived}
 
 -- A TAKE THAT IS REFUSED: nothing is read, nothing changes, and the event ends
 module _ (image : List ℕ) (m : Machine) (k : ℕ) (bs : List ℕ) (not_done : is_done (segment_answer (lent_to image m) k) ≡ false) where
-  abbrev refusal : Answer
+  abbrev refusal : Result Unit NotReceived
   refusal = segment_answer (lent_to image m) k
 
   none-taken : taken image k m bs ≡ none_taken m.state refusal
@@ -86,7 +87,7 @@ module _ (image : List ℕ) (k : ℕ) where
     abbrev c : Connection
     c = record_at m.state k
 
-    abbrev answer : Answer
+    abbrev answer : Result Unit NotReceived
     answer = segment_answer (lent_to image m) k
 
     -- there, TCP, online and no close wanted

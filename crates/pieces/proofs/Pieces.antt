@@ -2,8 +2,7 @@
 use Prim.Native.Nat.{ℕ, ◌+◌, ◌≤◌, ◌<◌}
 use mathlib.Core.Path.{◌≡◌, sym}
 use mathlib.Core.List.{List, []}
-use lib.ListN.{length, take}
-use lib.Seq.{take_all}
+use lib.ListN.{length}
 use borrow.Author.Tests.{le-leb, lt-leb}
 use Rattle.wire.specs.Lay.{lay}
 use Rattle.wire.proofs.Lay.{lay-out, lay-nothing}
@@ -23,7 +22,3 @@ unwritten d at x h = sym (lay-out d at x h)
 -- an empty piece is no piece
 pub empty_piece : (d : List ℕ) (at : ℕ) → at ≤ length d → d ≡ lay d at []
 empty_piece d at h = sym (lay-nothing d at)
-
--- the first n of fewer bytes are all of them
-pub all_of : (l : List ℕ) (n : ℕ) → length l ≤ n → l ≡ take n l
-all_of l n h = sym (take_all n l h)

@@ -9,13 +9,11 @@ ghost use Rattle.pieces.specs.Pieces.{after_of, place_after};
 use wire::copy_in;
 
 // The place after n bytes at a place of a buffer of `long` bytes.
+#[tactic(auto, unfolding(crate::specs::Pieces::after_of))]
 pub fn after(long: usize, at: usize, n: usize) -> usize
     ensures { result ≡ after_of long at n }
 {
-    if long < at {
-        return at;
-    }
-    if long - at < n {
+    if long < at || long - at < n {
         return at;
     }
     at + n
@@ -35,8 +33,5 @@ pub fn front(s: &[u8], n: usize) -> &[u8]
     ensures bytes { result.now ≡ take n s.now }
     ensures place { result.ref_ptr ≡ s.entry.ref_ptr }
 {
-    if s.len() < n {
-        return s;
-    }
-    &s[..n]
+    &s[..n.min(s.len())]
 }

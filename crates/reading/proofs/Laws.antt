@@ -13,6 +13,7 @@ use lib.ListN.{length, take, drop, get_or}
 use lib.Seq.{take-suc}
 use Rattle.wire.specs.Be.{be}
 use Rattle.reading.specs.declared.Decision.{Decision}
+use Rattle.reading.specs.declared.DropReason.{DropReason}
 use Rattle.reading.specs.declared.Decision.TheVariants.{Accept, Refuse, Transfer}
 use Rattle.reading.specs.Feed.{Routes, PieceKind, header, payload, skip, Cell, cell, transfer, nothing, pdu, dropped, start}
 use Rattle.reading.specs.Feed.{piece, ready, decided, with_byte, piece_done, spelt, feed, took, piece_by, take_b, resume}
@@ -111,7 +112,7 @@ abbrev pub skip_cell : ℕ → Cell
 skip_cell zero = ready
 skip_cell (suc n) = cell (suc n) skip
 
-pub refused_skips : (R : Routes) (k i n : ℕ) (bs : List ℕ) → resume R (decided (Refuse k) i n) bs ≡ took (skip_cell n) (dropped k i n) bs
+pub refused_skips : (R : Routes) (k : DropReason) (i n : ℕ) (bs : List ℕ) → resume R (decided (Refuse k) i n) bs ≡ took (skip_cell n) (dropped k i n) bs
 refused_skips R k i zero bs = refl
 refused_skips R k i (suc n) bs = refl
 

@@ -5,3 +5,4 @@ pub mod Compared
 pub mod Pieces
 pub mod Long
 pub mod Trip
+pub mod Reasons

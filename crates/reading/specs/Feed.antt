@@ -2,6 +2,7 @@
 -- A cell is what a TCP connection holds of its stream: how many bytes the present piece still wants (one at least), and
 -- what the piece is. A byte ends its piece or shortens it, and has one outcome at most; each byte of a transfer has one.
 use Rattle.std.specs.Prelude.{ℕ, zero, suc, ◌+◌, ◌-◌, ◌*◌, ◌/◌, ◌%◌, ◌^◌, ◌<◌, ◌≡◌, Bool, true, false, cond, List, [], ◌∷◌, ◌++◌, eqb, ltb, length, take, drop}
+use Rattle.reading.specs.declared.DropReason.{DropReason}
 use Rattle.reading.specs.declared.Decision.{Decision}
 use Rattle.reading.specs.declared.Decision.TheVariants.{Accept, Refuse, Transfer}
 
@@ -27,7 +28,7 @@ pub data Cell : Type 0 where
 pub data Out : Type 0 where
   nothing : Out
   pdu : ℕ → List ℕ → Out
-  dropped : ℕ → ℕ → ℕ → Out
+  dropped : DropReason → ℕ → ℕ → Out
   start : ℕ → ℕ → ℕ → Bool → Out
   piece : ℕ → List ℕ → Bool → Out
 

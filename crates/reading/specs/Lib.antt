@@ -1,3 +1,4 @@
 -- What others cite of reading.
+pub mod Reasons
 pub mod Feed
 pub mod Routed

@@ -17,6 +17,7 @@ use Rattle.reading_lengths.specs.Split.{sent, Split, split_by, splits}
 use Rattle.reading_lengths.proofs.Heads.{View, none_left, at-short, at-beyond, at-whole, view, head-end, whole-fits}
 use Rattle.reading_lengths.proofs.Splits.{split_enough}
 use Rattle.wire.proofs.Part.{part_to_end}
+use Rattle.reading.specs.declared.DropReason.TheVariants.{CutShort}
 use Rattle.reading_walk.specs.Walk.{the_end, Walked, walked, whole_at, walk_step, walk_at, Forward}
 use Rattle.reading_walk.specs.Walk.{outs_told, walks, place_after_steps, judge, left_over, list_of}
 
@@ -116,8 +117,8 @@ walks-splits R (suc f) d p le h = go (λ q a b. walks-splits R f d q a b) (head_
     go : ((q : ℕ) → q ≤ length d → length d ≤ q + f → walks R f d q ≡ list_by R (splits f (drop q d))) → (h : Head) → View l h → head_of l ≡ h
         → outs_told d (walk_step R (length d) p h).found (walks R f d (walk_step R (length d) p h).next) ≡ list_by R (split_by (splits f) l h)
     go more ended v e = sym (ap left_over e)
-    go more short v e = ap (λ (y : List Out). dropped 23 0 0 ∷ y) (walks-end R f d) ∙ sym (ap left_over e)
-    go more (beyond i n) v e = ap (λ (y : List Out). dropped 23 i n ∷ y) (walks-end R f d) ∙ sym (ap left_over e)
+    go more short v e = ap (λ (y : List Out). dropped CutShort 0 0 ∷ y) (walks-end R f d) ∙ sym (ap left_over e)
+    go more (beyond i n) v e = ap (λ (y : List Out). dropped CutShort i n ∷ y) (walks-end R f d) ∙ sym (ap left_over e)
     go more (whole i n) (at-whole w) e = both more (R i n) i n (omega (arith, length-drop p d)) refl
 
 pub walk-list : (R : Routes) (f : ℕ) (d : List ℕ) (p : ℕ) → p ≤ length d → length d ≤ p + f → walks R f d p ≡ list_of R (drop p d)

@@ -1,5 +1,7 @@
 -- THE WALK OVER A DATAGRAM (R7.8 to R7.12): what stands at a place, the next place, and the list of a whole datagram.
 use Rattle.std.specs.Prelude.{ℕ, zero, suc, ◌+◌, ◌≤◌, ◌<◌, List, [], ◌∷◌, ◌++◌, map, length, take, drop}
+use Rattle.reading.specs.declared.DropReason.{DropReason}
+use Rattle.reading.specs.declared.DropReason.TheVariants.{CutShort}
 use Rattle.reading.specs.declared.Decision.{Decision}
 use Rattle.reading.specs.declared.Decision.TheVariants.{Accept, Refuse, Transfer}
 use Rattle.reading.specs.Feed.{Routes, Out, pdu, dropped}
@@ -12,7 +14,7 @@ use Rattle.reading_lengths.specs.Split.{split}
 pub data Found : Type 0 where
   the_end : Found
   a_pdu : (route place length id : ℕ) → Found
-  a_drop : (reason id length : ℕ) → Found
+  a_drop : (reason : DropReason) (id length : ℕ) → Found
 
 -- with the next place
 pub record Walked : Type 0 where
@@ -33,8 +35,8 @@ whole_at (Transfer r) p i n = walked (a_pdu r (p + 8) n i) (p + 8 + n)
 -- 20, 21, 22: at place p of a datagram of m bytes, by what stands there
 abbrev pub walk_step : Routes → ℕ → ℕ → Head → Walked
 walk_step R m p ended = walked the_end m
-walk_step R m p short = walked (a_drop 23 0 0) m
-walk_step R m p (beyond i n) = walked (a_drop 23 i n) m
+walk_step R m p short = walked (a_drop CutShort 0 0) m
+walk_step R m p (beyond i n) = walked (a_drop CutShort i n) m
 walk_step R m p (whole i n) = whole_at (R i n) p i n
 
 -- A STEP OF THE WALK: datagram d, place p (0 .. its length)
@@ -70,8 +72,8 @@ judge (Transfer r) s = pdu r s.body
 
 abbrev pub left_over : Head → List Out
 left_over ended = []
-left_over short = dropped 23 0 0 ∷ []
-left_over (beyond i n) = dropped 23 i n ∷ []
+left_over short = dropped CutShort 0 0 ∷ []
+left_over (beyond i n) = dropped CutShort i n ∷ []
 left_over (whole i n) = []
 
 unfoldable pub list_of : Routes → List ℕ → List Out

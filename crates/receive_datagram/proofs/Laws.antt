@@ -17,22 +17,22 @@ use Rattle.receive_datagram.specs.declared.Walked.{Walked}
 use Rattle.receive_datagram.specs.Datagram.{stepped, walked_of}
 
 -- by what stands at the front
-pub stands-at-front : (R : Routes) (m p : ℕ) (l : List ℕ) (h : Head) → h ≡ head_of l → stepped (walk_step R m p h) ≡ stepped (walk_step R m p (head_of l))
-stands-at-front R m p l h e = ap (λ (k : Head). stepped (walk_step R m p k)) e
+pub stands_at_front : (R : Routes) (m p : ℕ) (l : List ℕ) (h : Head) → h ≡ head_of l → stepped (walk_step R m p h) ≡ stepped (walk_step R m p (head_of l))
+stands_at_front R m p l h e = ap (λ (k : Head). stepped (walk_step R m p k)) e
 
 -- a whole PDU, and what the routes say to it
 pub judged : (R : Routes) (m p : ℕ) (l : List ℕ) (i n : ℕ) (d : Decision) (w : Walked) → 8 ≤ length l → i ≡ be 4 l 0 → n ≡ be 4 l 4 → n ≤ length l - 8
     → d ≡ R i n → w ≡ stepped (whole_at d p i n) → w ≡ stepped (walk_step R m p (head_of l))
 judged R m p l i n d w h ei en fits ed e =
-    e ∙ ap (λ (q : Decision). stepped (whole_at q p i n)) ed ∙ stands-at-front R m p l (whole i n) (head-whole l i n h ei en fits)
+    e ∙ ap (λ (q : Decision). stepped (whole_at q p i n)) ed ∙ stands_at_front R m p l (whole i n) (head-whole l i n h ei en fits)
 
 -- a place at the end or beyond it
-pub walk-at-end : (datagram : List ℕ) (place : ℕ) (routes : List ℕ) (connection switches : ℕ) → length datagram ≤ place
+pub walk_at_end : (datagram : List ℕ) (place : ℕ) (routes : List ℕ) (connection switches : ℕ) → length datagram ≤ place
     → ◌≡◌ {A = Walked} (record { outcome = End; next = length datagram }) (walked_of datagram place routes connection switches)
 unfolding walked_of walk_at
-walk-at-end datagram place routes connection switches h =
+walk_at_end datagram place routes connection switches h =
     let n : length (drop place datagram) ≡ 0 = omega (arith, length-drop place datagram) in
-    stands-at-front (lookup_of routes connection switches) (length datagram) place (drop place datagram) ended (head-end (drop place datagram) n)
+    stands_at_front (lookup_of routes connection switches) (length datagram) place (drop place datagram) ended (head-end (drop place datagram) n)
 
 -- the part that starts in the middle is the rest of the datagram
 pub in_the_middle : (datagram : List ℕ) (place : ℕ) (routes : List ℕ) (connection switches : ℕ) (w : Walked) → place ≤ length datagram

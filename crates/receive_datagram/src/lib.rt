@@ -7,7 +7,7 @@ ghost use Rattle.receive_route.specs.Route.{lookup_of};
 ghost use Rattle.reading_walk.specs.Walk.{whole_at, walk_step};
 ghost use Rattle.receive_datagram.specs.Datagram.{stepped, walked_of};
 
-use reading::Decision;
+use reading::{Decision, DropReason};
 use receive_route::lookup;
 use wire::be32;
 
@@ -22,7 +22,7 @@ pub enum Outcome {
         length: u32,
     },
     Drop {
-        reason: u8,
+        reason: DropReason,
         id: u32,
         length: u32,
     },
@@ -41,38 +41,27 @@ fn whole_at(decision: Decision, place: usize, id: u32, size: u32) -> Walked
     ensures { result ≡ stepped (whole_at decision place id size) }
 {
     let at = place + 8;
-    let next = at + size as usize;
-    match decision {
-        Decision::Accept(route) => Walked {
-            outcome: Outcome::Pdu {
-                route,
-                id,
-                at,
-                length: size,
-            },
-            next,
+    let outcome = match decision {
+        Decision::Accept(route) | Decision::Transfer(route) => Outcome::Pdu {
+            route,
+            id,
+            at,
+            length: size,
         },
-        Decision::Refuse(reason) => Walked {
-            outcome: Outcome::Drop {
-                reason,
-                id,
-                length: size,
-            },
-            next,
+        Decision::Refuse(reason) => Outcome::Drop {
+            reason,
+            id,
+            length: size,
         },
-        Decision::Transfer(route) => Walked {
-            outcome: Outcome::Pdu {
-                route,
-                id,
-                at,
-                length: size,
-            },
-            next,
-        },
+    };
+    Walked {
+        outcome,
+        next: at + size as usize,
     }
 }
 
 // The bytes from the place on, one at least: 23 is tested before the routes are asked.
+#[tactic(auto, using(crate::proofs::Laws::judged))]
 fn walk_rest(rest: &[u8], place: usize, routes: &[u8], connection: u8, switches: u32) -> Walked
     requires { (0 < length rest.now) × (place + length rest.now < 2 ^ 64) }
     ensures { result ≡ stepped
@@ -82,7 +71,7 @@ fn walk_rest(rest: &[u8], place: usize, routes: &[u8], connection: u8, switches:
     if n < 8 {
         return Walked {
             outcome: Outcome::Drop {
-                reason: 23,
+                reason: DropReason::CutShort,
                 id: 0,
                 length: 0,
             },
@@ -94,7 +83,7 @@ fn walk_rest(rest: &[u8], place: usize, routes: &[u8], connection: u8, switches:
     if n - 8 < size {
         return Walked {
             outcome: Outcome::Drop {
-                reason: 23,
+                reason: DropReason::CutShort,
                 id: id as u32,
                 length: size as u32,
             },
@@ -106,6 +95,7 @@ fn walk_rest(rest: &[u8], place: usize, routes: &[u8], connection: u8, switches:
 }
 
 // A step at a place of a datagram: the bytes from there on are handed on as the part that starts in the middle.
+#[tactic(auto, using(crate::proofs::Laws::walk_at_end, crate::proofs::Laws::in_the_middle))]
 pub fn walk(datagram: &[u8], place: usize, routes: &[u8], connection: u8, switches: u32) -> Walked
     ensures { result ≡ walked_of datagram.now place routes.now connection switches }
 {

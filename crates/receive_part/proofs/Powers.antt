@@ -1,20 +1,11 @@
--- The room for header bytes as a test, and that there is none past 7.
-use Prim.Native.Nat.{ℕ, ◌+◌, ◌<◌, ◌≤◌, ◌^◌}
+-- The room for header bytes as a test.
+use Prim.Native.Nat.{ℕ, ◌^◌}
 use lib.Dec.{leb, ltb}
 use mathlib.Core.Path.{◌≡◌, refl}
 use mathlib.Core.Bool.{Bool, true, false, cond, ◌&&◌}
-use borrow.Author.Tests.{lt-leb, le-ltb}
+use borrow.Author.Tests.{le-ltb}
 use native.Mathlib.Omega.{arith}
 use Rattle.receive_part.specs.Part.{room_for}
-
--- eight bytes are a whole header: none are held
-pub none_for : (held : ℕ) → 7 < held → 0 ≡ room_for held
-unfolding room_for
-none_for held more = rw (lt-leb held 7 more)
-
--- a number from k on that is not k is from k + 1 on
-pub next_up : (k n : ℕ) → k ≤ n → (n ≡ k → ⊥) → k + 1 ≤ n
-next_up k n least other = omega arith
 
 -- below the room: at most 7 bytes, and a number that fits them
 pub below_room : (held value : ℕ) → ltb value (room_for held) ≡ (leb held 7 && ltb value (256 ^ held))

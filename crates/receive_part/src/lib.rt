@@ -6,7 +6,7 @@ ghost use Rattle.std.specs.Prelude.{◌≡◌};
 ghost use Rattle.receive_part.specs.Part.{shaped, empty_part, transferring, room_for};
 
 // `Header { held: 0, value: 0 }` is a connection that is ready and at a header's first byte.
-#[derive(Clone, Copy)]
+#[derive(Clone, Copy, Debug, PartialEq, Eq)]
 pub enum Part {
     Header { held: u8, value: u64 },
     Payload { route: u8, length: u16, held: u16 },
@@ -15,6 +15,7 @@ pub enum Part {
 }
 
 // What `held` header bytes stay below as a number; 0 where so many cannot be held.
+#[tactic(auto, unfolding(crate::specs::Part::room_for))]
 pub fn room_for(held: u8) -> u64
     ensures { result ≡ room_for held }
 {
@@ -32,16 +33,13 @@ pub fn room_for(held: u8) -> u64
 }
 
 // Whether the receive part has a shape that R2.4 allows.
+#[tactic(auto, using(crate::proofs::Powers::below_room))]
 pub fn is_shaped(part: Part) -> bool
     ensures { result ≡ shaped part }
 {
     match part {
         Part::Header { held, value } => value < room_for(held),
-        Part::Payload {
-            route: _,
-            length,
-            held,
-        } => held < length,
+        Part::Payload { length, held, .. } => held < length,
         Part::Skip(bytes) => 0 < bytes,
         Part::Transfer { route: _, left } => 0 < left,
     }
@@ -51,30 +49,12 @@ pub fn is_shaped(part: Part) -> bool
 pub fn is_empty(part: Part) -> bool
     ensures { result ≡ empty_part part }
 {
-    match part {
-        Part::Header { held, value } => (held == 0) & (value == 0),
-        Part::Payload {
-            route: _,
-            length: _,
-            held: _,
-        } => false,
-        Part::Skip(_) => false,
-        Part::Transfer { route: _, left: _ } => false,
-    }
+    part == Part::Header { held: 0, value: 0 }
 }
 
 // Whether a transfer runs.
 pub fn is_transfer(part: Part) -> bool
     ensures { result ≡ transferring part }
 {
-    match part {
-        Part::Header { held: _, value: _ } => false,
-        Part::Payload {
-            route: _,
-            length: _,
-            held: _,
-        } => false,
-        Part::Skip(_) => false,
-        Part::Transfer { route: _, left: _ } => true,
-    }
+    matches!(part, Part::Transfer { .. })
 }

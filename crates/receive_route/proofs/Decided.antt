@@ -11,11 +11,12 @@ use lib.Dec.{ltb, eqb}
 use Rattle.reading.specs.declared.Decision.{Decision}
 use Rattle.reading.specs.declared.Decision.TheVariants.{Accept, Transfer}
 use Rattle.switches.specs.Switches.{is_on}
+use Rattle.std.proofs.Common.{Some, None}
 use Rattle.lists.proofs.Both.{and_left, and_right, and_both, impossible}
 use Rattle.lists.proofs.Search.{none_bad, found-bad}
 use Rattle.table_rows.specs.declared.RouteRow.{RouteRow}
 use Rattle.table_rows.specs.Rows.{route_in}
-use Rattle.receive_route.specs.Route.{rows_in, counts, passed, row_for, reason_in, reason_of, decision_of, lookup_of}
+use Rattle.receive_route.specs.Route.{rows_in, counts, passed, row_for, row_found, row_decision, decision_at, lookup_of}
 use Rattle.receive_route.specs.Decided.{Bears, Allows, Carries, Decided, allowing, carrying, no_route, off, too_long, Alone, MarkedTcp}
 
 -- the row that the search finds, where it finds one, counts
@@ -47,7 +48,7 @@ module _ (routes : List ℕ) (connection id : ℕ) where
 
 -- WHY A DECISION IS GIVEN
 pub lookup_decided : (routes : List ℕ) (connection switches id n : ℕ) → Decided routes connection switches id n (lookup_of routes connection switches id n)
-unfolding lookup_of decision_of reason_of reason_in
+unfolding lookup_of row_found row_decision
 lookup_decided routes connection switches id n =
     go (row_for routes connection id) (row-bears routes connection id) (none_bears routes connection id)
     (ltb (row_for routes connection id) (rows_in routes)) refl
@@ -57,12 +58,14 @@ lookup_decided routes connection switches id n =
     go : (r : ℕ) → (r < rows_in routes → Bears routes connection id r) → (rows_in routes ≤ r → (j : ℕ) → Bears routes connection id j → ⊥)
         → (a : Bool) → ltb r (rows_in routes) ≡ a → (b : Bool) → is_on (route_in routes r).groups switches ≡ b
         → (m : Bool) → (route_in routes r).transfer ≡ m → (c : Bool) → ltb (route_in routes r).longest n ≡ c
-        → Decided routes connection switches id n (decision_of (cond a (cond (not b) 21 (cond m 1 (cond c 22 0))) 20) r)
+        → Decided routes connection switches id n (decision_at routes switches n (cond a (Some r) None))
     go r k none false ea b eb m em c ec = no_route (none (ltb-false _ _ ea))
-    go r k none true ea false eb m em c ec = off r (k (ltb-true _ _ ea)) eb
-    go r k none true ea true eb true em c ec = carrying r (record { bears = k (ltb-true _ _ ea); on = eb; marked = em })
-    go r k none true ea true eb false em true ec = too_long r (record { bears = k (ltb-true _ _ ea); on = eb; unmarked = em; long = ltb-true _ _ ec })
-    go r k none true ea true eb false em false ec = allowing r (record { bears = k (ltb-true _ _ ea); on = eb; unmarked = em; fits = ltb-false _ _ ec })
+    go r k none true ea false eb m em c ec = rw eb (off r (k (ltb-true _ _ ea)) eb)
+    go r k none true ea true eb true em c ec = rw (eb, em) (carrying r (record { bears = k (ltb-true _ _ ea); on = eb; marked = em }))
+    go r k none true ea true eb false em true ec =
+        rw (eb, em, ec) (too_long r (record { bears = k (ltb-true _ _ ea); on = eb; unmarked = em; long = ltb-true _ _ ec }))
+    go r k none true ea true eb false em false ec =
+        rw (eb, em, ec) (allowing r (record { bears = k (ltb-true _ _ ea); on = eb; unmarked = em; fits = ltb-false _ _ ec }))
 
 pub route-accepted : (routes : List ℕ) (connection switches id length route : ℕ) → lookup_of routes connection switches id length ≡ Accept route
     → Allows routes connection switches id length route

@@ -1,5 +1,6 @@
 -- WHEN EACH DECISION ON A HEADER IS GIVEN (R5.5).
 use Rattle.std.specs.Prelude.{ℕ, ◌<◌, ◌≤◌, ◌≡◌, Bool, true, false, List}
+use Rattle.reading.specs.declared.DropReason.TheVariants.{NoRoute, SwitchedOff, TooLong}
 use Rattle.reading.specs.declared.Decision.{Decision}
 use Rattle.reading.specs.declared.Decision.TheVariants.{Accept, Refuse, Transfer}
 use Rattle.switches.specs.Switches.{is_on}
@@ -38,9 +39,9 @@ module _ (routes : List ℕ) (connection switches id n : ℕ) where
   pub data Decided : Decision → Type 0 where
     allowing : (r : ℕ) → Allows r → Decided (Accept r)
     carrying : (r : ℕ) → Carries r → Decided (Transfer r)
-    no_route : ((r : ℕ) → Bears routes connection id r → ⊥) → Decided (Refuse 20)
-    off : (r : ℕ) → Bears routes connection id r → is_on (route_in routes r).groups switches ≡ false → Decided (Refuse 21)
-    too_long : (r : ℕ) → Exceeds r → Decided (Refuse 22)
+    no_route : ((r : ℕ) → Bears routes connection id r → ⊥) → Decided (Refuse NoRoute)
+    off : (r : ℕ) → Bears routes connection id r → is_on (route_in routes r).groups switches ≡ false → Decided (Refuse SwitchedOff)
+    too_long : (r : ℕ) → Exceeds r → Decided (Refuse TooLong)
 
 -- R1.9: no two receive routes share connection and id, of a body of routes
 abbrev pub Alone : List ℕ → Type 0

@@ -1,5 +1,6 @@
 -- The lookup: what the receive routes of a connection say to a header's id and length.
-use Rattle.std.specs.Prelude.{ℕ, zero, suc, ◌/◌, ◌≤◌, ◌≡◌, Bool, cond, not, ◌&&◌, List, eqb, leb, ltb, length}
+use Rattle.std.specs.Prelude.{ℕ, ◌/◌, ◌≤◌, ◌≡◌, Bool, cond, not, ◌&&◌, List, Option, Some, None, eqb, leb, ltb, length}
+use Rattle.reading.specs.declared.DropReason.TheVariants.{NoRoute, SwitchedOff, TooLong}
 use Rattle.reading.specs.declared.Decision.{Decision}
 use Rattle.reading.specs.declared.Decision.TheVariants.{Accept, Refuse, Transfer}
 use Rattle.reading.specs.Feed.{Routes}
@@ -39,21 +40,21 @@ passed routes connection id i = not (counts (route_in routes i) connection id)
 unfoldable pub row_for : List ℕ → ℕ → ℕ → ℕ
 row_for routes connection id = first_bad (passed routes connection id) (rows_in routes)
 
--- R5.5, the first that applies: 20 no route, 21 switched off, 22 longer than allowed; 0 where none applies. R19.1: a marked row that is on
--- says 1, a transfer, to every length
-unfoldable pub reason_in : RouteRow → ℕ → ℕ → ℕ
-reason_in row switches n = cond (not (is_on row.groups switches)) 21 (cond row.transfer 1 (cond (ltb row.longest n) 22 0))
+-- the first row that counts, where one does
+unfoldable pub row_found : List ℕ → ℕ → ℕ → Option ℕ
+row_found routes connection id = cond (ltb (row_for routes connection id) (rows_in routes)) (Some (row_for routes connection id)) None
 
-unfoldable pub reason_of : List ℕ → ℕ → ℕ → ℕ → ℕ
-reason_of routes i switches n = cond (ltb i (rows_in routes)) (reason_in (route_in routes i) switches n) 20
+-- R5.5, what row i says to a payload of n bytes, the first that applies: 21 switched off, 22 longer than allowed; it is taken where none
+-- applies. R19.1: a marked row that is on says a transfer, to every length
+unfoldable pub row_decision : RouteRow → ℕ → ℕ → ℕ → Decision
+row_decision row i switches n =
+    cond (not (is_on row.groups switches)) (Refuse SwitchedOff) (cond row.transfer (Transfer i) (cond (ltb row.longest n) (Refuse TooLong) (Accept i)))
 
--- the decision on row i at a reason: 0 takes the payload, 1 takes it as a transfer
-unfoldable pub decision_of : ℕ → ℕ → Decision
-decision_of zero i = Accept i
-decision_of (suc zero) i = Transfer i
-decision_of (suc (suc k)) i = Refuse (suc (suc k))
+-- what the row that was found says; 20 where no route is
+abbrev pub decision_at : List ℕ → ℕ → ℕ → Option ℕ → Decision
+decision_at routes switches n (Some i) = row_decision (route_in routes i) i switches n
+decision_at routes switches n None = Refuse NoRoute
 
 -- what the routes of a body say to a header on a connection with these switches
 unfoldable pub lookup_of : List ℕ → ℕ → ℕ → Routes
-lookup_of routes connection switches id n =
-    decision_of (reason_of routes (row_for routes connection id) switches n) (row_for routes connection id)
+lookup_of routes connection switches id n = decision_at routes switches n (row_found routes connection id)

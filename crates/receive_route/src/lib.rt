@@ -5,13 +5,14 @@ ghost use Rattle.std.specs.Prelude.{◌≡◌, ◌≤◌};
 ghost use Rattle.wire.specs.Be.{Little};
 ghost use Rattle.table_rows.specs.Rows.{route_row};
 ghost use Rattle.switches.specs.Switches.{is_on};
-ghost use Rattle.receive_route.specs.Route.{RowsCounted, Key, counts, row_for, reason_in, reason_of, lookup_of};
+ghost use Rattle.receive_route.specs.Route.{RowsCounted, Key, counts, row_for, row_decision, lookup_of};
 
-use reading::Decision;
-use table_rows::{RouteRow, route_in};
+use reading::{Decision, DropReason};
+use table_rows::{RouteRow, row_at};
 use wire::{be8, put32};
 
 // A route or a destination of these groups is on at these switches.
+#[tactic(auto, unfolding(switches::specs::Switches::is_on))]
 pub fn is_on(groups: u32, switches: u32) -> bool
     ensures { result ≡ is_on groups switches }
 {
@@ -19,6 +20,8 @@ pub fn is_on(groups: u32, switches: u32) -> bool
 }
 
 // How many rows there are: 64 at most.
+// Kept: tried, misses the speed bar: with `min` the search below counts each row beside its place, an instruction more for each.
+#[tactic(auto, unfolding(crate::specs::Route::rows_in))]
 fn rows_in(routes: &[u8]) -> usize
     ensures { RowsCounted routes.now result }
 {
@@ -27,6 +30,8 @@ fn rows_in(routes: &[u8]) -> usize
 }
 
 // A row's id as one load reads its bytes, the last the highest: whether two ids are the same, their order does not matter.
+// Kept: no plainer, because the id is compared as it stands in the row: with be32 each row that is passed would swap its bytes.
+#[tactic(auto, using(crate::proofs::Keys::load_is))]
 fn loaded(row: &[u8]) -> usize
     ensures { Little row.now 4 result }
 {
@@ -34,6 +39,7 @@ fn loaded(row: &[u8]) -> usize
 }
 
 // A header's id, written as a row has it and read so.
+#[tactic(auto, using(crate::proofs::Keys::key_is))]
 fn key_of(id: u32) -> usize
     ensures { Key id result }
 {
@@ -43,6 +49,7 @@ fn key_of(id: u32) -> usize
 }
 
 // A row counts for a header: its id and its connection are the header's. The id is read first: it differs more often.
+#[tactic(auto, using(crate::proofs::Laws::read_row))]
 fn row_counts(row: &[u8], connection: u8, id: u32) -> bool
     ensures { result ≡ counts (route_row row.now) connection id }
 {
@@ -50,15 +57,17 @@ fn row_counts(row: &[u8], connection: u8, id: u32) -> bool
 }
 
 // The first row that counts, or the number of rows where there is none: it stops at a hit.
+// Kept: tried, misses the speed bar: with `for` or an Option each row is counted beside its place, an instruction more for each.
+#[tactic(auto, using(crate::proofs::Laws::find_on, crate::proofs::Laws::find_hit, crate::proofs::Laws::find_end))]
 fn find(routes: &[u8], connection: u8, id: u32) -> usize
-    ensures { (result ≡ row_for routes.now connection id) × (result ≤ 64) }
+    ensures is { result ≡ row_for routes.now connection id }
+    ensures small { result ≤ 64 }
 {
     let n = rows_in(routes);
     let end = n * 16;
     let mut at = 0;
     while at < end {
-        let row = &routes[at..at + 16];
-        if row_counts(row, connection, id) {
+        if row_counts(&routes[at..at + 16], connection, id) {
             return at / 16;
         }
         at += 16;
@@ -66,43 +75,33 @@ fn find(routes: &[u8], connection: u8, id: u32) -> usize
     n
 }
 
-// What a row says to a payload: 21 switched off; 1 a transfer, of any length; 22 longer than allowed; 0 taken.
-fn reason_in(row: RouteRow, switches: u32, length: u32) -> u8
-    ensures { result ≡ reason_in row switches length }
+// What row i says to a payload of a length (R5.5, R19.1), the first that applies: switched off; a transfer, of any length; longer than
+// allowed; taken.
+#[tactic(auto, unfolding(crate::specs::Route::row_decision))]
+fn row_decision(row: RouteRow, i: u8, switches: u32, length: u32) -> Decision
+    ensures { result ≡ row_decision row i switches length }
 {
     if !is_on(row.groups, switches) {
-        return 21;
+        return Decision::Refuse(DropReason::SwitchedOff);
     }
     if row.transfer {
-        return 1;
+        return Decision::Transfer(i);
     }
-    if (row.longest as u32) < length {
-        return 22;
+    if u32::from(row.longest) < length {
+        return Decision::Refuse(DropReason::TooLong);
     }
-    0
-}
-
-// What row i says (R5.5, R19.1), and 20 where there is no such row.
-fn reason_of(routes: &[u8], i: usize, switches: u32, length: u32) -> u8
-    ensures { result ≡ reason_of routes.now i switches length }
-{
-    if i < rows_in(routes) {
-        reason_in(route_in(routes, i), switches, length)
-    } else {
-        20
-    }
+    Decision::Accept(i)
 }
 
 // What the routes say: the row's number, of a payload or of a transfer, or the drop reason that applies first.
+#[tactic(auto, using(crate::proofs::Laws::lookup_hit, crate::proofs::Laws::lookup_none))]
 pub fn lookup(routes: &[u8], connection: u8, switches: u32, id: u32, length: u32) -> Decision
     ensures { result ≡ lookup_of routes.now connection switches id length }
 {
-    let route = find(routes, connection, id);
-    let reason = reason_of(routes, route, switches, length);
-    match reason {
-        0 => Decision::Accept(route as u8),
-        1 => Decision::Transfer(route as u8),
-        20..=22 => Decision::Refuse(reason),
-        _ => Decision::Refuse(20),
+    let i = find(routes, connection, id);
+    if i < rows_in(routes) {
+        row_decision(row_at::<RouteRow>(routes, i), i as u8, switches, length)
+    } else {
+        Decision::Refuse(DropReason::NoRoute)
     }
 }

@@ -29,7 +29,7 @@ use Rattle.wire.specs.Lay.{lay}
 use Rattle.wire.proofs.Lay.{lay-fits, lay-own, lay-length}
 use Rattle.receive_stream.specs.declared.Outcome.TheVariants.{More}
 use Rattle.receive_stream.specs.Stream.{cell_of, part_from, held_in, none_held, is_in_segment, wrote, took_of, taken_of, rx_after, payload_at, length_of, Fit}
-use Rattle.receive_stream.proofs.Takes.{header-fit, payload-fit, skip-fit, transfer-fit, accepted-short}
+use Rattle.receive_stream.proofs.Takes.{header_fit, payload_fit, skip_fit, transfer_fit, accepted-short}
 
 -- a law of every byte, and of a piece that its segment cuts off, is a law of a take
 stepwise : (R : Routes) (Q : Cell → Type 0) (S : Out → Cell → Type 0)
@@ -125,15 +125,15 @@ PartHolds P M (Transfer route left) = M route
 module _ (P : ℕ → ℕ → Type 0) (M : ℕ → Type 0) where
   pub part_sane : (routes : List ℕ) (part : Part) (rx : List ℕ) → Fit routes part rx → PartHolds P M part → Sane P M (cell_of part rx)
   part_sane routes (Header held value) rx fit h =
-      let f : (held < 8) × (value < 256 ^ held) = header-fit routes (Header held value) rx fit held value refl in
+      let f : (held < 8) × (value < 256 ^ held) = header_fit routes (Header held value) rx fit held value refl in
       let e : held ≡ 8 - (8 - held) = omega arith in
       (omega arith, omega arith, subst (λ (m : ℕ). value < 256 ^ m) e f.1)
   part_sane routes (Payload route n held) rx fit h =
-      let f : (held < n) × (n ≤ length rx) = payload-fit routes (Payload route n held) rx fit route n held refl in
+      let f : (held < n) × (n ≤ length rx) = payload_fit routes (Payload route n held) rx fit route n held refl in
       let e : n ≡ n - held + length (take held rx) = omega (arith, length-take-le held rx (omega arith)) in
       (omega arith, subst (P route) e h)
-  part_sane routes (Skip n) rx fit h = skip-fit routes (Skip n) rx fit n refl
-  part_sane routes (Transfer route left) rx fit h = (transfer-fit routes (Transfer route left) rx fit route left refl, h)
+  part_sane routes (Skip n) rx fit h = skip_fit routes (Skip n) rx fit n refl
+  part_sane routes (Transfer route left) rx fit h = (transfer_fit routes (Transfer route left) rx fit route left refl, h)
 
   sane_part : (c : Cell) → Sane P M c → PartHolds P M (part_from c)
   sane_part (cell n (header v)) s = tt
@@ -404,11 +404,11 @@ handed-piece routes connection switches part rx segment r p m e =
 -- A TAKE OF NO BYTE reads none, wants more and leaves the part and receive memory as they are
 part_back : (routes : List ℕ) (part : Part) (rx : List ℕ) → Fit routes part rx → part_from (cell_of part rx) ≡ part
 part_back routes (Header held value) rx fit =
-    let f : (held < 8) × (value < 256 ^ held) = header-fit routes (Header held value) rx fit held value refl in
+    let f : (held < 8) × (value < 256 ^ held) = header_fit routes (Header held value) rx fit held value refl in
     let e : 8 - (8 - held) ≡ held = omega arith in
     ap (λ (k : ℕ). Header k value) e
 part_back routes (Payload route n held) rx fit =
-    let f : (held < n) × (n ≤ length rx) = payload-fit routes (Payload route n held) rx fit route n held refl in
+    let f : (held < n) × (n ≤ length rx) = payload_fit routes (Payload route n held) rx fit route n held refl in
     let l : length (take held rx) ≡ held = length-take-le held rx (omega arith) in
     let e : n - held + length (take held rx) ≡ n = omega arith in
     ap₂ (Payload route) e l
@@ -418,7 +418,7 @@ part_back routes (Transfer route left) rx fit = refl
 held-there : (routes : List ℕ) (part : Part) (rx : List ℕ) → Fit routes part rx → lay rx 0 (held_in (cell_of part rx)) ≡ rx
 held-there routes (Header held value) rx fit = lay-fits rx 0 [] (omega arith)
 held-there routes (Payload route n held) rx fit =
-    let f : (held < n) × (n ≤ length rx) = payload-fit routes (Payload route n held) rx fit route n held refl in
+    let f : (held < n) × (n ≤ length rx) = payload_fit routes (Payload route n held) rx fit route n held refl in
     let l : 0 + length (take held rx) ≡ held = omega (arith, length-take-le held rx (omega arith)) in
     lay-fits rx 0 (take held rx) (omega arith) ∙ ap (λ (k : ℕ). take held rx ++ drop k rx) l ∙ take-append-drop held rx
 held-there routes (Skip n) rx fit = lay-fits rx 0 [] (omega arith)

@@ -18,7 +18,7 @@ use Rattle.receive_part.specs.Part.{transferring}
 use Rattle.receive_route.specs.Route.{lookup_of}
 use Rattle.receive_stream.specs.declared.Outcome.TheVariants.{Piece}
 use Rattle.receive_stream.specs.Stream.{cell_of, part_from, is_in_segment, id_of, take_outcome, took_of, taken_of, Fit, runs_after, PieceStands}
-use Rattle.receive_stream.proofs.Takes.{transfer-fit}
+use Rattle.receive_stream.proofs.Takes.{transfer_fit}
 use Rattle.receive_stream.proofs.Leaves.{piece-front}
 
 -- whether a transfer runs after an outcome of the stream
@@ -96,7 +96,7 @@ take_runs : (R : Routes) (routes : List ℕ) (part : Part) (rx segment : List �
 take_runs R routes (Header held value) rx segment fit = outside_runs R (cell_of (Header held value) rx) segment refl
 take_runs R routes (Payload route n held) rx segment fit = outside_runs R (cell_of (Payload route n held) rx) segment refl
 take_runs R routes (Skip n) rx segment fit = outside_runs R (cell_of (Skip n) rx) segment refl
-take_runs R routes (Transfer route left) rx segment fit = inside_runs R left route segment (transfer-fit routes (Transfer route left) rx fit route left refl)
+take_runs R routes (Transfer route left) rx segment fit = inside_runs R left route segment (transfer_fit routes (Transfer route left) rx fit route left refl)
 
 -- A TRANSFER RUNS AFTER A TAKE as its outcome says
 module _ (routes : List ℕ) (connection switches : ℕ) (part : Part) (rx segment : List ℕ) where

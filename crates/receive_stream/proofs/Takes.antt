@@ -8,6 +8,7 @@ use borrow.Author.Tests.{leb-true, ltb-true, ne_eqb}
 use lib.Dec.{leb, ltb, eqb}
 use lib.ListN.{length, take, drop, length-append, length-drop}
 use lib.Seq.{take-length, length-take-le}
+use Rattle.reading.specs.declared.DropReason.{DropReason}
 use Rattle.reading.specs.declared.Decision.TheVariants.{Accept, Refuse, Transfer as Move}
 use Rattle.reading.specs.Feed.{Routes, cell, transfer, header, payload, skip, Took, spelt, take_b, decided, resume}
 use Rattle.reading.proofs.Laws.{spelt-be, rest-whole, rest-short, body-whole, body-short, header-short, header-on, refused_skips}
@@ -41,14 +42,14 @@ lay-front rx held x h =
     ∙ sym (lay-fits rx 0 (take held rx ++ x) (omega arith))
 
 -- a header that stands whole in one piece, read at once
-pub at_once : (value held n a b : ℕ) (bs : List ℕ) → value < 256 ^ held → held + n ≤ 8 → n ≤ length bs → n ≡ 8 → Number 4 bs 0 a → Number 4 bs 4 b
-    → (a * 4294967296 + b ≡ spelt value (take n bs)) × (a * 4294967296 + b < 256 ^ (held + n))
-at_once value held n a b bs small fits there e x y =
+pub at_once : (value held a b : ℕ) (bs : List ℕ) → value < 256 ^ held → held + length bs ≤ 8 → length bs ≡ 8 → Number 4 bs 0 a → Number 4 bs 4 b
+    → (a * 4294967296 + b ≡ spelt value bs) × (a * 4294967296 + b < 256 ^ (held + length bs))
+at_once value held a b bs small fits e x y =
     let h : held ≡ 0 = omega arith in
     let v : value ≡ 0 = omega (arith, subst (λ (k : ℕ). value < 256 ^ k) h small) in
     let w : Number 8 bs 0 (a * 256 ^ 4 + b) = number-join 4 4 x y in
-    let m : 8 ≡ held + n = omega arith in (
-      w.is ∙ omega arith ∙ sym (spelt-be 0 8 bs (omega arith)) ∙ ap₂ (λ (u k : ℕ). spelt u (take k bs)) (sym v) (sym e),
+    let m : 8 ≡ held + length bs = omega arith in (
+      w.is ∙ omega arith ∙ sym (spelt-be 0 8 bs (omega arith)) ∙ ap₂ (λ (u k : ℕ). spelt u (take k bs)) (sym v) (sym e) ∙ ap (spelt value) (take-length bs),
       subst (λ (k : ℕ). a * 4294967296 + b < 256 ^ k) m w.small,
     )
 
@@ -118,21 +119,20 @@ module _ (ids : ℕ → ℕ) where
       subst (λ (s : Bool). Answers ids s total (take_b R (cell (n - h) (payload r (take h rx))) seg) rx t rx') (sym (some-held rx h ne le)) a
 
   -- A HEADER: it does not end here; it ends and is dropped; it ends and is taken
-  pub header-part : (R : Routes) (v h total w : ℕ) (rx seg : List ℕ) → h < 8 → length seg < 8 - h → w ≡ spelt v (take (length seg) seg)
+  pub header-part : (R : Routes) (v h total w : ℕ) (rx seg : List ℕ) → h < 8 → length seg < 8 - h → w ≡ spelt v seg
       → Answers ids true total (take_b R (cell (8 - h) (header v)) seg) rx (taken_as total More (Header (h + length seg) w)) rx
   header-part R v h total w rx seg lt few e =
       let p : total ≡ total - 0 = omega arith in
       let q : h + length seg ≡ 8 - (8 - h - length seg) = omega arith in
-      let u : w ≡ spelt v seg = e ∙ ap (spelt v) (take-length seg) in
       let m : rx ≡ lay rx 0 [] = sym (lay-fits rx 0 [] (omega arith)) in
       move-answer (header-short R v (8 - h) seg few)
-      (record { answer = λ j. taken_as (p j) More (Header (q j) (u j)); memory = m })
+      (record { answer = λ j. taken_as (p j) More (Header (q j) (e j)); memory = m })
 
   skip-part_of : (n : ℕ) → skip_part n ≡ part_from (skip_cell n)
   skip-part_of zero = refl
   skip-part_of (suc n) = refl
 
-  pub header-dropped : (R : Routes) (v n w k i m total : ℕ) (rx seg : List ℕ) (p : Part)
+  pub header-dropped : (R : Routes) (v n w : ℕ) (k : DropReason) (i m total : ℕ) (rx seg : List ℕ) (p : Part)
       → 0 < n → n ≤ length seg → w ≡ spelt v (take n seg) → i ≡ w / 2 ^ 32 → m ≡ w % 2 ^ 32
       → R i m ≡ Refuse k → p ≡ skip_part m
       → Answers ids true total (take_b R (cell n (header v)) seg) rx (taken_as (total - (length seg - n)) (Drop k i m) p) rx
@@ -231,21 +231,21 @@ module _ (routes : List ℕ) (part : Part) (rx : List ℕ) (fit : Fit routes par
   shape_at : {p : Part} → part ≡ p → shaped p ≡ true
   shape_at e = subst (λ (q : Part). shaped q ≡ true) e fit.shape
 
-  pub header-fit : (held value : ℕ) → part ≡ Header held value → (held < 8) × (value < 256 ^ held)
-  header-fit held value e =
+  pub header_fit : (held value : ℕ) → part ≡ Header held value → (held < 8) × (value < 256 ^ held)
+  header_fit held value e =
       let s : (leb held 7 && ltb value (256 ^ held)) ≡ true = shape_at e in
       (omega (arith, leb-true held 7 (and_left _ _ s)), ltb-true value (256 ^ held) (and_right (leb held 7) _ s))
 
-  pub payload-fit : (route n held : ℕ) → part ≡ Payload route n held → (held < n) × (n ≤ length rx)
-  payload-fit route n held e =
+  pub payload_fit : (route n held : ℕ) → part ≡ Payload route n held → (held < n) × (n ≤ length rx)
+  payload_fit route n held e =
       let l : n ≤ 1464 = subst (λ (q : Part). length_of q ≤ 1464) e fit.fits in
       (ltb-true held n (shape_at e), omega (arith, fit.room))
 
-  pub skip-fit : (n : ℕ) → part ≡ Skip n → 0 < n
-  skip-fit n e = ltb-true 0 n (shape_at e)
+  pub skip_fit : (n : ℕ) → part ≡ Skip n → 0 < n
+  skip_fit n e = ltb-true 0 n (shape_at e)
 
-  pub transfer-fit : (route left : ℕ) → part ≡ Transfer route left → 0 < left
-  transfer-fit route left e = ltb-true 0 left (shape_at e)
+  pub transfer_fit : (route left : ℕ) → part ≡ Transfer route left → 0 < left
+  transfer_fit route left e = ltb-true 0 left (shape_at e)
 
 -- an accepted header's length is within the limits, and its id is its route's
 module _ (routes : List ℕ) (connection switches i n r : ℕ) (is : lookup_of routes connection switches i n ≡ Accept r) where

@@ -11,11 +11,11 @@ ghost use Rattle.table_rows.specs.Rows.{route_in};
 ghost use Rattle.receive_stream.specs.Stream.{Fit, Limits, id_of, cell_of, is_in_segment, Answers, skip_part};
 ghost use Rattle.receive_stream.specs.Stream.{move_part, start_taken, piece_taken, taken_of, rx_after, payload_at, payload_place};
 
-use reading::Decision;
+use reading::{Decision, DropReason};
 use receive_part::Part;
 use receive_route::lookup;
 use table_layout::part_of;
-use table_rows::route_in;
+use table_rows::{RouteRow, row_at};
 use wire::{be32, copy_in};
 
 // What a take finds: more is wanted; a PDU, with the place of its payload in the segment or in receive memory; a drop;
@@ -31,7 +31,7 @@ pub enum Outcome {
         length: u16,
     },
     Drop {
-        reason: u8,
+        reason: DropReason,
         id: u32,
         length: u32,
     },
@@ -58,31 +58,29 @@ pub struct Taken {
     pub part: Part,
 }
 
-// The number that n header bytes more stand for, after `held` that stand for `value`.
-fn gather(value: u64, held: usize, bytes: &[u8], n: usize) -> u64
-    requires { (value < 256 ^ held) × (held + n ≤ 8) × (n ≤ length bytes.now) }
-    ensures { (result ≡ spelt value (take n bytes.now)) × (result < 256 ^ (held + n)) }
+// The number that more header bytes stand for, after `held` that stand for `value`.
+fn gather(value: u64, held: usize, bytes: &[u8]) -> u64
+    requires { (value < 256 ^ held) × (held + length bytes.now ≤ 8) }
+    ensures { (result ≡ spelt value bytes.now) × (result < 256 ^ (held + length bytes.now)) }
 {
     let mut w = value;
-    let mut i: usize = 0;
-    while i < n {
-        w = w * 256 + bytes[i] as u64;
-        i += 1;
+    for byte in bytes {
+        w = w * 256 + u64::from(*byte);
     }
     w
 }
 
-// The number of n header bytes behind those held; a header that stands whole in one piece is read at once.
-fn header_number(value: u64, held: usize, bytes: &[u8], n: usize) -> u64
-    requires { (value < 256 ^ held) × (held + n ≤ 8) × (n ≤ length bytes.now) }
-    ensures { (result ≡ spelt value (take n bytes.now)) × (result < 256 ^ (held + n)) }
+// The number of the header bytes behind those held; a header that stands whole in one piece is read at once.
+fn header_number(value: u64, held: usize, bytes: &[u8]) -> u64
+    requires { (value < 256 ^ held) × (held + length bytes.now ≤ 8) }
+    ensures { (result ≡ spelt value bytes.now) × (result < 256 ^ (held + length bytes.now)) }
 {
-    if n == 8 {
+    if bytes.len() == 8 {
         let id = be32(bytes, 0) as u64;
         let size = be32(bytes, 4) as u64;
         return id * 4294967296 + size;
     }
-    gather(value, held, bytes, n)
+    gather(value, held, bytes)
 }
 
 // A payload that begins at the front of `rest`, the last bytes of a segment of `total`.
@@ -168,7 +166,7 @@ fn take_payload(
         → Answers (id_of routes.now) (is_in_segment (cell (size - held) (payload route (take held rx.old)))) (length segment.now)
         (take_b R (cell (size - held) (payload route (take held rx.old))) segment.now) rx.old result rx.new }
 {
-    let row = route_in(routes, route as usize);
+    let row = row_at::<RouteRow>(routes, route as usize);
     if held == 0 {
         return take_body(route, row.id, size, rx, segment, segment.len());
     }
@@ -245,7 +243,7 @@ fn take_piece(routes: &[u8], route: u8, left: u32, segment: &[u8]) -> Taken
             part: Part::Transfer { route, left },
         };
     }
-    let row = route_in(routes, route as usize);
+    let row = row_at::<RouteRow>(routes, route as usize);
     if here < n {
         return piece_before(route, row.id, here, (n - here) as u32);
     }
@@ -272,17 +270,16 @@ fn take_header(
     let had = held as usize;
     let need = 8 - had;
     if here < need {
-        let w = gather(value, had, rest, here);
         return Taken {
             read: total,
             outcome: Outcome::More,
             part: Part::Header {
                 held: held + here as u8,
-                value: w,
+                value: gather(value, had, rest),
             },
         };
     }
-    let w = header_number(value, had, rest, need);
+    let w = header_number(value, had, &rest[..need]);
     let id = (w / 4294967296) as u32;
     let size = (w % 4294967296) as u32;
     match lookup(routes, connection, switches, id, size) {
@@ -335,6 +332,7 @@ fn take_skip(
 }
 
 // A take: up to the end of the segment's first complete PDU, dropped header or transfer's start; or a piece of a running transfer.
+#[tactic(auto, using(crate::proofs::Takes::header_fit, crate::proofs::Takes::payload_fit, crate::proofs::Takes::skip_fit, crate::proofs::Takes::transfer_fit))]
 pub fn take(
     routes: &[u8],
     connection: u8,
@@ -362,15 +360,9 @@ pub fn take(
             route,
             length,
             held,
-        } => {
-            return take_payload(routes, route, length, held, rx, segment);
-        }
-        Part::Skip(n) => {
-            return take_skip(routes, connection, switches, n, rx, segment);
-        }
-        Part::Transfer { route, left } => {
-            return take_piece(routes, route, left, segment);
-        }
+        } => take_payload(routes, route, length, held, rx, segment),
+        Part::Skip(n) => take_skip(routes, connection, switches, n, rx, segment),
+        Part::Transfer { route, left } => take_piece(routes, route, left, segment),
     }
 }
 

@@ -1,5 +1,5 @@
 -- The takes of a recorded answer, one after the other, as a loop over the bytes goes through them.
-use Rattle.std.proofs.Common.{◌≡◌, ℕ, suc, ◌+◌, ◌-◌, ◌<◌, ◌≤◌, Bool, true, false, not, ◌&&◌, eqb, leb, List, length, drop, sym, refl, ap, ◌∙◌, subst, arith}
+use Rattle.std.proofs.Common.{◌≡◌, ℕ, suc, ◌+◌, ◌-◌, ◌≤◌, Bool, true, false, not, ◌&&◌, eqb, leb, List, length, drop, sym, refl, ap, ◌∙◌, subst, arith}
 use Rattle.std.proofs.Common.{length-drop, drop-drop, eq-eqb, ne_eqb, leb-true}
 use native.Mathlib.Decide.{ℕ_discrete}
 use borrow.Author.Tests.{not-true, not-false}
@@ -50,25 +50,22 @@ module _ (count : ℕ) (s : List ℕ) where
           go (no q) = ne_eqb _ _ q ∙ sym (ne_eqb m 0 (λ z. q (omega (arith, z))))
 
   -- .. as the loop knows them: `rest` is lent from the place on
-  module _ (left at needs : ℕ) (rest : List ℕ) (fits : Bool) (l : LeftTo left at) (h : 0 < left) (r : rest ≡ drop at s) (f : fits ≡ take_fits rest)
-      (n : needs ≡ take_needs rest) where
+  module _ (left fewer at needs : ℕ) (rest : List ℕ) (fits : Bool) (l : LeftTo left at) (h : left ≡ suc fewer) (r : rest ≡ drop at s)
+      (f : fits ≡ take_fits rest) (n : needs ≡ take_needs rest) where
     needed : needs ≡ take_needs (drop at s)
     needed = n ∙ ap take_needs r
 
     fine : (fits && leb needs (length rest)) ≡ Fine at needs
     fine = ap (λ (t : Bool). t && leb needs (length rest)) f ∙ ap (λ (x : List ℕ). take_fits x && leb needs (length x)) r
 
-    one_less : left ≡ suc (left - 1)
-    one_less = omega arith
-
-    before : LeftTo (suc (left - 1)) at
-    before = subst (λ (k : ℕ). LeftTo k at) one_less l
+    before : LeftTo (suc fewer) at
+    before = subst (λ (k : ℕ). LeftTo k at) h l
 
     pub takes-refused : not (fits && leb needs (length rest)) ≡ true → false ≡ takes_fit count s
-    takes-refused e = takes-bad (left - 1) at needs before needed (sym fine ∙ not-true _ e)
+    takes-refused e = takes-bad fewer at needs before needed (sym fine ∙ not-true _ e)
 
-    pub takes-next : not (fits && leb needs (length rest)) ≡ false → LeftTo (left - 1) (at + needs)
-    takes-next e = takes-on (left - 1) at needs before needed (sym fine ∙ not-false _ e)
+    pub takes-next : not (fits && leb needs (length rest)) ≡ false → LeftTo fewer (at + needs)
+    takes-next e = takes-on fewer at needs before needed (sym fine ∙ not-false _ e)
 
     pub takes-within : not (fits && leb needs (length rest)) ≡ false → at + needs ≤ length s
     takes-within e = (takes-next e).within

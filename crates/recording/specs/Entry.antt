@@ -1,28 +1,13 @@
 -- ONE ENTRY OF A RECORDING (R17.2): where its event's arguments end and the recorded answer begins, and when its body fits its event
 -- (docs/RECORDING.md, "A body"; docs/EVENTS.md, "The answer").
-use Rattle.std.specs.Prelude.{ℕ, zero, suc, ◌+◌, Bool, true, false, cond, not, ◌&&◌, ◌||◌, List, length, take, drop, ◌==◌, nat_le, nat_lt}
+use Rattle.std.specs.Prelude.{ℕ, zero, suc, ◌+◌, Bool, true, false, cond, not, ◌&&◌, ◌||◌, List, length, take, drop, ◌==◌, nat_le, nat_lt, Result, Ok, Err}
 use Rattle.wire.specs.Be.{be}
 use Rattle.wire.specs.Place.{from_at}
 use Rattle.event_decode.specs.declared.Call.{Call}
-use Rattle.event_decode.specs.declared.Call.TheVariants.{
-  Unknown,
-  Unfit,
-  Ticks,
-  Own,
-  Lost,
-  Segment,
-  Walk,
-  TakeWaiting,
-  Datagram,
-  Accept,
-  Transmit,
-  SwitchAll,
-  ReadCount,
-  ClearCount,
-}
+use Rattle.event_decode.specs.declared.BadCall.{BadCall}
 use Rattle.event_decode.specs.Calls.{call_of}
 use Rattle.recording.specs.declared.Fault.{Fault}
-use Rattle.recording.specs.declared.Fault.TheVariants.{Nothing, FarStamp, NoEvent, ZeroField, Misfit}
+use Rattle.recording.specs.declared.Fault.TheVariants.{FarStamp, NoEvent, ZeroField, Misfit}
 use Rattle.recording.specs.Recording.{number_in, zero_in}
 
 -- the events of a recording: 1 to 16
@@ -55,21 +40,9 @@ abbrev pub answer_begins : ℕ → List ℕ → ℕ
 answer_begins n b = from_at b (arguments_long n b)
 
 -- arguments that fit spell an event
-unfoldable pub is_spelt : Call → Bool
-is_spelt Unknown = false
-is_spelt Unfit = false
-is_spelt (Ticks n) = true
-is_spelt (Own c e) = true
-is_spelt (Lost c) = true
-is_spelt (Segment c at) = true
-is_spelt (Walk c place at) = true
-is_spelt (TakeWaiting c n) = true
-is_spelt (Datagram group source) = true
-is_spelt (Accept group source) = true
-is_spelt (Transmit pdu at) = true
-is_spelt (SwitchAll number on) = true
-is_spelt (ReadCount protocol) = true
-is_spelt (ClearCount protocol) = true
+unfoldable pub is_spelt : Result Call BadCall → Bool
+is_spelt (Ok call) = true
+is_spelt (Err bad) = false
 
 -- one take: "bytes read (4), kind (1: 0 more wanted, 1 PDU, 2 drop, 3 start, 4 piece, 5 last piece), route or reason (1), id (4), length
 -- (4)": which kinds there are, and of a PDU which marks (R19.2, R19.3)
@@ -130,10 +103,10 @@ body_fits n b = is_spelt (call_of n (arguments_in n b)) && answer_fits n (answer
 
 -- WHY AN ENTRY IS REFUSED, in this order: "A distance above 65,535, .. an unknown event number, a zero field that isn't 0 or a body that
 -- doesn't fit its event"
-unfoldable pub fault_of : ℕ → List ℕ → List ℕ → Fault
+unfoldable pub fault_of : ℕ → List ℕ → List ℕ → Result Unit Fault
 fault_of distance row body =
-    cond (nat_lt 65535 distance) FarStamp
-    (cond (not (is_recorded (number_in row))) NoEvent
-    (cond (not (zero_in row == 0)) ZeroField
-    (cond (not (body_fits (number_in row) body)) Misfit
-    Nothing)))
+    cond (nat_lt 65535 distance) (Err FarStamp)
+    (cond (not (is_recorded (number_in row))) (Err NoEvent)
+    (cond (not (zero_in row == 0)) (Err ZeroField)
+    (cond (not (body_fits (number_in row) body)) (Err Misfit)
+    (Ok tt))))

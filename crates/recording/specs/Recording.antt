@@ -1,11 +1,11 @@
 -- THE RECORDING OF A SHIFT (R17.1; docs/RECORDING.md): its front, its contents rows, the distance between two stamps, and what is
 -- judged by the contents alone.
-use Rattle.std.specs.Prelude.{ℕ, ◌+◌, ◌-◌, ◌*◌, ◌%◌, Bool, cond, not, List, length, ◌==◌, nat_le, nat_lt}
+use Rattle.std.specs.Prelude.{ℕ, ◌+◌, ◌-◌, ◌*◌, ◌%◌, Bool, cond, not, List, length, ◌==◌, nat_le, nat_lt, Result, Ok, Err}
 use Rattle.wire.specs.Be.{be}
 use Rattle.table_layout.specs.Layout.{part_of, part_at}
 use Rattle.lists.specs.Search.{first_bad}
-use Rattle.recording.specs.declared.Front.{Front}
-use Rattle.recording.specs.declared.Front.TheVariants.{Contents, Edition, Many, Long, Sized}
+use Rattle.recording.specs.declared.Unreadable.{Unreadable}
+use Rattle.recording.specs.declared.Unreadable.TheVariants.{Contents, Edition, Many, Long}
 
 -- "edition 1 (2 bytes) and the number of entries (2)"
 abbrev pub edition_in : List ℕ → ℕ
@@ -62,12 +62,12 @@ abbrev pub first_long : List ℕ → ℕ → ℕ
 first_long r entries = first_bad (body_short r) entries
 
 -- WHAT THE CONTENTS SHOW, before anything is run: cut off in them; another edition; more entries, or a longer body, than are allowed
-unfoldable pub sized_of : List ℕ → ℕ → Front
+unfoldable pub sized_of : List ℕ → ℕ → Result Unit Unreadable
 sized_of r entries =
-    cond (nat_lt (length r) (contents_to entries)) Contents
-    (cond (nat_lt most_entries entries) Many
-    (cond (nat_lt (first_long r entries) entries) (Long (first_long r entries))
-    Sized))
+    cond (nat_lt (length r) (contents_to entries)) (Err Contents)
+    (cond (nat_lt most_entries entries) (Err Many)
+    (cond (nat_lt (first_long r entries) entries) (Err (Long (first_long r entries)))
+    (Ok tt)))
 
-unfoldable pub shown_by : List ℕ → Front
-shown_by r = cond (nat_lt (length r) 2) Contents (cond (not (edition_in r == 1)) Edition (sized_of r (entries_in r)))
+unfoldable pub shown_by : List ℕ → Result Unit Unreadable
+shown_by r = cond (nat_lt (length r) 2) (Err Contents) (cond (not (edition_in r == 1)) (Err Edition) (sized_of r (entries_in r)))

@@ -2,32 +2,30 @@
 // fits its event. Every function is total.
 #![tactic(auto)]
 
-ghost use Rattle.std.specs.Prelude.{◌≡◌, take};
+ghost use Rattle.std.specs.Prelude.{◌≡◌, ◌<◌, ◌≤◌, take, MatchOption};
 ghost use Rattle.wire.specs.Place.{behind};
 ghost use Rattle.lists.specs.Search.{first_bad};
 ghost use Rattle.recording.specs.Recording as Is;
 ghost use Rattle.recording.specs.Entry as Of;
 
-use event_decode::{Call, bytes_from, call_of};
+use event_decode::{bytes_from, call_of};
 use pieces::front;
 use table_layout::part_of;
 use wire::{be8, be16, be32};
 
-// What the contents show before anything is run: they are cut off; another edition; more than 4,000 entries; the first entry whose
-// body is longer than 4,096 bytes, from 0; or none of these.
-#[derive(Clone, Copy)]
-pub enum Front {
+// Why nothing of a recording is run, by its contents: they are cut off; another edition; more than 4,000 entries; the first entry whose
+// body is longer than 4,096 bytes, from 0.
+#[derive(Clone, Copy, Debug, PartialEq, Eq)]
+pub enum Unreadable {
     Contents,
     Edition,
     Many,
     Long(u16),
-    Sized,
 }
 
 // Why an entry is refused.
-#[derive(Clone, Copy)]
+#[derive(Clone, Copy, Debug, PartialEq, Eq)]
 pub enum Fault {
-    Nothing,
     FarStamp,
     NoEvent,
     ZeroField,
@@ -50,6 +48,7 @@ pub fn stamp_in(row: &[u8]) -> u32
 }
 
 // So many ticks after the stamp before, across the wrap.
+#[tactic(auto, unfolding(crate::specs::Recording::distance_in))]
 pub fn distance(before: u32, stamp: u32) -> u32
     ensures { result ≡ Is.distance_in Is.stamps before stamp }
 {
@@ -62,44 +61,45 @@ fn is_short(recording: &[u8], i: u16) -> bool
     be32(entry_row(recording, i), 8) <= 4096
 }
 
-fn first_long(recording: &[u8], entries: u16) -> u16
-    ensures { result ≡ first_bad (Is.body_short recording.now) entries }
+// The first entry whose body is too long.
+fn first_long(recording: &[u8], entries: u16) -> Option<u16>
+    ensures { MatchOption result (entries ≤ Is.first_long recording.now entries)
+        (λ i. (i < entries) × (i ≡ Is.first_long recording.now entries)) }
 {
-    let mut i: u16 = 0;
-    while i < entries {
+    for i in 0..entries {
         if !is_short(recording, i) {
-            return i;
+            return Some(i);
         }
-        i += 1;
     }
-    i
+    None
 }
 
 // Whether the recording is longer than the contents of so many entries and no longer than is allowed.
-fn sized(recording: &[u8], entries: u16) -> Front
+#[tactic(auto, unfolding(crate::specs::Recording::sized_of))]
+fn sized(recording: &[u8], entries: u16) -> Result<(), Unreadable>
     ensures { result ≡ Is.sized_of recording.now entries }
 {
     if recording.len() < 4 + entries as usize * 12 {
-        return Front::Contents;
+        return Err(Unreadable::Contents);
     }
     if 4000 < entries {
-        return Front::Many;
+        return Err(Unreadable::Many);
     }
-    let long = first_long(recording, entries);
-    if long < entries {
-        return Front::Long(long);
+    if let Some(long) = first_long(recording, entries) {
+        return Err(Unreadable::Long(long));
     }
-    Front::Sized
+    Ok(())
 }
 
-pub fn front_of(recording: &[u8]) -> Front
+#[tactic(auto, unfolding(crate::specs::Recording::shown_by))]
+pub fn front_of(recording: &[u8]) -> Result<(), Unreadable>
     ensures { result ≡ Is.shown_by recording.now }
 {
     if recording.len() < 2 {
-        return Front::Contents;
+        return Err(Unreadable::Contents);
     }
     if be16(recording, 0) != 1 {
-        return Front::Edition;
+        return Err(Unreadable::Edition);
     }
     sized(recording, entries_in(recording))
 }
@@ -113,6 +113,7 @@ pub fn entries_in(recording: &[u8]) -> u16
 // ---- a body
 
 // Where the arguments end.
+#[tactic(auto, unfolding(crate::specs::Entry::arguments_long))]
 fn arguments_long(number: u16, body: &[u8]) -> usize
     ensures { result ≡ Of.arguments_long number body.now }
 {
@@ -144,48 +145,9 @@ pub fn answer_in(number: u16, body: &[u8]) -> &[u8]
     bytes_from(body, arguments_long(number, body))
 }
 
-fn is_spelt(call: Call) -> bool
-    ensures { result ≡ Of.is_spelt call }
-{
-    match call {
-        Call::Unknown => false,
-        Call::Unfit => false,
-        Call::Ticks(_) => true,
-        Call::Own {
-            connection: _,
-            event: _,
-        } => true,
-        Call::Lost(_) => true,
-        Call::Segment {
-            connection: _,
-            at: _,
-        } => true,
-        Call::Walk {
-            connection: _,
-            place: _,
-            at: _,
-        } => true,
-        Call::TakeWaiting {
-            connection: _,
-            room: _,
-        } => true,
-        Call::Datagram {
-            group: _,
-            source: _,
-        } => true,
-        Call::Accept {
-            group: _,
-            source: _,
-        } => true,
-        Call::Transmit { pdu: _, at: _ } => true,
-        Call::SwitchAll { number: _, on: _ } => true,
-        Call::ReadCount(_) => true,
-        Call::ClearCount(_) => true,
-    }
-}
-
 // ---- a recorded answer
 
+#[tactic(auto, unfolding(crate::specs::Entry::take_fits))]
 fn take_fits(s: &[u8]) -> bool
     ensures { result ≡ Of.take_fits s.now }
 {
@@ -197,26 +159,27 @@ fn take_fits(s: &[u8]) -> bool
 }
 
 // Where the payload of a PDU stood: a place in the segment, or its bytes.
+#[tactic(auto, unfolding(crate::specs::Entry::pdu_needs))]
 fn pdu_needs(s: &[u8]) -> usize
     ensures { result ≡ Of.pdu_needs s.now }
 {
     if be8(s, 14) == 0 {
-        return 19;
+        19
+    } else {
+        be32(s, 10) + 15
     }
-    be32(s, 10) + 15
 }
 
 // A piece has its place.
+#[tactic(auto, unfolding(crate::specs::Entry::other_needs))]
 fn other_needs(kind: usize) -> usize
     ensures { result ≡ Of.other_needs kind }
 {
-    if (kind == 4) | (kind == 5) {
-        return 18;
-    }
-    14
+    if matches!(kind, 4 | 5) { 18 } else { 14 }
 }
 
 // The bytes that a take has in an answer.
+#[tactic(auto, unfolding(crate::specs::Entry::take_needs))]
 pub fn take_needs(s: &[u8]) -> usize
     ensures { result ≡ Of.take_needs s.now }
 {
@@ -230,26 +193,26 @@ pub fn take_needs(s: &[u8]) -> usize
 fn takes_fit(count: u16, s: &[u8]) -> bool
     ensures { result ≡ Of.takes_fit count s.now }
 {
-    let mut left = count;
     let mut at: usize = 0;
-    while 0 < left {
+    for _i in 0..count {
         let rest = bytes_from(s, at);
         let needs = take_needs(rest);
         if !(take_fits(rest) & (needs <= rest.len())) {
             return false;
         }
         at += needs;
-        left -= 1;
     }
     at == s.len()
 }
 
+#[tactic(auto, unfolding(crate::specs::Entry::segment_fits))]
 fn segment_fits(answer: &[u8]) -> bool
     ensures { result ≡ Of.segment_fits answer.now }
 {
     (4 <= answer.len()) & takes_fit(be16(answer, 2) as u16, bytes_from(answer, 4))
 }
 
+#[tactic(auto, unfolding(crate::specs::Entry::step_fits))]
 fn step_fits(answer: &[u8]) -> bool
     ensures { result ≡ Of.step_fits answer.now }
 {
@@ -266,6 +229,7 @@ fn waiting_fits(answer: &[u8]) -> bool
     be32(answer, 2) + 25 == answer.len()
 }
 
+#[tactic(auto, unfolding(crate::specs::Entry::done_long))]
 fn done_long(number: u16) -> usize
     ensures { result ≡ Of.done_long number }
 {
@@ -279,6 +243,7 @@ fn done_long(number: u16) -> usize
     }
 }
 
+#[tactic(auto, unfolding(crate::specs::Entry::done_fits))]
 fn done_fits(number: u16, answer: &[u8]) -> bool
     ensures { result ≡ Of.done_fits number answer.now }
 {
@@ -290,6 +255,7 @@ fn done_fits(number: u16, answer: &[u8]) -> bool
     }
 }
 
+#[tactic(auto, unfolding(crate::specs::Entry::answer_fits))]
 fn answer_fits(number: u16, answer: &[u8]) -> bool
     ensures { result ≡ Of.answer_fits number answer.now }
 {
@@ -299,10 +265,11 @@ fn answer_fits(number: u16, answer: &[u8]) -> bool
     answer.len() == 6
 }
 
+#[tactic(auto, unfolding(crate::specs::Entry::body_fits, crate::specs::Entry::is_spelt))]
 fn body_fits(number: u16, body: &[u8]) -> bool
     ensures { result ≡ Of.body_fits number body.now }
 {
-    is_spelt(call_of(number, arguments_in(number, body)))
+    call_of(number, arguments_in(number, body)).is_ok()
         & answer_fits(number, answer_in(number, body))
 }
 
@@ -326,21 +293,22 @@ fn is_recorded(number: u16) -> bool
     (0 < number) & (number <= 16)
 }
 
-pub fn fault_of(distance: u32, row: &[u8], body: &[u8]) -> Fault
+#[tactic(auto, unfolding(crate::specs::Entry::fault_of))]
+pub fn fault_of(distance: u32, row: &[u8], body: &[u8]) -> Result<(), Fault>
     ensures { result ≡ Of.fault_of distance row.now body.now }
 {
     if 65535 < distance {
-        return Fault::FarStamp;
+        return Err(Fault::FarStamp);
     }
     let number = number_in(row);
     if !is_recorded(number) {
-        return Fault::NoEvent;
+        return Err(Fault::NoEvent);
     }
     if be16(row, 6) != 0 {
-        return Fault::ZeroField;
+        return Err(Fault::ZeroField);
     }
     if !body_fits(number, body) {
-        return Fault::Misfit;
+        return Err(Fault::Misfit);
     }
-    Fault::Nothing
+    Ok(())
 }

@@ -10,14 +10,15 @@ use Rattle.state.specs.declared.State.{State}
 use Rattle.gate.specs.Lent.{Loan, loan, lent_by}
 use Rattle.entry_ticks.specs.declared.Ticked.{Ticked}
 use Rattle.entry_ticks.specs.Tick.{ticks_event}
-use Rattle.event_answer.specs.declared.Dispatched.{Dispatched}
-use Rattle.event_answer.specs.Answers.{Effect, dispatched, room}
+use Rattle.event_answer.specs.Answers.{Effect, Verdict, room}
 use Rattle.dispatch.specs.Dispatch.{dispatch_of}
 use Rattle.recording.specs.declared.Fault.{Fault}
 use Rattle.recording.specs.Recording.{stamp_in, number_in, body_long, distance_in, stamps}
 use Rattle.recording.specs.Entry.{arguments_in, answer_in, fault_of}
-use Rattle.replay_step.specs.declared.Played.{Played}
-use Rattle.replay_step.specs.declared.Played.TheVariants.{Small, Cut}
+use Rattle.std.proofs.Common.{Result}
+use Rattle.replay_step.specs.declared.Unplayed.{Unplayed}
+use Rattle.replay_step.specs.declared.Unplayed.TheVariants.{Small, Cut}
+use Rattle.replay_step.specs.declared.Compared.{Compared}
 use Rattle.replay_step.specs.declared.Step.{Step}
 use Rattle.replay_step.specs.Step.{Stepped, step_given, played_by, unplayed, then_happens, unless_fault, entered, entry_step}
 
@@ -35,32 +36,33 @@ module _ (image : List ℕ) (s : State) (rx tx out : List ℕ) (count number : �
   abbrev did_by : Effect
   did_by = dispatch_of (loan image (ticks_event (lent_by image s rx tx) count).state rx tx) out number (arguments_in number body)
 
-  pub happens_so : (t : Ticked) (given : List ℕ) (d : Dispatched) (answer : List ℕ) (p : Played) (rx' tx' out' : List ℕ)
+  pub happens_so : (t : Ticked) (given answer rx' tx' out' : List ℕ) {st : State} {v : Verdict} {p : Result Compared Unplayed}
       → t ≡ ticks_event (lent_by image s rx tx) count
       → given ≡ arguments_in number body
-      → d ≡ dispatched (dispatch_of (loan image t.state rx tx) out number given)
+      → st ≡ (dispatch_of (loan image t.state rx tx) out number given).state
+      → v ≡ (dispatch_of (loan image t.state rx tx) out number given).verdict
       → rx' ≡ (dispatch_of (loan image t.state rx tx) out number given).rx
       → tx' ≡ (dispatch_of (loan image t.state rx tx) out number given).tx
       → out' ≡ (dispatch_of (loan image t.state rx tx) out number given).out
       → answer ≡ answer_in number body
-      → p ≡ played_by d.verdict out' answer
-      → Leaves (record { played = p; state = d.state }) rx' tx' out' (then_happens lent out count number body)
-  happens_so t given d answer p rx' tx' out' ticks arguments did left sent told recorded compared =
+      → p ≡ played_by v out' answer
+      → Leaves (record { played = p; state = st }) rx' tx' out' (then_happens lent out count number body)
+  happens_so t given answer rx' tx' out' {st} {v} {p} ticks arguments becomes says left sent told recorded compared =
       let e : dispatch_of (loan image t.state rx tx) out number given ≡ did_by =
       ap₂ (λ (x : Ticked) (g : List ℕ). dispatch_of (loan image x.state rx tx) out number g) ticks arguments in
-      let v : d ≡ dispatched did_by = did ∙ ap dispatched e in
       let o : out' ≡ did_by.out = told ∙ ap (λ (x : Effect). x.out) e in
       let q : p ≡ played_by did_by.verdict did_by.out (answer_in number body) =
-      compared ∙ ap₂ (λ (x : Dispatched) (y : List ℕ). played_by x.verdict y answer) v o
+      compared ∙ ap₂ (λ (x : Verdict) (y : List ℕ). played_by x y answer) (says ∙ ap (λ (x : Effect). x.verdict) e) o
       ∙ ap (λ (y : List ℕ). played_by did_by.verdict did_by.out y) recorded in (
-        ap₂ (λ (x : Played) (y : Dispatched). record { played = x; state = y.state }) q v,
+        ap₂ (λ (x : Result Compared Unplayed) (y : State). record { played = x; state = y }) q (becomes ∙ ap (λ (x : Effect). x.state) e),
         (left ∙ ap (λ (x : Effect). x.rx) e, (sent ∙ ap (λ (x : Effect). x.tx) e, o)),
       )
 
 -- the tests before them
 module _ (l : Loan) (out : List ℕ) (before : ℕ) (row rest : List ℕ) where
   -- an entry that is there
-  pub step-entered : (long stamp distance number : ℕ) (body : List ℕ) (fault : Fault) → room ≤ length out → long ≡ body_long row → long ≤ length rest
+  pub step-entered : (long stamp distance number : ℕ) (body : List ℕ) (fault : Result Unit Fault)
+      → room ≤ length out → long ≡ body_long row → long ≤ length rest
       → body ≡ take long rest → stamp ≡ stamp_in row → distance ≡ distance_in stamps before stamp → fault ≡ fault_of distance row body → number ≡ number_in row
       → unless_fault l out fault distance number body ≡ entry_step l out before row rest
   unfolding entry_step entered
@@ -69,7 +71,7 @@ module _ (l : Loan) (out : List ℕ) (before : ℕ) (row rest : List ℕ) where
       let bb : body ≡ take (body_long row) rest = b ∙ ap (λ (x : ℕ). take x rest) n in
       let fb : fault ≡ fault_of (distance_in stamps before (stamp_in row)) row (take (body_long row) rest) =
       f ∙ ap₂ (λ (x : ℕ) (y : List ℕ). fault_of x row y) db bb in
-      ap₂ (λ (x : Fault) (y : ℕ). unless_fault l out x y number body) fb db
+      ap₂ (λ (x : Result Unit Fault) (y : ℕ). unless_fault l out x y number body) fb db
       ∙ ap₂ (λ (x : ℕ) (y : List ℕ). unless_fault l out (fault_of (distance_in stamps before (stamp_in row)) row (take (body_long row) rest))
       (distance_in stamps before (stamp_in row)) x y) k bb
       ∙ sym

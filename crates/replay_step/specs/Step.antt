@@ -1,19 +1,21 @@
 -- ONE ENTRY REPLAYED (R17.3): the tests in their order, then the ticks since the stamp before, then the event, whose answer is compared
 -- with the recorded one, all bytes.
-use Rattle.std.specs.Prelude.{ℕ, Bool, true, false, cond, ◌&&◌, List, [], ◌∷◌, eqb, ltb, length, take}
+use Rattle.std.specs.Prelude.{ℕ, Bool, true, false, cond, ◌&&◌, List, [], ◌∷◌, eqb, ltb, length, take, Result, Ok, Err}
 use Rattle.state.specs.declared.State.{State}
 use Rattle.gate.specs.Lent.{Loan, loan, sizes}
 use Rattle.entry_ticks.specs.Tick.{ticks_event}
-use Rattle.event_answer.specs.declared.Verdict.{Verdict}
-use Rattle.event_answer.specs.declared.Verdict.TheVariants as Said
-use Rattle.event_answer.specs.Answers.{Effect, room}
+use Rattle.event_answer.specs.declared.NoAnswer.{NoAnswer}
+use Rattle.event_answer.specs.declared.NoAnswer.TheVariants as Said
+use Rattle.event_answer.specs.Answers.{Verdict, Effect, room}
 use Rattle.dispatch.specs.Dispatch.{dispatch_of}
 use Rattle.recording.specs.declared.Fault.{Fault}
-use Rattle.recording.specs.declared.Fault.TheVariants.{Nothing, FarStamp, NoEvent, ZeroField, Misfit}
+use Rattle.recording.specs.declared.Fault.TheVariants.{NoEvent, Misfit}
 use Rattle.recording.specs.Recording.{stamp_in, number_in, body_long, distance_in, stamps}
 use Rattle.recording.specs.Entry.{arguments_in, answer_in, fault_of}
-use Rattle.replay_step.specs.declared.Played.{Played}
-use Rattle.replay_step.specs.declared.Played.TheVariants.{Small, Cut, Refused, Same, Differs}
+use Rattle.replay_step.specs.declared.Unplayed.{Unplayed}
+use Rattle.replay_step.specs.declared.Unplayed.TheVariants.{Small, Cut, Refused}
+use Rattle.replay_step.specs.declared.Compared.{Compared}
+use Rattle.replay_step.specs.declared.Compared.TheVariants.{Same, Differs}
 use Rattle.replay_step.specs.declared.Step.{Step}
 
 -- two answers, byte by byte
@@ -25,7 +27,7 @@ same_bytes (x ∷ xs) (y ∷ ys) = eqb x y && same_bytes xs ys
 
 -- WHAT A STEP LEAVES: what became of the entry, the state, both lent memories, and the out buffer
 pub record Stepped : Type 0 where
-  pub played : Played
+  pub played : Result Compared Unplayed
   pub state : State
   pub rx : List ℕ
   pub tx : List ℕ
@@ -35,13 +37,16 @@ pub record Stepped : Type 0 where
 abbrev pub step_given : Stepped → Step
 step_given s = record { played = s.played; state = s.state }
 
--- today's answer, n bytes at the front of the out buffer, beside the recorded one; the other three do not come, for the entry fits and
--- the out buffer has the room (theorem_replay/proofs/Step `step-answers`)
-unfoldable pub played_by : Verdict → List ℕ → List ℕ → Played
-played_by (Said.Done n) out answer = cond (same_bytes (take n out) answer) (Same n) (Differs n)
-played_by Said.Unknown out answer = Refused NoEvent
-played_by Said.Unfit out answer = Refused Misfit
-played_by Said.Small out answer = Small
+-- an event that has no answer; these do not come, for the entry fits and the out buffer has the room (theorem_replay/proofs/Step `step-answers`)
+abbrev pub unanswered : NoAnswer → Unplayed
+unanswered Said.Unknown = Refused NoEvent
+unanswered Said.Unfit = Refused Misfit
+unanswered Said.Small = Small
+
+-- today's answer, n bytes at the front of the out buffer, beside the recorded one
+unfoldable pub played_by : Verdict → List ℕ → List ℕ → Result Compared Unplayed
+played_by (Ok n) out answer = cond (same_bytes (take n out) answer) (Ok (Same n)) (Ok (Differs n))
+played_by (Err why) out answer = Err (unanswered why)
 
 -- an event of the dispatcher, beside its recorded answer
 abbrev pub told_beside : List ℕ → Effect → Stepped
@@ -50,8 +55,8 @@ told_beside answer e =
 
 module _ (l : Loan) (out : List ℕ) where
   -- nothing of the entry is run
-  abbrev pub unplayed : Played → Stepped
-  unplayed p = record { played = p; state = l.state; rx = l.rx; tx = l.tx; out = out }
+  abbrev pub unplayed : Unplayed → Stepped
+  unplayed why = record { played = Err why; state = l.state; rx = l.rx; tx = l.tx; out = out }
 
   -- "that many ticks are run between entries"
   abbrev pub ticked_by : ℕ → Loan
@@ -62,12 +67,9 @@ module _ (l : Loan) (out : List ℕ) where
   then_happens ticks number body = told_beside (answer_in number body) (dispatch_of (ticked_by ticks) out number (arguments_in number body))
 
   -- "its ticks not": a refused entry leaves everything
-  unfoldable pub unless_fault : Fault → ℕ → ℕ → List ℕ → Stepped
-  unless_fault Nothing ticks number body = then_happens ticks number body
-  unless_fault FarStamp ticks number body = unplayed (Refused FarStamp)
-  unless_fault NoEvent ticks number body = unplayed (Refused NoEvent)
-  unless_fault ZeroField ticks number body = unplayed (Refused ZeroField)
-  unless_fault Misfit ticks number body = unplayed (Refused Misfit)
+  unfoldable pub unless_fault : Result Unit Fault → ℕ → ℕ → List ℕ → Stepped
+  unless_fault (Ok tt) ticks number body = then_happens ticks number body
+  unless_fault (Err fault) ticks number body = unplayed (Refused fault)
 
   -- an entry whose body is there whole
   unfoldable pub entered : ℕ → List ℕ → List ℕ → Stepped

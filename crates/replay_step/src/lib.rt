@@ -8,60 +8,60 @@ ghost use Rattle.replay_step.specs.Step as Is;
 
 use dispatch::dispatch;
 use entry_ticks::ticks_by;
-use event_answer::Verdict;
+use event_answer::NoAnswer;
 use pieces::front;
 use recording::{
     Fault, answer_in, arguments_in, body_long, distance, fault_of, number_in, stamp_in,
 };
 use state::State;
 
-// What became of an entry: the out buffer is shorter than 16,384 bytes; its body is cut off; it is refused; or it was run, and today's
-// answer, so many bytes at the front of the out buffer, is the recorded one or another.
-#[derive(Clone, Copy)]
-pub enum Played {
+// Why an entry was not run: the out buffer is shorter than 16,384 bytes; its body is cut off; it is refused.
+#[derive(Clone, Copy, Debug, PartialEq, Eq)]
+pub enum Unplayed {
     Small,
     Cut,
     Refused(Fault),
+}
+
+// Today's answer of an entry that was run, so many bytes at the front of the out buffer: the recorded one or another.
+#[derive(Clone, Copy, Debug, PartialEq, Eq)]
+pub enum Compared {
     Same(usize),
     Differs(usize),
 }
 
+// The state after an entry, and what became of it.
 #[derive(Clone, Copy)]
 pub struct Step {
     pub state: State,
-    pub played: Played,
+    pub played: Result<Compared, Unplayed>,
 }
 
 pub fn same_bytes(a: &[u8], b: &[u8]) -> bool
     ensures { result ≡ Is.same_bytes a.now b.now }
 {
-    if a.len() != b.len() {
-        return false;
-    }
-    let mut i: usize = 0;
-    while i < a.len() {
-        if a[i] != b[i] {
-            return false;
-        }
-        i += 1;
-    }
-    true
+    a == b
 }
 
-fn played_by(verdict: Verdict, out: &[u8], answer: &[u8]) -> Played
-    ensures { result ≡ Is.played_by verdict out.now answer.now }
+// Today's answer, n bytes at the front of the out buffer, beside the recorded one.
+#[tactic(auto, unfolding(crate::specs::Step::played_by))]
+fn beside(n: usize, out: &[u8], answer: &[u8]) -> Compared
+    ensures { Ok result ≡ Is.played_by (Ok n) out.now answer.now }
 {
-    match verdict {
-        Verdict::Done(n) => {
-            if same_bytes(front(out, n), answer) {
-                Played::Same(n)
-            } else {
-                Played::Differs(n)
-            }
-        }
-        Verdict::Unknown => Played::Refused(Fault::NoEvent),
-        Verdict::Unfit => Played::Refused(Fault::Misfit),
-        Verdict::Small => Played::Small,
+    if same_bytes(front(out, n), answer) {
+        Compared::Same(n)
+    } else {
+        Compared::Differs(n)
+    }
+}
+
+fn unanswered(why: NoAnswer) -> Unplayed
+    ensures { result ≡ Is.unanswered why }
+{
+    match why {
+        NoAnswer::Unknown => Unplayed::Refused(Fault::NoEvent),
+        NoAnswer::Unfit => Unplayed::Refused(Fault::Misfit),
+        NoAnswer::Small => Unplayed::Small,
     }
 }
 
@@ -86,31 +86,23 @@ fn happen(
         ≡ (Is.then_happens (loan image.now state rx.old tx.old) out.old count number body.now).out }
 {
     let later = ticks_by(image, state, rx.len(), tx.len(), count);
-    let before = later.state;
-    let done = dispatch(
-        image,
-        before,
-        rx,
-        tx,
-        number,
-        arguments_in(number, body),
-        out,
-    );
-    let verdict = done.verdict;
-    let after = done.state;
-    let played = played_by(verdict, out, answer_in(number, body));
-    Step {
-        played: played,
-        state: after,
+    let given = arguments_in(number, body);
+    match dispatch(image, later.state, rx, tx, number, given, out) {
+        Ok(done) => Step {
+            played: Ok(beside(done.length, out, answer_in(number, body))),
+            state: done.state,
+        },
+        Err(why) => not_run(unanswered(why), later.state),
     }
 }
 
+#[tactic(auto, unfolding(crate::specs::Step::unless_fault))]
 fn unless_fault(
     image: &[u8],
     state: State,
     rx: &mut [u8],
     tx: &mut [u8],
-    fault: Fault,
+    fault: Result<(), Fault>,
     count: u32,
     number: u16,
     body: &[u8],
@@ -126,20 +118,17 @@ fn unless_fault(
         out.old fault count number body.now).out }
 {
     match fault {
-        Fault::Nothing => happen(image, state, rx, tx, count, number, body, out),
-        Fault::FarStamp => unplayed(Played::Refused(Fault::FarStamp), state),
-        Fault::NoEvent => unplayed(Played::Refused(Fault::NoEvent), state),
-        Fault::ZeroField => unplayed(Played::Refused(Fault::ZeroField), state),
-        Fault::Misfit => unplayed(Played::Refused(Fault::Misfit), state),
+        Ok(()) => happen(image, state, rx, tx, count, number, body, out),
+        Err(fault) => not_run(Unplayed::Refused(fault), state),
     }
 }
 
-fn unplayed(played: Played, state: State) -> Step
-    ensures { result ≡ record { played = played; state = state } }
+fn not_run(why: Unplayed, state: State) -> Step
+    ensures { result ≡ record { played = Err why; state = state } }
 {
     Step {
-        played: played,
-        state: state,
+        played: Err(why),
+        state,
     }
 }
 
@@ -165,11 +154,11 @@ pub fn replay_step(
         out.old before row.now rest.now).out }
 {
     if out.len() < 16384 {
-        return unplayed(Played::Small, state);
+        return not_run(Unplayed::Small, state);
     }
     let long = body_long(row);
     if rest.len() < long {
-        return unplayed(Played::Cut, state);
+        return not_run(Unplayed::Cut, state);
     }
     let body = front(rest, long);
     let count = distance(before, stamp_in(row));

@@ -2,13 +2,13 @@
 use Prim.Native.Nat.{ℕ, suc, ◌+◌, ◌*◌, ◌-◌, ◌<◌, ◌≤◌}
 use mathlib.Core.Path.{◌≡◌, refl, sym, ap, ap₂, subst, ◌∙◌}
 use mathlib.Core.Logic.{◌⊎◌, inl, inr, ⊎_elim}
-use mathlib.Core.Bool.{Bool, true, false, cond, not}
+use mathlib.Core.Bool.{Bool, true, false, cond}
 use mathlib.Core.List.{List}
 use native.Mathlib.Nat.{sub-zero}
 use native.Mathlib.Numerals.{add-one}
 use native.Mathlib.Omega.{arith}
 use native.Mathlib.Decide.{dec_le}
-use borrow.Author.Tests.{ltb-false, not-true, not-false}
+use borrow.Author.Tests.{ltb-false}
 use lib.Dec.{ltb}
 use lib.ListN.{length, take, drop, length-drop}
 use Rattle.lists.proofs.Both.{impossible}
@@ -17,7 +17,10 @@ use Rattle.state.specs.declared.State.{State}
 use Rattle.gate.specs.Lent.{Loan, loan}
 use Rattle.event_answer.specs.Answers.{room}
 use Rattle.recording.specs.Recording.{entries_in, contents_to, entry_row, stamp_in, body_long, distance_in, stamps}
-use Rattle.replay_step.specs.declared.Played.TheVariants.{Small, Cut}
+use Rattle.std.proofs.Common.{Result, Ok, Err}
+use Rattle.replay_step.specs.declared.Unplayed.{Unplayed}
+use Rattle.replay_step.specs.declared.Unplayed.TheVariants.{Small, Cut}
+use Rattle.replay_step.specs.declared.Compared.{Compared}
 use Rattle.replay_step.specs.declared.Step.{Step}
 use Rattle.replay_step.specs.Step.{Stepped, unplayed, entered, entry_step}
 use Rattle.replay_step.proofs.Leaves.{Leaves, leaves_by}
@@ -90,11 +93,12 @@ module _ (image recording rx₀ tx₀ out₀ : List ℕ) (start : State) where
       let e : n - i ≡ 0 = omega (arith, h) in
       sym (ap (λ (k : ℕ). replay_from image recording k i g) e) ∙ a.rest
 
-  pub all_done : (n i : ℕ) (g : Going) (r : Replayed) → AtEntry n i g → n ≤ i → r ≡ (finished image recording i g).replayed
+  pub all_done : (n i : ℕ) (g : Going) (r : Replayed) → AtEntry n i g → n ≤ i → r ≡ (finished image recording n g).replayed
       → LeavesAll r g.rx g.tx g.out whole
   all_done n i g r a h e =
-      let f = entry_ends n i g a h in (
-        e ∙ ap (λ (l : Left). l.replayed) f,
+      let f = entry_ends n i g a h in
+      let s : n ≡ i = omega (arith, h, a.within) in (
+        e ∙ ap (λ (k : ℕ). (finished image recording k g).replayed) s ∙ ap (λ (l : Left). l.replayed) f,
         (ap (λ (l : Left). l.rx) f, (ap (λ (l : Left). l.tx) f, ap (λ (l : Left). l.out) f)),
       )
 
@@ -134,38 +138,44 @@ module _ (image recording rx₀ tx₀ out₀ : List ℕ) (start : State) where
         ∙ one_more
 
     -- it was not run: the replay ends
-    pub entry_stops : (ran : Bool) (e : End) → ran ≡ is_run s.played → not ran ≡ true → e ≡ end_at i s.played
+    pub entry_stops : (why : Unplayed) (e : Result Unit End) → s.played ≡ Err why → e ≡ end_at i (Err why)
         → LeavesAll (record { end = e; run = i; ticks = g.ticks; differs = g.differs; state = s.state }) rx tx out whole
-    entry_stops ran e q t f =
-        let w = stops (sym (ap is_run played) ∙ sym q ∙ not-true ran t) in
+    unfolding is_run
+    entry_stops why e q f =
+        let w = stops (ap is_run (sym played ∙ q)) in
         let z : record { end = e; run = i; ticks = g.ticks; differs = g.differs; state = s.state } ≡ (stopped image recording i g now_at).replayed =
-        ap₂ (λ (x : End) (y : State). record { end = x; run = i; ticks = g.ticks; differs = g.differs; state = y }) (f ∙ ap (end_at i) played) state in (
+        ap₂ (λ (x : Result Unit End) (y : State). record { end = x; run = i; ticks = g.ticks; differs = g.differs; state = y })
+        (f ∙ ap (end_at i) (sym q ∙ played)) state in (
           z ∙ ap (λ (x : Left). x.replayed) w,
           (leaves.1.0 ∙ ap (λ (x : Left). x.rx) w, (leaves.1.1.0 ∙ ap (λ (x : Left). x.tx) w, leaves.1.1.1 ∙ ap (λ (x : Left). x.out) w)),
         )
 
+    ran_so : (c : Compared) → s.played ≡ Ok c → is_run now_at.played ≡ true
+    unfolding is_run
+    ran_so c q = ap is_run (sym played ∙ q)
+
     -- it was run: the next body begins behind it
-    pub entry_placed : (ran : Bool) (long : ℕ) → ran ≡ is_run s.played → not ran ≡ false → long ≡ body_long row → Placed (g.at + long)
-    entry_placed ran long q t b =
+    pub entry_placed : (c : Compared) (long : ℕ) → s.played ≡ Ok c → long ≡ body_long row → Placed (g.at + long)
+    entry_placed c long q b =
         let w : body_long (entry_row recording i) ≤ length (drop g.at recording) =
         run-there (loan image g.state g.rx g.tx) g.out g.before (entry_row recording i) (drop g.at recording)
-        (sym (ap is_run played) ∙ sym q ∙ not-false ran t) in
+        (ran_so c q) in
         let v : long ≡ body_long (entry_row recording i) = b ∙ ap body_long r in
         ⊎_elim
         (λ (p : g.at ≤ 786424). within-either g.at long (length recording)
         (length (drop g.at recording)) (length-drop g.at recording) (omega (arith, w, v)) p)
         (λ (p : g.at ≤ length recording). inr (omega (arith, w, v, p, length-drop g.at recording))) a.placed
 
-    pub entry_on : (ran : Bool) (stamp later distance long : ℕ) (other : Bool) (differs : ℕ) → ran ≡ is_run s.played → not ran ≡ false → stamp ≡ stamp_in row
+    pub entry_on : (c : Compared) (stamp later distance long : ℕ) (other : Bool) (differs : ℕ) → s.played ≡ Ok c → stamp ≡ stamp_in row
         → distance ≡ distance_in stamps g.before stamp → distance ≤ 4294967295 → long ≡ body_long row → later ≡ stamp_in row → other ≡ is_other s.played
         → differs ≡ first_other g.differs i other → AtEntry n (i + 1) (going_of s.state rx tx out (g.at + long) later (g.ticks + distance) differs)
-    entry_on ran stamp later distance long other differs q t st di sm lo la ot df =
+    entry_on c stamp later distance long other differs q st di sm lo la ot df =
         record {
           rest =
               ap₂ (λ (k : ℕ) (x : Going). replay_from image recording (n - k) k x) (add-one i) same
-              ∙ goes_on (sym (ap is_run played) ∙ sym q ∙ not-false ran t);
+              ∙ goes_on (ran_so c q);
           within = omega (arith, h);
-          placed = entry_placed ran long q t lo;
+          placed = entry_placed c long q lo;
           few = omega (arith, sm, a.few);
         }
       where
@@ -183,9 +193,9 @@ module _ (image recording rx₀ tx₀ out₀ : List ℕ) (start : State) where
             (di ∙ ap (distance_in stamps g.before) (st ∙ ap stamp_in r)) (df ∙ ap (first_other g.differs i) (ot ∙ ap is_other played))
 
 -- nothing is run, from a state that is this one
-pub unrun_so : (e : End) (r : Replayed) (s t : State) → r ≡ record { end = e; run = 0; ticks = 0; differs = 0; state = s } → s ≡ t
-    → r ≡ record { end = e; run = 0; ticks = 0; differs = 0; state = t }
-unrun_so e r s t p q = p ∙ ap (λ (x : State). record { end = e; run = 0; ticks = 0; differs = 0; state = x }) q
+pub unrun_so : (e : End) (r : Replayed) (s t : State) → r ≡ record { end = Err e; run = 0; ticks = 0; differs = 0; state = s } → s ≡ t
+    → r ≡ record { end = Err e; run = 0; ticks = 0; differs = 0; state = t }
+unrun_so e r s t p q = p ∙ ap (λ (x : State). record { end = Err e; run = 0; ticks = 0; differs = 0; state = x }) q
 
 -- all is run, from a state that is this one
 pub played_so : (image recording rx₀ tx₀ out₀ : List ℕ) (r : Replayed) (rx tx out : List ℕ) (s t : State)

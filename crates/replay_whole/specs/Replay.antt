@@ -1,20 +1,21 @@
 -- THE REPLAY OF A WHOLE RECORDING (R17.4): a fresh state under the table, then a fold of one step over the entries.
-use Rattle.std.specs.Prelude.{ℕ, zero, suc, ◌+◌, Bool, true, false, cond, List, eqb, drop}
-use Rattle.table.specs.declared.TableAnswer.{TableAnswer}
-use Rattle.table.specs.declared.TableAnswer.TheVariants as Answered
+use Rattle.std.specs.Prelude.{ℕ, zero, suc, ◌+◌, Bool, true, false, cond, List, eqb, drop, Result, Ok, Err}
+use Rattle.table.specs.declared.BadTable.TheVariants as Answered
 use Rattle.table.specs.Table.{check_table}
 use Rattle.state.specs.declared.State.{State}
 use Rattle.state.specs.Fresh.{fresh_state, empty_state}
 use Rattle.gate.specs.Lent.{loan}
-use Rattle.recording.specs.declared.Front.{Front}
-use Rattle.recording.specs.declared.Front.TheVariants as Shown
+use Rattle.recording.specs.declared.Unreadable.{Unreadable}
 use Rattle.recording.specs.Recording.{entries_in, contents_to, entry_row, stamp_in, body_long, distance_in, stamps, shown_by}
-use Rattle.replay_step.specs.declared.Played.{Played}
-use Rattle.replay_step.specs.declared.Played.TheVariants as Entry
+use Rattle.replay_step.specs.declared.Unplayed.{Unplayed}
+use Rattle.replay_step.specs.declared.Unplayed.TheVariants as Entry
+use Rattle.replay_step.specs.declared.Compared.{Compared}
+use Rattle.replay_step.specs.declared.Compared.TheVariants.{Same, Differs}
 use Rattle.replay_step.specs.Step.{Stepped, entry_step}
 use Rattle.replay_whole.specs.declared.End.{End}
-use Rattle.replay_whole.specs.declared.End.TheVariants.{Whole, Table, Unread, Small, Cut, Refused}
+use Rattle.replay_whole.specs.declared.End.TheVariants.{Table, Unread, Small, Cut, Refused}
 use Rattle.replay_whole.specs.declared.Replayed.{Replayed}
+use Rattle.table.specs.declared.BadTable.{BadTable}
 
 -- HOW FAR A REPLAY IS: the state, both memories and the out buffer, where the next body begins, the stamp before, the ticks run so far, and
 -- the number of the first entry whose answer differs, from 1, 0 while there is none
@@ -36,31 +37,25 @@ pub record Left : Type 0 where
   pub out : List ℕ
 
 -- an entry that was run
-unfoldable pub is_run : Played → Bool
-is_run Entry.Small = false
-is_run Entry.Cut = false
-is_run (Entry.Refused f) = false
-is_run (Entry.Same n) = true
-is_run (Entry.Differs n) = true
+unfoldable pub is_run : Result Compared Unplayed → Bool
+is_run (Ok c) = true
+is_run (Err why) = false
 
-unfoldable pub is_other : Played → Bool
-is_other Entry.Small = false
-is_other Entry.Cut = false
-is_other (Entry.Refused f) = false
-is_other (Entry.Same n) = false
-is_other (Entry.Differs n) = true
+unfoldable pub is_other : Result Compared Unplayed → Bool
+is_other (Ok (Same n)) = false
+is_other (Ok (Differs n)) = true
+is_other (Err why) = false
 
 -- "reports the first whose recorded answer differs", "by entry number from 1"
 unfoldable pub first_other : ℕ → ℕ → Bool → ℕ
 first_other differs i other = cond (eqb differs 0) (cond other (i + 1) 0) differs
 
 -- how the entry i ends the replay
-unfoldable pub end_at : ℕ → Played → End
-end_at i Entry.Small = Small
-end_at i Entry.Cut = Cut (i + 1)
-end_at i (Entry.Refused f) = Refused (i + 1) f
-end_at i (Entry.Same n) = Whole
-end_at i (Entry.Differs n) = Whole
+unfoldable pub end_at : ℕ → Result Compared Unplayed → Result Unit End
+end_at i (Ok c) = Ok tt
+end_at i (Err Entry.Small) = Err Small
+end_at i (Err Entry.Cut) = Err (Cut (i + 1))
+end_at i (Err (Entry.Refused f)) = Err (Refused (i + 1) f)
 
 module _ (image recording : List ℕ) where
   -- the step of entry i, from 0
@@ -95,7 +90,7 @@ module _ (image recording : List ℕ) where
   abbrev pub finished : ℕ → Going → Left
   finished i g =
       record {
-        replayed = record { end = Whole; run = i; ticks = g.ticks; differs = g.differs; state = g.state };
+        replayed = record { end = Ok tt; run = i; ticks = g.ticks; differs = g.differs; state = g.state };
         rx = g.rx;
         tx = g.tx;
         out = g.out;
@@ -128,19 +123,16 @@ module _ (image recording : List ℕ) where
 
     -- nothing is run
     abbrev pub unrun : End → State → Left
-    unrun e s = record { replayed = record { end = e; run = 0; ticks = 0; differs = 0; state = s }; rx = rx; tx = tx; out = out }
+    unrun e s = record { replayed = record { end = Err e; run = 0; ticks = 0; differs = 0; state = s }; rx = rx; tx = tx; out = out }
 
-    unfoldable pub under_front : Front → Left
-    under_front Shown.Contents = unrun (Unread Shown.Contents) (fresh_state image)
-    under_front Shown.Edition = unrun (Unread Shown.Edition) (fresh_state image)
-    under_front Shown.Many = unrun (Unread Shown.Many) (fresh_state image)
-    under_front (Shown.Long i) = unrun (Unread (Shown.Long i)) (fresh_state image)
-    under_front Shown.Sized = played_all (fresh_state image)
+    unfoldable pub under_front : Result Unit Unreadable → Left
+    under_front (Ok tt) = played_all (fresh_state image)
+    under_front (Err why) = unrun (Unread why) (fresh_state image)
 
     -- "starts fresh under a given table image (a refused one ends it with 1)": with its place, and the state of the empty table
-    unfoldable pub under_table : TableAnswer → Left
-    under_table Answered.Accepted = under_front (shown_by recording)
-    under_table (Answered.Refused place) = unrun (Table place) empty_state
+    unfoldable pub under_table : Result Unit BadTable → Left
+    under_table (Ok tt) = under_front (shown_by recording)
+    under_table (Err (Answered.At place)) = unrun (Table place) empty_state
 
     -- A REPLAY
     unfoldable pub replay_of : Left

@@ -6,57 +6,43 @@ ghost use Rattle.std.specs.Prelude.{◌≡◌};
 ghost use Rattle.replay_whole.specs.Replay as Is;
 
 use event_decode::bytes_from;
-use recording::{Fault, Front, body_long, distance, entries_in, entry_row, front_of, stamp_in};
-use replay_step::{Played, replay_step};
+use recording::{
+    Fault, Unreadable, body_long, distance, entries_in, entry_row, front_of, stamp_in,
+};
+use replay_step::{Compared, Unplayed, replay_step};
 use state::{State, empty_state, fresh_state};
-use table::{TableAnswer, check_table};
+use table::{BadTable, check_table};
 
-// How a replay ended: all entries were run; the table is refused, with its place; nothing is run, by what the contents show; the out
+// Why a replay ended before all entries were run: the table is refused, with its place; nothing is run, by what the contents show; the out
 // buffer is shorter than 16,384 bytes; the entry, from 1, is cut off or refused.
-#[derive(Clone, Copy)]
+#[derive(Clone, Copy, Debug, PartialEq, Eq)]
 pub enum End {
-    Whole,
     Table(usize),
-    Unread(Front),
+    Unread(Unreadable),
     Small,
     Cut(usize),
     Refused { entry: usize, fault: Fault },
 }
 
 // The end; the entries and ticks that were run; the first entry whose answer differs, from 1, or 0; and the state.
+// Kept: what may not change: `first_other`, and `other_in` of theorem_replay, number the first that differs from 1, with 0 for none.
 #[derive(Clone, Copy)]
 pub struct Replayed {
-    pub end: End,
+    pub end: Result<(), End>,
     pub run: usize,
     pub ticks: u64,
     pub differs: usize,
     pub state: State,
 }
 
-fn is_run(played: Played) -> bool
-    ensures { result ≡ Is.is_run played }
-{
-    match played {
-        Played::Small => false,
-        Played::Cut => false,
-        Played::Refused(_) => false,
-        Played::Same(_) => true,
-        Played::Differs(_) => true,
-    }
-}
-
-fn is_other(played: Played) -> bool
+#[tactic(auto, unfolding(crate::specs::Replay::is_other))]
+fn is_other(played: Result<Compared, Unplayed>) -> bool
     ensures { result ≡ Is.is_other played }
 {
-    match played {
-        Played::Small => false,
-        Played::Cut => false,
-        Played::Refused(_) => false,
-        Played::Same(_) => false,
-        Played::Differs(_) => true,
-    }
+    matches!(played, Ok(Compared::Differs(_)))
 }
 
+#[tactic(auto, unfolding(crate::specs::Replay::first_other))]
 fn first_other(differs: usize, i: u16, other: bool) -> usize
     ensures { result ≡ Is.first_other differs i other }
 {
@@ -66,18 +52,15 @@ fn first_other(differs: usize, i: u16, other: bool) -> usize
     if other { i as usize + 1 } else { 0 }
 }
 
-fn end_at(i: u16, played: Played) -> End
-    ensures { result ≡ Is.end_at i played }
+#[tactic(auto, unfolding(crate::specs::Replay::end_at))]
+fn end_at(i: u16, why: Unplayed) -> End
+    ensures { Err result ≡ Is.end_at i (Err why) }
 {
-    match played {
-        Played::Small => End::Small,
-        Played::Cut => End::Cut(i as usize + 1),
-        Played::Refused(fault) => End::Refused {
-            entry: i as usize + 1,
-            fault: fault,
-        },
-        Played::Same(_) => End::Whole,
-        Played::Differs(_) => End::Whole,
+    let entry = i as usize + 1;
+    match why {
+        Unplayed::Small => End::Small,
+        Unplayed::Cut => End::Cut(entry),
+        Unplayed::Refused(fault) => End::Refused { entry, fault },
     }
 }
 
@@ -104,8 +87,7 @@ fn play(
     let mut before = stamp_in(entry_row(recording, 0));
     let mut ticks: u64 = 0;
     let mut differs: usize = 0;
-    let mut i: u16 = 0;
-    while i < entries {
+    for i in 0..entries {
         let row = entry_row(recording, i);
         let step = replay_step(
             image,
@@ -117,49 +99,48 @@ fn play(
             bytes_from(recording, at),
             out,
         );
-        let played = step.played;
         state = step.state;
-        if !is_run(played) {
+        if let Err(why) = step.played {
             return Replayed {
-                end: end_at(i, played),
+                end: Err(end_at(i, why)),
                 run: i as usize,
-                ticks: ticks,
-                differs: differs,
-                state: state,
+                ticks,
+                differs,
+                state,
             };
         }
         ticks += distance(before, stamp_in(row)) as u64;
         at += body_long(row);
         before = stamp_in(row);
-        differs = first_other(differs, i, is_other(played));
-        i += 1;
+        differs = first_other(differs, i, is_other(step.played));
     }
     Replayed {
-        end: End::Whole,
-        run: i as usize,
-        ticks: ticks,
-        differs: differs,
-        state: state,
+        end: Ok(()),
+        run: entries as usize,
+        ticks,
+        differs,
+        state,
     }
 }
 
 // Nothing is run.
 fn unrun(end: End, state: State) -> Replayed
-    ensures { result ≡ record { end = end; run = 0; ticks = 0; differs = 0; state = state } }
+    ensures { result ≡ record { end = Err end; run = 0; ticks = 0; differs = 0; state = state } }
 {
     Replayed {
-        end: end,
+        end: Err(end),
         run: 0,
         ticks: 0,
         differs: 0,
-        state: state,
+        state,
     }
 }
 
+#[tactic(auto, unfolding(crate::specs::Replay::under_front))]
 fn under_front(
     image: &[u8],
     recording: &[u8],
-    shown: Front,
+    shown: Result<(), Unreadable>,
     rx: &mut [u8],
     tx: &mut [u8],
     out: &mut [u8],
@@ -174,15 +155,13 @@ fn under_front(
 {
     let state = fresh_state(image);
     match shown {
-        Front::Contents => unrun(End::Unread(Front::Contents), state),
-        Front::Edition => unrun(End::Unread(Front::Edition), state),
-        Front::Many => unrun(End::Unread(Front::Many), state),
-        Front::Long(i) => unrun(End::Unread(Front::Long(i)), state),
-        Front::Sized => play(image, recording, state, rx, tx, out),
+        Ok(()) => play(image, recording, state, rx, tx, out),
+        Err(why) => unrun(End::Unread(why), state),
     }
 }
 
 // A replay: under a table that is refused nothing is run.
+#[tactic(auto, unfolding(crate::specs::Replay::replay_of, crate::specs::Replay::under_table))]
 pub fn replay(
     image: &[u8],
     recording: &[u8],
@@ -195,15 +174,8 @@ pub fn replay(
     ensures tx_after { tx.new ≡ (Is.replay_of image.now recording.now rx.old tx.old out.old).tx }
     ensures out_after { out.new ≡ (Is.replay_of image.now recording.now rx.old tx.old out.old).out }
 {
-    let checked = check_table(image);
-    match checked {
-        TableAnswer::Accepted => {
-            let shown = front_of(recording);
-            under_front(image, recording, shown, rx, tx, out)
-        }
-        TableAnswer::Refused(place) => {
-            let state = empty_state();
-            unrun(End::Table(place), state)
-        }
+    match check_table(image) {
+        Ok(()) => under_front(image, recording, front_of(recording), rx, tx, out),
+        Err(BadTable::At(place)) => unrun(End::Table(place), empty_state()),
     }
 }

@@ -1,9 +1,8 @@
 -- THE FOREMAN'S REPORT (section 21 of the rules): what counts, what it adds, and reports joined.
-use Rattle.std.specs.Prelude.{ℕ, ◌≡◌, Bool, true, false, cond, ◌&&◌, List, [], ◌∷◌, length, get_or, set, replicate}
+use Rattle.std.specs.Prelude.{ℕ, ◌≡◌, Bool, cond, ◌&&◌, List, [], ◌∷◌, length, get_or, set, replicate, Result, Ok, Err}
 use Rattle.report.specs.declared.RouteFigures.{RouteFigures}
 use Rattle.report.specs.declared.Drops.{Drops}
 use Rattle.report.specs.declared.Report.{Report}
-use Rattle.report.specs.declared.Joined.{Joined}
 use Rattle.report.specs.Pairwise.{pairwise, all_pairs}
 use Rattle.report.specs.Figures.{no_pdus, one_pdu, add_figures, figures_fit, plus_figures, no_drops, one_drop, add_drops, drops_fit, plus_drops}
 
@@ -69,15 +68,19 @@ unfoldable pub connections_joined : Report → Report → Report
 connections_joined a b = with_connections (pairwise plus_drops a.connections b.connections) a
 
 -- R21.4, A JOIN: "a join that would is refused and gives the first report"
-unfoldable pub join_reports : Report → Report → Joined
-join_reports a b =
-    cond (reports_fit a b) (record { fits = true; report = add_reports a b }) (record { fits = false; report = a })
+unfoldable pub join_reports : Report → Report → Result Report Report
+join_reports a b = cond (reports_fit a b) (Ok (add_reports a b)) (Err a)
+
+-- the report that a join gives, made or refused
+abbrev pub report_given : Result Report Report → Report
+report_given (Ok r) = r
+report_given (Err r) = r
 
 -- R21.5, THE REPORT OF A SET OF RUNS: each run's report joined in turn, "a sum that would pass 64 bits refuses the run that caused it and
 -- leaves the report unchanged"
 unfoldable pub runs_from : Report → List Report → Report
 runs_from r [] = r
-runs_from r (x ∷ xs) = runs_from (join_reports r x).report xs
+runs_from r (x ∷ xs) = runs_from (report_given (join_reports r x)) xs
 
 abbrev pub runs_report : List Report → Report
 runs_report xs = runs_from empty_report xs

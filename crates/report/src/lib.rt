@@ -2,12 +2,15 @@
 // each reason. Sums have 64 bits, and none ever passes them. Every function is total: no caller is relied on.
 #![tactic(auto)]
 
-ghost use Rattle.std.specs.Prelude.{◌≡◌, min, max};
+ghost use Rattle.std.specs.Prelude.{◌≡◌, Bool, true, false, length};
+ghost use Rattle.std.specs.List.{list_all, zip};
+ghost use Rattle.report.specs.Pairwise.{pairwise};
 ghost use Rattle.report.specs.Figures as Fi;
+ghost use Rattle.report.specs.Laws as Laws;
 ghost use Rattle.report.specs.Report as Re;
 
 // What one route handed out: how many PDUs, their bytes, the smallest and the largest length, 0 and 0 where there was none.
-#[derive(Clone, Copy)]
+#[derive(Clone, Copy, Debug, PartialEq, Eq)]
 pub struct RouteFigures {
     pub pdus: u64,
     pub bytes: u64,
@@ -16,7 +19,7 @@ pub struct RouteFigures {
 }
 
 // What one connection dropped, by reason: 20 no route, 21 switched off, 22 too long, 23 cut off; 24 is room for one more.
-#[derive(Clone, Copy)]
+#[derive(Clone, Copy, Debug, PartialEq, Eq)]
 pub struct Drops {
     pub unrouted: u64,
     pub off: u64,
@@ -26,57 +29,56 @@ pub struct Drops {
 }
 
 // The figures of each route and of each connection, by number.
-#[derive(Clone, Copy)]
+#[derive(Clone, Copy, Debug, PartialEq, Eq)]
 pub struct Report {
     pub routes: [RouteFigures; 64],
     pub connections: [Drops; 16],
 }
 
-// Two reports joined; where a sum would pass 64 bits, the first.
-#[derive(Clone, Copy)]
-pub struct Joined {
-    pub fits: bool,
-    pub report: Report,
+// Figures that add up, of whatever they are.
+pub trait Figures: Copy {
+    ghost nothing: { Self };
+
+    ghost fit: { Self → Self → Bool };
+
+    ghost add: { Self → Self → Self };
+
+    ghost sum: { Self → Self → Self };
+
+    // The figures of nothing.
+    fn none() -> Self
+        ensures { result ≡ nothing };
+
+    // No sum of the two passes 64 bits.
+    fn fits(self, more: Self) -> bool
+        ensures { result ≡ fit self more };
+
+    // These figures and more of the same; these alone where a sum would pass 64 bits.
+    fn plus(self, more: Self) -> Self
+        ensures { result ≡ sum self more };
+
+    ghost made: { (f g : Self) → fit f g ≡ true → sum f g ≡ add f g };
+
+    ghost refused: { (f g : Self) → fit f g ≡ false → sum f g ≡ f };
 }
 
 fn sum_fits(a: u64, b: u64) -> bool
     ensures { result ≡ Fi.sum_fits a b }
 {
-    b <= 18446744073709551615 - a
-}
-
-fn larger(a: u32, b: u32) -> u32
-    ensures { result ≡ max a b }
-{
-    if a < b {
-        return b;
-    }
-    a
-}
-
-fn smaller(a: u32, b: u32) -> u32
-    ensures { result ≡ min a b }
-{
-    if b < a {
-        return b;
-    }
-    a
+    a.checked_add(b).is_some()
 }
 
 // The smaller of two smallest lengths; where one side has no PDU, the other's.
+#[tactic(auto, unfolding(crate::specs::Figures::smallest_by))]
 fn smallest_of(none: bool, nor: bool, a: u32, b: u32) -> u32
     ensures { result ≡ Fi.smallest_by none nor a b }
 {
-    if none & nor {
-        return larger(a, b);
+    match (none, nor) {
+        (true, true) => a.max(b),
+        (true, false) => b,
+        (false, true) => a,
+        (false, false) => a.min(b),
     }
-    if none {
-        return b;
-    }
-    if nor {
-        return a;
-    }
-    smaller(a, b)
 }
 
 // The figures of one PDU.
@@ -91,45 +93,55 @@ pub fn one_pdu(length: u32) -> RouteFigures
     }
 }
 
-// So many drops of each reason.
-fn drops_of(unrouted: u64, off: u64, long: u64, cut: u64, short: u64) -> Drops
-    ensures { result ≡ Fi.drops_by unrouted off long cut short }
-{
-    Drops {
-        unrouted: unrouted,
-        off: off,
-        long: long,
-        cut: cut,
-        short: short,
-    }
-}
-
 // One drop of a reason; another number is none.
+#[tactic(auto, unfolding(crate::specs::Figures::one_drop))]
 pub fn one_drop(reason: u8) -> Drops
     ensures { result ≡ Fi.one_drop reason }
 {
+    let none = Drops::none();
     match reason {
-        20 => drops_of(1, 0, 0, 0, 0),
-        21 => drops_of(0, 1, 0, 0, 0),
-        22 => drops_of(0, 0, 1, 0, 0),
-        23 => drops_of(0, 0, 0, 1, 0),
-        24 => drops_of(0, 0, 0, 0, 1),
-        _ => drops_of(0, 0, 0, 0, 0),
+        20 => Drops {
+            unrouted: 1,
+            ..none
+        },
+        21 => Drops { off: 1, ..none },
+        22 => Drops { long: 1, ..none },
+        23 => Drops { cut: 1, ..none },
+        24 => Drops { short: 1, ..none },
+        _ => none,
     }
 }
 
-impl RouteFigures {
-    // No sum of the two passes 64 bits.
-    pub fn fits(self, more: RouteFigures) -> bool
-        ensures { result ≡ Fi.figures_fit self more }
-    {
+impl Figures for RouteFigures {
+    ghost nothing = { Fi.no_pdus };
+
+    ghost fit = { Fi.figures_fit };
+
+    ghost add = { Fi.add_figures };
+
+    ghost sum = { Fi.plus_figures };
+
+    ghost made = { Laws.figures_made };
+
+    ghost refused = { Laws.figures_refused };
+
+    // No PDU.
+    fn none() -> RouteFigures {
+        RouteFigures {
+            pdus: 0,
+            bytes: 0,
+            smallest: 0,
+            largest: 0,
+        }
+    }
+
+    #[tactic(auto, unfolding(crate::specs::Figures::figures_fit))]
+    fn fits(self, more: RouteFigures) -> bool {
         sum_fits(self.pdus, more.pdus) & sum_fits(self.bytes, more.bytes)
     }
 
-    // These figures and more of the same route; these alone where a sum would pass 64 bits.
-    pub fn plus(self, more: RouteFigures) -> RouteFigures
-        ensures { result ≡ Fi.plus_figures self more }
-    {
+    #[tactic(auto, using(crate::proofs::Turns::figures_small), unfolding(crate::specs::Figures::plus_figures, crate::specs::Figures::add_figures))]
+    fn plus(self, more: RouteFigures) -> RouteFigures {
         if !self.fits(more) {
             return self;
         }
@@ -137,16 +149,37 @@ impl RouteFigures {
             pdus: self.pdus + more.pdus,
             bytes: self.bytes + more.bytes,
             smallest: smallest_of(self.pdus == 0, more.pdus == 0, self.smallest, more.smallest),
-            largest: larger(self.largest, more.largest),
+            largest: self.largest.max(more.largest),
         }
     }
 }
 
-impl Drops {
-    // No sum of the two passes 64 bits.
-    pub fn fits(self, more: Drops) -> bool
-        ensures { result ≡ Fi.drops_fit self more }
-    {
+impl Figures for Drops {
+    ghost nothing = { Fi.no_drops };
+
+    ghost fit = { Fi.drops_fit };
+
+    ghost add = { Fi.add_drops };
+
+    ghost sum = { Fi.plus_drops };
+
+    ghost made = { Laws.drops_made };
+
+    ghost refused = { Laws.drops_refused };
+
+    // No drop.
+    fn none() -> Drops {
+        Drops {
+            unrouted: 0,
+            off: 0,
+            long: 0,
+            cut: 0,
+            short: 0,
+        }
+    }
+
+    #[tactic(auto, unfolding(crate::specs::Figures::drops_fit))]
+    fn fits(self, more: Drops) -> bool {
         sum_fits(self.unrouted, more.unrouted)
             & sum_fits(self.off, more.off)
             & sum_fits(self.long, more.long)
@@ -154,10 +187,8 @@ impl Drops {
             & sum_fits(self.short, more.short)
     }
 
-    // These drops and more of the same connection; these alone where a sum would pass 64 bits.
-    pub fn plus(self, more: Drops) -> Drops
-        ensures { result ≡ Fi.plus_drops self more }
-    {
+    #[tactic(auto, using(crate::proofs::Turns::drops_small), unfolding(crate::specs::Figures::plus_drops, crate::specs::Figures::add_drops))]
+    fn plus(self, more: Drops) -> Drops {
         if !self.fits(more) {
             return self;
         }
@@ -171,109 +202,50 @@ impl Drops {
     }
 }
 
-// The figures of no PDU.
-pub fn no_pdus() -> RouteFigures
-    ensures { result ≡ Fi.no_pdus }
-{
-    RouteFigures {
-        pdus: 0,
-        bytes: 0,
-        smallest: 0,
-        largest: 0,
-    }
-}
-
-// No drop.
-pub fn no_drops() -> Drops
-    ensures { result ≡ Fi.no_drops }
-{
-    drops_of(0, 0, 0, 0, 0)
-}
-
 // The report of no run.
 pub fn empty() -> Report
     ensures { result ≡ Re.empty_report }
 {
-    let none = no_pdus();
-    let nothing = no_drops();
-    let routes = [none; 64];
-    let connections = [nothing; 16];
     Report {
-        routes: routes,
-        connections: connections,
+        routes: [RouteFigures::none(); 64],
+        connections: [Drops::none(); 16],
     }
 }
 
-fn routes_fit(first: Report, second: Report) -> bool
-    ensures { result ≡ Re.routes_fit first second }
+// No sum of figures and those at the same place passes 64 bits.
+fn all_fit<F: Figures>(these: &[F], more: &[F]) -> bool
+    ensures { result ≡ list_all (λ p. F.fit p.0 p.1) (zip these.now more.now) }
 {
-    let mut ok = true;
-    let mut i: usize = 0;
-    while i < 64 {
-        let these = first.routes[i];
-        let more = second.routes[i];
-        ok = ok & these.fits(more);
-        i += 1;
-    }
-    ok
+    these.iter().zip(more).all(|(f, g)| f.fits(*g))
 }
 
-fn connections_fit(first: Report, second: Report) -> bool
-    ensures { result ≡ Re.connections_fit first second }
+// To each of these the figures at the same place, where no sum passes 64 bits.
+fn add_all<F: Figures>(these: &mut [F], more: &[F])
+    requires { length these.old ≡ length more.now }
+    ensures { these.new ≡ pairwise F.sum these.old more.now }
 {
-    let mut ok = true;
-    let mut i: usize = 0;
-    while i < 16 {
-        let these = first.connections[i];
-        let more = second.connections[i];
-        ok = ok & these.fits(more);
-        i += 1;
+    for (i, figures) in these.iter_mut().enumerate() {
+        *figures = figures.plus(more[i]);
     }
-    ok
 }
 
-fn routes_joined(first: Report, second: Report) -> Report
-    ensures { result ≡ Re.routes_joined first second }
+// No sum of the two passes 64 bits.
+fn fit(first: &Report, second: &Report) -> bool
+    ensures { result ≡ Re.reports_fit first.now second.now }
 {
-    let mut after = first;
-    let mut i: usize = 0;
-    while i < 64 {
-        let these = after.routes[i];
-        let next = these.plus(second.routes[i]);
-        after.routes[i] = next;
-        i += 1;
-    }
-    after
+    all_fit(&first.routes, &second.routes) & all_fit(&first.connections, &second.connections)
 }
 
-fn connections_joined(first: Report, second: Report) -> Report
-    ensures { result ≡ Re.connections_joined first second }
-{
-    let mut after = first;
-    let mut i: usize = 0;
-    while i < 16 {
-        let these = after.connections[i];
-        let next = these.plus(second.connections[i]);
-        after.connections[i] = next;
-        i += 1;
-    }
-    after
-}
-
-// Two reports joined; where a sum would pass 64 bits, nothing is added.
-pub fn join(first: Report, second: Report) -> Joined
+// Two reports joined; where a sum would pass 64 bits, nothing is added, and the first is handed back.
+#[tactic(auto, using(crate::proofs::Turns::sums_made), unfolding(crate::specs::Report::join_reports))]
+pub fn join(first: Report, second: Report) -> Result<Report, Report>
     ensures { result ≡ Re.join_reports first second }
 {
-    let fits = routes_fit(first, second) & connections_fit(first, second);
-    let sums = connections_joined(routes_joined(first, second), second);
-    if !fits {
-        return Joined {
-            fits: false,
-            report: first,
-        };
+    if !fit(&first, &second) {
+        return Err(first);
     }
-    Joined {
-        fits: true,
-        report: sums,
-    }
+    let mut sums = first;
+    add_all(&mut sums.routes, &second.routes);
+    add_all(&mut sums.connections, &second.connections);
+    Ok(sums)
 }

@@ -1,5 +1,5 @@
 -- The loop over the takes of an answer, at the places where it stands.
-use Prim.Native.Nat.{ℕ, suc, ◌+◌, ◌-◌, ◌<◌, ◌≤◌, min}
+use Prim.Native.Nat.{ℕ, suc, ◌+◌, ◌<◌, ◌≤◌, min}
 use mathlib.Core.Path.{◌≡◌, refl, sym, ap, ap₂, ◌∙◌}
 use mathlib.Core.Bool.{Bool, true, false, cond, ◌&&◌}
 use mathlib.Core.List.{List}
@@ -13,7 +13,6 @@ use borrow.Author.Tests.{ltb-true, lt-ltb, le-ltb}
 use Rattle.recording.specs.Entry.{take_needs}
 use Rattle.report.specs.declared.RouteFigures.{RouteFigures}
 use Rattle.report.specs.declared.Drops.{Drops}
-use Rattle.report.specs.declared.Report.{Report}
 use Rattle.report.specs.Figures.{one_pdu, no_drops, figures_fit, plus_figures, drops_fit, plus_drops}
 use Rattle.report.specs.Report.{figures_at, drops_at}
 use Rattle.report_count.specs.declared.Adds.{Adds}
@@ -39,18 +38,9 @@ start_small route n = go (eqb n 0)
     go true = pdu-small route n n
     go false = omega arith
 
--- the start of a transfer: the end where it has no byte, and else nothing
-pub start-ends : (route n : ℕ) → eqb n 0 ≡ true → adds_start route n ≡ adds_pdu route n n
-unfolding adds_start
-start-ends route n e = rw e
-
-pub start_runs : (route n : ℕ) → eqb n 0 ≡ false → adds_start route n ≡ adds_nothing n
-unfolding adds_start
-start_runs route n e = rw e
-
-pub route-small : (kind which n kept : ℕ) → (adds_of_kind kind which n kept).route < 64
+pub route_small : (kind which n kept : ℕ) → (adds_of_kind kind which n kept).route < 64
 unfolding adds_of_kind
-route-small kind which n kept = one (eqb kind 1)
+route_small kind which n kept = one (eqb kind 1)
   where
     four : (b : Bool) → (cond b (adds_pdu which kept kept) (adds_nothing kept)).route < 64
     four true = pdu-small which kept kept
@@ -83,34 +73,32 @@ drop-passed s at n = go (dec_le (at + n) (length s))
         ap (λ (m : ℕ). drop m s) (min-eq_right l) ∙ drop-length s ∙ sym (drop-drop n at s ∙ drop_of_length-le s l)
 
 -- one take more: the rest of the takes leads to the whole's end
-module _ (k : ℕ) (s : List ℕ) (report : Report) (fits : Bool) (kept left at : ℕ) (end : Counting) (a : Adds) where
+module _ (k : ℕ) (s : List ℕ) (c : Counting) (left fewer at : ℕ) (end : Counting) (a : Adds) where
   pub count-on : (rest : List ℕ) (f g : Bool) (next : RouteFigures) (later : Drops) (needs on : ℕ)
-      → 0 < left → takes_counted k left (drop at s) (record { fits = fits; report = report; kept = kept }) ≡ end
-      → rest ≡ drop at s → a ≡ adds_of rest kept → f ≡ figures_fit (figures_at report a.route) a.figures → g ≡ drops_fit (drops_at report k) a.drops
-      → next ≡ plus_figures (figures_at report a.route) a.figures → later ≡ plus_drops (drops_at report k) a.drops
+      → left ≡ suc fewer → takes_counted k left (drop at s) c ≡ end → rest ≡ drop at s → a ≡ adds_of rest c.kept
+      → f ≡ figures_fit (figures_at c.report a.route) a.figures → g ≡ drops_fit (drops_at c.report k) a.drops
+      → next ≡ plus_figures (figures_at c.report a.route) a.figures → later ≡ plus_drops (drops_at c.report k) a.drops
       → needs ≡ take_needs rest → on ≡ min (at + needs) (length s)
-      → takes_counted k (left - 1) (drop on s)
+      → takes_counted k fewer (drop on s)
       (record {
-        fits = fits && f && g;
+        fits = c.fits && f && g;
         report =
-            record { routes = set report.routes a.route next; connections = set report.connections k later };
+            record { routes = set c.report.routes a.route next; connections = set c.report.connections k later };
         kept = a.kept;
       })
       ≡ end
   unfolding takes_counted one_counted
-  count-on rest f g next later needs on h inv r e f-is g-is n-is l-is needs-is on-is =
-      let here : Counting = record { fits = fits; report = report; kept = kept } in
-      let l : left ≡ suc (left - 1) = omega arith in
-      let adds : a ≡ adds_of (drop at s) kept = e ∙ ap (λ (x : List ℕ). adds_of x kept) r in
+  count-on rest f g next later needs on l inv r e f-is g-is n-is l-is needs-is on-is =
+      let adds : a ≡ adds_of (drop at s) c.kept = e ∙ ap (λ (x : List ℕ). adds_of x c.kept) r in
       let places : drop on s ≡ drop (take_needs (drop at s)) (drop at s) =
       ap (λ (m : ℕ). drop m s) on-is ∙ drop-passed s at needs ∙ ap (λ (m : ℕ). drop m (drop at s)) (needs-is ∙ ap take_needs r) in
       let counted : record {
-        fits = fits && f && g;
-        report = record { routes = set report.routes a.route next; connections = set report.connections k later };
+        fits = c.fits && f && g;
+        report = record { routes = set c.report.routes a.route next; connections = set c.report.connections k later };
         kept = a.kept;
-      } ≡ one_counted k (adds_of (drop at s) kept) here =
-      rw (f-is, g-is, n-is, l-is) (ap (λ (x : Adds). one_counted k x here) adds) in
-      ap₂ (takes_counted k (left - 1)) places counted ∙ ap (λ (m : ℕ). takes_counted k m (drop at s) here) (sym l) ∙ inv
+      } ≡ one_counted k (adds_of (drop at s) c.kept) c =
+      rw (f-is, g-is, n-is, l-is) (ap (λ (x : Adds). one_counted k x c) adds) in
+      ap₂ (takes_counted k fewer) places counted ∙ ap (λ (m : ℕ). takes_counted k m (drop at s) c) (sym l) ∙ inv
 
 -- an event without takes
 pub event_none : (number : ℕ) (arguments answer : List ℕ) (r : Run) (n : ℕ) → n ≡ takes_in number answer → n ≡ 0 → event_counted number arguments answer r ≡ r

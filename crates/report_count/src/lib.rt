@@ -8,11 +8,11 @@ ghost use Rattle.report_count.specs.Count as Is;
 
 use event_decode::bytes_from;
 use recording::take_needs;
-use report::{Drops, Report, RouteFigures, empty, no_drops, no_pdus, one_drop, one_pdu};
-use wire::{be8, be16, be32};
+use report::{Drops, Figures, Report, RouteFigures, empty, one_drop, one_pdu};
+use wire::{be8, be16, u8_at, u16_at, u32_at};
 
 // What one take adds: figures to a route, drops to the event's connection; and the length of the transfer that runs there now.
-#[derive(Clone, Copy)]
+#[derive(Clone, Copy, Debug, PartialEq, Eq)]
 pub struct Adds {
     pub route: u8,
     pub figures: RouteFigures,
@@ -21,15 +21,16 @@ pub struct Adds {
 }
 
 // The report of the takes so far of one connection, whether no sum passed 64 bits, and the length of the transfer that runs.
-#[derive(Clone, Copy)]
+#[derive(Clone, Copy, Debug, PartialEq, Eq)]
 pub struct Counting {
+    // Kept: what may not change: `one_counted` counts on past a sum that does not fit, so no Result takes the flag's place.
     pub fits: bool,
     pub report: Report,
     pub kept: u32,
 }
 
 // The report of a run so far, whether no sum passed 64 bits, and of each connection the length of the transfer that started last.
-#[derive(Clone, Copy)]
+#[derive(Clone, Copy, Debug, PartialEq, Eq)]
 pub struct Run {
     pub fits: bool,
     pub report: Report,
@@ -40,59 +41,50 @@ pub struct Run {
 pub fn begin() -> Run
     ensures { result ≡ Is.run_begun }
 {
-    let none = empty();
-    let lengths = [0u32; 16];
     Run {
         fits: true,
-        report: none,
-        lengths: lengths,
+        report: empty(),
+        lengths: [0; 16],
     }
 }
 
 fn adds_nothing(kept: u32) -> Adds
     ensures { result ≡ Is.adds_nothing kept }
 {
-    let figures = no_pdus();
-    let drops = no_drops();
     Adds {
         route: 0,
-        figures: figures,
-        drops: drops,
-        kept: kept,
+        figures: RouteFigures::none(),
+        drops: Drops::none(),
+        kept,
     }
 }
 
 fn adds_drop(reason: u8, kept: u32) -> Adds
     ensures { result ≡ Is.adds_drop reason kept }
 {
-    let figures = no_pdus();
-    let drops = one_drop(reason);
     Adds {
-        route: 0,
-        figures: figures,
-        drops: drops,
-        kept: kept,
+        drops: one_drop(reason),
+        ..adds_nothing(kept)
     }
 }
 
 // A PDU of so many bytes; on a route that there is not, nothing.
+#[tactic(auto, unfolding(crate::specs::Count::adds_pdu))]
 fn adds_pdu(route: u8, length: u32, kept: u32) -> Adds
     ensures { result ≡ Is.adds_pdu route length kept }
 {
     if 64 <= route {
         return adds_nothing(kept);
     }
-    let figures = one_pdu(length);
-    let drops = no_drops();
     Adds {
-        route: route,
-        figures: figures,
-        drops: drops,
-        kept: kept,
+        route,
+        figures: one_pdu(length),
+        ..adds_nothing(kept)
     }
 }
 
 // The start of a transfer: of length 0 it is the end, too.
+#[tactic(auto, unfolding(crate::specs::Count::adds_start))]
 fn adds_start(route: u8, length: u32) -> Adds
     ensures { result ≡ Is.adds_start route length }
 {
@@ -103,6 +95,7 @@ fn adds_start(route: u8, length: u32) -> Adds
 }
 
 // What a take adds, by its kind.
+#[tactic(auto, unfolding(crate::specs::Count::adds_of_kind))]
 fn adds_by(kind: u8, which: u8, length: u32, kept: u32) -> Adds
     ensures { result ≡ Is.adds_of_kind kind which length kept }
 {
@@ -119,23 +112,14 @@ fn adds_by(kind: u8, which: u8, length: u32, kept: u32) -> Adds
 fn adds_of(s: &[u8], kept: u32) -> Adds
     ensures { result ≡ Is.adds_of s.now kept }
 {
-    let kind = be8(s, 4) as u8;
-    let which = be8(s, 5) as u8;
-    let length = be32(s, 10) as u32;
-    adds_by(kind, which, length, kept)
+    adds_by(u8_at(s, 4), u8_at(s, 5), u32_at(s, 10), kept)
 }
 
 // So many bytes on, no further than the end.
 fn passed(long: usize, at: usize, n: usize) -> usize
     ensures { result ≡ min (at + n) long }
 {
-    if long <= at {
-        return long;
-    }
-    if long - at < n {
-        return long;
-    }
-    at + n
+    at.saturating_add(n).min(long)
 }
 
 // So many takes, one after the other, on a connection.
@@ -143,37 +127,25 @@ fn takes_counted(before: Counting, connection: usize, count: u16, s: &[u8]) -> C
     requires { connection < 16 }
     ensures { result ≡ Is.takes_counted connection count s.now before }
 {
-    let mut report = before.report;
-    let mut fits = before.fits;
-    let mut kept = before.kept;
-    let mut left = count;
+    let mut after = before;
     let mut at: usize = 0;
-    while 0 < left {
+    for _i in 0..count {
         let rest = bytes_from(s, at);
-        let adds = adds_of(rest, kept);
-        let route = adds.route as usize;
-        let more = adds.figures;
-        let drops = adds.drops;
-        let figures = report.routes[route];
-        let dropped = report.connections[connection];
-        fits = fits & figures.fits(more) & dropped.fits(drops);
-        let next = figures.plus(more);
-        report.routes[route] = next;
-        let later = dropped.plus(drops);
-        report.connections[connection] = later;
-        kept = adds.kept;
+        let adds = adds_of(rest, after.kept);
+        let figures = after.report.routes[adds.route as usize];
+        let dropped = after.report.connections[connection];
+        after.fits = after.fits & figures.fits(adds.figures) & dropped.fits(adds.drops);
+        after.report.routes[adds.route as usize] = figures.plus(adds.figures);
+        after.report.connections[connection] = dropped.plus(adds.drops);
+        after.kept = adds.kept;
         at = passed(s.len(), at, take_needs(rest));
-        left -= 1;
     }
-    Counting {
-        fits: fits,
-        report: report,
-        kept: kept,
-    }
+    after
 }
 
 // How many takes the answer of an event has: of a walk one, of any other event none. Where there are none `count` leaves the report, and a
 // caller need not hand it over.
+#[tactic(auto, unfolding(crate::specs::Count::takes_in))]
 pub fn takes_in(number: u16, answer: &[u8]) -> u16
     ensures { result ≡ Is.takes_in number answer.now }
 {
@@ -181,13 +153,14 @@ pub fn takes_in(number: u16, answer: &[u8]) -> u16
         return 0;
     }
     match number {
-        7 => be16(answer, 2) as u16,
+        7 => u16_at(answer, 2),
         8 => 1,
         _ => 0,
     }
 }
 
 // Where they begin.
+#[tactic(auto, unfolding(crate::specs::Count::takes_at))]
 fn takes_at(number: u16) -> usize
     ensures { result ≡ Is.takes_at number }
 {
@@ -209,20 +182,18 @@ pub fn count(run: Run, number: u16, arguments: &[u8], answer: &[u8]) -> Run
     if 16 <= connection {
         return run;
     }
-    let report = run.report;
     let before = Counting {
         fits: run.fits,
-        report: report,
+        report: run.report,
         kept: run.lengths[connection],
     };
     let takes = bytes_from(answer, takes_at(number));
     let counted = takes_counted(before, connection, n, takes);
     let mut lengths = run.lengths;
     lengths[connection] = counted.kept;
-    let after = counted.report;
     Run {
         fits: counted.fits,
-        report: after,
-        lengths: lengths,
+        report: counted.report,
+        lengths,
     }
 }

@@ -2,18 +2,9 @@
 // (docs/EVENTS.md).
 #![tactic(auto)]
 
-use input::read_image;
 use input_script::run_under;
-use pieces::front;
-use table::{TableAnswer, check_table};
-use words_refusal::refuse;
+use words_refusal::under_table;
 
 fn main() {
-    let mut image = [0u8; 2356];
-    let n = read_image(&mut image);
-    let table = front(&image, n);
-    match check_table(table) {
-        TableAnswer::Accepted => run_under(table),
-        TableAnswer::Refused(place) => refuse(table, place),
-    }
+    under_table(|table| run_under(table));
 }

@@ -1,4 +1,5 @@
 -- One pass finds the best, and there is only one best.
+use Rattle.std.proofs.Common.{Option, ℕ, Some, None}
 use Prim.Native.Nat.{ℕ, zero, suc, ◌+◌, ◌<◌, ◌≤◌}
 use mathlib.Core.Path.{◌≡◌, refl, sym, ap, subst}
 use mathlib.Core.Logic.{⊎_elim}
@@ -11,8 +12,6 @@ use borrow.Author.Tests.{leb-true, leb-false, eqb-true, eqb-false, le-leb, lt-le
 use Rattle.lists.specs.Fold.{fold_from}
 use Rattle.select.specs.Best.{Best, IsChosen, pick, better, found, chosen_of}
 use Rattle.select.specs.declared.Pick.{Pick}
-use Rattle.select.specs.declared.Chosen.{Chosen}
-use Rattle.select.specs.declared.Chosen.TheVariants.{Nobody, At}
 
 module _ (score : ℕ → ℕ) where
   -- after the rows below i
@@ -51,7 +50,7 @@ module _ (score : ℕ → ℕ) where
   found-is : (n : ℕ) (b : Pick) → Leads n b → IsChosen score n (found b)
   found-is n b v = go (eqb b.score 0) refl
     where
-      go : (t : Bool) → eqb b.score 0 ≡ t → IsChosen score n (cond t Nobody (At b.at))
+      go : (t : Bool) → eqb b.score 0 ≡ t → IsChosen score n (cond t None (Some b.at))
       go true e = λ j l. let z : b.score ≡ 0 = eqb-true _ _ e in omega (arith, v.most j l)
       go false e =
           let z : b.score ≡ 0 → ⊥ = eqb-false _ _ e in
@@ -83,11 +82,11 @@ module _ (score : ℕ → ℕ) where
       go (no h) (yes l) = absurd (omega (arith, a.lowest m l, b.highest k a.inside))
       go (no h) (no g) = omega (arith, h, g)
 
-  pub chosen_one : (n : ℕ) (x y : Chosen) → IsChosen score n x → IsChosen score n y → x ≡ y
-  chosen_one n Nobody Nobody a b = refl
-  chosen_one n Nobody (At m) a b = absurd (omega (arith, a m b.inside, b.counts))
-  chosen_one n (At k) Nobody a b = absurd (omega (arith, b k a.inside, a.counts))
-  chosen_one n (At k) (At m) a b = ap At (same n k m a b)
+  pub chosen_one : (n : ℕ) (x y : Option ℕ) → IsChosen score n x → IsChosen score n y → x ≡ y
+  chosen_one n None None a b = refl
+  chosen_one n None (Some m) a b = absurd (omega (arith, a m b.inside, b.counts))
+  chosen_one n (Some k) None a b = absurd (omega (arith, b k a.inside, a.counts))
+  chosen_one n (Some k) (Some m) a b = ap Some (same n k m a b)
 
   -- one turn of the loop
   pub better_no : (b : Pick) (i : ℕ) → score i ≤ b.score → b ≡ better score b i

@@ -1,4 +1,5 @@
 -- The one pass over the rows, at the places where the loop stands.
+use Rattle.std.proofs.Common.{Option, ℕ, Some, Result, Ok, Err}
 use Prim.Native.Nat.{ℕ, ◌+◌, ◌-◌, ◌/◌, ◌<◌, ◌≤◌}
 use mathlib.Core.Path.{◌≡◌, refl, sym, ap, ◌∙◌}
 use mathlib.Core.Bool.{Bool, false}
@@ -17,14 +18,12 @@ use Rattle.state.specs.State.{record_at}
 use Rattle.lists.specs.Fold.{fold_from}
 use Rattle.lists.proofs.Fold.{Folded, fold_start, fold_on, fold_keeps}
 use Rattle.select.specs.declared.Pick.{Pick}
-use Rattle.select.specs.declared.Chosen.{Chosen}
-use Rattle.select.specs.declared.Chosen.TheVariants.{At}
-use Rattle.select.specs.declared.Arrival.{Arrival}
-use Rattle.select.specs.declared.Arrival.TheVariants.{Met, Refused, Unmatched}
+use Rattle.select.specs.declared.NotMet.TheVariants.{Refused, Unmatched}
 use Rattle.select.specs.Best.{IsChosen, pick, better, found, chosen_of}
 use Rattle.select.specs.Choose.{score_of, score_at, chosen_in, better_of, searched_of}
 use Rattle.select.proofs.Best.{better_no, better_yes, better-alike, better-small, chosen_best, chosen_one}
 use Rattle.select.proofs.Scores.{no_member, rows_are, score_past, score-at}
+use Rattle.select.specs.declared.NotMet.{NotMet}
 
 -- one turn of the loop, as the code takes it
 module _ (accept : Bool) (group : ℕ) (source : Remote) (b : Pick) (row : List ℕ) (i : ℕ) (c : Connection) (first : ℕ) (ef : first ≡ be 1 row 0) where
@@ -68,36 +67,36 @@ module _ (image : List ℕ) (s : State) (accept : Bool) (group : ℕ) (source : 
     pass_ended = ap found (sym rest_none ∙ inv.1)
 
   -- THE SEARCH: the rows are looked through where nobody is answered before it, else nobody is found
-  module _ (before : Arrival) where
+  module _ (before : Result ℕ NotMet) where
     pub record Searching (i : ℕ) (b : Pick) : Type 0 where
-      pub passing : before ≡ Unmatched → Passing i b
-      pub idle : (before ≡ Unmatched → ⊥) → b.score ≡ 0
+      pub passing : before ≡ Err Unmatched → Passing i b
+      pub idle : (before ≡ Err Unmatched → ⊥) → b.score ≡ 0
       pub small : b.at < 16
 
     pub search_start : Searching 0 (pick 0 0)
     search_start = record { passing = λ e. fold_start _ _ _; idle = λ n. refl; small = omega arith }
 
-    module _ (laid : before ≡ Unmatched → Laid image) (body : List ℕ) (eb : body ≡ searched_of before image) where
-      open_body : before ≡ Unmatched → body ≡ body_of image KConnection
-      open_body e = eb ∙ ap (λ (a : Arrival). searched_of a image) e
+    module _ (laid : before ≡ Err Unmatched → Laid image) (body : List ℕ) (eb : body ≡ searched_of before image) where
+      open_body : before ≡ Err Unmatched → body ≡ body_of image KConnection
+      open_body e = eb ∙ ap (λ (a : Result ℕ NotMet). searched_of a image) e
 
-      open_rows : before ≡ Unmatched → length body / 16 ≡ rows_of image KConnection
+      open_rows : before ≡ Err Unmatched → length body / 16 ≡ rows_of image KConnection
       open_rows e = rows_are image (laid e) KConnection body (open_body e)
 
       module _ (i : ℕ) (h : i < length body / 16) where
         -- there is a row to look at only there
-        search_open : before ≡ Unmatched
+        search_open : before ≡ Err Unmatched
         search_open = go before eb
           where
             none : body ≡ [] → ⊥
             none e = let z : length body ≡ 0 = ap length e in omega (arith, h, z)
 
-            go : (a : Arrival) → body ≡ searched_of a image → a ≡ Unmatched
-            go (Met k) e = absurd (none e)
-            go (Refused r) e = absurd (none e)
-            go Unmatched e = refl
+            go : (a : Result ℕ NotMet) → body ≡ searched_of a image → a ≡ Err Unmatched
+            go (Ok k) e = absurd (none e)
+            go (Err (Refused r)) e = absurd (none e)
+            go (Err Unmatched) e = refl
 
-        pub search_small : (before ≡ Unmatched → rows_of image KConnection ≤ 16) → i < 16
+        pub search_small : (before ≡ Err Unmatched → rows_of image KConnection ≤ 16) → i < 16
         search_small most = omega (arith, h, open_rows search_open, most search_open)
 
         pub search_on : i < 16 → (b : Pick) → Searching i b → (row : List ℕ) → row ≡ row_in 16 body i → (next : Pick)
@@ -114,7 +113,7 @@ module _ (image : List ℕ) (s : State) (accept : Bool) (group : ℕ) (source : 
               small = rw step (better-small score 16 b i inv.small l);
             }
 
-      pub search_ended : (i : ℕ) → length body / 16 ≤ i → (b : Pick) → Searching i b → before ≡ Unmatched → found b ≡ chosen_in image s accept group source
+      pub search_ended : (i : ℕ) → length body / 16 ≤ i → (b : Pick) → Searching i b → before ≡ Err Unmatched → found b ≡ chosen_in image s accept group source
       search_ended i h b inv e = pass_ended i b (inv.passing e) (omega (arith, h, open_rows e))
 
   -- the choice is the best, and the only one that is
@@ -122,9 +121,9 @@ module _ (image : List ℕ) (s : State) (accept : Bool) (group : ℕ) (source : 
   unfolding chosen_in
   chosen_is_best = chosen_best score 16
 
-  pub chosen_is_only : (x : Chosen) → IsChosen score 16 x → x ≡ chosen_in image s accept group source
+  pub chosen_is_only : (x : Option ℕ) → IsChosen score 16 x → x ≡ chosen_in image s accept group source
   chosen_is_only x b = chosen_one score 16 x (chosen_in image s accept group source) b chosen_is_best
 
   -- so it is one of the sixteen
-  pub chosen_small : (k : ℕ) → chosen_in image s accept group source ≡ At k → k < 16
+  pub chosen_small : (k : ℕ) → chosen_in image s accept group source ≡ Some k → k < 16
   chosen_small k e = (rw e at chosen_is_best).inside

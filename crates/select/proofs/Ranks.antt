@@ -1,4 +1,5 @@
 -- R7.5 (chapter 7.5 of the standard): the four classes of a match, and the named valve before the named port.
+use Rattle.std.proofs.Common.{Some}
 use Prim.Native.Nat.{ℕ, ◌+◌, ◌*◌, ◌<◌}
 use mathlib.Core.Path.{◌≡◌, refl, sym, ◌∙◌}
 use mathlib.Core.Bool.{Bool, true, false, cond, ◌&&◌}
@@ -11,7 +12,6 @@ use Rattle.connection.specs.declared.Remote.{Remote}
 use Rattle.connection.specs.Connection.{equal_fields, wild_fields, wildcard}
 use Rattle.state.specs.declared.State.{State}
 use Rattle.state.specs.State.{record_at}
-use Rattle.select.specs.declared.Chosen.TheVariants.{At}
 use Rattle.select.specs.Choose.{one_of, rank_of, matches, member_counts, score_of, member, score_at, chosen_in}
 use Rattle.select.specs.Ranks.{ranks}
 use Rattle.select.proofs.Pass.{chosen_is_best}
@@ -58,7 +58,7 @@ named_valve_first accept m n source a b h p q =
 
 -- so the chosen one bears the source's address where any matching member does
 module _ (image : List ℕ) (s : State) (accept : Bool) (group : ℕ) (source : Remote) where
-  pub named_valve_chosen : (k j : ℕ) → chosen_in image s accept group source ≡ At k → j < 16
+  pub named_valve_chosen : (k j : ℕ) → chosen_in image s accept group source ≡ Some k → j < 16
       → 0 < score_at image s accept group source j → (equal_fields (record_at s j).remote source).address ≡ true
       → (equal_fields (record_at s k).remote source).address ≡ true
   unfolding score_at

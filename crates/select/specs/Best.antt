@@ -1,9 +1,7 @@
 -- The best of numbered candidates, each with a score that is 0 where it is none (R7.5).
-use Rattle.std.specs.Prelude.{ℕ, ◌<◌, ◌≤◌, ◌≡◌, cond, eqb, leb}
+use Rattle.std.specs.Prelude.{ℕ, ◌<◌, ◌≤◌, ◌≡◌, cond, eqb, leb, Option, Some, None}
 use Rattle.lists.specs.Fold.{fold_from}
 use Rattle.select.specs.declared.Pick.{Pick}
-use Rattle.select.specs.declared.Chosen.{Chosen}
-use Rattle.select.specs.declared.Chosen.TheVariants.{Nobody, At}
 
 -- what best means
 module _ (score : ℕ → ℕ) (n : ℕ) where
@@ -15,9 +13,9 @@ module _ (score : ℕ → ℕ) (n : ℕ) where
     pub lowest : (j : ℕ) → j < k → score j < score k
 
   -- nobody exactly when none counts
-  abbrev pub IsChosen : Chosen → Type 0
-  IsChosen Nobody = (j : ℕ) → j < n → score j ≡ 0
-  IsChosen (At k) = Best k
+  abbrev pub IsChosen : Option ℕ → Type 0
+  IsChosen None = (j : ℕ) → j < n → score j ≡ 0
+  IsChosen (Some k) = Best k
 
 -- the best so far, in one pass over the candidates
 abbrev pub pick : ℕ → ℕ → Pick
@@ -27,9 +25,9 @@ pick s k = record { score = s; at = k }
 unfoldable pub better : (ℕ → ℕ) → Pick → ℕ → Pick
 better score b i = cond (leb (score i) b.score) b (pick (score i) i)
 
-abbrev pub found : Pick → Chosen
-found b = cond (eqb b.score 0) Nobody (At b.at)
+abbrev pub found : Pick → Option ℕ
+found b = cond (eqb b.score 0) None (Some b.at)
 
 -- of the candidates 0 .. n - 1
-unfoldable pub chosen_of : (ℕ → ℕ) → ℕ → Chosen
+unfoldable pub chosen_of : (ℕ → ℕ) → ℕ → Option ℕ
 chosen_of score n = found (fold_from (better score) n 0 (pick 0 0))

@@ -1,5 +1,5 @@
 -- Which member of a group a source belongs to, and what becomes of it: R7.1 to R7.6 (requirement 00525 of the standard).
-use Rattle.std.specs.Prelude.{ℕ, ◌+◌, ◌*◌, ◌%◌, Bool, true, false, cond, not, ◌&&◌, ◌||◌, List, [], eqb, leb, ltb}
+use Rattle.std.specs.Prelude.{ℕ, ◌+◌, ◌*◌, ◌%◌, Bool, true, false, cond, not, ◌&&◌, ◌||◌, List, [], eqb, leb, ltb, Option, Some, None, Result, Ok, Err}
 use Rattle.table_layout.specs.Layout.{rows_of, body_of, body_at}
 use Rattle.table_layout.specs.declared.Kind.TheVariants.{Group, Connection as KConnection}
 use Rattle.table_rows.specs.Rows.{group_of, connection_row, connection_of}
@@ -15,11 +15,9 @@ use Rattle.state.specs.State.{record_at, with_record}
 use Rattle.state.specs.Fresh.{config_of}
 use Rattle.select.specs.Best.{better, chosen_of}
 use Rattle.select.specs.declared.Pick.{Pick}
-use Rattle.select.specs.declared.Chosen.{Chosen}
-use Rattle.select.specs.declared.Chosen.TheVariants.{Nobody, At}
-use Rattle.select.specs.declared.Arrival.{Arrival}
-use Rattle.select.specs.declared.Arrival.TheVariants.{Met, Refused, Unmatched}
+use Rattle.select.specs.declared.NotMet.TheVariants.{Refused, Unmatched}
 use Rattle.select.specs.declared.Arrived.{Arrived}
+use Rattle.select.specs.declared.NotMet.{NotMet}
 
 abbrev pub one_of : Bool → ℕ
 one_of true = 1
@@ -53,7 +51,7 @@ module _ (image : List ℕ) (s : State) (accept : Bool) (group : ℕ) (source : 
   score_at i = score_of accept source (member i) (record_at s i)
 
   -- of the sixteen records
-  unfoldable pub chosen_in : Chosen
+  unfoldable pub chosen_in : Option ℕ
   chosen_in = chosen_of score_at 16
 
 -- one record more, with its row: it is a member where the row names the group
@@ -61,13 +59,13 @@ abbrev pub better_of : Bool → ℕ → Remote → Pick → List ℕ → ℕ →
 better_of accept group source b row i c = better (λ (k : ℕ). score_of accept source (eqb (connection_row row).group group) c) b i
 
 -- R7.6, R20.3: it becomes online with the source as remote, and the answer names it
-abbrev pub meet : List ℕ → State → Remote → Chosen → Arrived
-meet image s source Nobody = record { answer = Unmatched; state = s }
-meet image s source (At k) =
-    record { answer = Met k; state = with_record k (met_of (config_of image k) source (record_at s k)) s }
+abbrev pub meet : List ℕ → State → Remote → Option ℕ → Arrived
+meet image s source None = record { answer = Err Unmatched; state = s }
+meet image s source (Some k) =
+    record { answer = Ok k; state = with_record k (met_of (config_of image k) source (record_at s k)) s }
 
 abbrev pub arrival_refused : State → Refusal → Arrived
-arrival_refused s r = record { answer = Refused r; state = s }
+arrival_refused s r = record { answer = Err (Refused r); state = s }
 
 -- a datagram names a UDP group, an accept a TCP group
 abbrev pub protocol_of : Bool → ℕ
@@ -85,43 +83,43 @@ arrive_of image s accept group source =
     (meet image s source (chosen_in image s accept group source)))
 
 -- the same in the order of the code: what is answered before the rows are looked through, ..
-unfoldable pub answer_before : List ℕ → Bool → ℕ → Remote → Arrival
+unfoldable pub answer_before : List ℕ → Bool → ℕ → Remote → Result ℕ NotMet
 answer_before image accept group source =
-    cond (leb (rows_of image Group) group) (Refused Missing) (cond (denied_of image accept group source) (Refused Denied) Unmatched)
+    cond (leb (rows_of image Group) group) (Err (Refused Missing)) (cond (denied_of image accept group source) (Err (Refused Denied)) (Err Unmatched))
 
 -- .. the rows that are looked through, and where in the image they stand, ..
-abbrev pub searched_of : Arrival → List ℕ → List ℕ
-searched_of (Met k) image = []
-searched_of (Refused r) image = []
-searched_of Unmatched image = body_of image KConnection
+abbrev pub searched_of : Result ℕ NotMet → List ℕ → List ℕ
+searched_of (Ok k) image = []
+searched_of (Err (Refused r)) image = []
+searched_of (Err Unmatched) image = body_of image KConnection
 
-abbrev pub searched_at : Arrival → List ℕ → ℕ
-searched_at (Met k) image = 0
-searched_at (Refused r) image = 0
-searched_at Unmatched image = body_at image KConnection
+abbrev pub searched_at : Result ℕ NotMet → List ℕ → ℕ
+searched_at (Ok k) image = 0
+searched_at (Err (Refused r)) image = 0
+searched_at (Err Unmatched) image = body_at image KConnection
 
 -- .. and what is answered after it
-abbrev pub answer_after : Arrival → Pick → Arrival
-answer_after before best = cond (eqb best.score 0) before (Met best.at)
+abbrev pub answer_after : Result ℕ NotMet → Pick → Result ℕ NotMet
+answer_after before best = cond (eqb best.score 0) before (Ok best.at)
 
-abbrev pub is_met : Arrival → Bool
-is_met (Met k) = true
-is_met (Refused r) = false
-is_met Unmatched = false
+abbrev pub is_met : Result ℕ NotMet → Bool
+is_met (Ok k) = true
+is_met (Err (Refused r)) = false
+is_met (Err Unmatched) = false
 
 -- the same, by the answer: which record is put back, that of the connection that the answer names, or record 0 as it was
-abbrev pub met_place : Arrival → ℕ
-met_place (Met k) = k % 16
-met_place (Refused r) = 0
-met_place Unmatched = 0
+abbrev pub met_place : Result ℕ NotMet → ℕ
+met_place (Ok k) = k % 16
+met_place (Err (Refused r)) = 0
+met_place (Err Unmatched) = 0
 
-abbrev pub met_next : List ℕ → Remote → Arrival → Connection → Connection
-met_next image source (Met k) c = met_of (config_of image k) source c
-met_next image source (Refused r) c = c
-met_next image source Unmatched c = c
+abbrev pub met_next : List ℕ → Remote → Result ℕ NotMet → Connection → Connection
+met_next image source (Ok k) c = met_of (config_of image k) source c
+met_next image source (Err (Refused r)) c = c
+met_next image source (Err Unmatched) c = c
 
 -- R4.1: the number of an answer
-abbrev pub arrival_number : Arrival → ℕ
-arrival_number (Met k) = 0
-arrival_number (Refused r) = refusal_number r
-arrival_number Unmatched = 10
+abbrev pub arrival_number : Result ℕ NotMet → ℕ
+arrival_number (Ok k) = 0
+arrival_number (Err (Refused r)) = refusal_number r
+arrival_number (Err Unmatched) = 10

@@ -11,19 +11,12 @@ ghost use Rattle.select.specs.Choose as Is;
 use connection::{Connection, Fields, Refusal, Remote};
 use state::{State, config_laid};
 use table_layout::{Kind, body_laid};
+use table_rows::{GroupRow, row_at};
 use wire::be8;
 
-// Whom the definitions choose.
-#[derive(Clone, Copy)]
-pub enum Chosen {
-    Nobody,
-    At(usize),
-}
-
-// What a datagram or an accept is answered: the connection that it met, or why there is none.
-#[derive(Clone, Copy)]
-pub enum Arrival {
-    Met(u8),
+// Why a datagram or an accept meets no connection.
+#[derive(Clone, Copy, PartialEq, Eq)]
+pub enum NotMet {
     Refused(Refusal),
     Unmatched,
 }
@@ -39,7 +32,7 @@ pub struct Pick {
 #[derive(Clone, Copy)]
 pub struct Arrived {
     pub state: State,
-    pub answer: Arrival,
+    pub answer: Result<u8, NotMet>,
 }
 
 fn one(b: bool) -> u8
@@ -62,12 +55,10 @@ fn rank(equal: Fields) -> u8
 fn score(accept: bool, source: Remote, member: bool, c: Connection) -> u8
     ensures { result ≡ Is.score_of accept source member c }
 {
-    let mode = c.mode;
-    let remote = c.remote;
-    let waits = connection::is_reconnect(mode);
-    let up = connection::is_online(mode);
-    let equal = connection::equal_fields(remote, source);
-    let wild = connection::wild_fields(remote);
+    let waits = c.mode.is_reconnect();
+    let up = c.mode.is_online();
+    let equal = c.remote.equal_fields(source);
+    let wild = c.remote.wild_fields();
     let counts = (waits | (!accept & up)) & !c.close_wanted;
     let matches = (equal.address | wild.address) & (equal.port | wild.port);
     let scores = member & counts & matches;
@@ -114,65 +105,70 @@ fn protocol_of(accept: bool) -> u8
 }
 
 // What is answered before any member is looked at: a refusal, or else nobody.
-pub fn answer_before(image: &[u8], accept: bool, group: u8, source: Remote) -> Arrival
+pub fn answer_before(image: &[u8], accept: bool, group: u8, source: Remote) -> Result<u8, NotMet>
     requires { Laid image.now }
     ensures { result ≡ Is.answer_before image.now accept group source }
 {
     let groups = body_laid(image, Kind::Group);
     if groups.len() / 2 <= group as usize {
-        return Arrival::Refused(Refusal::Missing);
+        return Err(NotMet::Refused(Refusal::Missing));
     }
-    let row = table_rows::group_in(groups, group as usize);
-    let denied = !(row.protocol == protocol_of(accept)) | connection::has_wildcard(source);
+    let row = row_at::<GroupRow>(groups, group as usize);
+    let denied = !(row.protocol == protocol_of(accept)) | source.has_wildcard();
     if denied {
-        return Arrival::Refused(Refusal::Denied);
+        return Err(NotMet::Refused(Refusal::Denied));
     }
-    Arrival::Unmatched
+    Err(NotMet::Unmatched)
 }
 
 // The rows to look through: those of the connections where nobody is answered so far, else none.
-pub fn searched(before: Arrival, image: &[u8]) -> &[u8]
-    requires { before ≡ Arrival.Unmatched → Laid image.now }
+pub fn searched(before: Result<u8, NotMet>, image: &[u8]) -> &[u8]
+    requires { before ≡ Err NotMet.Unmatched → Laid image.now }
     ensures bytes { result.now ≡ Is.searched_of before image.now }
     ensures place { result.ref_ptr ≡ behind image.entry.ref_ptr (Is.searched_at before image.now) }
 {
     match before {
-        Arrival::Met(_) => &image[..0],
-        Arrival::Refused(_) => &image[..0],
-        Arrival::Unmatched => body_laid(image, Kind::Connection),
+        Ok(_) => &image[..0],
+        Err(NotMet::Refused(_)) => &image[..0],
+        Err(NotMet::Unmatched) => body_laid(image, Kind::Connection),
     }
 }
 
 // What is answered after all: the best match, or as before where there is none.
-pub fn answer_after(before: Arrival, best: Pick) -> Arrival
+pub fn answer_after(before: Result<u8, NotMet>, best: Pick) -> Result<u8, NotMet>
     requires { best.at < 16 }
     ensures { result ≡ Is.answer_after before best }
 {
     if best.score == 0 {
         return before;
     }
-    Arrival::Met(best.at as u8)
+    Ok(best.at as u8)
 }
 
 // Which record an answer replaces: that of the connection that it names, or record 0, by itself.
-pub fn place_of(answer: Arrival) -> usize
+pub fn place_of(answer: Result<u8, NotMet>) -> usize
     ensures { (result ≡ Is.met_place answer) × (result < 16) }
 {
     match answer {
-        Arrival::Met(k) => k as usize % 16,
-        Arrival::Refused(_) => 0,
-        Arrival::Unmatched => 0,
+        Ok(k) => k as usize % 16,
+        Err(NotMet::Refused(_)) => 0,
+        Err(NotMet::Unmatched) => 0,
     }
 }
 
 // That record afterwards.
-pub fn next_of(answer: Arrival, image: &[u8], c: Connection, source: Remote) -> Connection
+pub fn next_of(
+    answer: Result<u8, NotMet>,
+    image: &[u8],
+    c: Connection,
+    source: Remote,
+) -> Connection
     requires { Is.is_met answer ≡ true → Laid image.now }
     ensures { result ≡ Is.met_next image.now source answer c }
 {
     match answer {
-        Arrival::Met(k) => c.met(config_laid(image, k as usize), source),
-        Arrival::Refused(_) => c,
-        Arrival::Unmatched => c,
+        Ok(k) => c.met(config_laid(image, k as usize), source),
+        Err(NotMet::Refused(_)) => c,
+        Err(NotMet::Unmatched) => c,
     }
 }

@@ -1,4 +1,5 @@
 -- What a check that refuses nothing shows of each wanted destination.
+use Rattle.std.proofs.Common.{Err}
 use Prim.Native.Nat.{ℕ, ◌+◌, ◌<◌, ◌≤◌}
 use mathlib.Core.Path.{◌≡◌, refl}
 use mathlib.Core.Bool.{Bool, true, false, cond, not, ◌||◌}
@@ -19,19 +20,21 @@ use Rattle.table_rows.specs.declared.DestinationRow.{DestinationRow}
 use Rattle.table_rows.specs.Rows.{connection_of, destination_of}
 use Rattle.state.specs.declared.State.{State}
 use Rattle.state.specs.State.{record_at}
-use Rattle.send.specs.declared.Transmission.TheVariants.{NoDestination, SwitchedOff, RefusedAt}
+use Rattle.send.specs.declared.NotSent.TheVariants.{NoDestination, SwitchedOff, RefusedAt}
 use Rattle.send.specs.Verdict.{is_out, passes, decided_at, verdict_of, is_stored}
 use Rattle.send.specs.Send.{destinations, look_at, check_of, wanted_at, Ready, Roomy}
 
 -- a stored verdict comes from rows of which none refuses
-stored_none : (look : ℕ → ℕ) (n : ℕ) (a b : Bool) (k : ℕ) → is_stored (cond a NoDestination (cond b SwitchedOff (decided_at look n k))) ≡ true → n ≤ k
+stored_none : (look : ℕ → ℕ) (n : ℕ) (a b : Bool) (k : ℕ)
+    → is_stored (cond a (Err NoDestination) (cond b (Err SwitchedOff) (decided_at look n k))) ≡ true → n ≤ k
 stored_none look n a b k = go a b (dec_lt k n)
   where
-    go : (a b : Bool) → Dec (k < n) → is_stored (cond a NoDestination (cond b SwitchedOff (decided_at look n k))) ≡ true → n ≤ k
+    go : (a b : Bool) → Dec (k < n) → is_stored (cond a (Err NoDestination) (cond b (Err SwitchedOff) (decided_at look n k))) ≡ true → n ≤ k
     go true b x e = absurd (let o : ◌≡◌ {A = ℕ} 0 1 = cc in omega arith)
     go false true x e = absurd (let o : ◌≡◌ {A = ℕ} 0 1 = cc in omega arith)
     go false false (no h) e = omega (arith, h)
-    go false false (yes h) e = absurd (let f : is_stored (RefusedAt (look k) k) ≡ true = rw (lt-ltb _ _ h) at e in let o : ◌≡◌ {A = ℕ} 0 1 = cc in omega arith)
+    go false false (yes h) e =
+        absurd (let f : is_stored (Err (RefusedAt (look k) k)) ≡ true = rw (lt-ltb _ _ h) at e in let o : ◌≡◌ {A = ℕ} 0 1 = cc in omega arith)
 
 pub clear_rows : (look : ℕ → ℕ) (n : ℕ) → is_stored (verdict_of look n) ≡ true → (i : ℕ) → i < n → passes (look i) ≡ true
 unfolding verdict_of

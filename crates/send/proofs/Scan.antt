@@ -1,4 +1,7 @@
 -- The check in one pass, at the places where its loop stands.
+use Rattle.std.proofs.Common.{Ok, Err, Option, Some, None}
+use Rattle.send_destination.specs.declared.Reply.{Reply}
+use Rattle.send_destination.specs.Reply.{reply_number}
 use Prim.Native.Nat.{ℕ, zero, suc, ◌+◌, ◌<◌, ◌≤◌}
 use mathlib.Core.Path.{◌≡◌, refl, sym, ap, subst, ◌∙◌}
 use mathlib.Core.Bool.{Bool, true, false, cond, not, ◌&&◌, ◌||◌}
@@ -12,16 +15,15 @@ use Rattle.lists.specs.Search.{first_bad, every}
 use Rattle.lists.proofs.Both.{and_left, and_right, neither}
 use Rattle.lists.proofs.Search.{Searched, search_start, search_on, search_found, search_ended, GoodTo, pass_start, pass_on, pass_failed, every-at, every-all}
 use Rattle.table_layout.specs.Layout.{body_of}
-use Rattle.table_layout.specs.declared.Kind.TheVariants.{Connection as Connections, Destination}
+use Rattle.table_layout.specs.declared.Kind.TheVariants.{Connection as Connections}
 use Rattle.table_rows.specs.declared.DestinationRow.{DestinationRow}
-use Rattle.table_rows.specs.Rows.{brief_in, connection_of, destination_in, destination_of}
+use Rattle.table_rows.specs.Rows.{brief_in, connection_of, destination_of}
 use Rattle.state.specs.declared.State.{State}
 use Rattle.state.specs.State.{record_at}
-use Rattle.send.specs.declared.Transmission.TheVariants.{Stored, NoDestination, SwitchedOff, RefusedAt}
+use Rattle.send.specs.declared.NotSent.TheVariants.{NoDestination, SwitchedOff, RefusedAt}
 use Rattle.send.specs.Verdict.{is_out, passes, decided_at, verdict_of, join_of, transmission_of, ended_of}
-use Rattle.send.specs.Send.{destinations, look_at}
-use Rattle.send.specs.Inner.{ForFrom}
-use Rattle.send.proofs.Pdu.{skips, below_rows}
+use Rattle.send.specs.Send.{look_at}
+use Rattle.send.specs.Inner.{refused_number, refused_row}
 
 -- a row that does not refuse
 data Passing : ℕ → Type 0 where
@@ -101,7 +103,7 @@ module _ (look : ℕ → ℕ) where
     unfolding join_of
     scan_skip h e = scan_on v h (rw e) (rw e)
 
-    pub scan_refused : i < n → good i ≡ false → RefusedAt (look i) i ≡ verdict_of look n
+    pub scan_refused : i < n → good i ≡ false → Err (RefusedAt (look i) i) ≡ verdict_of look n
     unfolding verdict_of
     scan_refused h g =
         let p = neither (eqb (look i) 0) (is_out (look i)) g in
@@ -117,23 +119,27 @@ module _ (look : ℕ → ℕ) where
         let e : i ≡ n = omega (arith, s.searched.0) in
         ap transmission_of (s.is ∙ ap seen_at e ∙ seen-is n (rw e at s.passed.1)) ∙ go (every five n) (every out n)
       where
-        none : decided_at look n (first_bad good n) ≡ Stored
+        none : decided_at look n (first_bad good n) ≡ Ok tt
         none = rw (← search_ended good n i s.searched h, le-ltb i n h)
 
-        go : (a b : Bool) → transmission_of (cond a 5 (cond b 6 0)) ≡ cond a NoDestination (cond b SwitchedOff (decided_at look n (first_bad good n)))
+        go : (a b : Bool) → transmission_of (cond a 5 (cond b 6 0))
+            ≡ cond a (Err NoDestination) (cond b (Err SwitchedOff) (decided_at look n (first_bad good n)))
         go true b = refl
         go false true = refl
         go false false = sym none
 
     -- the answer of the pass, where it ended after the last row, and where row i refuses
-    pub ended_clear : (refused : ℕ) → refused ≡ 0 → n ≤ i → ended_of v refused i ≡ verdict_of look n
-    ended_clear refused e h = ap (λ (x : ℕ). ended_of v x i) e ∙ scan_ended h
+    pub ended_clear : (refused : Option (Reply × ℕ)) → refused ≡ None → n ≤ i
+        → ended_of v (refused_number refused) (refused_row refused) ≡ verdict_of look n
+    ended_clear refused e h = ap (λ (x : Option (Reply × ℕ)). ended_of v (refused_number x) (refused_row x)) e ∙ scan_ended h
 
-    pub ended-refused : (refused : ℕ) → refused ≡ look i → i < n → good i ≡ false → ended_of v refused i ≡ verdict_of look n
-    ended-refused refused e h g =
+    pub ended-refused : (refused : Option (Reply × ℕ)) (found : Reply) → refused ≡ Some (found, i) → reply_number found ≡ look i
+        → i < n → good i ≡ false → ended_of v (refused_number refused) (refused_row refused) ≡ verdict_of look n
+    ended-refused refused found e q h g =
         let p = neither (eqb (look i) 0) (is_out (look i)) g in
         let z : eqb (look i) 0 ≡ false = p.0 in
-        ap (λ (x : ℕ). ended_of v x i) e ∙ rw z (scan_refused h g)
+        ap (λ (x : Option (Reply × ℕ)). ended_of v (refused_number x) (refused_row x)) e
+        ∙ ap (λ (x : ℕ). ended_of v x i) q ∙ rw z (scan_refused h g)
 
 -- row i of a table
 module _ (image : List ℕ) (s : State) (pdu len i : ℕ) (d : DestinationRow) (e : d ≡ destination_of image i) where
@@ -152,12 +158,3 @@ module _ (image : List ℕ) (s : State) (pdu len i : ℕ) (d : DestinationRow) (
       ∙ ap (λ (b : List ℕ). look_of len (brief_in b d.connection).size d (record_at s d.connection)) eb
       ∙ sym (ap (λ (b : Bool). cond (not b) 5 (look_of len (connection_of image d.connection).size d (record_at s d.connection))) (eq-eqb _ _ same))
       ∙ ap look_from e
-
--- the rows that are passed on the way to the next one of the PDU
-module _ (image : List ℕ) (s : State) (pdu len : ℕ) (body : List ℕ) (e : body ≡ body_of image Destination) where
-  pub scan_to : (i r v : ℕ) → ForFrom body pdu i r
-      → Scanned (look_at image s pdu len) (destinations image) i v → Scanned (look_at image s pdu len) (destinations image) r v
-  scan_to i r v f =
-      skips (λ (k : ℕ). Scanned (look_at image s pdu len) (destinations image) k v) r i f.on
-      (λ k l u x. scan_skip _ _ k v x (below_rows image pdu body e i r f k u)
-      (look_other image s pdu len k (destination_in body k) (ap (λ (b : List ℕ). destination_in b k) e) (f.others k l u)))

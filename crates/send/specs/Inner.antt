@@ -1,12 +1,18 @@
 -- What a function inside the crate is said by.
-use Rattle.std.specs.Prelude.{ℕ, ◌/◌, ◌<◌, ◌≤◌, ◌≡◌, List, length}
-use Rattle.table_layout.specs.Layout.{row_width}
-use Rattle.table_layout.specs.declared.Kind.TheVariants.{Destination}
-use Rattle.table_rows.specs.Rows.{destination_in}
+use Rattle.std.specs.Prelude.{Option, Some, None, ℕ}
+use Rattle.send_destination.specs.declared.Reply.{Reply}
+use Rattle.send_destination.specs.Reply.{reply_number}
 
--- r is the first row from i on that is for a PDU, and past the rows where none is
-pub record ForFrom (body : List ℕ) (pdu i r : ℕ) : Type 0 where
-  pub on : i ≤ r
-  pub within : r ≤ length body / row_width Destination
-  pub others : (k : ℕ) → i ≤ k → k < r → (destination_in body k).pdu ≡ pdu → ⊥
-  pub own : r < length body / row_width Destination → (destination_in body r).pdu ≡ pdu
+-- the number of what the rows so far said together: 5 where none is for the PDU
+abbrev pub seen_number : Option Reply → ℕ
+seen_number None = 5
+seen_number (Some reply) = reply_number reply
+
+-- the number of a refusal, and its row: 0 where there is none
+abbrev pub refused_number : Option (Reply × ℕ) → ℕ
+refused_number None = 0
+refused_number (Some at) = reply_number at.0
+
+abbrev pub refused_row : Option (Reply × ℕ) → ℕ
+refused_row None = 0
+refused_row (Some at) = at.1

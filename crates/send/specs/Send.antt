@@ -1,6 +1,6 @@
 -- A TRANSMIT (R10.1 to R10.4): the check of all destinations, then the store at all of them; the answer, the state and send memory
 -- afterwards.
-use Rattle.std.specs.Prelude.{ℕ, ◌+◌, ◌*◌, ◌/◌, ◌<◌, ◌≤◌, ◌≡◌, Bool, true, cond, not, ◌&&◌, List, eqb, length}
+use Rattle.std.specs.Prelude.{ℕ, ◌+◌, ◌*◌, ◌/◌, ◌<◌, ◌≤◌, ◌≡◌, Bool, true, cond, not, ◌&&◌, List, eqb, length, Result}
 use Rattle.frame.specs.Frame.{frame}
 use Rattle.table_layout.specs.Layout.{row_bytes, body_of, Laid}
 use Rattle.table_layout.specs.declared.Kind.TheVariants.{Destination}
@@ -11,10 +11,10 @@ use Rattle.table_rows.specs.Rows.{connection_of, destination_of}
 use Rattle.state.specs.declared.State.{State}
 use Rattle.state.specs.State.{record_at, with_record}
 use Rattle.wire.specs.Lay.{lay}
-use Rattle.send.specs.declared.Transmission.{Transmission}
 use Rattle.send.specs.declared.Transmitted.{Transmitted}
 use Rattle.send_destination.specs.Destination.{look_of, sent_of}
 use Rattle.send.specs.Verdict.{verdict_of, is_stored}
+use Rattle.send.specs.declared.NotSent.{NotSent}
 
 -- the destination rows of an image
 abbrev pub destinations : List ℕ → ℕ
@@ -43,7 +43,7 @@ module _ (image : List ℕ) (s : State) (pdu len : ℕ) where
       cond (not (eqb (destination_of image i).pdu pdu)) 5
       (look_of len (connection_of image (destination_of image i).connection).size (destination_of image i) (record_at s (destination_of image i).connection))
 
-  unfoldable pub check_of : Transmission
+  unfoldable pub check_of : Result Unit NotSent
   check_of = verdict_of look_at (destinations image)
 
 -- the store, in table order, after a check that refused nothing

@@ -6,24 +6,26 @@ ghost use Rattle.std.specs.Prelude.{◌≡◌, cond, not, ◌+◌, ◌*◌, ◌/
 ghost use Rattle.table_layout.specs.Layout.{row_width};
 ghost use Rattle.table_rows.specs.Rows.{brief_in, destination_in};
 ghost use Rattle.send_destination.specs.Destination.{look_of, sent_of};
+ghost use Rattle.send_destination.specs.Reply.{reply_number};
 ghost use Rattle.send_outbox.specs.Outbox.{appended_of};
 ghost use Rattle.send.specs.Verdict as Is;
-ghost use Rattle.send.specs.Inner.{ForFrom};
+ghost use Rattle.send.specs.Inner.{seen_number, refused_number, refused_row};
 ghost use Rattle.send.specs.Send.{transmit_of, transmitted_of, Ready};
 
 use connection::{Connection, Refusal};
+use send_destination::Reply;
 use state::State;
 use table_layout::Kind;
-use table_rows::DestinationRow;
+use table_rows::{DestinationRow, row_at};
 use wire::be8;
 
-// What a transmit is answered: header and payload stored at each destination, or why they are stored at none.
-#[derive(Clone, Copy)]
-pub enum Transmission {
-    Stored,
+// Why header and payload are stored at no destination.
+#[derive(Clone, Copy, PartialEq, Eq)]
+pub enum NotSent {
     Refused(Refusal),
     NoDestination,
     SwitchedOff,
+    // Kept: the number, and no Reply, because `ExactlyWhen` of theorem_transmit speaks of it.
     RefusedAt { number: u8, destination: usize },
 }
 
@@ -31,27 +33,27 @@ pub enum Transmission {
 #[derive(Clone, Copy)]
 pub struct Transmitted {
     pub state: State,
-    pub answer: Transmission,
+    pub answer: Result<(), NotSent>,
 }
 
-// One row more that does not refuse: 5 so far, then 6, then 0.
-fn join(seen: u8, look: u8) -> u8
-    ensures { result ≡ Is.join_of seen look }
-{
-    let stays = (look == 5) | (seen == 0);
-    if stays {
-        return seen;
-    }
-    look
-}
-
-fn outcome(seen: u8) -> Transmission
-    ensures { result ≡ Is.transmission_of seen }
+// One row more that does not refuse: no destination so far, then one that is switched off, then one that fits.
+#[tactic(auto, unfolding(crate::specs::Verdict::join_of))]
+fn join(seen: Option<Reply>, found: Reply) -> Option<Reply>
+    ensures { seen_number result ≡ Is.join_of (seen_number seen) (reply_number found) }
 {
     match seen {
-        5 => Transmission::NoDestination,
-        6 => Transmission::SwitchedOff,
-        _ => Transmission::Stored,
+        Some(Reply::Fits) => seen,
+        _ => Some(found),
+    }
+}
+
+fn outcome(seen: Option<Reply>) -> Result<(), NotSent>
+    ensures { result ≡ Is.transmission_of (seen_number seen) }
+{
+    match seen {
+        None => Err(NotSent::NoDestination),
+        Some(Reply::SwitchedOff) => Err(NotSent::SwitchedOff),
+        Some(_) => Ok(()),
     }
 }
 
@@ -65,34 +67,18 @@ fn is_for(body: &[u8], i: usize, pdu: u16) -> bool
     (be8(row, 9) == (pdu % 256) as usize) & (be8(row, 8) == (pdu / 256) as usize)
 }
 
-// The first row from i on that is for a PDU; past the rows where none is.
-fn row_for(body: &[u8], i: usize, pdu: u16) -> usize
-    requires { i ≤ length body.now / row_width Kind.Destination }
-    ensures { ForFrom body.now pdu i result }
-{
-    let n = body.len() / 16;
-    let mut r = i;
-    while r < n {
-        if is_for(body, r, pdu) {
-            return r;
-        }
-        r += 1;
-    }
-    r
-}
-
 // What the destination of a row says, where its connection's record is c.
-fn look_in(connections: &[u8], d: DestinationRow, c: Connection, len: usize) -> u8
-    ensures { result ≡ look_of len (brief_in connections.now d.connection).size d c }
+fn look_in(connections: &[u8], d: DestinationRow, c: Connection, len: usize) -> Reply
+    ensures { reply_number result ≡ look_of len (brief_in connections.now d.connection).size d c }
 {
     let row = table_rows::brief_in(connections, d.connection as usize);
     send_destination::look(d, c, row.size, len)
 }
 
-fn refuses(found: u8) -> bool
-    ensures { result ≡ not (Is.passes found) }
+fn refuses(found: Reply) -> bool
+    ensures { result ≡ not (Is.passes (reply_number found)) }
 {
-    !((found == 0) | ((found == 5) | (found == 6)))
+    !matches!(found, Reply::Fits | Reply::SwitchedOff)
 }
 
 // Header and payload appended to the stretch of the row's connection, and the record after it.
@@ -107,43 +93,23 @@ fn put(tx: &mut [u8], d: DestinationRow, c: Connection, payload: &[u8]) -> Conne
     send_destination::sent(c, d, (used + 8 + payload.len()) as u16)
 }
 
-fn is_stored(answer: Transmission) -> bool
+fn is_stored(answer: Result<(), NotSent>) -> bool
     ensures { result ≡ Is.is_stored answer }
 {
-    match answer {
-        Transmission::Stored => true,
-        Transmission::Refused(_) => false,
-        Transmission::NoDestination => false,
-        Transmission::SwitchedOff => false,
-        Transmission::RefusedAt {
-            number: _,
-            destination: _,
-        } => false,
-    }
+    answer.is_ok()
 }
 
-// The answer of the first pass, which ended at row i: with a refusal, or with none (0).
-fn verdict(seen: u8, refused: u8, i: usize) -> Transmission
-    ensures { result ≡ Is.ended_of seen refused i }
+// The answer of the first pass: with a refusal and its row, or with none.
+fn verdict(seen: Option<Reply>, refused: Option<(Reply, usize)>) -> Result<(), NotSent>
+    ensures { result ≡ Is.ended_of (seen_number seen) (refused_number refused) (refused_row refused) }
 {
-    if refused == 0 {
-        return outcome(seen);
+    match refused {
+        None | Some((Reply::Fits, _)) => outcome(seen),
+        Some((found, i)) => Err(NotSent::RefusedAt {
+            number: u8::from(found),
+            destination: i,
+        }),
     }
-    Transmission::RefusedAt {
-        number: refused,
-        destination: i,
-    }
-}
-
-// Where the second pass starts: at the first row, or past the last one.
-fn start_of(answer: Transmission, n: usize) -> usize
-    ensures { result ≡ cond (Is.is_stored answer) 0 n }
-{
-    let clear = is_stored(answer);
-    if clear {
-        return 0;
-    }
-    n
 }
 
 // A payload for all switched-on destinations of a PDU, or for none. The first pass stops at the first refusal; the second stores. Both
@@ -157,37 +123,44 @@ pub fn transmit(image: &[u8], s: State, tx: &mut [u8], pdu: u16, payload: &[u8])
     let connections = table_layout::body_laid(image, Kind::Connection);
     let n = body.len() / 16;
     let mut next = s;
-    let mut seen: u8 = 5;
-    let mut refused: u8 = 0;
-    let mut i = row_for(body, 0, pdu);
-    while i < n {
-        let d = table_rows::destination_in(body, i);
+    let mut seen = None;
+    let mut refused = None;
+    for i in 0..n {
+        if !is_for(body, i, pdu) {
+            continue;
+        }
+        let d = row_at::<DestinationRow>(body, i);
         let k = d.connection as usize;
         let c = next.connections[k];
         let found = look_in(connections, d, c, payload.len());
         if refuses(found) {
-            refused = found;
+            refused = Some((found, i));
             break;
         }
         seen = join(seen, found);
-        i = row_for(body, i + 1, pdu);
     }
-    let answer = verdict(seen, refused, i);
-    let mut j = row_for(body, start_of(answer, n), pdu);
-    while j < n {
-        let d = table_rows::destination_in(body, j);
+    let answer = verdict(seen, refused);
+    if !is_stored(answer) {
+        return Transmitted {
+            answer,
+            state: next,
+        };
+    }
+    for j in 0..n {
+        if !is_for(body, j, pdu) {
+            continue;
+        }
+        let d = row_at::<DestinationRow>(body, j);
         let k = d.connection as usize;
         let c = next.connections[k];
         if !receive_route::is_on(d.groups, c.switches) {
-            j = row_for(body, j + 1, pdu);
             continue;
         }
         let after = put(tx, d, c, payload);
         next.connections[k] = after;
-        j = row_for(body, j + 1, pdu);
     }
     Transmitted {
-        answer: answer,
+        answer,
         state: next,
     }
 }

@@ -4,35 +4,62 @@
 
 ghost use Rattle.std.specs.Prelude.{◌≡◌};
 ghost use Rattle.send_destination.specs.Destination.{refusal_of, look_of, timer_of, sent_of};
+ghost use Rattle.send_destination.specs.Reply.{reply_number};
 
 use connection::Connection;
 use table_rows::DestinationRow;
 
-// A switched-on destination: 4, then 7, then 8; 0 where header and payload fit.
-fn refusal(d: DestinationRow, c: Connection, size: u16, len: usize) -> u8
-    ensures { result ≡ refusal_of len size d c }
-{
-    let mode = c.mode;
-    let away = !connection::is_online(mode) | c.close_wanted;
-    if away {
-        return 4;
-    }
-    if (d.longest as usize) < len {
-        return 7;
-    }
-    if (size as usize) < (c.used as usize) + 8 + len {
-        return 8;
-    }
-    0
+// What a destination says to a payload.
+#[derive(Clone, Copy, Debug, PartialEq, Eq)]
+pub enum Reply {
+    Fits,
+    SwitchedOff,
+    NotOnline,
+    TooLong,
+    NoRoom,
 }
 
-// A destination of the PDU, as if it were the only one: 6 switched off, else 4, 7, 8 or 0.
-pub fn look(d: DestinationRow, c: Connection, size: u16, len: usize) -> u8
-    ensures { result ≡ look_of len size d c }
+// Its number: in an answer, that of a refusal.
+impl From<Reply> for u8 {
+    ghost from_gives = { λ reply number. number ≡ reply_number reply };
+
+    fn from(reply: Reply) -> u8 {
+        match reply {
+            Reply::Fits => 0,
+            Reply::SwitchedOff => 6,
+            Reply::NotOnline => 4,
+            Reply::TooLong => 7,
+            Reply::NoRoom => 8,
+        }
+    }
+}
+
+// A switched-on destination: online without close wanted, then long enough, then with room.
+#[tactic(auto, unfolding(crate::specs::Destination::refusal_of))]
+fn refusal(d: DestinationRow, c: Connection, size: u16, len: usize) -> Reply
+    ensures { reply_number result ≡ refusal_of len size d c }
+{
+    let away = !c.mode.is_online() | c.close_wanted;
+    if away {
+        return Reply::NotOnline;
+    }
+    if (d.longest as usize) < len {
+        return Reply::TooLong;
+    }
+    if (size as usize) < (c.used as usize) + 8 + len {
+        return Reply::NoRoom;
+    }
+    Reply::Fits
+}
+
+// A destination of the PDU, as if it were the only one: switched off, else the above.
+#[tactic(auto, unfolding(crate::specs::Destination::look_of))]
+pub fn look(d: DestinationRow, c: Connection, size: u16, len: usize) -> Reply
+    ensures { reply_number result ≡ look_of len size d c }
 {
     let off = !receive_route::is_on(d.groups, c.switches);
     if off {
-        return 6;
+        return Reply::SwitchedOff;
     }
     refusal(d, c, size, len)
 }

@@ -1,4 +1,5 @@
 -- What framing writes to the front of a part, said of the whole memory.
+use Rattle.std.proofs.Common.{Ok, Err}
 use Prim.Native.Nat.{ℕ, ◌+◌, ◌-◌, ◌≤◌, ◌<◌}
 use mathlib.Core.Path.{◌≡◌, refl, sym, ap, ap₂, ◌∙◌}
 use mathlib.Core.Bool.{Bool, true, false, cond}
@@ -11,7 +12,7 @@ use lib.Seq.{drop-drop, take-length, drop-length}
 use borrow.Author.Tests.{ltb-true, le-ltb}
 use borrow.Rule.Slice.PartMut.{mid_of, post_of, put_mid}
 use Rattle.frame.specs.Frame.{frame}
-use Rattle.frame.specs.declared.Framed.TheVariants.{Done, TooLong, NoRoom}
+use Rattle.frame.specs.declared.FrameError.TheVariants.{TooLong, NoRoom}
 use Rattle.frame.specs.Framing.{framing_of, out_after, framed_out}
 use Rattle.wire.specs.Lay.{spell, lay}
 use Rattle.wire.proofs.Lay.{lay-fits, lay-out}
@@ -64,7 +65,8 @@ module _ (d : List ℕ) (at : ℕ) (h : at ≤ length d) where
   framed-rest id payload = go (ltb 1464 (length payload)) (ltb (length (drop at d)) (8 + length payload)) refl
     where
       go : (long short : Bool) → ltb (length (drop at d)) (8 + length payload) ≡ short
-          → take at d ++ out_after (cond long TooLong (cond short NoRoom Done)) id payload (drop at d) ≡ cond long d (lay d at (frame id payload))
+          → take at d ++ out_after (cond long (Err TooLong) (cond short (Err NoRoom) (Ok tt))) id payload (drop at d)
+          ≡ cond long d (lay d at (frame id payload))
       go true short e = take-append-drop at d
       go false true e =
           let l : length (drop at d) < 8 + length payload = ltb-true _ _ e in

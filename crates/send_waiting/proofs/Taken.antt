@@ -1,4 +1,5 @@
 -- Each answer of a take, as the code gives it, and what a take makes of a record.
+use Rattle.std.proofs.Common.{Ok, Err}
 use Prim.Native.Nat.{ℕ, ◌+◌, ◌-◌, ◌*◌, ◌<◌, ◌≤◌}
 use mathlib.Core.Path.{◌≡◌, refl, sym, ap, ◌∙◌}
 use mathlib.Core.Bool.{Bool, true, false, cond, not, ◌&&◌, ◌||◌, or-true}
@@ -15,7 +16,7 @@ use Rattle.connection.specs.declared.Config.{Config}
 use Rattle.connection.specs.declared.Connection.{Connection}
 use Rattle.connection.specs.Connection.{wildcard, with_mode, reset_of, with_send, become}
 use Rattle.wire.specs.Lay.{lay}
-use Rattle.send_waiting.specs.declared.Taking.TheVariants.{Bytes, Short}
+use Rattle.send_waiting.specs.declared.NotTaken.TheVariants.{Short}
 use Rattle.send_waiting.specs.declared.Drained.{Drained}
 use Rattle.send_waiting.specs.Waiting.{waiting_of, taking_of, out_of, after_take, take_of}
 
@@ -62,20 +63,20 @@ module _ (g : Config) (c : Connection) (waiting out : List ℕ) where
   abbrev Answers : Drained → List ℕ → Type 0
   Answers r o = (r ≡ record { answer = taking_of (length out) c; connection = take_of g (length out) c }) × (o ≡ out_of c waiting out)
 
-  pub taking_short : length out < c.used → Answers (record { answer = Short; connection = c }) out
+  pub taking_short : length out < c.used → Answers (record { answer = Err Short; connection = c }) out
   unfolding taking_of take_of out_of
   taking_short h = (rw (lt-ltb _ _ h, or-true (eqb c.used 0)), rw (lt-ltb _ _ h))
 
   module _ (h : c.used ≤ length out) (o : List ℕ) (e : o ≡ lay out 0 waiting) where
-    pub take-nothing : c.used ≡ 0 → Answers (record { answer = Bytes c.used c.remote; connection = c }) o
+    pub take-nothing : c.used ≡ 0 → Answers (record { answer = Ok (c.used, c.remote); connection = c }) o
     unfolding taking_of take_of out_of
     take-nothing z = (rw (le-ltb _ _ h, eq-eqb _ _ z), rw (le-ltb _ _ h) e)
 
     pub take-some : (c.used ≡ 0 → ⊥) → (d : Connection) → d ≡ after_take g (with_send 0 0 false c)
-        → Answers (record { answer = Bytes c.used c.remote; connection = d }) o
+        → Answers (record { answer = Ok (c.used, c.remote); connection = d }) o
     unfolding taking_of take_of out_of
     take-some z d p = (
-      rw (le-ltb _ _ h, ne_eqb _ _ z) (ap (λ (x : Connection). record { answer = Bytes c.used c.remote; connection = x }) p),
+      rw (le-ltb _ _ h, ne_eqb _ _ z) (ap (λ (x : Connection). record { answer = Ok (c.used, c.remote); connection = x }) p),
       rw (le-ltb _ _ h) e,
     )
 

@@ -7,10 +7,9 @@ ghost use Rattle.send_waiting.specs.Waiting.{waiting_of, taking_of, out_of, afte
 
 use connection::{Config, Connection, Mode, Refusal, Remote};
 
-// What a take is answered: so many bytes for this remote, or why there are none.
-#[derive(Clone, Copy)]
-pub enum Taking {
-    Bytes { count: u16, remote: Remote },
+// Why no waiting bytes are taken.
+#[derive(Clone, Copy, PartialEq, Eq)]
+pub enum NotTaken {
     Refused(Refusal),
     Short,
 }
@@ -18,7 +17,7 @@ pub enum Taking {
 // The answer, with the record after it.
 #[derive(Clone, Copy)]
 pub struct Drained {
-    pub answer: Taking,
+    pub answer: Result<(u16, Remote), NotTaken>,
     pub connection: Connection,
 }
 
@@ -42,8 +41,7 @@ pub fn waiting_of(tx: &[u8], connection: u8, used: u16) -> &[u8]
 fn after_take(c: Connection, config: Config) -> Connection
     ensures { result ≡ after_take config c }
 {
-    let remote = config.remote;
-    let leaves = config.automatic & connection::has_wildcard(remote);
+    let leaves = config.automatic & config.remote.has_wildcard();
     if !leaves {
         return c;
     }
@@ -64,29 +62,25 @@ pub fn take(c: Connection, config: Config, waiting: &[u8], out: &mut [u8]) -> Dr
     ensures value { result ≡ record { answer = taking_of (length out.old) c; connection = take_of config (length out.old) c } }
     ensures out_after { out.new ≡ out_of c waiting.now out.old }
 {
-    let remote = c.remote;
     let used = c.used;
     if out.len() < used as usize {
         return Drained {
-            answer: Taking::Short,
+            answer: Err(NotTaken::Short),
             connection: c,
         };
     }
     wire::copy_in(out, 0, waiting);
-    let answer = Taking::Bytes {
-        count: used,
-        remote: remote,
-    };
+    let answer = Ok((used, c.remote));
     if used == 0 {
         return Drained {
-            answer: answer,
+            answer,
             connection: c,
         };
     }
     let emptied = c.with_send(0, 0, false);
     let next = after_take(emptied, config);
     Drained {
-        answer: answer,
+        answer,
         connection: next,
     }
 }

@@ -3,6 +3,7 @@
 use Prim.Native.Nat.{ℕ, zero, suc, ◌+◌, ◌<◌, ◌≤◌, ◌^◌}
 use mathlib.Core.Path.{◌≡◌, refl, sym, ap, subst, ◌∙◌}
 use mathlib.Core.Bool.{Bool, true, false, cond}
+use Rattle.std.proofs.Common.{Ok}
 use mathlib.Core.List.{List, [], ◌∷◌, ◌++◌}
 use native.Mathlib.Omega.{arith}
 use lib.Dec.{ltb}
@@ -16,8 +17,7 @@ use Rattle.sheet.specs.declared.Pair.{Pair}
 use Rattle.sheet.specs.declared.Words.{Words}
 use Rattle.sheet.specs.declared.Switching.{Switching}
 use Rattle.sheet.specs.Force.{force_then, force_none, force_one, no_words, pair_at, with_pair, join_at, join_words, never_twice, agreeing}
-use Rattle.sheet.specs.declared.SheetFit.TheVariants.{Fits, Unfit}
-use Rattle.sheet.specs.Sheet.{switching, sheet_switches, fit_from, switch_there, add_switch, sheet_from, sheet_words}
+use Rattle.sheet.specs.Sheet.{switching, sheet_switches, unfit, fit_from, switch_there, add_switch, sheet_from, sheet_words}
 use Rattle.sheet.proofs.Pairs.{Apart, apart_from, apart-to, then_assoc, then_none, none_then}
 use Rattle.sheet.proofs.Pairs.{then_apart, none_apart, one_apart, then_width, one_width, one-twice, one-swap}
 use Rattle.sheet.proofs.Turns.{there-row, there_below}
@@ -25,9 +25,6 @@ use Rattle.sheet.proofs.Turns.{there-row, there_below}
 -- a switch by its parts
 abbrev pub at : ℕ → ℕ → Bool → Switching
 at c n on = record { connection = c; number = n; on = on }
-
-unfit : {P : Type 0} {k : ℕ} → Unfit k ≡ Fits → P
-unfit e = absurd (let z : ◌≡◌ {A = ℕ} 0 1 = cc in omega arith)
 
 -- sixteen pairs
 abbrev pub Full : Words → Type 0
@@ -297,13 +294,13 @@ module _ (rows : ℕ) where
       go false e y g = ap (λ (w : Words). add_switch rows w t) (add_missing ws s e) ∙ sym (add_missing _ s e)
 
 -- R18.4: the switches of two sheets, one behind the other in bytes
-pub switches-append : (k : ℕ) (s t : List ℕ) → fit_from k s ≡ Fits → sheet_switches (s ++ t) ≡ sheet_switches s ++ sheet_switches t
+pub switches-append : (k : ℕ) (s t : List ℕ) → fit_from k s ≡ Ok tt → sheet_switches (s ++ t) ≡ sheet_switches s ++ sheet_switches t
 unfolding fit_from sheet_switches
 switches-append k [] t e = refl
-switches-append k (c ∷ []) t e = unfit e
-switches-append k (c ∷ n ∷ []) t e = unfit e
+switches-append k (c ∷ []) t e = cc
+switches-append k (c ∷ n ∷ []) t e = cc
 switches-append k (c ∷ n ∷ p ∷ s) t e = ap (λ (l : List Switching). switching c n p ∷ l) (switches-append (k + 3) s t (go (ltb p 2) e))
   where
-    go : (b : Bool) → cond b (fit_from (k + 3) s) (Unfit (k + 2)) ≡ Fits → fit_from (k + 3) s ≡ Fits
+    go : (b : Bool) → cond b (fit_from (k + 3) s) (unfit (k + 2)) ≡ Ok tt → fit_from (k + 3) s ≡ Ok tt
     go true q = q
-    go false q = unfit q
+    go false q = cc

@@ -1,12 +1,10 @@
 -- A COMMISSIONING SHEET (R18.1, R18.2): single switches, three bytes each, and the words that they come to.
-use Rattle.std.specs.Prelude.{ℕ, zero, suc, ◌+◌, ◌*◌, ◌/◌, Bool, true, false, cond, ◌&&◌, List, [], ◌∷◌, eqb, ltb, length}
+use Rattle.std.specs.Prelude.{ℕ, zero, suc, ◌+◌, ◌*◌, ◌/◌, Bool, true, false, cond, ◌&&◌, List, [], ◌∷◌, eqb, ltb, length, Result, Ok, Err}
 use Rattle.wire.specs.Be.{byte_at}
 use Rattle.lists.specs.Fold.{fold_from}
 use Rattle.sheet.specs.declared.Words.{Words}
 use Rattle.sheet.specs.declared.Switching.{Switching}
-use Rattle.sheet.specs.declared.SheetFit.{SheetFit}
-use Rattle.sheet.specs.declared.SheetFit.TheVariants.{Fits, Unfit}
-use Rattle.sheet.specs.declared.Shortened.{Shortened}
+use Rattle.sheet.specs.declared.Unfit.{Unfit}
 use Rattle.sheet.specs.declared.Fate.{Fate}
 use Rattle.sheet.specs.declared.Fate.TheVariants.{Counts, Overridden, Missing}
 use Rattle.sheet.specs.Force.{force_then, force_one, no_words, pair_at, with_pair}
@@ -24,11 +22,14 @@ sheet_switches (c ∷ n ∷ p ∷ rest) = switching c n p ∷ sheet_switches res
 
 -- R18.1: a sheet fits when it is whole switches, and each position is 0 or 1; else the byte where it does not: a position's own, or
 -- the first of a switch that is cut off
-unfoldable pub fit_from : ℕ → List ℕ → SheetFit
-fit_from at [] = Fits
-fit_from at (c ∷ []) = Unfit at
-fit_from at (c ∷ n ∷ []) = Unfit at
-fit_from at (c ∷ n ∷ p ∷ rest) = cond (ltb p 2) (fit_from (at + 3) rest) (Unfit (at + 2))
+abbrev pub unfit : ℕ → Result Unit Unfit
+unfit at = Err (record { at = at })
+
+unfoldable pub fit_from : ℕ → List ℕ → Result Unit Unfit
+fit_from at [] = Ok tt
+fit_from at (c ∷ []) = unfit at
+fit_from at (c ∷ n ∷ []) = unfit at
+fit_from at (c ∷ n ∷ p ∷ rest) = cond (ltb p 2) (fit_from (at + 3) rest) (unfit (at + 2))
 
 -- R18.2: a switch is there when its connection is one of the table's rows (sixteen at most) and its number at most 31; another is
 -- refused with 2, and left out
@@ -50,13 +51,18 @@ sheet_from rows ws (s ∷ rest) = sheet_from rows (add_switch rows ws s) rest
 abbrev pub sheet_words : ℕ → List Switching → Words
 sheet_words rows ss = sheet_from rows no_words ss
 
--- R18.6: a sheet shortened: whether it fits, and its words; none where it does not
-abbrev pub words_where : SheetFit → ℕ → List ℕ → Words
-words_where Fits rows sheet = sheet_words rows (sheet_switches sheet)
-words_where (Unfit at) rows sheet = no_words
+-- R18.6: a sheet shortened: its words, where it fits; else the byte where it does not
+abbrev pub words_where : Result Unit Unfit → ℕ → List ℕ → Result Words Unfit
+words_where (Ok tt) rows sheet = Ok (sheet_words rows (sheet_switches sheet))
+words_where (Err at) rows sheet = Err at
 
-unfoldable pub shorten_of : ℕ → List ℕ → Shortened
-shorten_of rows sheet = record { fit = fit_from 0 sheet; words = words_where (fit_from 0 sheet) rows sheet }
+unfoldable pub shorten_of : ℕ → List ℕ → Result Words Unfit
+shorten_of rows sheet = words_where (fit_from 0 sheet) rows sheet
+
+-- .. the words that are given, none where it does not fit
+abbrev pub words_given : Result Words Unfit → Words
+words_given (Ok ws) = ws
+words_given (Err at) = no_words
 
 -- R18.7: the switch whose bytes begin at a place; switch k begins at three times k
 abbrev pub switching_at : List ℕ → ℕ → Switching

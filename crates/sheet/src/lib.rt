@@ -2,47 +2,40 @@
 // bits forced off. Sheets are shortened to words, words are joined. Every function is total: no caller is relied on.
 #![tactic(auto)]
 
-ghost use Rattle.std.specs.Prelude.{◌≡◌, ◌<◌, ◌≤◌, ◌+◌, ◌*◌, length};
+ghost use Rattle.std.specs.Prelude.{◌≡◌, ◌<◌, ◌≤◌, ◌+◌, ◌*◌, ◌==◌, length, bit_and};
+ghost use Rattle.std.specs.List.{list_all};
 ghost use Rattle.sheet.specs.Force as Fo;
 ghost use Rattle.sheet.specs.Sheet as Sh;
 
 // What one connection's switches are forced to: on, off, and every other as it was.
-#[derive(Clone, Copy)]
+#[derive(Clone, Copy, Debug, PartialEq, Eq)]
 pub struct Pair {
     pub on: u32,
     pub off: u32,
 }
 
 // A pair for each connection.
-#[derive(Clone, Copy)]
+#[derive(Clone, Copy, Debug, PartialEq, Eq)]
 pub struct Words {
     pub pairs: [Pair; 16],
 }
 
 // One switch of a sheet.
-#[derive(Clone, Copy)]
+#[derive(Clone, Copy, Debug, PartialEq, Eq)]
 pub struct Switching {
     pub connection: u8,
     pub number: u8,
     pub on: bool,
 }
 
-// Whether a sheet is laid out as one; else the byte where it is not.
-#[derive(Clone, Copy)]
-pub enum SheetFit {
-    Fits,
-    Unfit(usize),
-}
-
-// A sheet's words; where it does not fit, none.
-#[derive(Clone, Copy)]
-pub struct Shortened {
-    pub fit: SheetFit,
-    pub words: Words,
+// The byte at which a sheet is not laid out as one.
+#[derive(Clone, Copy, Debug, PartialEq, Eq)]
+pub struct Unfit {
+    pub at: usize,
 }
 
 // What becomes of one switch of a sheet.
-#[derive(Clone, Copy)]
+#[derive(Clone, Copy, Debug, PartialEq, Eq)]
 pub enum Fate {
     Counts,
     Overridden(usize),
@@ -57,6 +50,7 @@ fn without(word: u32, off: u32) -> u32
 }
 
 // The pair of one switch.
+#[tactic(auto, unfolding(crate::specs::Force::force_one))]
 pub fn one(number: u8, on: bool) -> Pair
     ensures { result ≡ Fo.force_one number on }
 {
@@ -69,6 +63,7 @@ pub fn one(number: u8, on: bool) -> Pair
 
 impl Pair {
     // The switches with this pair's bits forced.
+    #[tactic(auto, unfolding(crate::specs::Force::force_of))]
     pub fn force(self, switches: u32) -> u32
         ensures { result ≡ Fo.force_of self switches }
     {
@@ -76,6 +71,7 @@ impl Pair {
     }
 
     // This pair, and then another.
+    #[tactic(auto, unfolding(crate::specs::Force::force_then))]
     pub fn then(self, later: Pair) -> Pair
         ensures { result ≡ Fo.force_then self later }
     {
@@ -90,32 +86,29 @@ impl Pair {
 pub fn nothing() -> Words
     ensures { result ≡ Fo.no_words }
 {
-    let none = Pair { on: 0, off: 0 };
-    let pairs = [none; 16];
-    Words { pairs: pairs }
+    Words {
+        pairs: [Pair { on: 0, off: 0 }; 16],
+    }
 }
 
 // Whether a table with so many connections has the switch.
 pub fn is_there(rows: usize, switching: Switching) -> bool
     ensures { result ≡ Sh.switch_there rows switching }
 {
-    let n = switching.connection as usize;
-    (n < rows) & (switching.connection < 16) & (switching.number < 32)
+    ((switching.connection as usize) < rows) & (switching.connection < 16) & (switching.number < 32)
 }
 
 // The words with one switch more.
+#[tactic(auto, using(crate::proofs::Turns::there_below), unfolding(crate::specs::Sheet::add_switch))]
 pub fn add(rows: usize, words: Words, switching: Switching) -> Words
     ensures { result ≡ Sh.add_switch rows words switching }
 {
-    let there = is_there(rows, switching);
-    if !there {
+    if !is_there(rows, switching) {
         return words;
     }
     let n = switching.connection as usize;
-    let pair = words.pairs[n];
-    let next = pair.then(one(switching.number, switching.on));
     let mut after = words;
-    after.pairs[n] = next;
+    after.pairs[n] = words.pairs[n].then(one(switching.number, switching.on));
     after
 }
 
@@ -132,21 +125,20 @@ fn switching_at(sheet: &[u8], at: usize) -> Switching
 }
 
 // Whether a sheet is whole switches with positions 0 and 1; else the byte where it is not.
-pub fn fit_of(sheet: &[u8]) -> SheetFit
+pub fn fit_of(sheet: &[u8]) -> Result<(), Unfit>
     ensures { result ≡ Sh.fit_from 0 sheet.now }
 {
-    let mut left = sheet.len();
-    while 0 < left {
-        let at = sheet.len() - left;
-        if left < 3 {
-            return SheetFit::Unfit(at);
+    for k in 0..sheet.len() / 3 {
+        if 1 < sheet[k * 3 + 2] {
+            return Err(Unfit { at: k * 3 + 2 });
         }
-        if 1 < sheet[at + 2] {
-            return SheetFit::Unfit(at + 2);
-        }
-        left -= 3;
     }
-    SheetFit::Fits
+    if sheet.len() % 3 != 0 {
+        return Err(Unfit {
+            at: sheet.len() / 3 * 3,
+        });
+    }
+    Ok(())
 }
 
 // The words of a whole sheet.
@@ -154,36 +146,19 @@ fn words_in(rows: usize, sheet: &[u8]) -> Words
     ensures { result ≡ Sh.sheet_words rows (Sh.sheet_switches sheet.now) }
 {
     let mut words = nothing();
-    let mut left = sheet.len();
-    while 2 < left {
-        let switching = switching_at(sheet, sheet.len() - left);
-        words = add(rows, words, switching);
-        left -= 3;
+    for k in 0..sheet.len() / 3 {
+        words = add(rows, words, switching_at(sheet, k * 3));
     }
     words
 }
 
 // A sheet shortened to the words of its switches, for a table with so many connections.
-pub fn shorten(rows: usize, sheet: &[u8]) -> Shortened
+#[tactic(auto, unfolding(crate::specs::Sheet::shorten_of))]
+pub fn shorten(rows: usize, sheet: &[u8]) -> Result<Words, Unfit>
     ensures { result ≡ Sh.shorten_of rows sheet.now }
 {
-    let fit = fit_of(sheet);
-    match fit {
-        SheetFit::Fits => {
-            let words = words_in(rows, sheet);
-            Shortened {
-                fit: SheetFit::Fits,
-                words: words,
-            }
-        }
-        SheetFit::Unfit(at) => {
-            let words = nothing();
-            Shortened {
-                fit: SheetFit::Unfit(at),
-                words: words,
-            }
-        }
-    }
+    fit_of(sheet)?;
+    Ok(words_in(rows, sheet))
 }
 
 // The words of one sheet and then those of another.
@@ -191,28 +166,25 @@ pub fn join(earlier: Words, later: Words) -> Words
     ensures { result ≡ Fo.join_words earlier later }
 {
     let mut after = earlier;
-    let mut i: usize = 0;
-    while i < 16 {
-        let pair = after.pairs[i];
-        let next = pair.then(later.pairs[i]);
-        after.pairs[i] = next;
-        i += 1;
+    for (i, pair) in after.pairs.iter_mut().enumerate() {
+        *pair = pair.then(later.pairs[i]);
     }
     after
 }
 
+// No pair forces a bit on and off.
+fn all_agree(pairs: &[Pair]) -> bool
+    ensures { result ≡ list_all (λ p. bit_and p.on p.off == 0) pairs.now }
+{
+    pairs.iter().all(|pair| pair.on & pair.off == 0)
+}
+
 // No bit is forced on and off.
+#[tactic(auto, using(crate::proofs::Turns::agreeing_all))]
 pub fn agrees(words: Words) -> bool
     ensures { result ≡ Fo.agreeing words }
 {
-    let mut ok = true;
-    let mut i: usize = 0;
-    while i < 16 {
-        let pair = words.pairs[i];
-        ok = ok & ((pair.on & pair.off) == 0);
-        i += 1;
-    }
-    ok
+    all_agree(&words.pairs)
 }
 
 // The later of two switches that have connection and number of a third, or the earlier.
@@ -235,10 +207,8 @@ fn last_alike(sheet: &[u8], k: usize) -> usize
 {
     let n = sheet.len() / 3;
     let mut last = k;
-    let mut i: usize = 0;
-    while i < n {
+    for i in 0..n {
         last = pick(sheet, k, last, i);
-        i += 1;
     }
     last
 }
@@ -251,8 +221,7 @@ pub fn fate_of(rows: usize, sheet: &[u8], k: usize) -> Fate
         return Fate::Missing;
     }
     let switching = switching_at(sheet, k * 3);
-    let there = is_there(rows, switching);
-    if !there {
+    if !is_there(rows, switching) {
         return Fate::Missing;
     }
     let last = last_alike(sheet, k);

@@ -2,19 +2,15 @@
 // shortened sheet, on standard output (docs/EVENTS.md). Words and fates are those of the proved crate sheet; the wording is tried by stored output.
 #![tactic(auto)]
 
-ghost use Rattle.std.specs.Prelude.{◌≤◌};
-
-use entry_events::Told;
 use entry_sheet::apply;
-use input::{read_image, read_part};
+use input::read_part;
 use pieces::front;
-use sheet::{Fate, Pair, SheetFit, Words, fate_of, shorten};
+use sheet::{Fate, Pair, Words, fate_of, shorten};
 use state::{State, fresh_state};
-use table::{TableAnswer, check_table};
 use table_layout::{Kind, part_of, rows_of};
 use wire::{copy_in, put32};
-use words::{lay, phrase};
-use words_refusal::refuse;
+use words::lay;
+use words_refusal::under_table;
 
 // A line out of a pattern, a number and a row.
 fn say(pattern: &[u8], n: usize, row: &[u8]) {
@@ -42,21 +38,13 @@ fn pair_line(i: usize, pair: Pair, fresh: u32, after: u32) {
 fn applied(image: &[u8], state: State, words: Words) -> State {
     let rx = [0u8; 23424];
     let tx = [0u8; 23552];
-    let told: Told = apply(image, state, &rx, &tx, words);
-    let after = told.state;
-    after
+    apply(image, state, &rx, &tx, words).state
 }
 
 fn pairs(rows: usize, words: Words, fresh: State, after: State) {
-    let mut i: usize = 0;
-    while i < 16 {
-        if i < rows {
-            let pair = words.pairs[i];
-            let before = fresh.connections[i];
-            let forced = after.connections[i];
-            pair_line(i, pair, before.switches, forced.switches);
-        }
-        i += 1;
+    for i in 0..rows.min(16) {
+        let before = fresh.connections[i].switches;
+        pair_line(i, words.pairs[i], before, after.connections[i].switches);
     }
 }
 
@@ -87,71 +75,49 @@ fn fate_line(entry: usize, switch: &[u8], fate: Fate) {
 }
 
 fn fates(rows: usize, sheet: &[u8]) {
-    let n = sheet.len() / 3;
-    let mut k: usize = 0;
-    while k < n {
-        fate_line(k + 1, part_of(sheet, k * 3, 3), fate_of(rows, sheet, k));
-        k += 1;
+    for (k, switch) in sheet.chunks_exact(3).enumerate() {
+        fate_line(k + 1, switch, fate_of(rows, sheet, k));
     }
 }
 
-// 1 for a switch that counts, 0 for another.
-fn worth(fate: Fate) -> usize
-    ensures { result ≤ 1 }
-{
-    match fate {
-        Fate::Counts => 1,
-        Fate::Overridden(_) => 0,
-        Fate::Missing => 0,
-    }
+fn counts(fate: Fate) -> bool {
+    matches!(fate, Fate::Counts)
 }
 
 fn how_many(rows: usize, sheet: &[u8]) -> usize {
-    let n = sheet.len() / 3;
-    let mut count: usize = 0;
-    let mut k: usize = 0;
-    while k < n {
-        count += worth(fate_of(rows, sheet, k));
-        k += 1;
-    }
-    count
+    (0..sheet.len() / 3)
+        .filter(|k| counts(fate_of(rows, sheet, *k)))
+        .count()
 }
 
-// The line of a switch that counts, as a script's text has it.
-fn short_line(switch: &[u8], fate: Fate) {
-    match fate {
-        Fate::Counts => say(b"  switch %b00 %b01 %o02\n", 0, switch),
-        Fate::Overridden(_) => say(b"", 0, switch),
-        Fate::Missing => say(b"", 0, switch),
-    }
-}
-
+// The lines of the switches that count, as a script's text has them.
 fn short(rows: usize, sheet: &[u8]) {
-    let n = sheet.len() / 3;
-    let mut k: usize = 0;
-    while k < n {
-        short_line(part_of(sheet, k * 3, 3), fate_of(rows, sheet, k));
-        k += 1;
+    for (k, switch) in sheet.chunks_exact(3).enumerate() {
+        if counts(fate_of(rows, sheet, k)) {
+            say(b"  switch %b00 %b01 %o02\n", 0, switch);
+        }
     }
 }
 
 // ---- the whole
 
-// The first of two patterns for one, the second for another number.
-fn counted(patterns: &[u8], n: usize) {
-    say(phrase(patterns, if n == 1 { 0 } else { 1 }), n, b"");
+// The first pattern for one, the second for another number.
+fn counted(one: &[u8], more: &[u8], n: usize) {
+    say(if n == 1 { one } else { more }, n, b"");
 }
 
 fn told(image: &[u8], rows: usize, sheet: &[u8], words: Words) {
     let fresh = fresh_state(image);
     counted(
-        b"sheet of @ switch\n/sheet of @ switches\n/",
+        b"sheet of @ switch\n",
+        b"sheet of @ switches\n",
         sheet.len() / 3,
     );
     pairs(rows, words, fresh, applied(image, fresh, words));
     fates(rows, sheet);
     counted(
-        b"short sheet of @ switch\n/short sheet of @ switches\n/",
+        b"short sheet of @ switch\n",
+        b"short sheet of @ switches\n",
         how_many(rows, sheet),
     );
     short(rows, sheet);
@@ -159,24 +125,19 @@ fn told(image: &[u8], rows: usize, sheet: &[u8], words: Words) {
 }
 
 fn unfit(sheet: &[u8], at: usize) {
-    let patterns = b"\
-        sheet refused at byte @: the position is %b00, neither 0 (off) nor 1 (on)\n/\
-        sheet refused at byte @: cut off inside a switch of 3 bytes\n/";
-    say(
-        phrase(patterns, if at % 3 == 2 { 0 } else { 1 }),
-        at,
-        part_of(sheet, at, 1),
-    );
+    let pattern: &[u8] = if at % 3 == 2 {
+        b"sheet refused at byte @: the position is %b00, neither 0 (off) nor 1 (on)\n"
+    } else {
+        b"sheet refused at byte @: cut off inside a switch of 3 bytes\n"
+    };
+    say(pattern, at, part_of(sheet, at, 1));
     say(b"REFUSED\n", 0, b"");
 }
 
 fn report(image: &[u8], rows: usize, sheet: &[u8]) {
-    let shortened = shorten(rows, sheet);
-    let fit = shortened.fit;
-    let words = shortened.words;
-    match fit {
-        SheetFit::Fits => told(image, rows, sheet, words),
-        SheetFit::Unfit(at) => unfit(sheet, at),
+    match shorten(rows, sheet) {
+        Ok(words) => told(image, rows, sheet, words),
+        Err(unfitting) => unfit(sheet, unfitting.at),
     }
 }
 
@@ -196,11 +157,5 @@ fn read_sheet(image: &[u8], rows: usize) {
 }
 
 fn main() {
-    let mut image = [0u8; 2356];
-    let n = read_image(&mut image);
-    let table = front(&image, n);
-    match check_table(table) {
-        TableAnswer::Accepted => read_sheet(table, rows_of(table, Kind::Connection)),
-        TableAnswer::Refused(place) => refuse(table, place),
-    }
+    under_table(|table| read_sheet(table, rows_of(table, Kind::Connection)));
 }

@@ -8,9 +8,9 @@ ghost use Rattle.table.specs.Table.{check_table, table_number, answer_place};
 ghost use Rattle.soad_walk.specs.declared.Numbers.{Numbers};
 ghost use Rattle.soad_walk.specs.TableWalk.{table_walk_of, walk_number, next_after, value_after};
 
-use frame::{framing, number_of};
-use soad_walk::{TableWalk, numbers_of, walk_table};
-use table::{TableAnswer, check_table};
+use frame::framing;
+use soad_walk::{numbers_of, walk_table};
+use table::{BadTable, check_table};
 
 // The table check: 0 accepted, and the place stays as it was; 1 refused, and the place is that of R1.10.
 #[unsafe(no_mangle)]
@@ -18,10 +18,9 @@ pub extern "C" fn soad_table_check(image: &[u8], place: &mut usize) -> u32
     ensures value { result ≡ table_number (check_table image.now) }
     ensures place_after { place.new ≡ answer_place (check_table image.now) place.old }
 {
-    let answer = check_table(image);
-    match answer {
-        TableAnswer::Accepted => 0,
-        TableAnswer::Refused(p) => {
+    match check_table(image) {
+        Ok(()) => 0,
+        Err(BadTable::At(p)) => {
             *place = p;
             1
         }
@@ -34,8 +33,10 @@ pub extern "C" fn soad_frame(id: u32, payload: &[u8], out: &mut [u8]) -> u32
     ensures value { result ≡ framed_number (framing_of (length payload.now) (length out.old)) }
     ensures out_after { out.new ≡ framed_out id payload.now out.old }
 {
-    let answer = framing(id, payload, out);
-    number_of(answer)
+    match framing(id, payload, out) {
+        Ok(()) => 0,
+        Err(error) => u32::from(error),
+    }
 }
 
 // The walk at a place of a datagram, by the image's routes: 1 a bad image, 2 no such connection, 3 a TCP connection or a
@@ -68,12 +69,10 @@ pub extern "C" fn soad_walk(
     ensures at_after { at.new
         ≡ value_after (λ (n : Numbers). n.at) (table_walk_of image.now connection switches datagram.now place) at.old }
 {
-    let answer = walk_table(image, connection, switches, datagram, place);
-    match answer {
-        TableWalk::Refused(refusal) => refusal,
-        TableWalk::Step(walked) => {
-            let outcome = walked.outcome;
-            let told = numbers_of(outcome);
+    match walk_table(image, connection, switches, datagram, place) {
+        Err(refusal) => u32::from(refusal),
+        Ok(walked) => {
+            let told = numbers_of(walked.outcome);
             *next = walked.next;
             *kind = told.kind;
             *number = told.number;

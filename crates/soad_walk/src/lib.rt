@@ -1,20 +1,34 @@
-// The walk over a datagram by a table image's own routes, without a state: refused by number, or a step; and a step as
+// The walk over a datagram by a table image's own routes, without a state: a refusal, or a step; and both as
 // plain numbers.
 #![tactic(auto)]
 
 ghost use Rattle.std.specs.Prelude.{◌≡◌};
 ghost use Rattle.table.specs.Accepts.{Accepts};
-ghost use Rattle.soad_walk.specs.TableWalk.{accepted_walk, table_walk_of, numbers_of};
+ghost use Rattle.soad_walk.specs.TableWalk.{accepted_walk, table_walk_of, numbers_of, walk_refusal_number};
 
 use receive_datagram::{Outcome, Walked, walk};
-use table::{TableAnswer, check_table};
+use table::check_table;
 use table_layout::{Kind, body_laid, rows_of};
 use table_rows::is_tcp;
 
-#[derive(Clone, Copy)]
-pub enum TableWalk {
-    Refused(u32),
-    Step(Walked),
+// Why a walk is refused: a bad image; no such connection; a TCP connection, or a place beyond the end.
+#[derive(Clone, Copy, Debug, PartialEq, Eq)]
+pub enum WalkRefusal {
+    BadImage,
+    Missing,
+    Denied,
+}
+
+impl From<WalkRefusal> for u32 {
+    fn from(refusal: WalkRefusal) -> u32
+        ensures { result ≡ walk_refusal_number refusal }
+    {
+        match refusal {
+            WalkRefusal::BadImage => 1,
+            WalkRefusal::Missing => 2,
+            WalkRefusal::Denied => 3,
+        }
+    }
 }
 
 // An outcome as numbers. Kind 0 is the end, 1 a PDU (number: its route), 2 a drop (number: its reason).
@@ -52,7 +66,7 @@ pub fn numbers_of(outcome: Outcome) -> Numbers
         },
         Outcome::Drop { reason, id, length } => Numbers {
             kind: 2,
-            number: reason as u32,
+            number: u8::from(reason) as u32,
             id,
             length,
             at: 0,
@@ -67,23 +81,23 @@ fn walk_accepted(
     switches: u32,
     datagram: &[u8],
     place: usize,
-) -> TableWalk
+) -> Result<Walked, WalkRefusal>
     requires { Accepts image.now }
     ensures { result ≡ accepted_walk image.now connection switches datagram.now place }
 {
     if rows_of(image, Kind::Connection) <= connection {
-        return TableWalk::Refused(2);
+        return Err(WalkRefusal::Missing);
     }
     let connections = body_laid(image, Kind::Connection);
     let groups = body_laid(image, Kind::Group);
     if is_tcp(connections, groups, connection) {
-        return TableWalk::Refused(3);
+        return Err(WalkRefusal::Denied);
     }
     if datagram.len() < place {
-        return TableWalk::Refused(3);
+        return Err(WalkRefusal::Denied);
     }
     let routes = body_laid(image, Kind::Route);
-    TableWalk::Step(walk(datagram, place, routes, connection as u8, switches))
+    Ok(walk(datagram, place, routes, connection as u8, switches))
 }
 
 // A bad image is refused first.
@@ -93,12 +107,11 @@ pub fn walk_table(
     switches: u32,
     datagram: &[u8],
     place: usize,
-) -> TableWalk
+) -> Result<Walked, WalkRefusal>
     ensures { result ≡ table_walk_of image.now connection switches datagram.now place }
 {
-    let answer = check_table(image);
-    match answer {
-        TableAnswer::Refused(_) => TableWalk::Refused(1),
-        TableAnswer::Accepted => walk_accepted(image, connection, switches, datagram, place),
+    match check_table(image) {
+        Err(_) => Err(WalkRefusal::BadImage),
+        Ok(()) => walk_accepted(image, connection, switches, datagram, place),
     }
 }

@@ -8,10 +8,7 @@ ghost use Rattle.state.specs.State.{count_of, counted, dropped_of, with_count};
 ghost use Rattle.state.specs.Fresh.{config_from, config_in, config_of, fresh_state, empty_state};
 
 use connection::{Config, Connection, Remote};
-use table_rows::{
-    ConnectionRow, GroupRow, connection_in, connection_laid, connection_row, group_in, group_laid,
-    group_row,
-};
+use table_rows::{ConnectionRow, GroupRow, row_at, row_laid, row_of};
 
 #[derive(Clone, Copy)]
 pub struct State {
@@ -70,7 +67,7 @@ pub fn config_from(row: ConnectionRow, group: GroupRow) -> Config
     Config {
         tcp: group.protocol == 2,
         automatic: row.automatic,
-        remote: remote,
+        remote,
         size: row.size,
         alive: row.alive,
         switches: row.switches,
@@ -81,8 +78,8 @@ pub fn config_from(row: ConnectionRow, group: GroupRow) -> Config
 pub fn config_in(connections: &[u8], groups: &[u8], i: usize) -> Config
     ensures { result ≡ config_in connections.now groups.now i }
 {
-    let row = connection_in(connections, i);
-    let group = group_in(groups, row.group as usize);
+    let row = row_at::<ConnectionRow>(connections, i);
+    let group = row_at::<GroupRow>(groups, row.group as usize);
     config_from(row, group)
 }
 
@@ -90,8 +87,8 @@ pub fn config_in(connections: &[u8], groups: &[u8], i: usize) -> Config
 pub fn config_of(image: &[u8], i: usize) -> Config
     ensures { result ≡ config_of image.now i }
 {
-    let row = connection_row(image, i);
-    let group = group_row(image, row.group as usize);
+    let row = row_of::<ConnectionRow>(image, i);
+    let group = row_of::<GroupRow>(image, row.group as usize);
     config_from(row, group)
 }
 
@@ -100,8 +97,8 @@ pub fn config_laid(image: &[u8], i: usize) -> Config
     requires { Laid image.now }
     ensures { result ≡ config_of image.now i }
 {
-    let row = connection_laid(image, i);
-    let group = group_laid(image, row.group as usize);
+    let row = row_laid::<ConnectionRow>(image, i);
+    let group = row_laid::<GroupRow>(image, row.group as usize);
     config_from(row, group)
 }
 
@@ -116,7 +113,7 @@ pub fn empty_state() -> State
     let config = Config {
         tcp: false,
         automatic: false,
-        remote: remote,
+        remote,
         size: 0,
         alive: 0,
         switches: 0,
@@ -124,7 +121,7 @@ pub fn empty_state() -> State
     let zero = connection::fresh(config);
     let connections = [zero; 16];
     State {
-        connections: connections,
+        connections,
         udp_drops: 0,
         tcp_drops: 0,
     }
@@ -135,12 +132,10 @@ pub fn fresh_state(image: &[u8]) -> State
     ensures { result ≡ fresh_state image.now }
 {
     let mut next = empty_state();
-    let mut i: usize = 0;
-    while i < 16 {
+    for i in 0..16 {
         let config = config_of(image, i);
         let record = connection::fresh(config);
         next.connections[i] = record;
-        i += 1;
     }
     next
 }

@@ -1,4 +1,5 @@
 -- The whole image of R1.12 and images with one fault each, computed: one of each kind of place.
+use Rattle.std.proofs.Common.{Ok, Err}
 use Prim.Native.Nat.{ℕ}
 use mathlib.Core.Path.{◌≡◌, refl}
 use mathlib.Core.List.{List, [], ◌∷◌, ◌++◌, map}
@@ -10,7 +11,7 @@ use Rattle.table_rows.specs.Rows.{group_row, connection_row, route_row, destinat
 use Rattle.table_rows.specs.Rules.{group_good, connection_good, route_good, destination_good, size_in, group_tcp, tcp_in, routes_share, destinations_share}
 use Rattle.table_scan.specs.Scan.{share, clear_in, good_in}
 use Rattle.table.specs.Table.{head_good, entry_good, rule, then_check, entries_place, head_place, all_rows_place, check_table}
-use Rattle.table.specs.declared.TableAnswer.TheVariants.{Accepted, Refused}
+use Rattle.table.specs.declared.BadTable.TheVariants.{At}
 
 -- R1.12: a whole image, 86 bytes, one row of each kind
 unfoldable pub example_image : List ℕ
@@ -36,7 +37,7 @@ twice =
     ∷ 0 ∷ 1 ∷ 0 ∷ 2 ∷ 0 ∷ 0 ∷ 2 ∷ 2 ∷ 0 ∷ 9 ∷ 0 ∷ 0 ∷ 0 ∷ 0 ∷ 0 ∷ 0
     ∷ 0 ∷ 1 ∷ 0 ∷ 2 ∷ 0 ∷ 0 ∷ 2 ∷ 3 ∷ 0 ∷ 9 ∷ 0 ∷ 0 ∷ 0 ∷ 0 ∷ 0 ∷ 0 ∷ []
 
-pub image-whole : check_table example_image ≡ Accepted
+pub image-whole : check_table example_image ≡ Ok tt
 unfolding example_image be bad_from every rows_of body_bytes start_of end_of row_at part_of body_of row_in group_row connection_row route_row destination_row
     group_good
     connection_good route_good destination_good size_in group_tcp tcp_in routes_share destinations_share share clear_in good_in head_good entry_good rule
@@ -44,7 +45,7 @@ unfolding example_image be bad_from every rows_of body_bytes start_of end_of row
 image-whole = refl
 
 -- R20.1: a UDP connection may have any alive limit
-pub image_limited : check_table (set (set example_image 48 255) 49 255) ≡ Accepted
+pub image_limited : check_table (set (set example_image 48 255) 49 255) ≡ Ok tt
 unfolding example_image be bad_from every rows_of body_bytes start_of end_of row_at part_of body_of row_in group_row connection_row route_row destination_row
     group_good
     connection_good route_good destination_good size_in group_tcp tcp_in routes_share destinations_share share clear_in good_in head_good entry_good rule
@@ -52,7 +53,7 @@ unfolding example_image be bad_from every rows_of body_bytes start_of end_of row
 image_limited = refl
 
 -- R19.1: with its group TCP, its route may be marked
-pub image-marked : check_table (set (set example_image 36 2) 55 1) ≡ Accepted
+pub image-marked : check_table (set (set example_image 36 2) 55 1) ≡ Ok tt
 unfolding example_image be bad_from every rows_of body_bytes start_of end_of row_at part_of body_of row_in group_row connection_row route_row destination_row
     group_good
     connection_good route_good destination_good size_in group_tcp tcp_in routes_share destinations_share share clear_in good_in head_good entry_good rule
@@ -77,13 +78,13 @@ pub places :
     -- the later of two rows that share
     ∷ twice ∷ set twice 77 2 ∷ [])
     ≡
-    Refused 0 ∷ Refused 0 ∷ Refused 0
-    ∷ Refused 4 ∷ Refused 12 ∷ Refused 20 ∷ Refused 28
-    ∷ Refused 2 ∷ Refused 2
-    ∷ Refused 36 ∷ Refused 38 ∷ Refused 38 ∷ Refused 54 ∷ Refused 70 ∷ Refused 70
-    ∷ Refused 38
-    ∷ Refused 54 ∷ Refused 54 ∷ Refused 54
-    ∷ Refused 70 ∷ Refused 102 ∷ []
+    Err (At 0) ∷ Err (At 0) ∷ Err (At 0)
+    ∷ Err (At 4) ∷ Err (At 12) ∷ Err (At 20) ∷ Err (At 28)
+    ∷ Err (At 2) ∷ Err (At 2)
+    ∷ Err (At 36) ∷ Err (At 38) ∷ Err (At 38) ∷ Err (At 54) ∷ Err (At 70) ∷ Err (At 70)
+    ∷ Err (At 38)
+    ∷ Err (At 54) ∷ Err (At 54) ∷ Err (At 54)
+    ∷ Err (At 70) ∷ Err (At 102) ∷ []
 unfolding example_image twice be bad_from every rows_of body_bytes start_of end_of row_at part_of body_of row_in group_row connection_row route_row
     destination_row group_good
     connection_good route_good destination_good size_in group_tcp tcp_in routes_share destinations_share share clear_in good_in head_good entry_good rule

@@ -1,4 +1,5 @@
 -- An accepted image keeps the rules of the table.
+use Rattle.std.proofs.Common.{Ok}
 use Prim.Native.Nat.{ℕ, ◌+◌, ◌<◌, ◌≤◌}
 use mathlib.Core.Path.{◌≡◌, refl}
 use mathlib.Core.Bool.{Bool, true, false, not, ◌&&◌, ◌||◌}
@@ -29,7 +30,6 @@ use Rattle.table_scan.specs.Scan.{share, clear_in, good_in}
 use Rattle.table.specs.Table.{head_good, entry_good, group_tcp_of, tcp_of, size_of, rule, row_good, bad_row}
 use Rattle.table.specs.Table.{demand, rows_place, entries_place, head_place, all_rows_place, check_table}
 use Rattle.table.specs.Accepts.{Accepts}
-use Rattle.table.specs.declared.TableAnswer.TheVariants.{Accepted}
 use Rattle.table.proofs.Answers.{then_first, then_second, demand-held}
 
 -- the tests of a contents entry as facts
@@ -37,12 +37,12 @@ pub entry_facts : (k n o w most start : ℕ) → eqb k w && leb n most && eqb o 
 entry_facts k n o w most start e = let f = and3 (eqb k w) (leb n most) (eqb o start) e in (eqb-true _ _ f.0, leb-true _ _ f.1, eqb-true _ _ f.2)
 
 -- good contents have their bytes 0..3 and their entries, no kind with too many rows, and each body's offset
-module _ (s : List ℕ) (good : head_place s ≡ Accepted) where
+module _ (s : List ℕ) (good : head_place s ≡ Ok tt) where
   pub contents-head : head_good s ≡ true
   unfolding head_place
   contents-head = demand-held _ 0 (then_first _ _ good)
 
-  entries : entries_place s ≡ Accepted
+  entries : entries_place s ≡ Ok tt
   unfolding head_place
   entries = then_second _ _ good
 
@@ -63,21 +63,21 @@ module _ (s : List ℕ) (good : head_place s ≡ Accepted) where
   pub contents-starts : (k : Kind) → be 4 s (entry_at k + 4) ≡ start_of s k
   contents-starts k = (entry_tests k).2
 
-module _ (s : List ℕ) (e : check_table s ≡ Accepted) where
+module _ (s : List ℕ) (e : check_table s ≡ Ok tt) where
   -- the four parts of the check
-  head : demand (leb 36 (length s)) 0 ≡ Accepted
+  head : demand (leb 36 (length s)) 0 ≡ Ok tt
   unfolding check_table
   head = then_first _ _ e
 
-  contents : head_place s ≡ Accepted
+  contents : head_place s ≡ Ok tt
   unfolding check_table
   contents = then_first _ _ (then_second (demand (leb 36 (length s)) 0) _ e)
 
-  total : demand (eqb (length s) (end_of s)) 2 ≡ Accepted
+  total : demand (eqb (length s) (end_of s)) 2 ≡ Ok tt
   unfolding check_table
   total = then_first _ (all_rows_place s) (then_second (head_place s) _ (then_second (demand (leb 36 (length s)) 0) _ e))
 
-  rows : all_rows_place s ≡ Accepted
+  rows : all_rows_place s ≡ Ok tt
   unfolding check_table
   rows = then_second _ _ (then_second (head_place s) _ (then_second (demand (leb 36 (length s)) 0) _ e))
 
@@ -92,7 +92,7 @@ module _ (s : List ℕ) (e : check_table s ≡ Accepted) where
   most : (k : Kind) → rows_of s k ≤ most_rows k
   most = contents-most s contents
 
-  placed : (k : Kind) → rows_place s k ≡ Accepted
+  placed : (k : Kind) → rows_place s k ≡ Ok tt
   unfolding all_rows_place
   placed Group = then_first _ _ rows
   placed Connection = then_first _ _ (then_second _ _ rows)
@@ -205,7 +205,7 @@ destination_facts connections size row e =
     let f = and4 (ltb v.connection connections) (leb (trigger_byte row) 1) (leb v.longest 1464) (leb (v.longest + 8) (size v.connection)) e in
     record { connection = ltb-true _ _ f.0; trigger = leb-true _ _ f.1; longest = leb-true _ _ f.2; fits = leb-true _ _ f.3 }
 
-module _ (s : List ℕ) (e : check_table s ≡ Accepted) (i : ℕ) where
+module _ (s : List ℕ) (e : check_table s ≡ Ok tt) (i : ℕ) where
   groups-keep : i < rows_of s Group → GroupFacts (row_of s Group i)
   groups-keep h = group_facts (row_of s Group i) (group-rule s e i h)
 
@@ -223,7 +223,7 @@ apart_of : (share : Bool) → share ≡ false → share ≡ true → ⊥
 apart_of share f t = let z : ◌≡◌ {A = ℕ} 0 1 = cc in omega arith
 
 -- the rules of the table, as facts of its rows
-pub accepted_facts : (s : List ℕ) → check_table s ≡ Accepted → Accepts s
+pub accepted_facts : (s : List ℕ) → check_table s ≡ Ok tt → Accepts s
 unfolding group_row connection_row route_row destination_row size_in group_tcp tcp_in share routes_share destinations_share
 accepted_facts s e =
     record {

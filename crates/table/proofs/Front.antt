@@ -1,4 +1,5 @@
 -- What is asked before the rows: by numbers of four bytes, at once, and what it gives.
+use Rattle.std.proofs.Common.{Result, Ok, Err}
 use Prim.Native.Nat.{ℕ, ◌+◌, ◌*◌, ◌<◌, ◌≤◌}
 use mathlib.Core.Path.{◌≡◌, refl, sym, ◌∙◌}
 use mathlib.Core.Bool.{Bool, true, false, ◌&&◌}
@@ -15,9 +16,9 @@ use Rattle.table_layout.proofs.Parts.{be-taken}
 use Rattle.table_layout.specs.declared.Kind.TheVariants.{Group, Connection, Route, Destination}
 use Rattle.table_rows.proofs.Heads.{be-small}
 use Rattle.table.specs.Table.{head_good, entry_good, front_good, demand, then_check, entries_place, head_place, all_rows_place, check_table}
-use Rattle.table.specs.declared.TableAnswer.{TableAnswer}
-use Rattle.table.specs.declared.TableAnswer.TheVariants.{Accepted, Refused}
+use Rattle.table.specs.declared.BadTable.TheVariants.{At}
 use Rattle.table.proofs.Facts.{entry_facts, contents-head, contents_entry, contents-starts}
+use Rattle.table.specs.declared.BadTable.{BadTable}
 
 -- ---- what it gives
 
@@ -29,7 +30,7 @@ module _ (s : List ℕ) where
   unfolding front_good
   parts e = (and_left contents (eqb (length s) (end_of s)) e, and_right contents (eqb (length s) (end_of s)) e)
 
-  pub front-head : front_good s ≡ true → head_place s ≡ Accepted
+  pub front-head : front_good s ≡ true → head_place s ≡ Ok tt
   unfolding head_place entries_place then_check
   front-head e =
       let f = and4 (head_good s && entry_good s Group) (entry_good s Connection) (entry_good s Route) (entry_good s Destination) (parts e).0 in
@@ -42,12 +43,12 @@ module _ (s : List ℕ) where
   front-laid h e = record { head = h; whole = front_total e; starts = contents-starts s (front-head e) }
 
   -- the check of an image whose front is good, and of another
-  pub check-rows : (r : TableAnswer) → 36 ≤ length s → front_good s ≡ true → r ≡ all_rows_place s → r ≡ check_table s
+  pub check-rows : (r : Result Unit BadTable) → 36 ≤ length s → front_good s ≡ true → r ≡ all_rows_place s → r ≡ check_table s
   unfolding check_table then_check
   check-rows r h e f = rw (le-leb 36 (length s) h, front-head e, eq-eqb (length s) (end_of s) (front_total e)) f
 
   -- good contents with a front that is not good: the total length is wrong
-  wrong_total : head_place s ≡ Accepted → front_good s ≡ false → eqb (length s) (end_of s) ≡ false
+  wrong_total : head_place s ≡ Ok tt → front_good s ≡ false → eqb (length s) (end_of s) ≡ false
   unfolding front_good
   wrong_total a e = rw (
     contents-head s a,
@@ -57,14 +58,14 @@ module _ (s : List ℕ) where
     contents_entry s a Destination,
   ) at e
 
-  pub check-refused : 36 ≤ length s → front_good s ≡ false → then_check (head_place s) (Refused 2) ≡ check_table s
+  pub check-refused : 36 ≤ length s → front_good s ≡ false → then_check (head_place s) (Err (At 2)) ≡ check_table s
   unfolding check_table then_check
   check-refused h e = rw (le-leb 36 (length s) h) (go (head_place s) refl)
     where
-      go : (a : TableAnswer) → head_place s ≡ a
-          → then_check (head_place s) (Refused 2) ≡ then_check (head_place s) (then_check (demand (eqb (length s) (end_of s)) 2) (all_rows_place s))
-      go Accepted a = rw (a, wrong_total a e)
-      go (Refused p) a = rw a
+      go : (a : Result Unit BadTable) → head_place s ≡ a
+          → then_check (head_place s) (Err (At 2)) ≡ then_check (head_place s) (then_check (demand (eqb (length s) (end_of s)) 2) (all_rows_place s))
+      go (Ok tt) a = rw (a, wrong_total a e)
+      go (Err e) a = rw a
 
 -- ---- by numbers of four bytes
 

@@ -1,4 +1,5 @@
 -- The first bad row of a body is the first bad row of its kind, in an image that is laid out.
+use Rattle.std.proofs.Common.{Result, Ok, Err}
 use Prim.Native.Nat.{ℕ, ◌+◌, ◌*◌, ◌/◌, ◌<◌, ◌≤◌}
 use mathlib.Core.Path.{◌≡◌, refl, sym, ap, ◌∙◌}
 use mathlib.Core.Bool.{true, ◌&&◌}
@@ -20,9 +21,9 @@ use Rattle.table_rows.specs.Rules.{connection_good, route_good, destination_good
 use Rattle.table_scan.specs.declared.BadRows.{BadRows}
 use Rattle.table_scan.specs.Scan.{bad_in, bad_group, bad_connection, bad_route, bad_destination, bad_rows}
 use Rattle.table.specs.Table.{group_tcp_of, tcp_of, size_of, rule, row_good, bad_row, demand, then_check, rows_place}
-use Rattle.table.specs.declared.TableAnswer.{TableAnswer}
-use Rattle.table.specs.declared.TableAnswer.TheVariants.{Accepted, Refused}
+use Rattle.table.specs.declared.BadTable.TheVariants.{At}
 use Rattle.table.proofs.Answers.{demand-held}
+use Rattle.table.specs.declared.BadTable.{BadTable}
 
 -- a row count is a number of two bytes
 pub rows-small : (s : List ℕ) → ((i : ℕ) → byte_at s i < 256) → (k : Kind) → rows_of s k < 65536
@@ -31,15 +32,15 @@ rows-small s bytes k = be-small s bytes 2 (entry_at k + 2)
 
 -- the place of row `bad`
 module _ (s : List ℕ) (k : Kind) (rows bad start size : ℕ) (er : rows ≡ rows_of s k) where
-  pub no_place : rows ≤ bad → Accepted ≡ demand (leb (rows_of s k) bad) (row_at s k bad)
+  pub no_place : rows ≤ bad → Ok tt ≡ demand (leb (rows_of s k) bad) (row_at s k bad)
   no_place h = rw (le-leb (rows_of s k) bad (omega arith))
 
-  pub some-place : start ≡ start_of s k → size ≡ row_bytes s k → bad < rows → Refused (start + bad * size) ≡ demand (leb (rows_of s k) bad) (row_at s k bad)
+  pub some-place : start ≡ start_of s k → size ≡ row_bytes s k → bad < rows → Err (At (start + bad * size)) ≡ demand (leb (rows_of s k) bad) (row_at s k bad)
   unfolding row_at
   some-place es ez h = rw (lt-leb (rows_of s k) bad (omega arith), es, ez)
 
 -- each kind, by values that are its body and its numbers
-module _ (s : List ℕ) (l : Laid s) (r : TableAnswer) (bad : ℕ) where
+module _ (s : List ℕ) (l : Laid s) (r : Result Unit BadTable) (bad : ℕ) where
   place : (k : Kind) → bad ≡ bad_in (rule s k) k (body_of s k) → r ≡ demand (leb (rows_of s k) bad) (row_at s k bad) → r ≡ rows_place s k
   place k e f = f ∙ ap (λ (b : ℕ). demand (leb (rows_of s k) b) (row_at s k b)) (e ∙ ap (first_bad (row_good s k)) (body-rows s l k))
 
@@ -83,34 +84,35 @@ module _ (s : List ℕ) (l : Laid s) (r : TableAnswer) (bad : ℕ) where
       f
 
 -- the last two kinds, by what one search gives
-pub last_places : (s : List ℕ) (l : Laid s) (routes destinations connections groups : List ℕ) (x : BadRows) (a b r : TableAnswer)
-    → routes ≡ body_of s Route → destinations ≡ body_of s Destination → connections ≡ body_of s Connection → groups ≡ body_of s Group
+pub last_route : (s : List ℕ) (l : Laid s) (routes destinations connections groups : List ℕ) (x : BadRows) (a : Result Unit BadTable)
+    → routes ≡ body_of s Route → connections ≡ body_of s Connection → groups ≡ body_of s Group
     → x ≡ bad_rows routes destinations connections groups
-    → a ≡ demand (leb (rows_of s Route) x.route) (row_at s Route x.route)
-    → b ≡ demand (leb (rows_of s Destination) x.destination) (row_at s Destination x.destination)
-    → r ≡ then_check a b → r ≡ then_check (rows_place s Route) (rows_place s Destination)
-last_places s l routes destinations connections groups x a b r er ed ec eg ex ea eb e =
-    let p : a ≡ rows_place s Route =
-    routes-place s l a x.route routes connections groups er ec eg (ap (λ (y : BadRows). y.route) ex) ea in
-    let q : b ≡ rows_place s Destination =
-    destinations-place s l b x.destination destinations connections ed ec (ap (λ (y : BadRows). y.destination) ex) eb in
-    e ∙ ap (λ (y : TableAnswer). then_check y b) p ∙ ap (then_check (rows_place s Route)) q
+    → a ≡ demand (leb (rows_of s Route) x.route) (row_at s Route x.route) → a ≡ rows_place s Route
+last_route s l routes destinations connections groups x a er ec eg ex ea =
+    routes-place s l a x.route routes connections groups er ec eg (ap (λ (y : BadRows). y.route) ex) ea
 
--- and without rows of either
+pub last_destination : (s : List ℕ) (l : Laid s) (routes destinations connections groups : List ℕ) (x : BadRows) (b : Result Unit BadTable)
+    → destinations ≡ body_of s Destination → connections ≡ body_of s Connection
+    → x ≡ bad_rows routes destinations connections groups
+    → b ≡ demand (leb (rows_of s Destination) x.destination) (row_at s Destination x.destination) → b ≡ rows_place s Destination
+last_destination s l routes destinations connections groups x b ed ec ex eb =
+    destinations-place s l b x.destination destinations connections ed ec (ap (λ (y : BadRows). y.destination) ex) eb
+
+-- without rows of either
 pub none_placed : (s : List ℕ) (l : Laid s) (routes destinations : List ℕ) → routes ≡ body_of s Route → destinations ≡ body_of s Destination
-    → (eqb (length routes) 0 && eqb (length destinations) 0) ≡ true → Accepted ≡ then_check (rows_place s Route) (rows_place s Destination)
+    → (eqb (length routes) 0 && eqb (length destinations) 0) ≡ true → Ok tt ≡ then_check (rows_place s Route) (rows_place s Destination)
 unfolding then_check
 none_placed s l routes destinations er ed z =
     none Destination destinations (and_right (eqb (length routes) 0) _ z) (laid-rows s l Destination destinations ed)
-    ∙ ap (λ (y : TableAnswer). then_check y (rows_place s Destination)) (none Route routes (and_left _ _ z) (laid-rows s l Route routes er))
+    ∙ ap (λ (y : Result Unit BadTable). then_check y (rows_place s Destination)) (none Route routes (and_left _ _ z) (laid-rows s l Route routes er))
   where
-    none : (k : Kind) (body : List ℕ) → eqb (length body) 0 ≡ true → length body / 16 ≡ rows_of s k → Accepted ≡ rows_place s k
+    none : (k : Kind) (body : List ℕ) → eqb (length body) 0 ≡ true → length body / 16 ≡ rows_of s k → Ok tt ≡ rows_place s k
     none k body z h = no_place s k (rows_of s k) (bad_row s k) 0 0 refl (omega (arith, eqb-true (length body) 0 z, h))
 
 -- where no connection is refused, the search for a bad one has come to the row count
-pub connections-passed : (s : List ℕ) (l : Laid s) (body groups : List ℕ) (bad : ℕ) (r : TableAnswer)
+pub connections-passed : (s : List ℕ) (l : Laid s) (body groups : List ℕ) (bad : ℕ) (r : Result Unit BadTable)
     → body ≡ body_of s Connection → groups ≡ body_of s Group → bad ≡ bad_connection groups body
-    → r ≡ demand (leb (rows_of s Connection) bad) (row_at s Connection bad) → r ≡ Accepted
+    → r ≡ demand (leb (rows_of s Connection) bad) (row_at s Connection bad) → r ≡ Ok tt
     → bad_connection (body_of s Group) (body_of s Connection) ≡ length (body_of s Connection) / row_width Connection
 connections-passed s l body groups bad r b g e f a =
     let is : bad ≡ bad_connection (body_of s Group) (body_of s Connection) =

@@ -1,5 +1,5 @@
 -- The table check (R1.10) as a function of the image's bytes.
-use Rattle.std.specs.Prelude.{ℕ, ◌+◌, Bool, cond, ◌&&◌, List, [], length, leb, eqb}
+use Rattle.std.specs.Prelude.{ℕ, ◌+◌, Bool, cond, ◌&&◌, List, [], length, leb, eqb, Result, Ok, Err}
 use Rattle.wire.specs.Be.{be}
 use Rattle.lists.specs.Search.{first_bad}
 use Rattle.table_layout.specs.Layout.{number, most_rows, entry_at, row_bytes, rows_of, start_of, end_of, row_at, body_of, body_at}
@@ -7,8 +7,8 @@ use Rattle.table_layout.specs.declared.Kind.{Kind}
 use Rattle.table_layout.specs.declared.Kind.TheVariants.{Group, Connection, Route, Destination}
 use Rattle.table_rows.specs.Rules.{group_good, connection_good, route_good, destination_good, size_in, group_tcp, tcp_in}
 use Rattle.table_scan.specs.Scan.{share, good_in}
-use Rattle.table.specs.declared.TableAnswer.{TableAnswer}
-use Rattle.table.specs.declared.TableAnswer.TheVariants.{Accepted, Refused}
+use Rattle.table.specs.declared.BadTable.TheVariants.{At}
+use Rattle.table.specs.declared.BadTable.{BadTable}
 
 -- R1.2: bytes 0..1 are edition 1, bytes 2..3 the number 4
 unfoldable pub head_good : List ℕ → Bool
@@ -60,16 +60,16 @@ bad_row s k = first_bad (row_good s k) (rows_of s k)
 -- ---- R1.10: refusal 1 gives a place
 
 -- a refusal at the place unless the test holds
-abbrev pub demand : Bool → ℕ → TableAnswer
-demand ok place = cond ok Accepted (Refused place)
+abbrev pub demand : Bool → ℕ → Result Unit BadTable
+demand ok place = cond ok (Ok tt) (Err (At place))
 
 -- the first refusal of two
-unfoldable pub then_check : TableAnswer → TableAnswer → TableAnswer
-then_check Accepted b = b
-then_check (Refused p) b = Refused p
+unfoldable pub then_check : Result Unit BadTable → Result Unit BadTable → Result Unit BadTable
+then_check (Ok tt) b = b
+then_check (Err e) b = Err e
 
 -- the place of the first bad contents entry
-unfoldable pub entries_place : List ℕ → TableAnswer
+unfoldable pub entries_place : List ℕ → Result Unit BadTable
 entries_place s =
     then_check (demand (entry_good s Group) 4)
     (then_check (demand (entry_good s Connection) 12)
@@ -77,14 +77,14 @@ entries_place s =
     (demand (entry_good s Destination) 28)))
 
 -- 0 where bytes 0..3 are wrong, then the contents entries
-unfoldable pub head_place : List ℕ → TableAnswer
+unfoldable pub head_place : List ℕ → Result Unit BadTable
 head_place s = then_check (demand (head_good s) 0) (entries_place s)
 
 -- the place of the first bad row, of a kind and of all in image order
-abbrev pub rows_place : List ℕ → Kind → TableAnswer
+abbrev pub rows_place : List ℕ → Kind → Result Unit BadTable
 rows_place s k = demand (leb (rows_of s k) (bad_row s k)) (row_at s k (bad_row s k))
 
-unfoldable pub all_rows_place : List ℕ → TableAnswer
+unfoldable pub all_rows_place : List ℕ → Result Unit BadTable
 all_rows_place s =
     then_check (rows_place s Group)
     (then_check (rows_place s Connection)
@@ -93,7 +93,7 @@ all_rows_place s =
 
 -- R1.10: 0 when shorter than 36 or bytes 0..3 are wrong; then the first bad contents entry; then 2 for a wrong total length; then the first
 -- bad row
-unfoldable pub check_table : List ℕ → TableAnswer
+unfoldable pub check_table : List ℕ → Result Unit BadTable
 check_table s =
     then_check (demand (leb 36 (length s)) 0)
     (then_check (head_place s)
@@ -101,14 +101,14 @@ check_table s =
     (all_rows_place s)))
 
 -- R4.1, the answer's number: 0 done, 1 table refused
-abbrev pub table_number : TableAnswer → ℕ
-table_number Accepted = 0
-table_number (Refused p) = 1
+abbrev pub table_number : Result Unit BadTable → ℕ
+table_number (Ok tt) = 0
+table_number (Err e) = 1
 
 -- the place that goes with it; an accepted table has none, and what stood there stays
-abbrev pub answer_place : TableAnswer → ℕ → ℕ
-answer_place Accepted before = before
-answer_place (Refused p) before = p
+abbrev pub answer_place : Result Unit BadTable → ℕ → ℕ
+answer_place (Ok tt) before = before
+answer_place (Err (At p)) before = p
 
 -- ---- R1.13: each body is handed back as the part of the caller's image that it occupies
 
@@ -117,9 +117,9 @@ abbrev pub of_kind : {A : Type 0} → (Kind → A) → A → ℕ → A
 of_kind of none n = cond (eqb n 1) (of Group) (cond (eqb n 2) (of Connection) (cond (eqb n 3) (of Route) (cond (eqb n 4) (of Destination) none)))
 
 -- and nothing of a refused image
-abbrev pub if_accepted : {A : Type 0} → TableAnswer → A → A → A
-if_accepted Accepted x none = x
-if_accepted (Refused p) x none = none
+abbrev pub if_accepted : {A : Type 0} → Result Unit BadTable → A → A → A
+if_accepted (Ok tt) x none = x
+if_accepted (Err e) x none = none
 
 -- its bytes
 unfoldable pub body_answer : List ℕ → ℕ → List ℕ

@@ -23,35 +23,22 @@ ghost use Rattle.table.specs.Table.{
 };
 
 use table_layout::{
-    Kind, body_laid, body_of, entry_at, kind_and_rows, kind_number, most_rows, named_start,
-    row_bytes, rows_of, start_of,
+    Kind, body_laid, body_of, entry_at, kind_and_rows, most_rows, named_start, row_bytes, rows_of,
+    start_of,
 };
 use table_scan::{first_bad_connection, first_bad_group, first_bad_rows};
 use wire::{be16, be32};
 
-#[derive(Clone, Copy)]
-pub enum TableAnswer {
-    Accepted,
-    Refused(usize),
+// Why an image is refused: the place of its first fault.
+#[derive(Clone, Copy, PartialEq, Eq)]
+pub enum BadTable {
+    At(usize),
 }
 
-fn demand_at(ok: bool, place: usize) -> TableAnswer
+fn demand_at(ok: bool, place: usize) -> Result<(), BadTable>
     ensures { result ≡ demand ok place }
 {
-    if ok {
-        TableAnswer::Accepted
-    } else {
-        TableAnswer::Refused(place)
-    }
-}
-
-fn first_refusal(a: TableAnswer, b: TableAnswer) -> TableAnswer
-    ensures { result ≡ then_check a b }
-{
-    match a {
-        TableAnswer::Accepted => b,
-        TableAnswer::Refused(p) => TableAnswer::Refused(p),
-    }
+    if ok { Ok(()) } else { Err(BadTable::At(place)) }
 }
 
 // ---- bytes 0..3 and the contents
@@ -66,46 +53,45 @@ fn entry_good(image: &[u8], k: Kind) -> bool
     ensures { result ≡ entry_good image.now k }
 {
     let at = entry_at(k);
-    (be16(image, at) == kind_number(k))
+    (be16(image, at) == usize::from(k))
         & (rows_of(image, k) <= most_rows(k))
         & (be32(image, at + 4) == start_of(image, k))
 }
 
-fn entries_place(image: &[u8]) -> TableAnswer
+#[tactic(auto, unfolding(crate::specs::Table::entries_place, crate::specs::Table::then_check, crate::specs::Table::demand))]
+fn entries_place(image: &[u8]) -> Result<(), BadTable>
     ensures { result ≡ entries_place image.now }
 {
-    let groups = demand_at(entry_good(image, Kind::Group), 4);
-    let connections = demand_at(entry_good(image, Kind::Connection), 12);
-    let routes = demand_at(entry_good(image, Kind::Route), 20);
-    let destinations = demand_at(entry_good(image, Kind::Destination), 28);
-    first_refusal(
-        groups,
-        first_refusal(connections, first_refusal(routes, destinations)),
-    )
+    demand_at(entry_good(image, Kind::Group), 4)?;
+    demand_at(entry_good(image, Kind::Connection), 12)?;
+    demand_at(entry_good(image, Kind::Route), 20)?;
+    demand_at(entry_good(image, Kind::Destination), 28)
 }
 
-fn head_place(image: &[u8]) -> TableAnswer
+#[tactic(auto, unfolding(crate::specs::Table::head_place, crate::specs::Table::then_check))]
+fn head_place(image: &[u8]) -> Result<(), BadTable>
     ensures { result ≡ head_place image.now }
 {
-    first_refusal(demand_at(head_good(image), 0), entries_place(image))
+    demand_at(head_good(image), 0)?;
+    entries_place(image)
 }
 
 // ---- rows
 
 // A refusal at the row `bad` if there is such a row among as many as the kind has.
-fn place_of(image: &[u8], k: Kind, rows: usize, bad: usize) -> TableAnswer
+fn place_of(image: &[u8], k: Kind, rows: usize, bad: usize) -> Result<(), BadTable>
     requires { rows ≡ rows_of image.now k }
     ensures { result ≡ demand (leb (rows_of image.now k) bad) (row_at image.now k bad) }
 {
     if rows <= bad {
-        TableAnswer::Accepted
+        Ok(())
     } else {
-        TableAnswer::Refused(start_of(image, k) + bad * row_bytes(image, k))
+        Err(BadTable::At(start_of(image, k) + bad * row_bytes(image, k)))
     }
 }
 
 // Asked only where no connection is bad. Without rows nothing is noted, and no mark is cleared.
-fn after_connections(image: &[u8]) -> TableAnswer
+fn after_connections(image: &[u8]) -> Result<(), BadTable>
     requires laid { Laid image.now }
     requires passed { bad_connection (body_of image.now Kind.Group) (body_of image.now Kind.Connection)
         ≡ length (body_of image.now Kind.Connection) / row_width Kind.Connection }
@@ -114,22 +100,21 @@ fn after_connections(image: &[u8]) -> TableAnswer
     let routes = body_laid(image, Kind::Route);
     let destinations = body_laid(image, Kind::Destination);
     if (routes.len() == 0) & (destinations.len() == 0) {
-        return TableAnswer::Accepted;
+        return Ok(());
     }
     let connections = body_laid(image, Kind::Connection);
     let groups = body_laid(image, Kind::Group);
     let bad = first_bad_rows(routes, destinations, connections, groups);
-    let route = place_of(image, Kind::Route, routes.len() / 16, bad.route);
-    let destination = place_of(
+    place_of(image, Kind::Route, routes.len() / 16, bad.route)?;
+    place_of(
         image,
         Kind::Destination,
         destinations.len() / 16,
         bad.destination,
-    );
-    first_refusal(route, destination)
+    )
 }
 
-fn after_groups(image: &[u8]) -> TableAnswer
+fn after_groups(image: &[u8]) -> Result<(), BadTable>
     requires { Laid image.now }
     ensures { result ≡ then_check (rows_place image.now Kind.Connection)
         (then_check (rows_place image.now Kind.Route) (rows_place image.now Kind.Destination)) }
@@ -137,24 +122,18 @@ fn after_groups(image: &[u8]) -> TableAnswer
     let connections = body_laid(image, Kind::Connection);
     let groups = body_laid(image, Kind::Group);
     let bad = first_bad_connection(connections, groups);
-    let place = place_of(image, Kind::Connection, connections.len() / 16, bad);
-    match place {
-        TableAnswer::Refused(p) => TableAnswer::Refused(p),
-        TableAnswer::Accepted => after_connections(image),
-    }
+    place_of(image, Kind::Connection, connections.len() / 16, bad)?;
+    after_connections(image)
 }
 
-fn all_rows_place(image: &[u8]) -> TableAnswer
+fn all_rows_place(image: &[u8]) -> Result<(), BadTable>
     requires { Laid image.now }
     ensures { result ≡ all_rows_place image.now }
 {
     let groups = body_laid(image, Kind::Group);
     let bad = first_bad_group(groups);
-    let place = place_of(image, Kind::Group, groups.len() / 2, bad);
-    match place {
-        TableAnswer::Refused(p) => TableAnswer::Refused(p),
-        TableAnswer::Accepted => after_groups(image),
-    }
+    place_of(image, Kind::Group, groups.len() / 2, bad)?;
+    after_groups(image)
 }
 
 // ---- the check
@@ -203,14 +182,15 @@ fn is_laid(image: &[u8]) -> bool
 }
 
 // Accepted, or refusal 1 with its place. Field by field the front is asked only where something in it is wrong.
-pub fn check_table(image: &[u8]) -> TableAnswer
+pub fn check_table(image: &[u8]) -> Result<(), BadTable>
     ensures { result ≡ check_table image.now }
 {
     if image.len() < 36 {
-        return TableAnswer::Refused(0);
+        return Err(BadTable::At(0));
     }
     if !is_laid(image) {
-        return first_refusal(head_place(image), TableAnswer::Refused(2));
+        head_place(image)?;
+        return Err(BadTable::At(2));
     }
     all_rows_place(image)
 }
@@ -236,9 +216,8 @@ pub fn body(image: &[u8], number: usize) -> &[u8]
     ensures bytes { result.now ≡ body_answer image.now number }
     ensures place { result.ref_ptr ≡ behind image.entry.ref_ptr (body_answer_at image.now number) }
 {
-    let answer = check_table(image);
-    match answer {
-        TableAnswer::Refused(_) => &image[..0],
-        TableAnswer::Accepted => body_numbered(image, number),
+    match check_table(image) {
+        Ok(()) => body_numbered(image, number),
+        Err(_) => &image[..0],
     }
 }

@@ -1,25 +1,27 @@
--- The test of room without a sum, and one test after another, by values that are what they test.
-use Prim.Native.Nat.{ℕ, ◌+◌, ◌-◌, ◌<◌, ◌≤◌}
-use mathlib.Core.Path.{◌≡◌, sym, ◌∙◌}
-use mathlib.Core.Bool.{false}
-use native.Mathlib.Decide.{dec_le}
-use native.Mathlib.Omega.{arith}
-use lib.Dec.{leb}
-use borrow.Author.Tests.{le-leb, lt-leb}
-use Rattle.table_fault.specs.Faults.{unless}
+-- One test after another, as the code joins them.
+use Prim.Native.Nat.{ℕ}
+use mathlib.Core.Path.{◌≡◌, refl}
+use mathlib.Core.Bool.{Bool, true, false, cond}
+use Rattle.std.proofs.Common.{Option, None, Some}
+use Rattle.std.specs.Option.{option_or}
+use Rattle.table_fault.specs.Faults.{fault_told, passes_test, failed, unless}
 use Rattle.table_fault.specs.declared.Fault.{Fault}
 use Rattle.table_fault.specs.declared.Told.{Told}
 
-pub no_room : (longest size : ℕ) → size < 8 → false ≡ leb (longest + 8) size
-no_room longest size h = sym (lt-leb (longest + 8) size (omega arith))
+pub or_joined : (a b c : Option Told) → option_or (option_or a b) c ≡ option_or a (option_or b c)
+or_joined None b c = refl
+or_joined (Some t) b c = refl
 
-pub size_left : (longest size : ℕ) → 8 ≤ size → leb longest (size - 8) ≡ leb (longest + 8) size
-size_left longest size h = go (dec_le longest (size - 8))
+pub or_unless : (f : Fault) (x n : ℕ) (rest : Option Told) → option_or (failed f x n) rest ≡ unless f x n rest
+unfolding failed unless
+or_unless f x n rest = go (passes_test f x n)
   where
-    go : Dec (longest ≤ size - 8) → leb longest (size - 8) ≡ leb (longest + 8) size
-    go (yes l) = le-leb longest (size - 8) l ∙ sym (le-leb (longest + 8) size (omega arith))
-    go (no n) = lt-leb longest (size - 8) (omega arith) ∙ sym (lt-leb (longest + 8) size (omega arith))
+    go : (b : Bool) → option_or (cond b None (Some (fault_told f x n))) rest ≡ cond b rest (Some (fault_told f x n))
+    go true = refl
+    go false = refl
 
-pub next_fault : (f : Fault) {x v n m : ℕ} {r rest rest' : Told}
-    → r ≡ unless f x n rest → x ≡ v → n ≡ m → rest ≡ rest' → r ≡ unless f v m rest'
-next_fault f e p q d = e ∙ rw (p, q, d)
+pub last_unless : (f : Fault) (x n : ℕ) → failed f x n ≡ unless f x n None
+unfolding failed unless
+last_unless f x n = refl
+
+pub ruleset asks = (or_joined, or_unless, last_unless)

@@ -1,17 +1,19 @@
 -- Of a good spot nothing is told, of a bad one a fault whose test its numbers fail. So every refusal has a reason, and
 -- the reason is a test that fails.
+use Rattle.std.proofs.Common.{Ok, Err}
 use Prim.Native.Nat.{ℕ}
-use mathlib.Core.Path.{◌≡◌, refl, sym, ap, ◌∙◌}
+use mathlib.Core.Path.{◌≡◌, refl, ap, ◌∙◌}
 use mathlib.Core.Bool.{Bool, true, false, cond, not, ◌&&◌, ◌||◌}
 use mathlib.Core.List.{List}
 use native.Mathlib.Decide.{ℕ_discrete}
 use native.Mathlib.Omega.{arith}
 use borrow.Author.Tests.{le-leb, lt-leb, eq-eqb, ne_eqb}
 use lib.Dec.{leb, ltb, eqb}
+use Rattle.std.proofs.Common.{Option, None, Some}
 use lib.ListN.{length}
 use Rattle.wire.specs.Be.{be}
 use Rattle.lists.specs.Search.{first_bad, every}
-use Rattle.lists.proofs.Both.{impossible, and_both}
+use Rattle.lists.proofs.Both.{and_both}
 use Rattle.table_layout.specs.Layout.{number, most_rows, entry_at, row_bytes, rows_of, start_of, end_of, body_of, row_of}
 use Rattle.table_layout.specs.declared.Kind.{Kind}
 use Rattle.table_layout.specs.declared.Kind.TheVariants.{Group, Connection, Route, Destination}
@@ -34,7 +36,7 @@ use Rattle.table_scan.specs.Scan.{good_in}
 use Rattle.table_scan.proofs.Rows.{free, groups_free, connections_free}
 use Rattle.table.specs.Table.{head_good, entry_good, group_tcp_of, tcp_of, size_of, rule, row_good, demand, head_place, entries_place, all_rows_place}
 use Rattle.table.specs.Table.{check_table}
-use Rattle.table.specs.declared.TableAnswer.TheVariants.{Accepted, Refused}
+use Rattle.table.specs.declared.BadTable.TheVariants.{At}
 use Rattle.table.proofs.Answers.{then_first, then_second, demand-held}
 use Rattle.table.proofs.Facts.{accepted-row}
 use Rattle.table_fault.specs.Spots.{spot_place, spot_of}
@@ -62,7 +64,6 @@ use Rattle.table_fault.specs.declared.Spot.{Spot}
 use Rattle.table_fault.specs.declared.Spot.TheVariants.{Head, Entry, Total, Row}
 use Rattle.table_fault.specs.declared.Fault.{Fault}
 use Rattle.table_fault.specs.declared.Fault.TheVariants.{
-  Nothing,
   Short,
   Edition,
   Number,
@@ -88,11 +89,11 @@ use Rattle.table_fault.specs.declared.Told.{Told}
 use Rattle.table_fault.proofs.Named.{bad-there, spot_back}
 
 -- one test and the rest
-test : (f : Fault) (x n : ℕ) (b : Bool) (rest : Told) → Tells b rest → Tells (passes_test f x n && b) (unless f x n rest)
+test : (f : Fault) (x n : ℕ) (b : Bool) (rest : Option Told) → Tells b rest → Tells (passes_test f x n && b) (unless f x n rest)
 unfolding unless Tells fault_told
 test f x n b rest h = go (passes_test f x n) refl
   where
-    go : (t : Bool) → passes_test f x n ≡ t → Tells (t && b) (cond t rest (fault_told f x n))
+    go : (t : Bool) → passes_test f x n ≡ t → Tells (t && b) (cond t rest (Some (fault_told f x n)))
     go true e = h
     go false e = e
 
@@ -101,12 +102,12 @@ last : (f : Fault) (x n : ℕ) → Tells (passes_test f x n) (unless f x n no_fa
 unfolding unless Tells fault_told
 last f x n = go (passes_test f x n) refl
   where
-    go : (t : Bool) → passes_test f x n ≡ t → Tells t (cond t no_fault (fault_told f x n))
+    go : (t : Bool) → passes_test f x n ≡ t → Tells t (cond t no_fault (Some (fault_told f x n)))
     go true e = refl
     go false e = e
 
 -- tests by another name
-same : {a b : Bool} (t : Told) → a ≡ b → Tells a t → Tells b t
+same : {a b : Bool} (t : Option Told) → a ≡ b → Tells a t → Tells b t
 same t e h = rw (← e) h
 
 three : (a b c : Bool) → a && (b && c) ≡ a && b && c
@@ -160,7 +161,7 @@ module _ (s : List ℕ) where
   unfolding shared_fault Tells passes_test fault_told
   shared_tells k i = go (every (shares_nothing s k i) i)
     where
-      go : (b : Bool) → Tells b (cond b no_fault (fault_told Shared (first_bad (shares_nothing s k i) i) 0))
+      go : (b : Bool) → Tells b (cond b no_fault (Some (fault_told Shared (first_bad (shares_nothing s k i) i) 0)))
       go true = refl
       go false = refl
 
@@ -181,7 +182,7 @@ module _ (s : List ℕ) where
       (test SendSize v.size 1472 _ _
       (last NotUdp v.alive protocol))))
 
-  route_tells : (connections : ℕ) (tcp : ℕ → Bool) (row : List ℕ) (b : Bool) (shared : Told) → Tells b shared
+  route_tells : (connections : ℕ) (tcp : ℕ → Bool) (row : List ℕ) (b : Bool) (shared : Option Told) → Tells b shared
       → Tells (route_good connections tcp row && b) (route_fault connections (most_mark (tcp (route_row row).connection)) shared row)
   unfolding route_good route_row route_fault passes_test
   route_tells connections tcp row b shared h =
@@ -198,7 +199,7 @@ module _ (s : List ℕ) where
       (test Longest v.longest 1464 _ _
       (test Zero (route_zero row) route_zero_at _ _ h)))))
 
-  destination_tells : (connections : ℕ) (size : ℕ → ℕ) (row : List ℕ) (b : Bool) (shared : Told) → Tells b shared
+  destination_tells : (connections : ℕ) (size : ℕ → ℕ) (row : List ℕ) (b : Bool) (shared : Option Told) → Tells b shared
       → Tells (destination_good connections size row && b) (destination_fault connections (size (destination_row row).connection) shared row)
   unfolding destination_good destination_fault passes_test
   destination_tells connections size row b shared h =
@@ -225,17 +226,17 @@ module _ (s : List ℕ) where
   told_fails (Row k i) = row_tells k i
 
   -- the reason of a refusal is a test that fails
-  pub refused-fails : (p : ℕ) → check_table s ≡ Refused p → Tells false (reason_at s p).told
+  pub refused-fails : (p : ℕ) → check_table s ≡ Err (At p) → Tells false (reason_at s p).told
   unfolding reason_at
   refused-fails p e = same _ (bad-there s p e) (told_fails (spot_of s p))
 
   -- of an accepted image nothing is told, at the place of any of its spots
-  module _ (e : check_table s ≡ Accepted) where
-    contents : head_place s ≡ Accepted
+  module _ (e : check_table s ≡ Ok tt) where
+    contents : head_place s ≡ Ok tt
     unfolding check_table
     contents = then_first _ _ (then_second (demand (leb 36 (length s)) 0) _ e)
 
-    entries : entries_place s ≡ Accepted
+    entries : entries_place s ≡ Ok tt
     unfolding head_place
     entries = then_second _ _ contents
 
@@ -270,9 +271,10 @@ module _ (s : List ℕ) where
     accepted_none at h = ap (fault_at s) (spot_back s at h) ∙ same _ (all_good at h) (told_fails at)
 
 -- and never nothing
-some_fault : (t : Told) → Tells false t → t.fault ≡ Nothing → ⊥
-unfolding Tells passes_test
-some_fault t h e = impossible (sym h ∙ ap (λ (f : Fault). passes_test f t.found t.asked) e)
+some_fault : (t : Option Told) → Tells false t → t ≡ None → ⊥
+unfolding Tells
+some_fault None h e = h
+some_fault (Some t) h e = cc
 
-pub refused-told : (s : List ℕ) (p : ℕ) → check_table s ≡ Refused p → (reason_at s p).told.fault ≡ Nothing → ⊥
+pub refused-told : (s : List ℕ) (p : ℕ) → check_table s ≡ Err (At p) → (reason_at s p).told ≡ None → ⊥
 refused-told s p e = some_fault _ (refused-fails s p e)

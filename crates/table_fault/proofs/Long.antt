@@ -1,5 +1,6 @@
 -- A whole image has at most 36 + 16 + 256 + 1,024 + 1,024 = 2,356 bytes. So of a longer input any front that is longer
 -- than that gets the answer of the whole.
+use Rattle.std.proofs.Common.{Result, Ok, Err}
 use Prim.Native.Nat.{ℕ, ◌+◌, ◌<◌, ◌≤◌}
 use mathlib.Core.Path.{◌≡◌, refl, sym, ap, ◌∙◌}
 use mathlib.Core.List.{List}
@@ -14,24 +15,24 @@ use Rattle.table_layout.proofs.Parts.{be-taken}
 use Rattle.table_layout.specs.declared.Kind.{Kind}
 use Rattle.table_layout.specs.declared.Kind.TheVariants.{Group, Connection, Route, Destination}
 use Rattle.table.specs.Table.{head_good, entry_good, demand, then_check, entries_place, head_place, all_rows_place, check_table}
-use Rattle.table.specs.declared.TableAnswer.{TableAnswer}
-use Rattle.table.specs.declared.TableAnswer.TheVariants.{Accepted, Refused}
+use Rattle.table.specs.declared.BadTable.TheVariants.{At}
 use Rattle.table.proofs.Facts.{contents-most}
+use Rattle.table.specs.declared.BadTable.{BadTable}
 
 -- good contents end within 2,356 bytes
-ends-within : (s : List ℕ) → head_place s ≡ Accepted → end_of s ≤ 2356
+ends-within : (s : List ℕ) → head_place s ≡ Ok tt → end_of s ≤ 2356
 unfolding end_of start_of body_bytes
 ends-within s e = omega (arith, contents-most s e Group, contents-most s e Connection, contents-most s e Route, contents-most s e Destination)
 
 -- a longer input is refused in its contents, or at 2
-refused-long : (s : List ℕ) → 2356 < length s → check_table s ≡ then_check (head_place s) (Refused 2)
+refused-long : (s : List ℕ) → 2356 < length s → check_table s ≡ then_check (head_place s) (Err (At 2))
 unfolding check_table then_check
 refused-long s h = rw (le-leb 36 (length s) (omega arith)) (go (head_place s) refl)
   where
-    go : (a : TableAnswer) → head_place s ≡ a
-        → then_check (head_place s) (then_check (demand (eqb (length s) (end_of s)) 2) (all_rows_place s)) ≡ then_check (head_place s) (Refused 2)
-    go Accepted e = rw (e, ne_eqb (length s) (end_of s) (λ q. omega (arith, ends-within s e)))
-    go (Refused p) e = rw e
+    go : (a : Result Unit BadTable) → head_place s ≡ a
+        → then_check (head_place s) (then_check (demand (eqb (length s) (end_of s)) 2) (all_rows_place s)) ≡ then_check (head_place s) (Err (At 2))
+    go (Ok tt) e = rw (e, ne_eqb (length s) (end_of s) (λ q. omega (arith, ends-within s e)))
+    go (Err (At p)) e = rw e
 
 module _ (s : List ℕ) (n : ℕ) (h : 36 ≤ n) where
   -- the first 36 bytes are the same
@@ -80,5 +81,5 @@ pub cut-long : (s : List ℕ) (n : ℕ) → 2356 < n → n ≤ length s → chec
 cut-long s n h l =
     let long : length (take n s) ≡ n = length-take-le n s l in
     refused-long (take n s) (omega arith)
-    ∙ ap (λ (a : TableAnswer). then_check a (Refused 2)) (head-same s n (omega arith))
+    ∙ ap (λ (a : Result Unit BadTable). then_check a (Err (At 2))) (head-same s n (omega arith))
     ∙ sym (refused-long s (omega arith))

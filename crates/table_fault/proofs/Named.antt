@@ -1,5 +1,6 @@
 -- The place that the spot of a refusal names is the check's, and what stands there is bad; the spot of a spot's place is
 -- that spot.
+use Rattle.std.proofs.Common.{Result, Ok, Err}
 use Prim.Native.Nat.{ℕ, ◌-◌, ◌/◌, ◌<◌, ◌≤◌}
 use mathlib.Core.Path.{◌≡◌, refl, sym, ap, ◌∙◌}
 use mathlib.Core.Bool.{Bool, true, false}
@@ -14,23 +15,23 @@ use Rattle.table_layout.specs.declared.Kind.{Kind}
 use Rattle.table_layout.specs.declared.Kind.TheVariants.{Group, Connection, Route, Destination}
 use Rattle.lists.proofs.Both.{and_first, and_second}
 use Rattle.table.specs.Table.{head_good, entry_good, row_good, bad_row, demand, then_check, rows_place, entries_place, head_place, all_rows_place, check_table}
-use Rattle.table.specs.declared.TableAnswer.{TableAnswer}
-use Rattle.table.specs.declared.TableAnswer.TheVariants.{Accepted, Refused}
+use Rattle.table.specs.declared.BadTable.TheVariants.{At}
 use Rattle.table_fault.specs.Spots.{spot_place, row_spot, spot_of}
 use Rattle.table_fault.specs.Good.{There, good_at}
 use Rattle.table_fault.specs.declared.Spot.{Spot}
 use Rattle.table_fault.specs.declared.Spot.TheVariants.{Head, Entry, Total, Row}
 use Rattle.lists.proofs.Search.{found-bad}
 use Rattle.table_fault.proofs.Ways.{in_groups, in_connections, in_routes, in_destinations}
+use Rattle.table.specs.declared.BadTable.{BadTable}
 
 -- what follows from a refusal of either follows from the refusal of the two
-by_either : {P : Type 0} (a b : TableAnswer) (p : ℕ) → (a ≡ Refused p → P) → (b ≡ Refused p → P) → then_check a b ≡ Refused p → P
+by_either : {P : Type 0} (a b : Result Unit BadTable) (p : ℕ) → (a ≡ Err (At p) → P) → (b ≡ Err (At p) → P) → then_check a b ≡ Err (At p) → P
 unfolding then_check
-by_either Accepted b p f g e = g e
-by_either (Refused q) b p f g e = f e
+by_either (Ok tt) b p f g e = g e
+by_either (Err (At q)) b p f g e = f e
 
 -- a demand that is refused: its place, and its test
-asked : (t : Bool) (q p : ℕ) → demand t q ≡ Refused p → (q ≡ p) × (t ≡ false)
+asked : (t : Bool) (q p : ℕ) → demand t q ≡ Err (At p) → (q ≡ p) × (t ≡ false)
 asked true q p e = absurd (let z : ◌≡◌ {A = ℕ} 0 1 = cc in omega arith)
 asked false q p e = (cc, refl)
 
@@ -112,7 +113,7 @@ module _ (s : List ℕ) where
   abbrev Bad : ℕ → Type 0
   Bad p = (spot_place s (spot_of s p) ≡ p) × (good_at s (spot_of s p) ≡ false)
 
-  rows-bad : (k : Kind) (p : ℕ) → rows_place s k ≡ Refused p → Bad p
+  rows-bad : (k : Kind) (p : ℕ) → rows_place s k ≡ Err (At p) → Bad p
   unfolding spot_place good_at
   rows-bad k p e =
       let i = bad_row s k in
@@ -121,65 +122,65 @@ module _ (s : List ℕ) where
       let b = row_back k i h in
       rw (← a.0) (ap (spot_place s) b, ap (good_at s) b ∙ found-bad (row_good s k) (rows_of s k) h)
 
-  literal : (t : Bool) (q p : ℕ) → spot_place s (spot_of s q) ≡ q → (t ≡ false → good_at s (spot_of s q) ≡ false) → demand t q ≡ Refused p → Bad p
+  literal : (t : Bool) (q p : ℕ) → spot_place s (spot_of s q) ≡ q → (t ≡ false → good_at s (spot_of s q) ≡ false) → demand t q ≡ Err (At p) → Bad p
   literal t q p h g e = let a = asked t q p e in rw (← a.0) (h, g a.1)
 
   -- the literal places
-  short-bad : (p : ℕ) → demand (leb 36 (length s)) 0 ≡ Refused p → Bad p
+  short-bad : (p : ℕ) → demand (leb 36 (length s)) 0 ≡ Err (At p) → Bad p
   unfolding spot_place spot_of good_at
   short-bad p = literal (leb 36 (length s)) 0 p refl (and_first (leb 36 (length s)) (head_good s))
 
-  zero-bad : (p : ℕ) → demand (head_good s) 0 ≡ Refused p → Bad p
+  zero-bad : (p : ℕ) → demand (head_good s) 0 ≡ Err (At p) → Bad p
   unfolding spot_place spot_of good_at
   zero-bad p = literal (head_good s) 0 p refl (and_second (leb 36 (length s)) (head_good s))
 
-  total_bad : (p : ℕ) → demand (eqb (length s) (end_of s)) 2 ≡ Refused p → Bad p
+  total_bad : (p : ℕ) → demand (eqb (length s) (end_of s)) 2 ≡ Err (At p) → Bad p
   unfolding spot_place spot_of good_at
   total_bad p = literal (eqb (length s) (end_of s)) 2 p refl (λ e. e)
 
-  groups-bad : (p : ℕ) → demand (entry_good s Group) 4 ≡ Refused p → Bad p
+  groups-bad : (p : ℕ) → demand (entry_good s Group) 4 ≡ Err (At p) → Bad p
   unfolding spot_place spot_of good_at
   groups-bad p = literal (entry_good s Group) 4 p refl (λ e. e)
 
-  connections-bad : (p : ℕ) → demand (entry_good s Connection) 12 ≡ Refused p → Bad p
+  connections-bad : (p : ℕ) → demand (entry_good s Connection) 12 ≡ Err (At p) → Bad p
   unfolding spot_place spot_of good_at
   connections-bad p = literal (entry_good s Connection) 12 p refl (λ e. e)
 
-  routes-bad : (p : ℕ) → demand (entry_good s Route) 20 ≡ Refused p → Bad p
+  routes-bad : (p : ℕ) → demand (entry_good s Route) 20 ≡ Err (At p) → Bad p
   unfolding spot_place spot_of good_at
   routes-bad p = literal (entry_good s Route) 20 p refl (λ e. e)
 
-  destinations-bad : (p : ℕ) → demand (entry_good s Destination) 28 ≡ Refused p → Bad p
+  destinations-bad : (p : ℕ) → demand (entry_good s Destination) 28 ≡ Err (At p) → Bad p
   unfolding spot_place spot_of good_at
   destinations-bad p = literal (entry_good s Destination) 28 p refl (λ e. e)
 
-  entries-bad : (p : ℕ) → entries_place s ≡ Refused p → Bad p
+  entries-bad : (p : ℕ) → entries_place s ≡ Err (At p) → Bad p
   unfolding entries_place
   entries-bad p =
       by_either (demand (entry_good s Group) 4) _ p (groups-bad p)
       (by_either (demand (entry_good s Connection) 12) _ p (connections-bad p)
       (by_either (demand (entry_good s Route) 20) _ p (routes-bad p) (destinations-bad p)))
 
-  head-bad : (p : ℕ) → head_place s ≡ Refused p → Bad p
+  head-bad : (p : ℕ) → head_place s ≡ Err (At p) → Bad p
   unfolding head_place
   head-bad p = by_either (demand (head_good s) 0) _ p (zero-bad p) (entries-bad p)
 
-  all-bad : (p : ℕ) → all_rows_place s ≡ Refused p → Bad p
+  all-bad : (p : ℕ) → all_rows_place s ≡ Err (At p) → Bad p
   unfolding all_rows_place
   all-bad p =
       by_either (rows_place s Group) _ p (rows-bad Group p)
       (by_either (rows_place s Connection) _ p (rows-bad Connection p)
       (by_either (rows_place s Route) _ p (rows-bad Route p) (rows-bad Destination p)))
 
-  refused-bad : (p : ℕ) → check_table s ≡ Refused p → Bad p
+  refused-bad : (p : ℕ) → check_table s ≡ Err (At p) → Bad p
   unfolding check_table
   refused-bad p =
       by_either (demand (leb 36 (length s)) 0) _ p (short-bad p)
       (by_either (head_place s) _ p (head-bad p)
       (by_either (demand (eqb (length s) (end_of s)) 2) _ p (total_bad p) (all-bad p)))
 
-  pub named : (p : ℕ) → check_table s ≡ Refused p → spot_place s (spot_of s p) ≡ p
+  pub named : (p : ℕ) → check_table s ≡ Err (At p) → spot_place s (spot_of s p) ≡ p
   named p e = (refused-bad p e).0
 
-  pub bad-there : (p : ℕ) → check_table s ≡ Refused p → good_at s (spot_of s p) ≡ false
+  pub bad-there : (p : ℕ) → check_table s ≡ Err (At p) → good_at s (spot_of s p) ≡ false
   bad-there p e = (refused-bad p e).1

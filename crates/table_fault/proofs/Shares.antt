@@ -1,12 +1,13 @@
 -- A row shares what it may not with an earlier one exactly where the search for the first such row ends before it; and
 -- where it is told to share with a row, it does.
 use Prim.Native.Nat.{ℕ, ◌<◌, ◌≤◌}
-use mathlib.Core.Path.{◌≡◌, refl, sym, ap, ◌∙◌}
+use mathlib.Core.Path.{◌≡◌, refl, sym, ap, subst, ◌∙◌}
 use mathlib.Core.Bool.{Bool, true, false, cond, false≢true}
 use mathlib.Core.List.{List}
 use native.Mathlib.Decide.{dec_le}
 use native.Mathlib.Omega.{arith}
 use borrow.Author.Tests.{not-false}
+use Rattle.std.proofs.Common.{Option, None, Some}
 use Rattle.lists.specs.Search.{first_bad, every}
 use Rattle.lists.proofs.Search.{none_bad, found-bad, every-all, pass_failed}
 use Rattle.table_layout.specs.Layout.{rows_of, row_of}
@@ -20,7 +21,6 @@ use Rattle.table_fault.specs.Faults.{most_mark, route_fault, destination_fault, 
 use Rattle.table_fault.specs.Good.{SharesWith}
 use Rattle.table_fault.specs.declared.Fault.{Fault}
 use Rattle.table_fault.specs.declared.Fault.TheVariants.{
-  Nothing,
   Protocol,
   Zero,
   NoGroup,
@@ -46,48 +46,57 @@ module _ (good : ℕ → Bool) where
   all_good n h = every-all good n (none_bad good n h)
 
 -- by a number that is the search's answer
-module _ (s : List ℕ) (k : Kind) (i : ℕ) {earlier : ℕ} (e : earlier ≡ first_bad (shares_nothing s k i) i) {r : Told} where
-  pub shares : earlier < i → r ≡ fault_told Shared earlier 0 → r ≡ shared_fault s k i
-  unfolding shared_fault
-  shares h q = rw (some-bad (shares_nothing s k i) i (omega arith)) (q ∙ rw e)
+module _ (s : List ℕ) (k : Kind) (i : ℕ) {earlier : ℕ} (e : earlier ≡ first_bad (shares_nothing s k i) i) where
+  pub shares : earlier < i → Some (record { fault = Shared; found = earlier; asked = 0 }) ≡ shared_fault s k i
+  unfolding shared_fault fault_told
+  shares h = rw (some-bad (shares_nothing s k i) i (omega arith)) (rw e)
 
-  pub shares_none : i ≤ earlier → r ≡ no_fault → r ≡ shared_fault s k i
+  pub shares_none : i ≤ earlier → None ≡ shared_fault s k i
   unfolding shared_fault
-  shares_none h q = rw (all_good (shares_nothing s k i) i (omega arith)) q
+  shares_none h = rw (all_good (shares_nothing s k i) i (omega arith))
 
 -- a fault whose test some numbers pass is not `Shared`
 not_shared : (f : Fault) (x n : ℕ) → passes_test f x n ≡ true → f ≡ Shared → ⊥
 unfolding passes_test
 not_shared f x n h e = false≢true (sym (ap (λ (g : Fault). passes_test g x n) e) ∙ h)
 
+-- the number found, and whether `Shared` is told
+abbrev found_of : Option Told → ℕ
+found_of None = 0
+found_of (Some t) = t.found
+
+abbrev IsShared : Option Told → Type 0
+IsShared None = ⊥
+IsShared (Some t) = t.fault ≡ Shared
+
 -- where a row is told, it is an earlier one, and shares
-earlier_shares : (s : List ℕ) (k : Kind) (i : ℕ) → (shared_fault s k i).fault ≡ Shared → SharesWith s k i (shared_fault s k i).found
-unfolding shared_fault fault_told clear_in passes_test
+earlier_shares : (s : List ℕ) (k : Kind) (i : ℕ) → IsShared (shared_fault s k i) → SharesWith s k i (found_of (shared_fault s k i))
+unfolding shared_fault fault_told clear_in
 earlier_shares s k i = go (dec_le i (first_bad (shares_nothing s k i) i))
   where
     go : Dec (i ≤ first_bad (shares_nothing s k i) i)
-        → (cond (every (shares_nothing s k i) i) no_fault (fault_told Shared (first_bad (shares_nothing s k i) i) 0)).fault ≡ Shared
-        → SharesWith s k i (cond (every (shares_nothing s k i) i) no_fault (fault_told Shared (first_bad (shares_nothing s k i) i) 0)).found
-    go (yes h) e = absurd (not_shared Nothing 0 0 refl (rw (all_good (shares_nothing s k i) i h) at e))
+        → IsShared (cond (every (shares_nothing s k i) i) no_fault (Some (fault_told Shared (first_bad (shares_nothing s k i) i) 0)))
+        → SharesWith s k i (found_of (cond (every (shares_nothing s k i) i) no_fault (Some (fault_told Shared (first_bad (shares_nothing s k i) i) 0))))
+    go (yes h) e = absurd (rw (all_good (shares_nothing s k i) i h) at e)
     go (no n) e =
         let h : first_bad (shares_nothing s k i) i < i = omega (arith, n) in
         rw (some-bad (shares_nothing s k i) i h) (h, not-false _ (found-bad (shares_nothing s k i) i h))
 
 -- where `Shared` is told, no test before it has failed
-through : (f : Fault) (x n a b : ℕ) (rest end : Told) → passes_test f a b ≡ true
-    → (rest.fault ≡ Shared → rest ≡ end) → (unless f x n rest).fault ≡ Shared → unless f x n rest ≡ end
+through : (f : Fault) (x n a b : ℕ) (rest end : Option Told) → passes_test f a b ≡ true
+    → (IsShared rest → rest ≡ end) → IsShared (unless f x n rest) → unless f x n rest ≡ end
 unfolding unless fault_told
 through f x n a b rest end d h = go (passes_test f x n)
   where
-    go : (t : Bool) → (cond t rest (fault_told f x n)).fault ≡ Shared → cond t rest (fault_told f x n) ≡ end
+    go : (t : Bool) → IsShared (cond t rest (Some (fault_told f x n))) → cond t rest (Some (fault_told f x n)) ≡ end
     go true e = h e
     go false e = absurd (not_shared f a b d e)
 
-group-through : (row : List ℕ) → (group_fault row).fault ≡ Shared → group_fault row ≡ no_fault
+group-through : (row : List ℕ) → IsShared (group_fault row) → group_fault row ≡ no_fault
 unfolding group_fault passes_test
 group-through row = through Protocol _ _ 1 1 _ _ refl (through Zero _ _ 0 0 _ _ refl (λ e. refl))
 
-connection-through : (groups protocol : ℕ) (row : List ℕ) → (connection_fault groups protocol row).fault ≡ Shared → connection_fault groups protocol row
+connection-through : (groups protocol : ℕ) (row : List ℕ) → IsShared (connection_fault groups protocol row) → connection_fault groups protocol row
     ≡ no_fault
 unfolding connection_fault passes_test
 connection-through groups protocol row =
@@ -96,8 +105,8 @@ connection-through groups protocol row =
     (through SendSize _ _ 8 8 _ _ refl
     (through NotUdp _ _ 0 0 _ _ refl (λ e. refl))))
 
-route-through : (connections most : ℕ) (shared : Told) (row : List ℕ)
-    → (route_fault connections most shared row).fault ≡ Shared → route_fault connections most shared row ≡ shared
+route-through : (connections most : ℕ) (shared : Option Told) (row : List ℕ)
+    → IsShared (route_fault connections most shared row) → route_fault connections most shared row ≡ shared
 unfolding route_fault passes_test
 route-through connections most shared row =
     through NoConnection _ _ 0 1 _ _ refl
@@ -106,8 +115,8 @@ route-through connections most shared row =
     (through Longest _ _ 0 0 _ _ refl
     (through Zero _ _ 0 0 _ _ refl (λ e. refl)))))
 
-destination_through : (connections size : ℕ) (shared : Told) (row : List ℕ)
-    → (destination_fault connections size shared row).fault ≡ Shared → destination_fault connections size shared row ≡ shared
+destination_through : (connections size : ℕ) (shared : Option Told) (row : List ℕ)
+    → IsShared (destination_fault connections size shared row) → destination_fault connections size shared row ≡ shared
 unfolding destination_fault passes_test
 destination_through connections size shared row =
     through NoConnection _ _ 0 1 _ _ refl
@@ -117,19 +126,21 @@ destination_through connections size shared row =
 
 module _ (s : List ℕ) where
   -- groups and connections are never told to
-  never : {P : Type 0} (t : Told) → t ≡ no_fault → t.fault ≡ Shared → P
-  unfolding fault_told passes_test
-  never t p e = absurd (not_shared Nothing 0 0 refl (ap (λ (u : Told). u.fault) (sym p) ∙ e))
+  never : {P : Type 0} (t : Option Told) → t ≡ no_fault → IsShared t → P
+  never t p e = absurd (rw p at e)
 
-  shared : (k : Kind) (i : ℕ) (t : Told) → t ≡ shared_fault s k i → t.fault ≡ Shared → SharesWith s k i t.found
-  shared k i t p e = rw p (earlier_shares s k i (ap (λ (u : Told). u.fault) (sym p) ∙ e))
+  shared : (k : Kind) (i : ℕ) (t : Option Told) → t ≡ shared_fault s k i → IsShared t → SharesWith s k i (found_of t)
+  shared k i t p e = rw p (earlier_shares s k i (rw p at e))
 
-  pub told_shares : (k : Kind) (i : ℕ) → (row_fault s k i).fault ≡ Shared → SharesWith s k i (row_fault s k i).found
+  row_shares : (k : Kind) (i : ℕ) → IsShared (row_fault s k i) → SharesWith s k i (found_of (row_fault s k i))
   unfolding row_fault
-  told_shares Group i e = never _ (group-through (row_of s Group i) e) e
-  told_shares Connection i e = never _ (connection-through (rows_of s Group) (group_of s (connection_of s i).group).protocol (row_of s Connection i) e) e
-  told_shares Route i e = shared Route i _
+  row_shares Group i e = never _ (group-through (row_of s Group i) e) e
+  row_shares Connection i e = never _ (connection-through (rows_of s Group) (group_of s (connection_of s i).group).protocol (row_of s Connection i) e) e
+  row_shares Route i e = shared Route i _
       (route-through (rows_of s Connection) (most_mark (tcp_of s (route_of s i).connection)) (shared_fault s Route i) (row_of s Route i) e) e
-  told_shares Destination i e =
+  row_shares Destination i e =
       shared Destination i _
       (destination_through (rows_of s Connection) (size_of s (destination_of s i).connection) (shared_fault s Destination i) (row_of s Destination i) e) e
+
+  pub told_shares : (k : Kind) (i : ℕ) (t : Told) → row_fault s k i ≡ Some t → t.fault ≡ Shared → SharesWith s k i t.found
+  told_shares k i t p e = subst (SharesWith s k i) (ap found_of p) (row_shares k i (subst IsShared (sym p) e))

@@ -1,20 +1,13 @@
--- From a place to its row: how many steps of a size lead from a start to it, and which kind's body it stands in.
+-- From a place to its row: which kind's body it stands in.
 use Prim.Native.Nat.{ℕ, ◌-◌, ◌/◌, ◌<◌, ◌≤◌}
-use mathlib.Core.Path.{◌≡◌, sym}
+use mathlib.Core.Path.{◌≡◌}
 use mathlib.Core.List.{List}
-use native.Mathlib.Nat.{div-zero, zero-div}
 use native.Mathlib.Omega.{arith}
 use borrow.Author.Tests.{lt-ltb, le-ltb}
 use Rattle.table_layout.specs.Layout.{row_bytes, start_of}
 use Rattle.table_layout.specs.declared.Kind.TheVariants.{Group, Connection, Route, Destination}
 use Rattle.table_fault.specs.Spots.{row_spot}
 use Rattle.table_fault.specs.declared.Spot.TheVariants.{Row}
-
-pub no_size : (place start size : ℕ) → size ≡ 0 → 0 ≡ (place - start) / size
-no_size place start size z = rw z (sym (div-zero (place - start)))
-
-pub no_way : (place start size : ℕ) → place < start → 0 ≡ (place - start) / size
-no_way place start size h = let z : place - start ≡ 0 = omega arith in rw z (sym (zero-div size))
 
 -- the row's kind, by numbers that are the starts of the bodies
 module _ (s : List ℕ) (place : ℕ) where

@@ -1,5 +1,5 @@
 -- When what stands at a spot is good, by the check's own tests, and what may be told of it (R1.11).
-use Rattle.std.specs.Prelude.{ℕ, ◌<◌, ◌≡◌, Bool, true, false, ◌&&◌, List, leb, eqb, length}
+use Rattle.std.specs.Prelude.{ℕ, ◌<◌, ◌≡◌, Option, None, Some, Bool, true, false, ◌&&◌, List, leb, eqb, length}
 use Rattle.table_layout.specs.Layout.{rows_of, end_of, row_of}
 use Rattle.table_layout.specs.declared.Kind.{Kind}
 use Rattle.table_scan.specs.Scan.{share}
@@ -24,9 +24,10 @@ good_at s Total = eqb (length s) (end_of s)
 good_at s (Row k i) = row_good s k i
 
 -- of what is good nothing is told, of what is bad a fault whose test its numbers fail
-unfoldable pub Tells : Bool → Told → Type 0
+unfoldable pub Tells : Bool → Option Told → Type 0
 Tells true t = t ≡ no_fault
-Tells false t = passes_test t.fault t.found t.asked ≡ false
+Tells false None = ⊥
+Tells false (Some t) = passes_test t.fault t.found t.asked ≡ false
 
 -- row j is earlier than row i, and they share what they may not
 abbrev pub SharesWith : List ℕ → Kind → ℕ → ℕ → Type 0

@@ -1,18 +1,16 @@
 // Why an image is refused: the spot that a place of the check names (bytes 0..3, a contents entry, the total length, a
-// row), and the first test that fails there, with the number found and the number asked; nothing where none fails. The
+// row), and the first test that fails there, with the number found and the number asked; None where none fails. The
 // place that the spot names is the check's (proofs/Named), and nothing is told exactly where the spot is good
 // (proofs/Fails). Everything is total.
 #![tactic(auto)]
 
-ghost use Rattle.std.specs.Prelude.{◌≡◌, ◌+◌, ◌-◌, ◌/◌, leb};
-ghost use Rattle.lists.specs.Search.{first_bad};
+ghost use Rattle.std.specs.Prelude.{◌≡◌, ◌-◌, ◌/◌};
 ghost use Rattle.table_layout.specs.Layout.{start_of, row_bytes, row_of};
 ghost use Rattle.table.specs.Table.{tcp_of};
 ghost use Rattle.table_fault.specs.Spots.{row_spot, spot_of};
 ghost use Rattle.table_fault.specs.Faults.{
-  fault_told,
   passes_test,
-  unless,
+  failed,
   head_fault,
   entry_fault,
   total_fault,
@@ -21,7 +19,6 @@ ghost use Rattle.table_fault.specs.Faults.{
   most_mark,
   route_fault,
   destination_fault,
-  shares_nothing,
   shared_fault,
   row_fault,
   fault_at,
@@ -29,13 +26,13 @@ ghost use Rattle.table_fault.specs.Faults.{
 };
 
 use table_layout::{
-    Kind, body_of, end_of, entry_at, kind_number, most_rows, row_bytes, row_in, rows_of, start_of,
+    Kind, body_of, end_of, entry_at, most_rows, row_bytes, row_in, rows_of, start_of,
 };
-use table_rows::{group_row, is_tcp, size_in};
+use table_rows::{GroupRow, is_tcp, size_in};
 use table_scan::rows_share;
 use wire::{be8, be16, be32};
 
-#[derive(Clone, Copy)]
+#[derive(Clone, Copy, Debug, PartialEq, Eq)]
 pub enum Spot {
     Head,
     Entry(Kind),
@@ -43,9 +40,8 @@ pub enum Spot {
     Row(Kind, usize),
 }
 
-#[derive(Clone, Copy)]
+#[derive(Clone, Copy, Debug, PartialEq, Eq)]
 pub enum Fault {
-    Nothing,
     Short,
     Edition,
     Number,
@@ -69,39 +65,28 @@ pub enum Fault {
 }
 
 // A fault, the number found, and the number asked (a limit, the value wanted, the byte's place in its row, or the
-// protocol of its group). Of `Shared` the number found is the earlier row's, and asked is 0; of `Nothing` both are 0.
-#[derive(Clone, Copy)]
+// protocol of its group). Of `Shared` the number found is the earlier row's, and asked is 0.
+#[derive(Clone, Copy, Debug, PartialEq, Eq)]
 pub struct Told {
     pub fault: Fault,
     pub found: usize,
     pub asked: usize,
 }
 
-#[derive(Clone, Copy)]
+#[derive(Clone, Copy, Debug, PartialEq, Eq)]
 pub struct Reason {
     pub spot: Spot,
-    pub told: Told,
+    pub told: Option<Told>,
 }
 
 // ---- the spot of a place
 
-// How many steps of a size lead from a start to a place.
-fn steps(place: usize, start: usize, size: usize) -> usize
-    ensures { result ≡ (place - start) / size }
-{
-    if size == 0 {
-        return 0;
-    }
-    if place < start {
-        return 0;
-    }
-    (place - start) / size
-}
-
+// The number of the row of a kind that starts at a place.
 fn row_number(image: &[u8], k: Kind, place: usize) -> usize
     ensures { result ≡ (place - start_of image.now k) / row_bytes image.now k }
 {
-    steps(place, start_of(image, k), row_bytes(image, k))
+    let way = place.saturating_sub(start_of(image, k));
+    way.checked_div(row_bytes(image, k)).unwrap_or(0)
 }
 
 fn row_spot(image: &[u8], place: usize) -> Spot
@@ -138,32 +123,12 @@ pub fn spot_of(image: &[u8], place: usize) -> Spot
 
 // ---- the first test that fails
 
-fn told_of(fault: Fault, found: usize, asked: usize) -> Told
-    ensures { result ≡ fault_told fault found asked }
-{
-    Told {
-        fault,
-        found,
-        asked,
-    }
-}
-
-// A payload and its 8 header bytes fit the send size.
-fn has_room(longest: usize, size: usize) -> bool
-    ensures { result ≡ leb (longest + 8) size }
-{
-    if size < 8 {
-        return false;
-    }
-    longest <= size - 8
-}
-
 // The test that a fault names, of the number found and the number asked.
+#[tactic(auto, unfolding(crate::specs::Faults::passes_test))]
 fn passes(fault: Fault, found: usize, asked: usize) -> bool
     ensures { result ≡ passes_test fault found asked }
 {
     match fault {
-        Fault::Nothing => true,
         Fault::Short => asked <= found,
         Fault::Edition => found == asked,
         Fault::Number => found == asked,
@@ -179,7 +144,7 @@ fn passes(fault: Fault, found: usize, asked: usize) -> bool
         Fault::NoConnection => found < asked,
         Fault::Longest => found <= asked,
         Fault::Trigger => found <= asked,
-        Fault::Room => has_room(found, asked),
+        Fault::Room => 8 <= asked && found <= asked - 8,
         Fault::Shared => false,
         Fault::Transfer => found <= asked,
         Fault::NotTcp => found <= asked,
@@ -187,60 +152,63 @@ fn passes(fault: Fault, found: usize, asked: usize) -> bool
     }
 }
 
-// A fault with its numbers unless they pass its test; else the rest.
-fn ask(fault: Fault, found: usize, asked: usize, rest: Told) -> Told
-    ensures { result ≡ unless fault found asked rest }
+// A fault with its numbers, where they fail its test.
+#[tactic(auto, unfolding(crate::specs::Faults::failed, crate::specs::Faults::fault_told))]
+fn ask(fault: Fault, found: usize, asked: usize) -> Option<Told>
+    ensures { result ≡ failed fault found asked }
 {
     if passes(fault, found, asked) {
-        rest
-    } else {
-        told_of(fault, found, asked)
+        return None;
     }
+    Some(Told {
+        fault,
+        found,
+        asked,
+    })
 }
 
-fn head_fault(image: &[u8]) -> Told
+#[tactic(auto, using(crate::proofs::Asks::asks), unfolding(crate::specs::Faults::head_fault))]
+fn head_fault(image: &[u8]) -> Option<Told>
     ensures { result ≡ head_fault image.now }
 {
-    let none = told_of(Fault::Nothing, 0, 0);
-    let third = ask(Fault::Number, be16(image, 2), 4, none);
-    let second = ask(Fault::Edition, be16(image, 0), 1, third);
-    ask(Fault::Short, image.len(), 36, second)
+    ask(Fault::Short, image.len(), 36)
+        .or(ask(Fault::Edition, be16(image, 0), 1))
+        .or(ask(Fault::Number, be16(image, 2), 4))
 }
 
-fn entry_fault(image: &[u8], k: Kind) -> Told
+#[tactic(auto, using(crate::proofs::Asks::asks), unfolding(crate::specs::Faults::entry_fault))]
+fn entry_fault(image: &[u8], k: Kind) -> Option<Told>
     ensures { result ≡ entry_fault image.now k }
 {
     let at = entry_at(k);
-    let none = told_of(Fault::Nothing, 0, 0);
-    let third = ask(Fault::Offset, be32(image, at + 4), start_of(image, k), none);
-    let second = ask(Fault::TooMany, rows_of(image, k), most_rows(k), third);
-    ask(Fault::WrongKind, be16(image, at), kind_number(k), second)
+    ask(Fault::WrongKind, be16(image, at), usize::from(k))
+        .or(ask(Fault::TooMany, rows_of(image, k), most_rows(k)))
+        .or(ask(Fault::Offset, be32(image, at + 4), start_of(image, k)))
 }
 
-fn total_fault(image: &[u8]) -> Told
+#[tactic(auto, using(crate::proofs::Asks::asks), unfolding(crate::specs::Faults::total_fault))]
+fn total_fault(image: &[u8]) -> Option<Told>
     ensures { result ≡ total_fault image.now }
 {
-    let none = told_of(Fault::Nothing, 0, 0);
-    ask(Fault::Length, image.len(), end_of(image), none)
+    ask(Fault::Length, image.len(), end_of(image))
 }
 
-fn group_fault(row: &[u8]) -> Told
+#[tactic(auto, using(crate::proofs::Asks::asks), unfolding(crate::specs::Faults::group_fault, table_rows::specs::Rows::group_row))]
+fn group_fault(row: &[u8]) -> Option<Told>
     ensures { result ≡ group_fault row.now }
 {
-    let none = told_of(Fault::Nothing, 0, 0);
-    let second = ask(Fault::Zero, be8(row, 1), 1, none);
-    ask(Fault::Protocol, be8(row, 0), 2, second)
+    ask(Fault::Protocol, be8(row, 0), 2).or(ask(Fault::Zero, be8(row, 1), 1))
 }
 
 // `protocol` is its group's.
-fn connection_fault(row: &[u8], groups: usize, protocol: usize) -> Told
+#[tactic(auto, using(crate::proofs::Asks::asks), unfolding(crate::specs::Faults::connection_fault, table_rows::specs::Rows::connection_row))]
+fn connection_fault(row: &[u8], groups: usize, protocol: usize) -> Option<Told>
     ensures { result ≡ connection_fault groups protocol row.now }
 {
-    let none = told_of(Fault::Nothing, 0, 0);
-    let fourth = ask(Fault::NotUdp, be16(row, 10), protocol, none);
-    let third = ask(Fault::SendSize, be16(row, 8), 1472, fourth);
-    let second = ask(Fault::Automatic, be8(row, 1), 1, third);
-    ask(Fault::NoGroup, be8(row, 0), groups, second)
+    ask(Fault::NoGroup, be8(row, 0), groups)
+        .or(ask(Fault::Automatic, be8(row, 1), 1))
+        .or(ask(Fault::SendSize, be16(row, 8), 1472))
+        .or(ask(Fault::NotUdp, be16(row, 10), protocol))
 }
 
 // The highest transfer mark that a route of connection c may have.
@@ -253,26 +221,35 @@ fn most_mark(image: &[u8], c: usize) -> usize
 }
 
 // `most` is the highest mark of its connection; `shared` is told of a row whose fields are right.
-fn route_fault(row: &[u8], connections: usize, most: usize, shared: Told) -> Told
+#[tactic(auto, using(crate::proofs::Asks::asks), unfolding(crate::specs::Faults::route_fault, table_rows::specs::Rows::route_row))]
+fn route_fault(row: &[u8], connections: usize, most: usize, shared: Option<Told>) -> Option<Told>
     ensures { result ≡ route_fault connections most shared row.now }
 {
     let mark = be8(row, 1);
-    let fifth = ask(Fault::Zero, be16(row, 10), 10, shared);
-    let fourth = ask(Fault::Longest, be16(row, 2), 1464, fifth);
-    let third = ask(Fault::NotTcp, mark, most, fourth);
-    let second = ask(Fault::Transfer, mark, 1, third);
-    ask(Fault::NoConnection, be8(row, 0), connections, second)
+    ask(Fault::NoConnection, be8(row, 0), connections)
+        .or(ask(Fault::Transfer, mark, 1))
+        .or(ask(Fault::NotTcp, mark, most))
+        .or(ask(Fault::Longest, be16(row, 2), 1464))
+        .or(ask(Fault::Zero, be16(row, 10), 10))
+        .or(shared)
 }
 
 // `size` is the send size of its connection.
-fn destination_fault(row: &[u8], connections: usize, size: usize, shared: Told) -> Told
+#[tactic(auto, using(crate::proofs::Asks::asks), unfolding(crate::specs::Faults::destination_fault, table_rows::specs::Rows::destination_row))]
+fn destination_fault(
+    row: &[u8],
+    connections: usize,
+    size: usize,
+    shared: Option<Told>,
+) -> Option<Told>
     ensures { result ≡ destination_fault connections size shared row.now }
 {
     let longest = be16(row, 2);
-    let fourth = ask(Fault::Room, longest, size, shared);
-    let third = ask(Fault::Longest, longest, 1464, fourth);
-    let second = ask(Fault::Trigger, be8(row, 1), 1, third);
-    ask(Fault::NoConnection, be8(row, 0), connections, second)
+    ask(Fault::NoConnection, be8(row, 0), connections)
+        .or(ask(Fault::Trigger, be8(row, 1), 1))
+        .or(ask(Fault::Longest, longest, 1464))
+        .or(ask(Fault::Room, longest, size))
+        .or(shared)
 }
 
 fn row_of(image: &[u8], k: Kind, i: usize) -> &[u8]
@@ -281,40 +258,31 @@ fn row_of(image: &[u8], k: Kind, i: usize) -> &[u8]
     row_in(body_of(image, k), row_bytes(image, k), i)
 }
 
-// The first earlier row with which row i shares what it may not; i where there is none.
-fn shared_with(image: &[u8], k: Kind, i: usize) -> usize
-    ensures { result ≡ first_bad (shares_nothing image.now k i) i }
-{
-    let row = row_of(image, k, i);
-    let mut j = 0;
-    while j < i {
-        let earlier = row_of(image, k, j);
-        if rows_share(k, earlier, row) {
-            return j;
-        }
-        j += 1;
-    }
-    j
-}
-
-fn shared_fault(image: &[u8], k: Kind, i: usize) -> Told
+// The first earlier row with which row i shares what it may not.
+fn shared_fault(image: &[u8], k: Kind, i: usize) -> Option<Told>
     ensures { result ≡ shared_fault image.now k i }
 {
-    let earlier = shared_with(image, k, i);
-    if earlier < i {
-        return told_of(Fault::Shared, earlier, 0);
+    let row = row_of(image, k, i);
+    for j in 0..i {
+        if rows_share(k, row_of(image, k, j), row) {
+            return Some(Told {
+                fault: Fault::Shared,
+                found: j,
+                asked: 0,
+            });
+        }
     }
-    told_of(Fault::Nothing, 0, 0)
+    None
 }
 
-fn row_fault(image: &[u8], k: Kind, i: usize) -> Told
+fn row_fault(image: &[u8], k: Kind, i: usize) -> Option<Told>
     ensures { result ≡ row_fault image.now k i }
 {
     let row = row_of(image, k, i);
     match k {
         Kind::Group => group_fault(row),
         Kind::Connection => {
-            let group = group_row(image, be8(row, 0));
+            let group = table_rows::row_of::<GroupRow>(image, be8(row, 0));
             connection_fault(row, rows_of(image, Kind::Group), group.protocol as usize)
         }
         Kind::Route => {
@@ -330,7 +298,8 @@ fn row_fault(image: &[u8], k: Kind, i: usize) -> Told
     }
 }
 
-fn fault_at(image: &[u8], spot: Spot) -> Told
+#[tactic(auto, unfolding(crate::specs::Faults::fault_at))]
+fn fault_at(image: &[u8], spot: Spot) -> Option<Told>
     ensures { result ≡ fault_at image.now spot }
 {
     match spot {
@@ -342,6 +311,7 @@ fn fault_at(image: &[u8], spot: Spot) -> Told
 }
 
 // The reason of a refusal at a place.
+#[tactic(auto, unfolding(crate::specs::Faults::reason_at))]
 pub fn reason_of(image: &[u8], place: usize) -> Reason
     ensures { result ≡ reason_at image.now place }
 {

@@ -25,22 +25,20 @@ ghost use Rattle.table_layout.specs.Layout.{
 
 use wire::{be16, be32};
 
-#[derive(Clone, Copy)]
+// A kind of rows, with its number.
+#[derive(Clone, Copy, Debug, PartialEq, Eq)]
 pub enum Kind {
-    Group,
-    Connection,
-    Route,
-    Destination,
+    Group = 1,
+    Connection = 2,
+    Route = 3,
+    Destination = 4,
 }
 
-pub fn kind_number(k: Kind) -> usize
-    ensures { result ≡ number k }
-{
-    match k {
-        Kind::Group => 1,
-        Kind::Connection => 2,
-        Kind::Route => 3,
-        Kind::Destination => 4,
+impl From<Kind> for usize {
+    fn from(k: Kind) -> usize
+        ensures { result ≡ number k }
+    {
+        k as usize
     }
 }
 
@@ -77,18 +75,21 @@ pub fn row_bytes(image: &[u8], k: Kind) -> usize
     }
 }
 
+#[tactic(auto, unfolding(crate::specs::Layout::rows_of))]
 pub fn rows_of(image: &[u8], k: Kind) -> usize
     ensures { (result ≡ rows_of image.now k) × (result < 65536) }
 {
     be16(image, entry_at(k) + 2)
 }
 
+#[tactic(auto, using(crate::proofs::Parts::product_small), unfolding(crate::specs::Layout::body_bytes))]
 fn body_bytes(image: &[u8], k: Kind) -> usize
     ensures { (result ≡ body_bytes image.now k) × (result ≤ 1048576) }
 {
     rows_of(image, k) * row_bytes(image, k)
 }
 
+#[tactic(auto, unfolding(crate::specs::Layout::start_of))]
 pub fn start_of(image: &[u8], k: Kind) -> usize
     ensures { (result ≡ start_of image.now k) × (result < 4194304) }
 {
@@ -105,6 +106,7 @@ pub fn start_of(image: &[u8], k: Kind) -> usize
 }
 
 // Where the last body ends.
+#[tactic(auto, unfolding(crate::specs::Layout::end_of))]
 pub fn end_of(image: &[u8]) -> usize
     ensures { result ≡ end_of image.now }
 {
@@ -116,16 +118,15 @@ pub fn part_of(s: &[u8], at: usize, n: usize) -> &[u8]
     ensures bytes { result.now ≡ part_of s.now at n }
     ensures place { result.ref_ptr ≡ behind s.entry.ref_ptr (part_at s.now at n) }
 {
-    if s.len() < at {
-        return &s[..0];
+    if at <= s.len() && n <= s.len() - at {
+        &s[at..at + n]
+    } else {
+        &s[..0]
     }
-    if s.len() - at < n {
-        return &s[..0];
-    }
-    &s[at..at + n]
 }
 
 // The body of a kind, as the part of the image that it occupies; an empty part where it does not fit.
+#[tactic(auto, unfolding(crate::specs::Layout::body_of, crate::specs::Layout::body_at))]
 pub fn body_of(image: &[u8], k: Kind) -> &[u8]
     ensures bytes { result.now ≡ body_of image.now k }
     ensures place { result.ref_ptr ≡ behind image.entry.ref_ptr (body_at image.now k) }

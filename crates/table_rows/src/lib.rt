@@ -1,25 +1,18 @@
 // Rows of the table image: each kind's row as a value, read by its number, and each kind's rule as a test on a row's
-// bytes. A row that is not there is the zero row. Everything is total but `group_laid`, `connection_laid` and
-// `destination_good`.
+// bytes. A row that is not there is the zero row. Everything is total but `row_laid` and `destination_good`.
 #![tactic(auto)]
 
-ghost use Rattle.std.specs.Prelude.{◌≡◌};
-ghost use Rattle.wire.specs.Be.{be, Number};
-ghost use Rattle.table_layout.specs.Layout.{row_width, Laid};
+ghost use Rattle.std.specs.Prelude.{◌≡◌, ℕ, List};
+ghost use Rattle.wire.specs.Be.{Number};
+ghost use Rattle.table_layout.specs.Layout.{row_width, row_in, row_of, Laid};
+ghost use Rattle.table_layout.specs.declared.Kind.{Kind};
+ghost use Rattle.table_layout.specs.declared.Kind.TheVariants.{Group, Connection, Route, Destination};
 ghost use Rattle.table_rows.specs.Rows.{
   group_row,
   connection_row,
   route_row,
   destination_row,
-  group_in,
-  connection_in,
   brief_in,
-  group_of,
-  connection_of,
-  route_in,
-  route_of,
-  destination_in,
-  destination_of,
 };
 ghost use Rattle.table_rows.specs.Rules.{
   size_in,
@@ -35,7 +28,7 @@ ghost use Rattle.table_rows.specs.Rules.{
 };
 
 use table_layout::{Kind, body_laid, body_of, row_bytes, row_in};
-use wire::{be8, be16, be32};
+use wire::{be8, be16, be32, u8_at, u16_at, u32_at};
 
 #[derive(Clone, Copy)]
 pub struct GroupRow {
@@ -83,165 +76,138 @@ pub struct DestinationRow {
     pub groups: u32,
 }
 
-// ---- numbers of a row, at their width
-
-fn one_byte(row: &[u8], at: usize) -> u8
-    ensures { result ≡ be 1 row.now at }
-{
-    be8(row, at) as u8
-}
-
-fn two_bytes(row: &[u8], at: usize) -> u16
-    ensures { result ≡ be 2 row.now at }
-{
-    be16(row, at) as u16
-}
-
-fn four_bytes(row: &[u8], at: usize) -> u32
-    ensures { result ≡ be 4 row.now at }
-{
-    be32(row, at) as u32
-}
-
 // ---- rows as values
 
-pub fn group_value(row: &[u8]) -> GroupRow
-    ensures { result ≡ group_row row.now }
-{
-    GroupRow {
-        protocol: one_byte(row, 0),
+// A kind's row as a value: what its bytes stand for.
+pub trait Row: Sized {
+    ghost KIND: { Kind };
+
+    ghost row_of_bytes: { List ℕ → Self };
+
+    const KIND: Kind;
+
+    fn value(row: &[u8]) -> Self
+        ensures { result ≡ row_of_bytes row.now };
+}
+
+impl Row for GroupRow {
+    ghost KIND = { Group };
+
+    ghost row_of_bytes = { group_row };
+
+    const KIND: Kind = Kind::Group;
+
+    #[tactic(auto, unfolding(crate::specs::Rows::group_row))]
+    fn value(row: &[u8]) -> GroupRow {
+        GroupRow {
+            protocol: u8_at(row, 0),
+        }
     }
 }
 
-pub fn connection_value(row: &[u8]) -> ConnectionRow
-    ensures { result ≡ connection_row row.now }
-{
-    ConnectionRow {
-        group: one_byte(row, 0),
-        automatic: be8(row, 1) == 1,
-        address: four_bytes(row, 2),
-        port: two_bytes(row, 6),
-        size: two_bytes(row, 8),
-        alive: two_bytes(row, 10),
-        switches: four_bytes(row, 12),
+impl Row for ConnectionRow {
+    ghost KIND = { Connection };
+
+    ghost row_of_bytes = { connection_row };
+
+    const KIND: Kind = Kind::Connection;
+
+    #[tactic(auto, unfolding(crate::specs::Rows::connection_row))]
+    fn value(row: &[u8]) -> ConnectionRow {
+        ConnectionRow {
+            group: u8_at(row, 0),
+            automatic: be8(row, 1) == 1,
+            address: u32_at(row, 2),
+            port: u16_at(row, 6),
+            size: u16_at(row, 8),
+            alive: u16_at(row, 10),
+            switches: u32_at(row, 12),
+        }
     }
 }
 
-pub fn route_value(row: &[u8]) -> RouteRow
-    ensures { result ≡ route_row row.now }
-{
-    RouteRow {
-        connection: one_byte(row, 0),
-        transfer: be8(row, 1) == 1,
-        longest: two_bytes(row, 2),
-        id: four_bytes(row, 4),
-        pdu: two_bytes(row, 8),
-        groups: four_bytes(row, 12),
+impl Row for RouteRow {
+    ghost KIND = { Route };
+
+    ghost row_of_bytes = { route_row };
+
+    const KIND: Kind = Kind::Route;
+
+    #[tactic(auto, unfolding(crate::specs::Rows::route_row))]
+    fn value(row: &[u8]) -> RouteRow {
+        RouteRow {
+            connection: u8_at(row, 0),
+            transfer: be8(row, 1) == 1,
+            longest: u16_at(row, 2),
+            id: u32_at(row, 4),
+            pdu: u16_at(row, 8),
+            groups: u32_at(row, 12),
+        }
     }
 }
 
-pub fn destination_value(row: &[u8]) -> DestinationRow
-    ensures { result ≡ destination_row row.now }
-{
-    DestinationRow {
-        connection: one_byte(row, 0),
-        trigger: be8(row, 1) == 1,
-        longest: two_bytes(row, 2),
-        id: four_bytes(row, 4),
-        pdu: two_bytes(row, 8),
-        timeout: two_bytes(row, 10),
-        groups: four_bytes(row, 12),
+impl Row for DestinationRow {
+    ghost KIND = { Destination };
+
+    ghost row_of_bytes = { destination_row };
+
+    const KIND: Kind = Kind::Destination;
+
+    #[tactic(auto, unfolding(crate::specs::Rows::destination_row))]
+    fn value(row: &[u8]) -> DestinationRow {
+        DestinationRow {
+            connection: u8_at(row, 0),
+            trigger: be8(row, 1) == 1,
+            longest: u16_at(row, 2),
+            id: u32_at(row, 4),
+            pdu: u16_at(row, 8),
+            timeout: u16_at(row, 10),
+            groups: u32_at(row, 12),
+        }
     }
 }
 
 // ---- rows by their number
 
-// Of a body of groups.
-pub fn group_in(body: &[u8], i: usize) -> GroupRow
-    ensures { result ≡ group_in body.now i }
+// Row i of a body of such rows.
+pub fn row_at<R: Row>(body: &[u8], i: usize) -> R
+    ensures { result ≡ R.row_of_bytes (row_in (row_width R.KIND) body.now i) }
 {
-    group_value(row_in(body, 2, i))
+    R::value(row_in(body, row_bytes(body, R::KIND), i))
 }
 
-// Of a body of connections.
-pub fn connection_in(body: &[u8], i: usize) -> ConnectionRow
-    ensures { result ≡ connection_in body.now i }
-{
-    connection_value(row_in(body, 16, i))
-}
-
-// Of the same body, and no more than a loop over all connections asks for.
+// The same, and no more than a loop over all connections asks for.
+#[tactic(auto, unfolding(crate::specs::Rows::connection_row))]
 pub fn brief_in(body: &[u8], i: usize) -> ConnectionBrief
     ensures { result ≡ brief_in body.now i }
 {
     let row = row_in(body, 16, i);
     ConnectionBrief {
-        group: one_byte(row, 0),
+        group: u8_at(row, 0),
         automatic: be8(row, 1) == 1,
-        size: two_bytes(row, 8),
-        alive: two_bytes(row, 10),
+        size: u16_at(row, 8),
+        alive: u16_at(row, 10),
     }
 }
 
-pub fn group_row(image: &[u8], i: usize) -> GroupRow
-    ensures { result ≡ group_of image.now i }
+// Row i of an image.
+pub fn row_of<R: Row>(image: &[u8], i: usize) -> R
+    ensures { result ≡ R.row_of_bytes (row_of image.now R.KIND i) }
 {
-    group_value(row_in(
-        body_of(image, Kind::Group),
-        row_bytes(image, Kind::Group),
-        i,
-    ))
+    row_at(body_of(image, R::KIND), i)
 }
 
-pub fn connection_row(image: &[u8], i: usize) -> ConnectionRow
-    ensures { result ≡ connection_of image.now i }
-{
-    connection_in(body_of(image, Kind::Connection), i)
-}
-
-// The same two, of an image that is laid out as its contents say.
-pub fn group_laid(image: &[u8], i: usize) -> GroupRow
+// The same, of an image that is laid out as its contents say.
+pub fn row_laid<R: Row>(image: &[u8], i: usize) -> R
     requires { Laid image.now }
-    ensures { result ≡ group_of image.now i }
+    ensures { result ≡ R.row_of_bytes (row_of image.now R.KIND i) }
 {
-    group_in(body_laid(image, Kind::Group), i)
-}
-
-pub fn connection_laid(image: &[u8], i: usize) -> ConnectionRow
-    requires { Laid image.now }
-    ensures { result ≡ connection_of image.now i }
-{
-    connection_in(body_laid(image, Kind::Connection), i)
-}
-
-// Of a body of routes.
-pub fn route_in(body: &[u8], i: usize) -> RouteRow
-    ensures { result ≡ route_in body.now i }
-{
-    route_value(row_in(body, 16, i))
-}
-
-pub fn route_row(image: &[u8], i: usize) -> RouteRow
-    ensures { result ≡ route_of image.now i }
-{
-    route_in(body_of(image, Kind::Route), i)
-}
-
-// Of a body of destinations.
-pub fn destination_in(body: &[u8], i: usize) -> DestinationRow
-    ensures { result ≡ destination_in body.now i }
-{
-    destination_value(row_in(body, 16, i))
-}
-
-pub fn destination_row(image: &[u8], i: usize) -> DestinationRow
-    ensures { result ≡ destination_of image.now i }
-{
-    destination_in(body_of(image, Kind::Destination), i)
+    row_at(body_laid(image, R::KIND), i)
 }
 
 // ---- each row by itself
 
+#[tactic(auto, unfolding(crate::specs::Rules::group_good, crate::specs::Rows::group_row))]
 pub fn group_good(row: &[u8]) -> bool
     ensures { result ≡ group_good row.now }
 {
@@ -250,6 +216,7 @@ pub fn group_good(row: &[u8]) -> bool
 }
 
 // Group g is TCP, out of the body of groups.
+#[tactic(auto, unfolding(crate::specs::Rules::group_tcp, crate::specs::Rows::group_row))]
 pub fn is_group_tcp(groups: &[u8], g: usize) -> bool
     ensures { result ≡ group_tcp (row_width Kind.Group) groups.now g }
 {
@@ -280,6 +247,7 @@ pub fn owner_of(row: &[u8]) -> usize
 }
 
 // Connection c is TCP, out of the bodies of connections and groups.
+#[tactic(auto, unfolding(crate::specs::Rules::tcp_in, crate::specs::Rows::connection_row))]
 pub fn is_tcp(connections: &[u8], groups: &[u8], c: usize) -> bool
     ensures { result ≡ tcp_in (row_width Kind.Group) groups.now (row_width Kind.Connection) connections.now c }
 {
@@ -308,6 +276,7 @@ pub fn route_good(row: &[u8], connections: &[u8], groups: &[u8]) -> bool
 }
 
 // The send size of connection c, out of the body of connections.
+#[tactic(auto, unfolding(crate::specs::Rules::size_in, crate::specs::Rows::connection_row))]
 pub fn size_in(connections: &[u8], c: usize) -> usize
     ensures { result ≡ size_in (row_width Kind.Connection) connections.now c }
 {
@@ -333,12 +302,14 @@ pub fn destination_good(row: &[u8], connections: &[u8]) -> bool
 
 // ---- rows two by two
 
+#[tactic(auto, unfolding(crate::specs::Rules::routes_share, crate::specs::Rows::route_row))]
 pub fn routes_share(a: &[u8], b: &[u8]) -> bool
     ensures { result ≡ routes_share a.now b.now }
 {
     (be8(a, 0) == be8(b, 0)) & (be32(a, 4) == be32(b, 4))
 }
 
+#[tactic(auto, unfolding(crate::specs::Rules::destinations_share, crate::specs::Rows::destination_row))]
 pub fn destinations_share(a: &[u8], b: &[u8]) -> bool
     ensures { result ≡ destinations_share a.now b.now }
 {

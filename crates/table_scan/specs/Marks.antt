@@ -5,9 +5,9 @@ use Rattle.std.specs.Prelude.{ℕ, ◌+◌, ◌-◌, ◌*◌, ◌/◌, ◌%◌, 
 use Rattle.wire.specs.Be.{turn}
 use Rattle.lists.specs.Search.{bad_from}
 use Rattle.table_layout.specs.Layout.{row_width, row_in}
-use Rattle.table_layout.specs.declared.Kind.{Kind}
+use Rattle.table_layout.specs.declared.Kind.TheVariants.{Route}
 use Rattle.table_rows.specs.Rows.{route_row, destination_row}
-use Rattle.table_scan.specs.Scan.{share, good_in, bad_in}
+use Rattle.table_scan.specs.Scan.{good_in, bad_of}
 
 -- of a connection and the key beside it: 32 bits without the lowest `shift`
 unfoldable pub mark_of : ℕ → ℕ → ℕ → ℕ
@@ -28,15 +28,20 @@ destination_mark shift row = mark_of shift (destination_row row).connection (tur
 abbrev pub Wide : ℕ → ℕ → Type 0
 Wide shift n = (shift < 64) × (n * 2 ^ shift ≡ 4294967296)
 
-module _ (good : List ℕ → Bool) (k : Kind) (mark : List ℕ → ℕ) (tag : ℕ) (body seen : List ℕ) (i : ℕ) where
+-- rows that share what they may not have one mark
+abbrev pub Agree : (List ℕ → List ℕ → Bool) → (List ℕ → ℕ) → Type 0
+Agree shares mark = (a b : List ℕ) → shares a b ≡ true → mark a ≡ mark b
+
+-- of rows of 16 bytes, as routes and destinations have them
+module _ (good : List ℕ → Bool) (shares : List ℕ → List ℕ → Bool) (mark : List ℕ → ℕ) (tag : ℕ) (body seen : List ℕ) (i : ℕ) where
   -- a search that has come to row i: what is left of it has the whole one's answer, and the rows before i have left the tag at their marks
   pub record Come : Type 0 where
-    pub low : i ≤ length body / row_width k
-    pub rest : bad_from (good_in good (share k) (row_width k) body) (length body / row_width k - i) i ≡ bad_in good k body
+    pub low : i ≤ length body / row_width Route
+    pub rest : bad_from (good_in good shares (row_width Route) body) (length body / row_width Route - i) i ≡ bad_of good shares body
     pub room : (row : List ℕ) → mark row < length seen
-    pub noted : (j : ℕ) → j < i → get_or seen (mark (row_in (row_width k) body j)) 0 ≡ tag
+    pub noted : (j : ℕ) → j < i → get_or seen (mark (row_in (row_width Route) body j)) 0 ≡ tag
 
   -- the same, stopped at row i: if that row is good by itself, its mark is noted
   pub record Struck : Type 0 where
     pub come : Come
-    pub met : i < length body / row_width k → good (row_in (row_width k) body i) ≡ true → get_or seen (mark (row_in (row_width k) body i)) 0 ≡ tag
+    pub met : i < length body / row_width Route → good (row_in (row_width Route) body i) ≡ true → get_or seen (mark (row_in (row_width Route) body i)) 0 ≡ tag

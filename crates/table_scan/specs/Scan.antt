@@ -26,6 +26,10 @@ good_in good shares n body i = good (row_in n body i) && every (clear_in shares 
 abbrev pub bad_in : (List ℕ → Bool) → Kind → List ℕ → ℕ
 bad_in good k body = first_bad (good_in good (share k) (row_width k) body) (length body / row_width k)
 
+-- the same of rows of 16 bytes, by what two of them may not share
+abbrev pub bad_of : (List ℕ → Bool) → (List ℕ → List ℕ → Bool) → List ℕ → ℕ
+bad_of good shares body = first_bad (good_in good shares (row_width Route) body) (length body / row_width Route)
+
 abbrev pub bad_group : List ℕ → ℕ
 bad_group body = bad_in group_good Group body
 

@@ -2,14 +2,15 @@
 // each earlier row, outside of the loop that most rows stay in. The marks make the search quick; no public contract shows them.
 #![tactic(auto)]
 
-ghost use Rattle.std.specs.Prelude.{◌≡◌, ℕ, ◌/◌, ◌<◌, ◌≤◌, length};
+ghost use Rattle.std.specs.Prelude.{◌≡◌, ℕ, ◌/◌, ◌<◌, ◌≤◌, Bool, List, length};
 ghost use Rattle.wire.specs.Be.{turn};
 ghost use Rattle.lists.specs.Search.{every};
 ghost use Rattle.table_layout.specs.Layout.{row_width};
+ghost use Rattle.table_layout.specs.declared.Kind.TheVariants.{Route, Destination};
 ghost use Rattle.table_rows.specs.Rows.{route_row, destination_row};
 ghost use Rattle.table_rows.specs.Rules.{route_rule, destination_rule, Sized};
-ghost use Rattle.table_scan.specs.Scan.{share, clear_in, bad_group, bad_connection, bad_route, bad_destination, bad_rows};
-ghost use Rattle.table_scan.specs.Marks.{mark_of, turned_pair, route_mark, destination_mark, Wide, Come, Struck};
+ghost use Rattle.table_scan.specs.Scan.{share, clear_in, bad_of, bad_group, bad_connection, bad_rows};
+ghost use Rattle.table_scan.specs.Marks.{mark_of, turned_pair, route_mark, destination_mark, Wide, Agree, Come, Struck};
 
 use table_layout::Kind;
 use table_rows::{
@@ -30,16 +31,12 @@ pub fn first_bad_group(body: &[u8]) -> usize
     ensures { result ≡ bad_group body.now }
 {
     let n = body.len() / 2;
-    let mut i = 0;
-    while i < n {
-        let at = i * 2;
-        let row = &body[at..at + 2];
-        if !group_good(row) {
+    for i in 0..n {
+        if !group_good(&body[i * 2..i * 2 + 2]) {
             return i;
         }
-        i += 1;
     }
-    i
+    n
 }
 
 // The first bad connection, or the row count where there is none.
@@ -47,19 +44,16 @@ pub fn first_bad_connection(body: &[u8], groups: &[u8]) -> usize
     ensures { result ≡ bad_connection groups.now body.now }
 {
     let n = body.len() / 16;
-    let mut i = 0;
-    while i < n {
-        let at = i * 16;
-        let row = &body[at..at + 16];
-        if !connection_good(row, groups) {
+    for i in 0..n {
+        if !connection_good(&body[i * 16..i * 16 + 16], groups) {
             return i;
         }
-        i += 1;
     }
-    i
+    n
 }
 
 // Two rows of a kind share what they may not.
+#[tactic(auto, unfolding(crate::specs::Scan::share))]
 pub fn rows_share(k: Kind, a: &[u8], b: &[u8]) -> bool
     ensures { result ≡ share k a.now b.now }
 {
@@ -71,26 +65,8 @@ pub fn rows_share(k: Kind, a: &[u8], b: &[u8]) -> bool
     }
 }
 
-// Row i shares with no earlier row what it may not. Routes and destinations have rows of one width.
-fn fresh(body: &[u8], k: Kind, i: usize) -> bool
-    requires { i < length body.now / row_width Kind.Route }
-    ensures { result ≡ every (clear_in (share k) (row_width Kind.Route) body.now i) i }
-{
-    let own = i * 16;
-    let row = &body[own..own + 16];
-    let mut j = 0;
-    while j < i {
-        let at = j * 16;
-        let earlier = &body[at..at + 16];
-        if rows_share(k, earlier, row) {
-            return false;
-        }
-        j += 1;
-    }
-    true
-}
-
 // A number of what a row may share with no other: 32 bits without the lowest `shift`.
+#[tactic(auto, unfolding(crate::specs::Marks::mark_of))]
 fn mark_of(connection: usize, key: usize, shift: usize) -> usize
     requires { (connection < 256) × (key < 4294967296) × (shift < 64) }
     ensures { result ≡ mark_of shift connection key }
@@ -105,13 +81,6 @@ fn turned_id(row: &[u8]) -> usize
     ((be8(row, 7) * 256 + be8(row, 6)) * 256 + be8(row, 5)) * 256 + be8(row, 4)
 }
 
-fn route_mark(row: &[u8], shift: usize) -> usize
-    requires { shift < 64 }
-    ensures { result ≡ route_mark shift row.now }
-{
-    mark_of(owner_of(row), turned_id(row), shift)
-}
-
 // The PDU's two bytes, the second the higher: of this form the compiler makes one load.
 fn turned_pdu(row: &[u8]) -> usize
     ensures { (result ≡ turned_pair (destination_row row.now).pdu) × (result < 65536) }
@@ -119,129 +88,149 @@ fn turned_pdu(row: &[u8]) -> usize
     be8(row, 9) * 256 + be8(row, 8)
 }
 
-fn destination_mark(row: &[u8], shift: usize) -> usize
-    requires { shift < 64 }
-    ensures { result ≡ destination_mark shift row.now }
-{
-    mark_of(owner_of(row), turned_pdu(row), shift)
+// Rows of a kind of which no two may share: what each is asked by itself, what two share, and a mark that rows which share have in common.
+trait Marked {
+    ghost rule: { Self → List ℕ → Bool };
+
+    ghost shares: { List ℕ → List ℕ → Bool };
+
+    ghost mark_by: { ℕ → List ℕ → ℕ };
+
+    fn is_good(&self, row: &[u8]) -> bool
+        ensures { result ≡ rule self.now row.now };
+
+    fn share(&self, a: &[u8], b: &[u8]) -> bool
+        ensures { result ≡ shares a.now b.now };
+
+    fn mark(&self, row: &[u8], shift: usize) -> usize
+        requires { shift < 64 }
+        ensures { result ≡ mark_by shift row.now };
 }
 
-// From row `from` on, the first route that is bad by itself or whose mark was met. `seen` holds 1 at each mark met. The loop goes by
-// the place where a row starts, 16 times its number.
-fn next_route<'a>(
-    body: &'a [u8],
+// Routes, under the bodies of connections and groups.
+#[derive(Clone, Copy)]
+struct Routes<'a> {
     connections: &'a [u8],
     groups: &'a [u8],
+}
+
+impl<'a> Marked for Routes<'a> {
+    ghost rule = { λ s. route_rule s.connections.now s.groups.now };
+
+    ghost shares = { share Route };
+
+    ghost mark_by = { route_mark };
+
+    fn is_good(&self, row: &[u8]) -> bool {
+        route_good(row, self.connections, self.groups)
+    }
+
+    fn share(&self, a: &[u8], b: &[u8]) -> bool {
+        rows_share(Kind::Route, a, b)
+    }
+
+    fn mark(&self, row: &[u8], shift: usize) -> usize {
+        mark_of(owner_of(row), turned_id(row), shift)
+    }
+}
+
+// Destinations, under a body of connections with send sizes in their range.
+#[derive(Clone, Copy)]
+struct Destinations<'a> {
+    connections: &'a [u8],
+
+    ghost sized: { Sized connections.now },
+}
+
+impl<'a> Marked for Destinations<'a> {
+    ghost rule = { λ s. destination_rule s.connections.now };
+
+    ghost shares = { share Destination };
+
+    ghost mark_by = { destination_mark };
+
+    fn is_good(&self, row: &[u8]) -> bool {
+        destination_good(row, self.connections)
+    }
+
+    fn share(&self, a: &[u8], b: &[u8]) -> bool {
+        rows_share(Kind::Destination, a, b)
+    }
+
+    fn mark(&self, row: &[u8], shift: usize) -> usize {
+        mark_of(owner_of(row), turned_pdu(row), shift)
+    }
+}
+
+// Row i shares with no earlier row what it may not.
+fn is_fresh<R: Marked>(rows: &R, body: &[u8], i: usize) -> bool
+    requires { i < length body.now / row_width Kind.Route }
+    ensures { result ≡ every (clear_in R.shares (row_width Kind.Route) body.now i) i }
+{
+    let row = &body[i * 16..i * 16 + 16];
+    for j in 0..i {
+        if rows.share(&body[j * 16..j * 16 + 16], row) {
+            return false;
+        }
+    }
+    true
+}
+
+// From row `from` on, the first that is bad by itself or whose mark was met; the row count where there is none. `seen` holds MET at each mark met.
+fn next_struck<R: Marked, const MET: u8>(
+    rows: &R,
+    body: &[u8],
     seen: &mut [u8],
     shift: usize,
     from: usize,
 ) -> usize
     requires shift_bound { shift < 64 }
-    requires come { Come (route_rule connections.now groups.now) Kind.Route (route_mark shift) 1 body.now seen.old from }
-    ensures { (from ≤ result)
-        × Struck (route_rule connections.now groups.now) Kind.Route (route_mark shift) 1 body.now seen.new result }
+    requires agree { Agree R.shares (R.mark_by shift) }
+    requires come { Come (R.rule rows.now) R.shares (R.mark_by shift) MET body.now seen.old from }
+    ensures { (from ≤ result) × Struck (R.rule rows.now) R.shares (R.mark_by shift) MET body.now seen.new result }
 {
+    // Kept: a `for` over the row numbers misses the speed bar; the loop goes by the place where a row starts, 16 times its number.
     let end = body.len() / 16 * 16;
     let mut at = from * 16;
     while at < end {
         let row = &body[at..at + 16];
-        if !route_good(row, connections, groups) {
+        if !rows.is_good(row) {
             return at / 16;
         }
-        let mark = route_mark(row, shift);
-        if seen[mark] == 1 {
+        let mark = rows.mark(row, shift);
+        if seen[mark] == MET {
             return at / 16;
         }
-        seen[mark] = 1;
+        seen[mark] = MET;
         at += 16;
     }
     at / 16
 }
 
-// The first bad route, or the row count where there is none.
-fn first_bad_route<'a>(
-    body: &'a [u8],
-    connections: &'a [u8],
-    groups: &'a [u8],
+// The first bad row, or the row count where there is none.
+fn first_bad<R: Marked, const MET: u8>(
+    rows: &R,
+    body: &[u8],
     seen: &mut [u8],
     shift: usize,
-) -> usize
-    requires { Wide shift (length seen.old) }
-    ensures { result ≡ bad_route connections.now groups.now body.now }
-{
-    let n = body.len() / 16;
-    let mut i = 0;
-    loop {
-        i = next_route(body, connections, groups, seen, shift, i);
-        if n <= i {
-            return i;
-        }
-        let at = i * 16;
-        let row = &body[at..at + 16];
-        if !route_good(row, connections, groups) {
-            return i;
-        }
-        if !fresh(body, Kind::Route, i) {
-            return i;
-        }
-        i += 1;
-    }
-}
-
-// The same of destinations. `seen` holds 2 at each mark met.
-fn next_destination<'a>(
-    body: &'a [u8],
-    connections: &'a [u8],
-    seen: &mut [u8],
-    shift: usize,
-    from: usize,
 ) -> usize
     requires shift_bound { shift < 64 }
-    requires sized { Sized connections.now }
-    requires come { Come (destination_rule connections.now) Kind.Destination (destination_mark shift) 2 body.now seen.old from }
-    ensures { (from ≤ result)
-        × Struck (destination_rule connections.now) Kind.Destination (destination_mark shift) 2 body.now seen.new result }
+    requires room { (row : List ℕ) → R.mark_by shift row < length seen.old }
+    requires agree { Agree R.shares (R.mark_by shift) }
+    ensures { result ≡ bad_of (R.rule rows.now) R.shares body.now }
 {
-    let end = body.len() / 16 * 16;
-    let mut at = from * 16;
-    while at < end {
-        let row = &body[at..at + 16];
-        if !destination_good(row, connections) {
-            return at / 16;
-        }
-        let mark = destination_mark(row, shift);
-        if seen[mark] == 2 {
-            return at / 16;
-        }
-        seen[mark] = 2;
-        at += 16;
-    }
-    at / 16
-}
-
-fn first_bad_destination<'a>(
-    body: &'a [u8],
-    connections: &'a [u8],
-    seen: &mut [u8],
-    shift: usize,
-) -> usize
-    requires wide { Wide shift (length seen.old) }
-    requires sized { Sized connections.now }
-    ensures { result ≡ bad_destination connections.now body.now }
-{
+    // Kept: no plainer: a turn goes from one row that is struck to the next, however many lie between.
     let n = body.len() / 16;
     let mut i = 0;
     loop {
-        i = next_destination(body, connections, seen, shift, i);
+        i = next_struck::<R, MET>(rows, body, seen, shift, i);
         if n <= i {
             return i;
         }
-        let at = i * 16;
-        let row = &body[at..at + 16];
-        if !destination_good(row, connections) {
+        if !rows.is_good(&body[i * 16..i * 16 + 16]) {
             return i;
         }
-        if !fresh(body, Kind::Destination, i) {
+        if !is_fresh(rows, body, i) {
             return i;
         }
         i += 1;
@@ -249,11 +238,11 @@ fn first_bad_destination<'a>(
 }
 
 // The first bad route and the first bad destination, each the row count where there is none; one set of marks serves both.
-fn bad_rows<'a>(
-    routes: &'a [u8],
-    destinations: &'a [u8],
-    connections: &'a [u8],
-    groups: &'a [u8],
+fn bad_rows(
+    routes: &[u8],
+    destinations: &[u8],
+    connections: &[u8],
+    groups: &[u8],
     seen: &mut [u8],
     shift: usize,
 ) -> BadRows
@@ -261,21 +250,32 @@ fn bad_rows<'a>(
     requires sized { Sized connections.now }
     ensures { result ≡ bad_rows routes.now destinations.now connections.now groups.now }
 {
-    let route = first_bad_route(routes, connections, groups, seen, shift);
-    let destination = first_bad_destination(destinations, connections, seen, shift);
     BadRows {
-        route: route,
-        destination: destination,
+        route: first_bad::<Routes, 1>(
+            &Routes {
+                connections,
+                groups,
+            },
+            routes,
+            seen,
+            shift,
+        ),
+        destination: first_bad::<Destinations, 2>(
+            &Destinations { connections },
+            destinations,
+            seen,
+            shift,
+        ),
     }
 }
 
 // The same, where no connection is bad, with as many marks as the table wants: for at most 16 rows of each kind 256 will do, and
 // they are cleared sooner.
-pub fn first_bad_rows<'a>(
-    routes: &'a [u8],
-    destinations: &'a [u8],
-    connections: &'a [u8],
-    groups: &'a [u8],
+pub fn first_bad_rows(
+    routes: &[u8],
+    destinations: &[u8],
+    connections: &[u8],
+    groups: &[u8],
 ) -> BadRows
     requires { bad_connection groups.now connections.now ≡ length connections.now / row_width Kind.Connection }
     ensures { result ≡ bad_rows routes.now destinations.now connections.now groups.now }

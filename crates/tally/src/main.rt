@@ -2,26 +2,23 @@
 // them, on standard output (docs/RECORDING.md, "Several recordings"). What counts is crate report_count's, the sums are crate report's.
 #![tactic(auto)]
 
-use input::{read_image, read_part};
-use input_parts::{Next, contents_named, contents_within, next_part, pass_over, read_within};
+use input::read_part;
+use input_parts::{contents_named, contents_within, next_part, pass_over, read_within};
 use input_recording::{count_of, shown_of};
 use pieces::front;
-use recording::{Front, arguments_in, body_long, number_in};
-use replay_step::{Played, replay_step};
+use recording::{Unreadable, arguments_in, body_long, number_in};
+use replay_step::{Compared, Unplayed, replay_step};
 use report::{Drops, Report, RouteFigures, empty, join};
 use report_count::{Run, begin, count};
 use state::{State, fresh_state};
-use table::{TableAnswer, check_table};
 use table_layout::{Kind, part_of, rows_of};
-use wire::be32;
-use words_refusal::refuse;
+use wire::u32_at;
+use words_refusal::under_table;
 use words_replay::{
-    Last, Tale, differed, goes_on, next_row, passed, stamp_before, stopped, summary, untold,
-    word_number,
+    Ending, Tale, differed, last_word_of, next_row, passed, stamp_before, stopped, summary,
 };
 use words_report::{
-    Ends, closed, drops_line, ended, ends_line, given, joined, last_line, named, no_ends,
-    route_line,
+    Ends, LeftOut, closed, drops_line, ends_line, joined, last_line, named, route_line,
 };
 
 // ---- one recording
@@ -36,35 +33,42 @@ struct Going {
 }
 
 // The tale after an entry was played.
-fn told(tale: Tale, row: &[u8], body: &[u8], played: Played, out: &[u8], kept: &mut [u8]) -> Tale {
+fn told(
+    tale: Tale,
+    row: &[u8],
+    body: &[u8],
+    played: Result<Compared, Unplayed>,
+    out: &[u8],
+    kept: &mut [u8],
+) -> Tale {
     match played {
-        Played::Same(_) => passed(tale, row),
-        Played::Differs(written) => { passed(differed(tale, body, front(out, written), kept), row) }
-        Played::Cut => stopped(tale, Last::Cut(body.len())),
-        Played::Refused(fault) => stopped(tale, Last::Refused(fault)),
+        Ok(Compared::Same(_)) => passed(tale, row),
+        Ok(Compared::Differs(written)) => {
+            passed(differed(tale, body, front(out, written), kept), row)
+        }
+        Err(Unplayed::Cut) => stopped(tale, Ending::Cut(body.len())),
+        Err(Unplayed::Refused(fault)) => stopped(tale, Ending::Refused(fault)),
         // cannot come: the out buffer has the room that a step asks for
-        Played::Small => stopped(tale, Last::Cut(body.len())),
+        Err(Unplayed::Small) => stopped(tale, Ending::Cut(body.len())),
     }
 }
 
 // The report after an entry was played: one that was run counts, as the core answers now.
-fn counted(run: Run, row: &[u8], body: &[u8], played: Played, out: &[u8]) -> Run {
+fn counted(
+    run: Run,
+    row: &[u8],
+    body: &[u8],
+    played: Result<Compared, Unplayed>,
+    out: &[u8],
+) -> Run {
     let number = number_in(row);
     let arguments = arguments_in(number, body);
     match played {
-        Played::Same(written) => count(run, number, arguments, front(out, written)),
-        Played::Differs(written) => count(run, number, arguments, front(out, written)),
-        Played::Cut => run,
-        Played::Refused(_) => run,
-        Played::Small => run,
+        Ok(Compared::Same(written) | Compared::Differs(written)) => {
+            count(run, number, arguments, front(out, written))
+        }
+        Err(_) => run,
     }
-}
-
-fn less(left: usize, got: usize) -> usize {
-    if left < got {
-        return 0;
-    }
-    left - got
 }
 
 // The next entry, whose body is read first.
@@ -78,23 +82,18 @@ fn entry(
 ) -> Going {
     let mut room = [0u8; 4096];
     let mut out = [0u8; 16384];
-    let state = going.state;
     let tale = going.tale;
-    let run = going.run;
     let row = next_row(contents, tale.run);
     let got = read_within(&mut room, 0, body_long(row), going.left);
     let body = front(&room, got);
     let before = stamp_before(tale.run, tale.before, row);
-    let step = replay_step(table, state, rx, tx, before, row, body, &mut out);
+    let step = replay_step(table, going.state, rx, tx, before, row, body, &mut out);
     let played = step.played;
-    let after = step.state;
-    let now = told(tale, row, body, played, &out, kept);
-    let sums = counted(run, row, body, played, &out);
     Going {
-        state: after,
-        tale: now,
-        run: sums,
-        left: less(going.left, got),
+        state: step.state,
+        tale: told(tale, row, body, played, &out, kept),
+        run: counted(going.run, row, body, played, &out),
+        left: going.left.saturating_sub(got),
     }
 }
 
@@ -110,16 +109,13 @@ fn entries(
 ) -> Going {
     let mut going = Going {
         state: fresh_state(table),
-        tale: untold(),
+        tale: Tale::default(),
         run: begin(),
-        left: left,
+        left,
     };
-    let mut i: u16 = 0;
-    while i < count {
-        i += 1;
+    for _ in 0..count {
         going = entry(table, going, rx, tx, contents, kept);
-        let tale = going.tale;
-        if !goes_on(tale) {
+        if going.tale.ending.is_some() {
             return going;
         }
     }
@@ -136,40 +132,15 @@ struct Total {
     parts: u64,
 }
 
-// The total with one run more, and why it was left out where it was (crate words_report).
-#[derive(Clone, Copy)]
-struct Grown {
-    report: Report,
-    out: usize,
-}
-
-fn added(total: Report, readable: bool, fits: bool, report: Report) -> Grown {
+// The report with one run more; the reason where the run is left out.
+fn added(total: Report, readable: bool, fits: bool, report: Report) -> Result<Report, LeftOut> {
     if !readable {
-        return Grown {
-            report: total,
-            out: 1,
-        };
+        return Err(LeftOut::Unreadable);
     }
-    let sums = join(total, report);
-    let after = sums.report;
-    if !(fits & sums.fits) {
-        return Grown {
-            report: total,
-            out: 2,
-        };
+    if !fits {
+        return Err(LeftOut::Sum);
     }
-    Grown {
-        report: after,
-        out: 0,
-    }
-}
-
-fn is_read(shown: Front) -> bool {
-    if let Front::Sized = shown {
-        true
-    } else {
-        false
-    }
+    join(total, report).map_err(|_| LeftOut::Sum)
 }
 
 fn write(text: &[u8], end: usize) {
@@ -181,7 +152,7 @@ fn closed_with(
     contents: &[u8],
     long: usize,
     reach: usize,
-    shown: Front,
+    shown: Result<(), Unreadable>,
     total: Total,
     tale: Tale,
     run: Run,
@@ -189,20 +160,16 @@ fn closed_with(
     text: &mut [u8],
 ) -> Total {
     let n = total.parts;
-    let report = run.report;
-    let before = total.report;
-    let next = added(before, is_read(shown), run.fits, report);
-    let after = next.report;
-    let ends = total.ends;
-    let word = word_number(shown, tale);
+    let next = added(total.report, shown.is_ok(), run.fits, run.report);
+    let word = last_word_of(shown, tale);
     let head = named(text, n, long as u64);
     write(text, head);
     let lines = summary(text, contents, reach, shown, tale, kept);
-    let last = closed(text, lines, n, word, next.out);
+    let last = closed(text, lines, n, word, next.err());
     write(text, last);
     Total {
-        report: after,
-        ends: ended(ends, word, next.out != 0),
+        report: next.unwrap_or(total.report),
+        ends: total.ends.ended(word, next.is_err()),
         parts: n,
     }
 }
@@ -221,12 +188,12 @@ fn replayed(
     let reach = contents_named(contents, long);
     let shown = shown_of(contents, reach);
     let number = count_of(shown, contents);
-    let left = less(long, reach);
+    let left = long.saturating_sub(reach);
     let going = entries(table, contents, number, left, rx, tx, kept);
     pass_over(going.left);
-    let tale = going.tale;
-    let run = going.run;
-    closed_with(contents, long, reach, shown, total, tale, run, kept, text)
+    closed_with(
+        contents, long, reach, shown, total, going.tale, going.run, kept, text,
+    )
 }
 
 // Over memory for all connections, the contents, the first entry that differs, and the lines.
@@ -252,17 +219,16 @@ fn recording(table: &[u8], long: usize, total: Total) -> Total {
 // ---- a given report
 
 fn be64(s: &[u8], at: usize) -> u64 {
-    let high = be32(part_of(s, at, 8), 0) as u64;
-    let low = be32(part_of(s, at, 8), 4) as u64;
-    high * 4294967296 + low
+    let eight = part_of(s, at, 8);
+    u32_at(eight, 0) as u64 * 4294967296 + u32_at(eight, 4) as u64
 }
 
 fn figures_in(s: &[u8]) -> RouteFigures {
     RouteFigures {
         pdus: be64(s, 0),
         bytes: be64(s, 8),
-        smallest: be32(s, 16) as u32,
-        largest: be32(s, 20) as u32,
+        smallest: u32_at(s, 16),
+        largest: u32_at(s, 20),
     }
 }
 
@@ -276,24 +242,13 @@ fn drops_in(s: &[u8]) -> Drops {
     }
 }
 
-fn routes_in(s: &[u8]) -> Report {
-    let mut report = empty();
-    let mut i: usize = 0;
-    while i < 64 {
-        let figures = figures_in(part_of(s, i * 24, 24));
-        report.routes[i] = figures;
-        i += 1;
-    }
-    report
-}
-
 fn report_in(s: &[u8]) -> Report {
-    let mut report = routes_in(s);
-    let mut i: usize = 0;
-    while i < 16 {
-        let drops = drops_in(part_of(s, 1536 + i * 40, 40));
-        report.connections[i] = drops;
-        i += 1;
+    let mut report = empty();
+    for (i, figures) in report.routes.iter_mut().enumerate() {
+        *figures = figures_in(part_of(s, i * 24, 24));
+    }
+    for (i, drops) in report.connections.iter_mut().enumerate() {
+        *drops = drops_in(part_of(s, 1536 + i * 40, 40));
     }
     report
 }
@@ -302,16 +257,12 @@ fn given_report(total: Total) -> Total {
     let mut text = [0u8; 128];
     let mut bytes = [0u8; 2176];
     let got = read_part(&mut bytes, 0, 2176);
-    let report = report_in(&bytes);
-    let before = total.report;
-    let next = added(before, got == 2176, true, report);
-    let after = next.report;
-    let ends = total.ends;
-    let end = joined(&mut text, total.parts, next.out);
+    let next = added(total.report, got == 2176, true, report_in(&bytes));
+    let end = joined(&mut text, total.parts, next.err());
     write(&text, end);
     Total {
-        report: after,
-        ends: given(ends, next.out != 0),
+        report: next.unwrap_or(total.report),
+        ends: total.ends.given(next.is_err()),
         parts: total.parts,
     }
 }
@@ -330,37 +281,19 @@ fn show_connection(i: usize, drops: Drops) {
     write(&text, end);
 }
 
-fn routes(rows: usize, report: Report) {
-    let mut i: usize = 0;
-    while i < 64 {
-        if i < rows {
-            let figures = report.routes[i];
-            show_route(i, figures);
-        }
-        i += 1;
-    }
-}
-
-fn connections(rows: usize, report: Report) {
-    let mut i: usize = 0;
-    while i < 16 {
-        if i < rows {
-            let drops = report.connections[i];
-            show_connection(i, drops);
-        }
-        i += 1;
-    }
-}
-
 fn figures(table: &[u8], total: Total) {
     let mut text = [0u8; 256];
-    let report = total.report;
-    let ends = total.ends;
-    let end = ends_line(&mut text, ends);
+    let end = ends_line(&mut text, total.ends);
     write(&text, end);
-    routes(rows_of(table, Kind::Route), report);
-    connections(rows_of(table, Kind::Connection), report);
-    let last = last_line(&mut text, ends);
+    let routes = total.report.routes.iter().enumerate();
+    for (i, figures) in routes.take(rows_of(table, Kind::Route)) {
+        show_route(i, *figures);
+    }
+    let connections = total.report.connections.iter().enumerate();
+    for (i, drops) in connections.take(rows_of(table, Kind::Connection)) {
+        show_connection(i, *drops);
+    }
+    let last = last_line(&mut text, total.ends);
     write(&text, last);
 }
 
@@ -368,12 +301,9 @@ fn figures(table: &[u8], total: Total) {
 
 // The next part of so many bytes.
 fn part(table: &[u8], long: usize, total: Total) -> Total {
-    let report = total.report;
-    let ends = total.ends;
     let next = Total {
-        report: report,
-        ends: ends,
-        parts: std::num::wrapping_add_u64(total.parts, 1),
+        parts: total.parts.wrapping_add(1),
+        ..total
     };
     if long == 4294967295 {
         return given_report(next);
@@ -385,32 +315,18 @@ fn part(table: &[u8], long: usize, total: Total) -> Total {
 fn tally(table: &[u8]) {
     let mut total = Total {
         report: empty(),
-        ends: no_ends(),
+        ends: Ends::default(),
         parts: 0,
     };
-    let mut left: u32 = 4294967295;
-    while 0 < left {
-        let next = next_part();
-        match next {
-            Next::Ended => {
-                figures(table, total);
-                return;
-            }
-            Next::Part(long) => {
-                total = part(table, long, total);
-            }
-        }
-        left -= 1;
+    for _ in 0..u32::MAX {
+        let Some(long) = next_part() else {
+            break;
+        };
+        total = part(table, long, total);
     }
     figures(table, total);
 }
 
 fn main() {
-    let mut image = [0u8; 2356];
-    let n = read_image(&mut image);
-    let table = front(&image, n);
-    match check_table(table) {
-        TableAnswer::Accepted => tally(table),
-        TableAnswer::Refused(place) => refuse(table, place),
-    }
+    under_table(|table| tally(table));
 }

@@ -8,14 +8,13 @@
 // Last word: OK when every call did what its line says, DIFFERS when one did not, REFUSED for the table.
 #![tactic(auto)]
 
-use entry_events::CountAnswer;
 use entry_reader::walk_from;
 use entry_receive::{segment_payload, segment_take};
 use input::read_image;
 use pieces::{front, put_piece};
 use receive_stream::Outcome;
 use state::{State, fresh_state};
-use table::{TableAnswer, check_table};
+use table::check_table;
 use text::{decimal, hex};
 
 // The standard output's number.
@@ -30,29 +29,18 @@ fn tell(before: &[u8], number: u64, after: &[u8]) {
     io::write_all(STDOUT_FILENO, front(&line, n));
 }
 
-fn is_more(outcome: Outcome) -> bool {
-    if let Outcome::More = outcome {
-        true
-    } else {
-        false
-    }
-}
-
 // The header of the longest skip.
 fn begin_skip(image: &[u8], state: State, rx: &mut [u8], tx: &[u8]) -> State {
     let taken = segment_take(image, state, rx, tx, 0, b"\x00\x00\x01\x99\xff\xff\xff\xff");
-    let outcome = taken.outcome;
-    let after = taken.state;
-    if let Outcome::Drop {
-        reason,
-        id: _,
-        length,
-    } = outcome
-    {
-        tell(b"header: dropped, reason ", reason as u64, b"\n");
+    if let Outcome::Drop { reason, length, .. } = taken.outcome {
+        tell(
+            b"header: dropped, reason ",
+            u64::from(u8::from(reason)),
+            b"\n",
+        );
         tell(b"to skip: ", length as u64, b" bytes\n");
     }
-    after
+    taken.state
 }
 
 // Whether all was well so far, and the state.
@@ -65,53 +53,44 @@ struct Turn {
 // One segment of it: read whole, and more wanted.
 fn skip_one(image: &[u8], state: State, rx: &mut [u8], tx: &[u8], segment: &[u8]) -> Turn {
     let taken = segment_take(image, state, rx, tx, 0, segment);
-    let outcome = taken.outcome;
-    let after = taken.state;
     Turn {
-        well: is_more(outcome) & (taken.read == segment.len()),
-        state: after,
+        well: matches!(taken.outcome, Outcome::More) && taken.read == segment.len(),
+        state: taken.state,
     }
 }
 
 fn skip(image: &[u8], state: State, rx: &mut [u8], tx: &[u8], segment: &[u8]) -> Turn {
-    let mut now = state;
-    let mut well = true;
-    let mut i: u32 = 0;
-    while i < 65536 {
-        let turn = skip_one(image, now, rx, tx, segment);
-        now = turn.state;
-        well = well & turn.well;
-        i += 1;
+    let mut all = Turn { well: true, state };
+    for _ in 0..65536 {
+        let turn = skip_one(image, all.state, rx, tx, segment);
+        all = Turn {
+            well: all.well && turn.well,
+            ..turn
+        };
     }
-    Turn {
-        well: well,
-        state: now,
-    }
+    all
 }
 
 // What is left of it and a PDU behind it, in one segment: one take reads both and hands the PDU out.
 fn end_skip(image: &[u8], state: State, rx: &mut [u8], tx: &[u8], segment: &[u8]) -> Turn {
     let mut line = [0u8; 64];
     let taken = segment_take(image, state, rx, tx, 0, segment);
-    let outcome = taken.outcome;
-    let after = taken.state;
-    let payload = segment_payload(segment, rx, 0, outcome);
+    let payload = segment_payload(segment, rx, 0, taken.outcome);
     tell(b"the last segment: ", taken.read as u64, b" bytes read\n");
     let a = put_piece(&mut line, 0, b"PDU behind the skip: payload ");
     let b = hex(&mut line, a, payload);
     let n = put_piece(&mut line, b, b"\n");
     io::write_all(STDOUT_FILENO, front(&line, n));
     Turn {
-        well: (taken.read == segment.len()) & (payload.len() == 2),
-        state: after,
+        well: taken.read == segment.len() && payload.len() == 2,
+        state: taken.state,
     }
 }
 
 // A count as it is read.
 fn tell_count(image: &[u8], state: State, rx: &[u8], tx: &[u8], protocol: u8) -> u64 {
     let counted = entry_events::read_count(image, state, rx, tx, protocol);
-    let answer = counted.answer;
-    let value = if let CountAnswer::Count(count) = answer {
+    let value = if let Ok(count) = counted.answer {
         count as u64
     } else {
         0
@@ -125,12 +104,7 @@ fn tell_count(image: &[u8], state: State, rx: &[u8], tx: &[u8], protocol: u8) ->
 fn skip_most(image: &[u8], state: State, rx: &mut [u8], tx: &[u8]) -> Turn {
     let zeros = [0u8; 65535];
     let begun = begin_skip(image, state, rx, tx);
-    let skipped = skip(image, begun, rx, tx, &zeros);
-    let after = skipped.state;
-    Turn {
-        well: skipped.well,
-        state: after,
-    }
+    skip(image, begun, rx, tx, &zeros)
 }
 
 fn tell_skipped(well: bool) {
@@ -154,56 +128,41 @@ fn longest_skip(image: &[u8], state: State, rx: &mut [u8], tx: &[u8]) -> bool {
         b"\x00\x00\x01\x01\x00\x00\x00\x02\x00\xb4",
     );
     let skipped = skip_most(image, state, rx, tx);
-    let between = skipped.state;
     tell_skipped(skipped.well);
-    let ended = end_skip(image, between, rx, tx, &last);
-    let after = ended.state;
-    let count = tell_count(image, after, rx, tx, 2);
-    skipped.well & ended.well & (count == 1)
+    let ended = end_skip(image, skipped.state, rx, tx, &last);
+    let count = tell_count(image, ended.state, rx, tx, 2);
+    skipped.well && ended.well && count == 1
 }
 
 // One drop more on each connection, with both counts at their top: both stay.
 fn drop_each(image: &[u8], state: State, rx: &mut [u8], tx: &[u8]) -> Turn {
     let mut full = state;
-    full.udp_drops = 4294967295;
-    full.tcp_drops = 4294967295;
+    full.udp_drops = u32::MAX;
+    full.tcp_drops = u32::MAX;
     let taken = segment_take(image, full, rx, tx, 0, b"\x00\x00\x01\x99\x00\x00\x00\x00");
-    let between = taken.state;
-    let walked = walk_from(
-        b"\x00\x00\x01\x01\x00\x00\x00",
-        0,
-        image,
-        between,
-        rx,
-        tx,
-        1,
-    );
-    let after = walked.state;
+    let datagram = b"\x00\x00\x01\x01\x00\x00\x00";
+    let walked = walk_from(datagram, 0, image, taken.state, rx, tx, 1);
     Turn {
-        well: (taken.read == 8) & (walked.next == 7),
-        state: after,
+        well: taken.read == 8 && walked.next == 7,
+        state: walked.state,
     }
 }
 
 fn full_counts(image: &[u8], state: State, rx: &mut [u8], tx: &[u8]) -> bool {
     let dropped = drop_each(image, state, rx, tx);
-    let after = dropped.state;
     io::write_all(
         STDOUT_FILENO,
         b"counts at their top; then a segment with an unknown id, and a datagram of 7 bytes\n",
     );
-    let udp = tell_count(image, after, rx, tx, 1);
-    let tcp = tell_count(image, after, rx, tx, 2);
-    dropped.well & (udp == 4294967295) & (tcp == 4294967295)
+    let udp = tell_count(image, dropped.state, rx, tx, 1);
+    let tcp = tell_count(image, dropped.state, rx, tx, 2);
+    dropped.well && udp == u32::MAX as u64 && tcp == u32::MAX as u64
 }
 
 // A tick, and connection 0 connected: both connections are online.
 fn online(image: &[u8], rx: &[u8], tx: &[u8]) -> State {
     let ticked = entry_ticks::tick(image, fresh_state(image), rx, tx);
-    let reached = ticked.state;
-    let told = entry_events::connected(image, reached, rx, tx, 0);
-    let up = told.state;
-    up
+    entry_events::connected(image, ticked.state, rx, tx, 0).state
 }
 
 fn run(image: &[u8]) {
@@ -224,8 +183,8 @@ fn main() {
     let n = read_image(&mut image);
     let table = front(&image, n);
     match check_table(table) {
-        TableAnswer::Accepted => run(table),
-        TableAnswer::Refused(_) => {
+        Ok(()) => run(table),
+        Err(_) => {
             io::write_all(STDOUT_FILENO, b"REFUSED\n");
         }
     }

@@ -20,25 +20,24 @@
 #![tactic(auto)]
 
 use connection::{Connection, Mode, Refusal, Remote};
-use entry_receive::{Answer, segment_payload, segment_take};
+use entry_receive::{NotReceived, segment_payload, segment_take};
 use input::read_part;
 use pieces::front;
 use receive_stream::Outcome;
 use state::{State, empty_state, fresh_state};
-use table::{TableAnswer, check_table};
+use table::{BadTable, check_table};
 use table_layout::{Kind, rows_of};
-use wire::{be8, be16, be32, put8, put32};
-use words::{lay, phrase};
+use wire::{be8, be16, put8, put32, u8_at, u32_at};
+use words::lay;
 
 // The standard output's number.
 const STDOUT_FILENO: i32 = 1;
 
-// What a case stands on between records: so many bytes of image, the state, and whether to go on.
+// What a case stands on between records: so many bytes of image, and the state.
 #[derive(Clone, Copy)]
 struct Held {
     size: usize,
     state: State,
-    going: bool,
 }
 
 // A line with a number in it.
@@ -48,72 +47,60 @@ fn say(pattern: &[u8], number: u64) {
     io::write_all(STDOUT_FILENO, front(&line, n));
 }
 
-// The record of a connection that the table has, online and with these switches.
-fn online(image: &[u8], state: State, connection: u8, switches: u32) -> State {
+// The record of a connection that the table has.
+fn record_of<'a>(image: &[u8], state: &'a mut State, connection: u8) -> Option<&'a mut Connection> {
     let n = connection as usize;
     if rows_of(image, Kind::Connection) <= n {
-        return state;
+        return None;
     }
-    if n < 16 {
-        let c = state.connections[n];
-        let mut next = state;
-        next.connections[n] = Connection {
-            mode: Mode::Online,
-            remote: Remote {
-                address: 1,
-                port: 1,
-            },
-            switches: switches,
-            ..c
+    state.connections.get_mut(n)
+}
+
+// The state with a connection online, with these switches.
+fn online(image: &[u8], state: State, connection: u8, switches: u32) -> State {
+    let mut next = state;
+    if let Some(c) = record_of(image, &mut next, connection) {
+        c.mode = Mode::Online;
+        c.remote = Remote {
+            address: 1,
+            port: 1,
         };
-        return next;
+        c.switches = switches;
     }
-    state
+    next
 }
 
 // The state with other switches of a connection.
 fn switched(image: &[u8], state: State, connection: u8, switches: u32) -> State {
-    let n = connection as usize;
-    if rows_of(image, Kind::Connection) <= n {
-        return state;
+    let mut next = state;
+    if let Some(c) = record_of(image, &mut next, connection) {
+        c.switches = switches;
     }
-    if n < 16 {
-        let c = state.connections[n];
-        let mut next = state;
-        next.connections[n] = Connection {
-            switches: switches,
-            ..c
-        };
-        return next;
-    }
-    state
+    next
 }
 
 // A new case.
 fn begin(image: &[u8], connection: u8, switches: u32) -> State {
     let answer = check_table(image);
     match answer {
-        TableAnswer::Accepted => {
+        Ok(()) => {
             say(b"table 0\n", 0);
             online(image, fresh_state(image), connection, switches)
         }
-        TableAnswer::Refused(place) => {
+        Err(BadTable::At(place)) => {
             say(b"table 1 @\n", place as u64);
             empty_state()
         }
     }
 }
 
-fn refusal_number(answer: Answer) -> u64 {
-    match answer {
-        Answer::Done => 0,
-        Answer::NotReceiving => 4,
-        Answer::Refused(reason) => match reason {
-            Refusal::Memory => 11,
-            Refusal::Unsound => 12,
-            Refusal::Missing => 2,
-            Refusal::Denied => 3,
-        },
+fn refusal_number(refusal: NotReceived) -> u64 {
+    match refusal {
+        NotReceived::NotReceiving => 4,
+        NotReceived::Refused(Refusal::Missing) => 2,
+        NotReceived::Refused(Refusal::Denied) => 3,
+        NotReceived::Refused(Refusal::Memory) => 11,
+        NotReceived::Refused(Refusal::Unsound) => 12,
     }
 }
 
@@ -125,70 +112,62 @@ fn found(row: &mut [u8], which: u8, id: u32, length: u32, at: usize) {
     put32(row, 13, (at % 4294967296) as u32);
 }
 
-// 0 more wanted, 1 a PDU in the segment, 2 a PDU in receive memory, 3 a drop, 4 a start, 5 a piece, 6 the last piece.
-fn shape_of(row: &mut [u8], outcome: Outcome) -> usize {
+// The line's pattern, and what it speaks of.
+fn pattern_of(row: &mut [u8], outcome: Outcome) -> &'static [u8] {
     match outcome {
-        Outcome::More => 0,
+        Outcome::More => b"%w00 more\n",
         Outcome::Pdu {
             route,
             id,
             in_segment,
             at,
-            length: _,
+            ..
         } => {
             found(row, route, id, 0, at);
-            if in_segment { 1 } else { 2 }
+            if in_segment {
+                b"%w00 pdu %b04 %w05 # segment %w13 x*\n"
+            } else {
+                b"%w00 pdu %b04 %w05 # memory %w13 x*\n"
+            }
         }
         Outcome::Drop { reason, id, length } => {
-            found(row, reason, id, length, 0);
-            3
+            found(row, u8::from(reason), id, length, 0);
+            b"%w00 drop %b04 %w05 %w09\n"
         }
         Outcome::Start {
             route,
             id,
             length,
-            last: _,
+            ..
         } => {
             found(row, route, id, length, 0);
-            4
+            b"%w00 start %b04 %w05 %w09\n"
         }
         Outcome::Piece {
             route,
             id,
             at,
-            length: _,
             last,
+            ..
         } => {
             found(row, route, id, 0, at);
-            if last { 6 } else { 5 }
+            if last {
+                b"%w00 last %b04 %w05 # segment %w13 x*\n"
+            } else {
+                b"%w00 piece %b04 %w05 # segment %w13 x*\n"
+            }
         }
     }
 }
 
 // One take as a line.
 fn tell(read: usize, outcome: Outcome, payload: &[u8]) {
-    let patterns = b"\
-        %w00 more\n/\
-        %w00 pdu %b04 %w05 # segment %w13 x*\n/\
-        %w00 pdu %b04 %w05 # memory %w13 x*\n/\
-        %w00 drop %b04 %w05 %w09\n/\
-        %w00 start %b04 %w05 %w09\n/\
-        %w00 piece %b04 %w05 # segment %w13 x*\n/\
-        %w00 last %b04 %w05 # segment %w13 x*\n/";
     let mut row = [0u8; 17];
     let mut line = io::buffer();
     put32(&mut row, 0, (read % 4294967296) as u32);
-    let shape = shape_of(&mut row, outcome);
-    let n = lay(&mut line, 0, phrase(patterns, shape), 0, &row, payload);
+    let pattern = pattern_of(&mut row, outcome);
+    let n = lay(&mut line, 0, pattern, 0, &row, payload);
     io::write_all(STDOUT_FILENO, front(&line, n));
-}
-
-fn tell_take(number: u64, read: usize, outcome: Outcome, payload: &[u8]) {
-    if number == 0 {
-        tell(read, outcome, payload);
-        return;
-    }
-    say(b"refused @\n", number);
 }
 
 // The takes over a segment until all is read, one at least.
@@ -200,51 +179,38 @@ fn takes_over(
     connection: u8,
     segment: &[u8],
 ) -> State {
-    let n = segment.len();
     let mut next = state;
-    let mut at: usize = 0;
-    while at <= n {
-        let rest = &segment[at..];
+    let mut rest = segment;
+    loop {
         let taken = segment_take(image, next, rx, tx, connection, rest);
-        let answer = taken.answer;
-        let outcome = taken.outcome;
-        let read = taken.read;
         next = taken.state;
-        tell_take(
-            refusal_number(answer),
-            read,
-            outcome,
-            segment_payload(rest, rx, connection, outcome),
-        );
-        if read == 0 {
+        let payload = segment_payload(rest, rx, connection, taken.outcome);
+        match taken.answer {
+            Ok(()) => tell(taken.read, taken.outcome, payload),
+            Err(refusal) => say(b"refused @\n", refusal_number(refusal)),
+        }
+        if taken.read == 0 || rest.len() <= taken.read {
             return next;
         }
-        if n - at <= read {
-            return next;
-        }
-        at += read;
+        rest = &rest[taken.read..];
     }
-    next
 }
 
-// The next n bytes of the input at the front of a buffer; false where they do not fit or the input ends before.
-fn read_body(buf: &mut [u8], n: usize) -> bool {
-    (n <= buf.len()) & (read_part(buf, 0, n) == n)
+// The next n bytes of the input at the front of a buffer; none where they do not fit or the input ends before.
+fn read_body(buf: &mut [u8], n: usize) -> Option<&[u8]> {
+    if n <= buf.len() && read_part(buf, 0, n) == n {
+        return Some(front(buf, n));
+    }
+    None
 }
 
 // A table record: the image is read, and a new case begins.
-fn table_record(image: &mut [u8], held: Held, connection: u8, n: usize, switches: u32) -> Held {
-    if !read_body(image, n) {
-        return Held {
-            going: false,
-            ..held
-        };
-    }
-    Held {
+fn table_record(image: &mut [u8], connection: u8, n: usize, switches: u32) -> Option<Held> {
+    let table = read_body(image, n)?;
+    Some(Held {
         size: n,
-        state: begin(front(image, n), connection, switches),
-        going: true,
-    }
+        state: begin(table, connection, switches),
+    })
 }
 
 // A segment record: the segment is read, and taken.
@@ -257,41 +223,33 @@ fn segment_record(
     connection: u8,
     n: usize,
     switches: u32,
-) -> Held {
-    if !read_body(segment, n) {
-        return Held {
-            going: false,
-            ..held
-        };
-    }
-    let state = held.state;
+) -> Option<Held> {
+    let bytes = read_body(segment, n)?;
     let table = front(image, held.size);
-    let next = switched(table, state, connection, switches);
-    Held {
-        state: takes_over(table, next, rx, tx, connection, front(segment, n)),
+    let next = switched(table, held.state, connection, switches);
+    Some(Held {
+        state: takes_over(table, next, rx, tx, connection, bytes),
         ..held
-    }
+    })
 }
 
-// One record of the input.
-fn one_record(image: &mut [u8], segment: &mut [u8], rx: &mut [u8], tx: &[u8], held: Held) -> Held {
-    let mut head = [0u8; 8];
-    let whole = read_body(&mut head, 8);
-    let kind = be8(&head, 0);
-    let connection = be8(&head, 1) as u8;
-    let n = be16(&head, 2);
-    let switches = be32(&head, 4) as u32;
-    let stopped = Held {
-        going: false,
-        ..held
-    };
-    if !whole {
-        return stopped;
-    }
-    match kind {
-        1 => table_record(image, held, connection, n, switches),
+// One record of the input; none where it ends the program.
+fn one_record(
+    image: &mut [u8],
+    segment: &mut [u8],
+    rx: &mut [u8],
+    tx: &[u8],
+    held: Held,
+) -> Option<Held> {
+    let mut room = [0u8; 8];
+    let head = read_body(&mut room, 8)?;
+    let connection = u8_at(head, 1);
+    let n = be16(head, 2);
+    let switches = u32_at(head, 4);
+    match be8(head, 0) {
+        1 => table_record(image, connection, n, switches),
         2 => segment_record(image, segment, rx, tx, held, connection, n, switches),
-        _ => stopped,
+        _ => None,
     }
 }
 
@@ -303,14 +261,11 @@ fn main() {
     let mut held = Held {
         size: 0,
         state: empty_state(),
-        going: true,
     };
-    let mut turns: u32 = 0;
-    while turns < 4294967295 {
-        held = one_record(&mut image, &mut segment, &mut rx, &tx, held);
-        if !held.going {
+    for _ in 0..u32::MAX {
+        let Some(next) = one_record(&mut image, &mut segment, &mut rx, &tx, held) else {
             return;
-        }
-        turns += 1;
+        };
+        held = next;
     }
 }

@@ -23,13 +23,11 @@ pub fn decimal(out: &mut [u8], at: usize, v: u64) -> usize
 fn digit(v: u16) -> u16
     ensures { (v < 16 → result ≡ hex_digit_ascii v) × (result < 256) }
 {
-    if v < 10 {
-        return 48 + v;
+    match v {
+        0..=9 => 48 + v,
+        10..=15 => 87 + v,
+        _ => 48,
     }
-    if v < 16 {
-        return 87 + v;
-    }
-    48
 }
 
 // The two digits of a byte, as two bytes.
@@ -45,17 +43,12 @@ pub fn hex(out: &mut [u8], at: usize, bytes: &[u8]) -> usize
     ensures value { result ≡ place_after out.old at (Is.hex_of bytes.now) }
     ensures out_after { out.new ≡ lay out.old at (Is.hex_of bytes.now) }
 {
-    let n = bytes.len();
-    if out.len() < at {
+    let long = bytes.len() * 2;
+    if out.len() < at || out.len() - at < long {
         return at;
     }
-    if out.len() - at < n * 2 {
-        return at;
+    for (i, byte) in bytes.iter().enumerate() {
+        put16(out, at + i * 2, pair(*byte));
     }
-    let mut i: usize = 0;
-    while i < n {
-        put16(out, at + i * 2, pair(bytes[i]));
-        i += 1;
-    }
-    at + n * 2
+    at + long
 }

@@ -1,5 +1,6 @@
 -- WHEN A SILENT PEER IS LET GO: at the last tick of its limit and not before (`let_go_exactly`); after a further datagram the limit begins again
 -- (`let_go_again`); with the mark it is never let go (`marked_never`).
+use Rattle.std.proofs.Common.{Ok}
 use Prim.Native.Nat.{ℕ, ◌+◌, ◌-◌, ◌<◌}
 use mathlib.Core.Path.{◌≡◌, refl, sym, ap, ◌∙◌, subst}
 use mathlib.Core.Bool.{Bool, true, false, ◌||◌, true≢false}
@@ -16,7 +17,6 @@ use Rattle.connection.specs.declared.Remote.{Remote}
 use Rattle.connection.specs.Connection.{wildcard}
 use Rattle.state.specs.Fresh.{config_of}
 use Rattle.gate.specs.Lent.{Lent}
-use Rattle.select.specs.declared.Arrival.TheVariants.{Met}
 use Rattle.entry_arrivals.specs.Arrivals.{arrival_of, datagram_of}
 use Rattle.model.specs.Events.{datagram, accept, tick, transmit, switch_all, read_count, clear_count, Event, on, on_whole}
 use Rattle.model_runs.specs.Streams.{EventBytes, RunBytes}
@@ -40,7 +40,7 @@ is-tick (on_whole (read_count p)) calm = absurd (calm refl)
 is-tick (on_whole (clear_count p)) calm = absurd (calm refl)
 
 -- a datagram is answered with UDP connections alone, without close wanted
-datagram-udp : (l : Lent) (group : ℕ) (source : Remote) (k : ℕ) → (arrival_of l false group source).answer ≡ Met k → (config_of l.image k).tcp ≡ false
+datagram-udp : (l : Lent) (group : ℕ) (source : Remote) (k : ℕ) → (arrival_of l false group source).answer ≡ Ok k → (config_of l.image k).tcp ≡ false
 unfolding config_of
 datagram-udp l group source k e =
     let r = met_reason l false group source k e in
@@ -108,7 +108,7 @@ module _ (image : List ℕ) (k : ℕ) (there : k < rows_of image Connections) (u
 
 -- A DATAGRAM that connection k is answered with leaves it watched with the row's limit, where it replaced a wildcard or the timer ran
 module _ (image : List ℕ) (k : ℕ) (there : k < rows_of image Connections) (m : Machine) (good : Good image m) (group : ℕ) (source : Remote)
-    (is : (datagram_of (lent_to image m) group source).answer ≡ Met k) where
+    (is : (datagram_of (lent_to image m) group source).answer ≡ Ok k) where
   abbrev after : Machine
   after = after_event image (on_whole (datagram group source)) m
 
@@ -161,9 +161,9 @@ module _ (image : List ℕ) (k : ℕ) (there : k < rows_of image Connections) (m
   abbrev restarted : Machine
   restarted = after_event image (on_whole (datagram again other)) waited
 
-  pub heard-twice : (datagram_of (lent_to image m) group source).answer ≡ Met k → wildcard (its_record image k m).remote ≡ true
+  pub heard-twice : (datagram_of (lent_to image m) group source).answer ≡ Ok k → wildcard (its_record image k m).remote ≡ true
       → (its_record image k m).watch.remote_set ≡ false → RunBytes es → Silent image k started es → ticks_in es < (config_of image k).alive
-      → (datagram_of (lent_to image waited) again other).answer ≡ Met k → (fs : List Event) → RunBytes fs → Silent image k restarted fs
+      → (datagram_of (lent_to image waited) again other).answer ≡ Ok k → (fs : List Event) → RunBytes fs → Silent image k restarted fs
       → LetGoAt image k (config_of image k) other (config_of image k).alive restarted fs
   heard-twice is wild mark bytes s few is' fs bytes' s' =
       let w = (let_go_exactly image k there m good group source is wild mark es bytes s).before few in

@@ -1,4 +1,5 @@
 -- EVENTS OF THE MACHINE, seen from one connection's record: a tick, an arrival, and every event that leaves the silence.
+use Rattle.std.proofs.Common.{Result, ℕ, Ok, Err}
 use Prim.Native.Nat.{ℕ, suc, ◌<◌}
 use mathlib.Core.Path.{◌≡◌, refl, sym, ap, ◌∙◌, subst}
 use mathlib.Core.Bool.{Bool, true, false, false≢true}
@@ -24,8 +25,7 @@ use Rattle.state.specs.Fresh.{config_of}
 use Rattle.gate.specs.Lent.{Lent}
 use Rattle.gate.proofs.Pass.{passed_gate, rows_in-sixteen}
 use Rattle.gate.proofs.Records.{row-sound}
-use Rattle.select.specs.declared.Arrival.{Arrival}
-use Rattle.select.specs.declared.Arrival.TheVariants.{Met, Refused, Unmatched}
+use Rattle.select.specs.declared.NotMet.TheVariants.{Refused, Unmatched}
 use Rattle.entry_arrivals.specs.Arrivals.{arrival_of}
 use Rattle.entry_ticks.specs.Tick.{tick_at, ticked_to, tick_event}
 use Rattle.law_keeps.proofs.Rows.{sound-row-at}
@@ -47,26 +47,27 @@ use Rattle.theorem_records.proofs.Records.{arrival_leaves}
 use Rattle.theorem_records.proofs.Untouched.{arrival_others}
 use Rattle.theorem_alive.specs.Alive.{Watched, ticks_of, its_record, Breaks, datagram_given, close_asked, waiting_taken}
 use Rattle.theorem_alive.proofs.Record.{step-watched, besides_watched, event_none, take_none}
+use Rattle.select.specs.declared.NotMet.{NotMet}
 
 -- WHO IS ANSWERED: the number of the connection, and 1 more; 0 for nobody
-pub whom : Arrival → ℕ
-whom (Met n) = suc n
-whom (Refused r) = 0
-whom Unmatched = 0
+pub whom : Result ℕ NotMet → ℕ
+whom (Ok n) = suc n
+whom (Err (Refused r)) = 0
+whom (Err Unmatched) = 0
 
-pub whom_is : (x : Arrival) (k : ℕ) → whom x ≡ suc k → x ≡ Met k
+pub whom_is : (x : Result ℕ NotMet) (k : ℕ) → whom x ≡ suc k → x ≡ Ok k
 unfolding whom
-whom_is (Met n) k e = let q : n ≡ k = omega (arith, e) in ap Met q
-whom_is (Refused r) k e = absurd (omega (arith, e))
-whom_is Unmatched k e = absurd (omega (arith, e))
+whom_is (Ok n) k e = let q : n ≡ k = omega (arith, e) in ap Ok q
+whom_is (Err (Refused r)) k e = absurd (omega (arith, e))
+whom_is (Err Unmatched) k e = absurd (omega (arith, e))
 
-pub whom_met : (k : ℕ) → whom (Met k) ≡ suc k
+pub whom_met : (k : ℕ) → whom (Ok k) ≡ suc k
 unfolding whom
 whom_met k = refl
 
 -- AN ARRIVAL THAT IS ANSWERED WITH CONNECTION k has its reason
 module _ (l : Lent) (a : Bool) (group : ℕ) (source : Remote) (k : ℕ) where
-  reason : (x : Arrival) → Arrives l a group source x → whom x ≡ suc k → Welcome l a group source × BestMatch l a group source k
+  reason : (x : Result ℕ NotMet) → Arrives l a group source x → whom x ≡ suc k → Welcome l a group source × BestMatch l a group source k
   unfolding whom
   reason _ (shut r g) e = absurd (omega (arith, e))
   reason _ (no_group g h) e = absurd (omega (arith, e))
@@ -74,11 +75,11 @@ module _ (l : Lent) (a : Bool) (group : ℕ) (source : Remote) (k : ℕ) where
   reason _ (none_matches g h w n) e = absurd (omega (arith, e))
   reason _ (meets j g h w b) e = let q : j ≡ k = omega (arith, e) in (w, subst (BestMatch l a group source) q b)
 
-  pub met_reason : (arrival_of l a group source).answer ≡ Met k → Welcome l a group source × BestMatch l a group source k
-  met_reason e = reason (Met k) ((arrival_answer l a group source (Met k)).0 e) (whom_met k)
+  pub met_reason : (arrival_of l a group source).answer ≡ Ok k → Welcome l a group source × BestMatch l a group source k
+  met_reason e = reason (Ok k) ((arrival_answer l a group source (Ok k)).0 e) (whom_met k)
 
 -- AN ACCEPT IS ANSWERED WITH TCP CONNECTIONS ALONE
-pub accept-tcp : (l : Lent) (group : ℕ) (source : Remote) (k : ℕ) → (arrival_of l true group source).answer ≡ Met k → (config_of l.image k).tcp ≡ true
+pub accept-tcp : (l : Lent) (group : ℕ) (source : Remote) (k : ℕ) → (arrival_of l true group source).answer ≡ Ok k → (config_of l.image k).tcp ≡ true
 unfolding config_of
 accept-tcp l group source k e =
     let r = met_reason l true group source k e in
@@ -107,28 +108,28 @@ module _ (image : List ℕ) (k : ℕ) (m : Machine) (good : Good image m) (there
       ∙ ap (λ (n : ℕ). tick_of (config_of image n) c) (zero-add k))
 
   -- AN ARRIVAL that is answered with it meets it
-  pub met : (a : Bool) (group : ℕ) (source : Remote) → (arrival_of (lent_to image m) a group source).answer ≡ Met k
+  pub met : (a : Bool) (group : ℕ) (source : Remote) → (arrival_of (lent_to image m) a group source).answer ≡ Ok k
       → record_at (arrival_of (lent_to image m) a group source).state k ≡ met_of g source c
   met a group source e =
       ap (λ s. record_at s k) (arrival_leaves (lent_to image m) a group source k e)
       ∙ get_or-set_same m.state.connections k (met_of g source c) zero_record inside
 
-  pub given : (group : ℕ) (source : Remote) → (arrival_of (lent_to image m) false group source).answer ≡ Met k
+  pub given : (group : ℕ) (source : Remote) → (arrival_of (lent_to image m) false group source).answer ≡ Ok k
       → record_at (after_event image (on_whole (datagram group source)) m).state k ≡ met_of g source c
   unfolding after_event after_whole
   given group source e = met false group source e
 
-  pub not_given : (group : ℕ) (source : Remote) → ((arrival_of (lent_to image m) false group source).answer ≡ Met k → ⊥)
+  pub not_given : (group : ℕ) (source : Remote) → ((arrival_of (lent_to image m) false group source).answer ≡ Ok k → ⊥)
       → record_at (after_event image (on_whole (datagram group source)) m).state k ≡ c
   unfolding after_event after_whole
   not_given group source calm = arrival_others (lent_to image m) false group source k calm
 
-  pub accepted : (group : ℕ) (source : Remote) → (arrival_of (lent_to image m) true group source).answer ≡ Met k
+  pub accepted : (group : ℕ) (source : Remote) → (arrival_of (lent_to image m) true group source).answer ≡ Ok k
       → record_at (after_event image (on_whole (accept group source)) m).state k ≡ met_of g source c
   unfolding after_event after_whole
   accepted group source e = met true group source e
 
-  pub not_accepted : (group : ℕ) (source : Remote) → ((arrival_of (lent_to image m) true group source).answer ≡ Met k → ⊥)
+  pub not_accepted : (group : ℕ) (source : Remote) → ((arrival_of (lent_to image m) true group source).answer ≡ Ok k → ⊥)
       → record_at (after_event image (on_whole (accept group source)) m).state k ≡ c
   unfolding after_event after_whole
   not_accepted group source calm = arrival_others (lent_to image m) true group source k calm

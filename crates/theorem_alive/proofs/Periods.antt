@@ -1,4 +1,5 @@
 -- AN ONLINE PERIOD OF A UDP CONNECTION ENDS EXACTLY BY A CLOSING TICK, BY ITS ALIVE TIMER, OR BY A TAKE AFTER WHICH IT WAITS FOR ANYONE AGAIN.
+use Rattle.std.proofs.Common.{Ok}
 use Prim.Native.Nat.{ℕ, ◌<◌, ◌≤◌}
 use mathlib.Core.Path.{◌≡◌, refl, sym, ap, ◌∙◌, subst}
 use mathlib.Core.Logic.{◌↔◌}
@@ -20,7 +21,6 @@ use Rattle.connection.proofs.Leaves.{after-leaves, only_loss}
 use Rattle.connection.proofs.Ticks.{Tick, closes_wanted, lets_go, goes_on, tick_is, tick-closes, tick_lets_go, step-either}
 use Rattle.state.specs.State.{record_at}
 use Rattle.state.specs.Fresh.{config_of}
-use Rattle.select.specs.declared.Arrival.TheVariants.{Met}
 use Rattle.entry_arrivals.specs.Arrivals.{arrival_of}
 use Rattle.send_waiting.specs.Waiting.{take_of}
 use Rattle.model.specs.World.{Held, blank}
@@ -89,14 +89,14 @@ module _ (image : List ℕ) (k : ℕ) (m : Machine) (good : Good image m) (there
   datagram_up : (group : ℕ) (source : _) → Up (on_whole (datagram group source))
   datagram_up group source = go (ℕ_discrete (whom (arrival_of (lent_to image m) false group source).answer) _)
     where
-      go : Dec (whom (arrival_of (lent_to image m) false group source).answer ≡ whom (Met k)) → Up (on_whole (datagram group source))
+      go : Dec (whom (arrival_of (lent_to image m) false group source).answer ≡ whom (Ok k)) → Up (on_whole (datagram group source))
       go (yes e) = mode_of (given image k m good there group source (whom_is (arrival_of (lent_to image m) false group source).answer k (e ∙ whom_met k))) refl
       go (no ne) = mode_of (not_given image k m good there group source (λ is. ne (ap whom is))) online
 
   accept_up : (group : ℕ) (source : _) → Up (on_whole (accept group source))
   accept_up group source = go (ℕ_discrete (whom (arrival_of (lent_to image m) true group source).answer) _)
     where
-      go : Dec (whom (arrival_of (lent_to image m) true group source).answer ≡ whom (Met k)) → Up (on_whole (accept group source))
+      go : Dec (whom (arrival_of (lent_to image m) true group source).answer ≡ whom (Ok k)) → Up (on_whole (accept group source))
       go (yes e) = mode_of (accepted image k m good there group source (whom_is (arrival_of (lent_to image m) true group source).answer k (e ∙ whom_met k)))
           refl
       go (no ne) = mode_of (not_accepted image k m good there group source (λ is. ne (ap whom is))) online

@@ -1,5 +1,6 @@
 -- WHY A TIMER RUNS: a datagram has replaced a wildcard, and the timer has run since (`running-since`); so from a machine where it does not run, as from
 -- a fresh one, a connection is let go by its timer only then (`let_go_only`, `fresh_let_go_only`).
+use Rattle.std.proofs.Common.{Ok}
 use Prim.Native.Nat.{ℕ, zero, suc, ◌<◌}
 use mathlib.Core.Path.{◌≡◌, refl, sym, ap, ◌∙◌, subst}
 use mathlib.Core.Logic.{◌⊎◌, inl, inr}
@@ -11,7 +12,6 @@ use native.Mathlib.Decide.{ℕ_discrete}
 use Rattle.lists.specs.Each.{each}
 use Rattle.table_layout.specs.Layout.{rows_of}
 use Rattle.table_layout.specs.declared.Kind.TheVariants.{Connection as Connections}
-use Rattle.table.specs.declared.TableAnswer.TheVariants.{Accepted}
 use Rattle.table.specs.Table.{check_table}
 use Rattle.connection.specs.declared.Connection.{Connection}
 use Rattle.connection.specs.declared.Remote.{Remote}
@@ -113,7 +113,7 @@ pub fresh-alive : (image rx tx : List ℕ) (k : ℕ) → alive_of image k (machi
 unfolding fresh_state
 fresh-alive image rx tx k = fresh_none image 0 (replicate 16 zero_record) k
 
-pub fresh_let_go_only : (image : List ℕ) → check_table image ≡ Accepted → (rx tx : List ℕ) → length rx ≡ 23424 → length tx ≡ 23552
+pub fresh_let_go_only : (image : List ℕ) → check_table image ≡ Ok tt → (rx tx : List ℕ) → length rx ≡ 23424 → length tx ≡ 23552
     → (k : ℕ) → k < rows_of image Connections → (es : List Event) → RunBytes es
     → expires (config_of image k) (its_record image k (after_run image (machine (fresh_state image) rx tx) es)) ≡ true
     → StartedIn image k (machine (fresh_state image) rx tx) es

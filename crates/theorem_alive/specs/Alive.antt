@@ -1,12 +1,11 @@
 -- SILENT PEERS ARE LET GO (R20.3, R20.4), in the rules' words: of connection k in runs of the machine.
-use Rattle.std.specs.Prelude.{ℕ, suc, ◌+◌, ◌-◌, ◌<◌, ◌≡◌, Bool, true, false, List, [], ◌∷◌}
+use Rattle.std.specs.Prelude.{ℕ, suc, ◌+◌, ◌-◌, ◌<◌, ◌≡◌, Bool, true, false, List, [], ◌∷◌, Ok}
 use Rattle.connection.specs.declared.Config.{Config}
 use Rattle.connection.specs.declared.Connection.{Connection}
 use Rattle.connection.specs.declared.Remote.{Remote}
 use Rattle.connection.specs.declared.Event.TheVariants.{Close}
 use Rattle.connection.specs.Connection.{is_reconnect, is_online, wildcard, unwatched}
 use Rattle.state.specs.State.{record_at}
-use Rattle.select.specs.declared.Arrival.TheVariants.{Met}
 use Rattle.entry_arrivals.specs.Arrivals.{datagram_of}
 use Rattle.model.specs.Events.{change, take_waiting, datagram, accept, tick, transmit, switch_all, read_count, clear_count, Event, on, on_whole}
 use Rattle.model_refines.specs.Machine.{Machine, lent_to}
@@ -58,7 +57,7 @@ module _ (image : List ℕ) (k : ℕ) where
   -- WHAT BREAKS THE SILENCE: a datagram that connection k is answered with, a close of it, a take of its waiting bytes. All else may happen in
   -- between: events of others, its own walks, opens, switches and set remotes, transmits, datagrams for others, accepts, ticks
   pub data Breaks (m : Machine) : Event → Type 0 where
-    datagram_given : (group : ℕ) (source : Remote) → (datagram_of (lent_to image m) group source).answer ≡ Met k → Breaks m (on_whole (datagram group source))
+    datagram_given : (group : ℕ) (source : Remote) → (datagram_of (lent_to image m) group source).answer ≡ Ok k → Breaks m (on_whole (datagram group source))
     close_asked : Breaks m (on k (change Close))
     waiting_taken : (room : ℕ) → Breaks m (on k (take_waiting room))
 
@@ -74,7 +73,7 @@ module _ (image : List ℕ) (k : ℕ) where
 
   -- WHAT STARTS A STOPPED TIMER: a datagram that connection k is answered with, whose record's remote had a wildcard
   pub data Starts (m : Machine) : Event → Type 0 where
-    wildcard_replaced : (group : ℕ) (source : Remote) → (datagram_of (lent_to image m) group source).answer ≡ Met k → wildcard (its_record m).remote ≡ true
+    wildcard_replaced : (group : ℕ) (source : Remote) → (datagram_of (lent_to image m) group source).answer ≡ Ok k → wildcard (its_record m).remote ≡ true
         → Starts m (on_whole (datagram group source))
 
   -- the timer runs at each place of a run

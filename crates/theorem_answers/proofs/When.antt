@@ -1,4 +1,5 @@
 -- WHEN EACH NUMBER IS GIVEN: from any table, state and memory the number of an event is that of its first check that fails.
+use Rattle.std.proofs.Common.{Ok, Err, Result, Option, ℕ, Some, None}
 use Prim.Native.Nat.{ℕ, zero, suc, ◌+◌, ◌<◌}
 use mathlib.Core.Path.{◌≡◌, refl, sym, ◌∙◌}
 use mathlib.Core.Bool.{Bool, true, false, cond, not, ◌&&◌, ◌||◌}
@@ -18,13 +19,11 @@ use Rattle.connection.specs.declared.Connection.{Connection}
 use Rattle.connection.specs.declared.Remote.{Remote}
 use Rattle.connection.specs.declared.Refusal.{Refusal}
 use Rattle.connection.specs.declared.Refusal.TheVariants.{Memory, Unsound, Missing, Denied}
-use Rattle.connection.specs.declared.Answer.TheVariants.{Done}
 use Rattle.connection.specs.declared.Stepped.{Stepped}
 use Rattle.connection.specs.declared.Event.{Event as Change}
 use Rattle.connection.specs.Connection.{is_online}
 use Rattle.connection.specs.Event.{refusal_number, answer_number, known, allowed, record_after, refused_by as not_stepped, step_of}
 use Rattle.state.specs.declared.State.{State}
-use Rattle.gate.specs.declared.Gate.TheVariants.{Pass, Refused}
 use Rattle.gate.specs.Gate.{gate_of, gate_at, then_there, through}
 use Rattle.gate.specs.Sound.{sound_state}
 use Rattle.entry_events.specs.declared.Told.{Told}
@@ -35,24 +34,21 @@ use Rattle.entry_events.specs.Count.{count_number, of_protocol, read_from, clear
 use Rattle.entry_ticks.specs.declared.Ticked.{Ticked}
 use Rattle.entry_ticks.specs.Tick.{ticked_to, unticked, ticked_from, tick_event}
 use Rattle.select.specs.declared.Arrived.{Arrived}
-use Rattle.select.specs.declared.Chosen.{Chosen}
-use Rattle.select.specs.declared.Chosen.TheVariants.{Nobody, At}
 use Rattle.select.specs.Best.{IsChosen}
 use Rattle.select.specs.Choose.{arrival_number, meet, arrival_refused as not_met, denied_of, score_of, score_at, chosen_in, arrive_of}
 use Rattle.select.proofs.Pass.{chosen_is_best}
 use Rattle.entry_arrivals.specs.Arrivals.{arrival_of}
-use Rattle.entry_receive.specs.declared.Answer.{Answer}
-use Rattle.entry_receive.specs.declared.Answer.TheVariants as Receive
+use Rattle.entry_receive.specs.declared.NotReceived.TheVariants as Receive
 use Rattle.entry_receive.specs.Answer.{receive_number, is_done, judged_of, judged_answer}
 use Rattle.entry_receive.specs.Segment.{take_on, none_taken, segment_of, segment_answer}
 use Rattle.entry_receive.specs.Walk.{walk_on, none_walked, walk_answer, walk_allowed, walk_of}
 use Rattle.send_destination.specs.Destination.{refusal_of, look_of}
-use Rattle.send.specs.declared.Transmission.TheVariants as Sent
+use Rattle.send.specs.declared.NotSent.TheVariants as Sent
 use Rattle.send.specs.declared.Transmitted.{Transmitted}
 use Rattle.send.specs.Verdict.{is_out, passes, decided_at, verdict_of, transmission_number}
 use Rattle.send.specs.Send.{destinations, look_at, check_of, transmitted_of}
 use Rattle.entry_send.specs.declared.Taken.{Taken as Drained}
-use Rattle.send_waiting.specs.declared.Taking.TheVariants as Taken
+use Rattle.send_waiting.specs.declared.NotTaken.TheVariants as Taken
 use Rattle.send_waiting.specs.Waiting.{taking_number, taking_of}
 use Rattle.entry_send.specs.Sending.{not_sent, send_of, not_taken, take_past, taken_waiting}
 use Rattle.model.specs.Events.{change, segment, walk, take_waiting, datagram, accept, tick, transmit, switch_all, read_count, clear_count, Event, on, on_whole}
@@ -60,6 +56,7 @@ use Rattle.model_refines.specs.Machine.{Machine, lent_to, loan_to}
 use Rattle.theorems.specs.Numbers.{number_of}
 use Rattle.theorem_answers.specs.When.{Check, check, first_failing, row_here, here, first, first_of, no_switch, not_online, no_protocol}
 use Rattle.theorem_answers.specs.When.{matching, arrives, has, switched_on, payload_too_long, no_room, asked, asked_from, transmits, checks_for}
+use Rattle.entry_receive.specs.declared.NotReceived.{NotReceived}
 
 -- a test and its other side
 not_below : (a b : ℕ) → not (ltb a b) ≡ leb b a
@@ -107,7 +104,7 @@ module _ (image : List ℕ) (m : Machine) where
     unfolding gate_of first_failing
     gate_first = go (not (eqb rx 23424) || not (eqb tx 23552)) (sound_state image s)
       where
-        go : (a b : Bool) → number (through (cond a (Refused Memory) (cond b Pass (Refused Unsound))) refused event)
+        go : (a b : Bool) → number (through (cond a (Err Memory) (cond b (Ok tt) (Err Unsound))) refused event)
             ≡ cond a 11 (cond (not b) 12 (first_failing own))
         go true b = by Memory
         go false true = is
@@ -119,7 +116,7 @@ module _ (image : List ℕ) (m : Machine) where
         (ltb k (rows_of image Connections)) (leb (rows_of image Connections) k) (not_below k (rows_of image Connections))
       where
         go : (a b t f : Bool) → not t ≡ f
-            → number (through (then_there t (cond a (Refused Memory) (cond b Pass (Refused Unsound)))) refused event)
+            → number (through (then_there t (cond a (Err Memory) (cond b (Ok tt) (Err Unsound)))) refused event)
             ≡ cond a 11 (cond (not b) 12 (cond f 2 (first_failing own)))
         go true b t f e = by Memory
         go false false t f e = by Unsound
@@ -139,7 +136,7 @@ module _ (image : List ℕ) (m : Machine) where
 
       step : Bool → Bool → Stepped
       step x y = cond (not x) (not_stepped Missing c)
-          (cond (not y) (not_stepped Denied c) (record { answer = Done; connection = record_after e (row_here image m k) c }))
+          (cond (not y) (not_stepped Denied c) (record { answer = Ok tt; connection = record_after e (row_here image m k) c }))
 
       go : (x y : Bool) → answer_number (told_of s k (step x y).answer (step x y).connection).answer ≡ cond (not x) 2 (cond (not y) 3 0)
       go false y = refl
@@ -157,7 +154,7 @@ module _ (image : List ℕ) (m : Machine) where
   unfolding judged_of first_failing
   judged_number k ok no_way e = rw (← e) (go ok (is_online (here image m k).mode) (here image m k).close_wanted)
     where
-      go : (a b c : Bool) → receive_number (cond a (cond (b && not c) Receive.Done Receive.NotReceiving) (Receive.Refused Denied))
+      go : (a b c : Bool) → receive_number (cond a (cond (b && not c) (Ok tt) (Err Receive.NotReceiving)) (Err (Receive.Refused Denied)))
           ≡ cond (not a) 3 (cond (not b || c) 4 0)
       go false b c = refl
       go true true true = refl
@@ -168,14 +165,14 @@ module _ (image : List ℕ) (m : Machine) where
       → receive_number (judged_answer (lent_to image m) k ok) ≡ first_failing (first_of image m k (check no_way 3 ∷ not_online image m k ∷ []))
   unfolding judged_answer
   receive-number k ok no_way e =
-      gate_first_of receive_number Receive.Refused (judged_of ok (here image m k))
+      gate_first_of receive_number (λ x. Err (Receive.Refused x)) (judged_of ok (here image m k))
       (check no_way 3 ∷ not_online image m k ∷ []) (λ r. refl) (judged_number k ok no_way e) k
 
   -- an answer that is done has the number 0
-  done_zero : (a : Answer) → is_done a ≡ true → 0 ≡ receive_number a
-  done_zero Receive.Done e = refl
-  done_zero (Receive.Refused r) e = impossible e
-  done_zero Receive.NotReceiving e = impossible e
+  done_zero : (a : Result Unit NotReceived) → is_done a ≡ true → 0 ≡ receive_number a
+  done_zero (Ok tt) e = refl
+  done_zero (Err (Receive.Refused r)) e = impossible e
+  done_zero (Err Receive.NotReceiving) e = impossible e
 
   segment-number : (k : ℕ) (bs : List ℕ) → receive_number (segment_of (loan_to image m) k bs).answer ≡ receive_number (segment_answer (lent_to image m) k)
   unfolding segment_of take_on
@@ -206,7 +203,7 @@ module _ (image : List ℕ) (m : Machine) where
   unfolding taking_of first_failing
   taking-number k room = go (ltb room (here image m k).used)
     where
-      go : (b : Bool) → taking_number (cond b Taken.Short (Taken.Bytes (here image m k).used (here image m k).remote)) ≡ cond b 9 0
+      go : (b : Bool) → taking_number (cond b (Err Taken.Short) (Ok ((here image m k).used, (here image m k).remote))) ≡ cond b 9 0
       go true = refl
       go false = refl
 
@@ -226,7 +223,7 @@ module _ (image : List ℕ) (m : Machine) where
       (event (ltb n 32)) (no_switch image m n ∷ []) (λ r. refl) (rw (← not_below n 32) (past (ltb n 32)))
     where
       event : Bool → Told
-      event x = cond x (record { answer = Done; state = switched_all (rows_of image Connections) n b s }) (refused_told s Missing)
+      event x = cond x (record { answer = Ok tt; state = switched_all (rows_of image Connections) n b s }) (refused_told s Missing)
 
       past : (x : Bool) → answer_number (event x).answer ≡ cond (not x) 2 0
       past true = refl
@@ -271,13 +268,13 @@ module _ (image : List ℕ) (m : Machine) where
     arrival_own = go (leb (rows_of image Group) group) (denied_of image a group source) (chosen_in image s a group source)
         (chosen_is_best image s a group source)
       where
-        go : (x y : Bool) (c : Chosen) → IsChosen (score_at image s a group source) 16 c
+        go : (x y : Bool) (c : Option ℕ) → IsChosen (score_at image s a group source) 16 c
             → arrival_number (cond x (not_met s Missing) (cond y (not_met s Denied) (meet image s source c))).answer
             ≡ cond x 2 (cond y 3 (cond (every (λ i. not (match i)) 16) 10 0))
         go true y c h = refl
         go false true c h = refl
-        go false false Nobody h = rw (every-all (λ i. not (match i)) 16 (λ i l. score_none i (h i l)))
-        go false false (At k) h = rw (← pass_failed (λ i. not (match i)) 16 k h.inside (score_some k h.counts))
+        go false false None h = rw (every-all (λ i. not (match i)) 16 (λ i l. score_none i (h i l)))
+        go false false (Some k) h = rw (← pass_failed (λ i. not (match i)) 16 k h.inside (score_some k h.counts))
 
     arrival-number : arrival_number (arrival_of (lent_to image m) a group source).answer ≡ first_failing (first image m (arrives image m a group source))
     unfolding arrival_of
@@ -346,7 +343,8 @@ module _ (image : List ℕ) (m : Machine) where
         rows = destinations image
 
         go : (x y : Bool)
-            → transmission_number (cond x Sent.NoDestination (cond y Sent.SwitchedOff (decided_at look rows (first_bad (λ j. passes (look j)) rows))))
+            → transmission_number (cond x (Err Sent.NoDestination) (cond y (Err Sent.SwitchedOff) (decided_at look rows (first_bad (λ j. passes
+            (look j)) rows))))
             ≡ cond x 5 (cond y 6 (first_failing (asked_from image m pdu len rows 0)))
         go true y = refl
         go false true = refl

@@ -1,4 +1,5 @@
 -- THE TABLE CHECK accepts exactly the images that meet every rule, and refuses any other at its first fault.
+use Rattle.std.proofs.Common.{Result, Ok, Err}
 use Prim.Native.Nat.{ℕ, suc, ◌+◌, ◌-◌, ◌<◌, ◌≤◌}
 use mathlib.Core.Path.{◌≡◌, refl, sym, ap, ap₂, ◌∙◌, subst}
 use mathlib.Core.Logic.{◌↔◌}
@@ -14,8 +15,7 @@ use Rattle.law_lists.proofs.First.{before-bad}
 use Rattle.table_layout.specs.Layout.{number, entry_at, rows_of, row_at, end_of}
 use Rattle.table_layout.specs.declared.Kind.{Kind}
 use Rattle.table_layout.specs.declared.Kind.TheVariants.{Group, Connection, Route, Destination}
-use Rattle.table.specs.declared.TableAnswer.{TableAnswer}
-use Rattle.table.specs.declared.TableAnswer.TheVariants.{Accepted, Refused}
+use Rattle.table.specs.declared.BadTable.TheVariants.{At}
 use Rattle.table.specs.Table.{head_good, entry_good, row_good, bad_row, demand, then_check, entries_place, head_place, rows_place, all_rows_place, check_table}
 use Rattle.table_fault.specs.declared.Spot.{Spot}
 use Rattle.table_fault.specs.declared.Spot.TheVariants.{Head, Entry, Total, Row}
@@ -23,6 +23,7 @@ use Rattle.table_fault.specs.Spots.{spot_place}
 use Rattle.table_fault.specs.Good.{There, good_at}
 use Rattle.theorem_calls.specs.Image.{stage_of, within_stage, Earlier, stage, row, TableSays}
 use Rattle.theorem_calls.proofs.Spots.{spot_words, words_spot}
+use Rattle.table.specs.declared.BadTable.{BadTable}
 
 -- A SPOT IS KNOWN BY ITS STAGE and its number within it
 kind_from : ℕ → Kind
@@ -98,19 +99,19 @@ module _ (s : List ℕ) where
     pub bad : good_at s spot ≡ false
     pub before : (t : Spot) → a ≤ stage_of t → There s t → Earlier t spot → good_at s t ≡ true
 
-  abbrev Part : ℕ → ℕ → TableAnswer → Type 0
-  Part a b Accepted = (t : Spot) → a ≤ stage_of t → stage_of t < b → There s t → good_at s t ≡ true
-  Part a b (Refused place) = Fault a b place
+  abbrev Part : ℕ → ℕ → Result Unit BadTable → Type 0
+  Part a b (Ok tt) = (t : Spot) → a ≤ stage_of t → stage_of t < b → There s t → good_at s t ≡ true
+  Part a b (Err (At place)) = Fault a b place
 
   -- one check after the other
-  join : (a b c : ℕ) → a ≤ b → b ≤ c → (x y : TableAnswer) → Part a b x → Part b c y → Part a c (then_check x y)
+  join : (a b c : ℕ) → a ≤ b → b ≤ c → (x y : Result Unit BadTable) → Part a b x → Part b c y → Part a c (then_check x y)
   unfolding then_check
-  join a b c l m Accepted Accepted f g = λ t lo hi th. go t lo hi th (dec_lt (stage_of t) b)
+  join a b c l m (Ok u) (Ok v) f g = λ t lo hi th. go t lo hi th (dec_lt (stage_of t) b)
     where
       go : (t : Spot) → a ≤ stage_of t → stage_of t < c → There s t → Dec (stage_of t < b) → good_at s t ≡ true
       go t lo hi th (yes h) = f t lo h th
       go t lo hi th (no h) = g t (omega (arith, h)) hi th
-  join a b c l m Accepted (Refused p) f g =
+  join a b c l m (Ok tt) (Err (At p)) f g =
       record {
         spot = g.spot;
         low = omega (arith, l, g.low);
@@ -124,7 +125,7 @@ module _ (s : List ℕ) where
       go : (t : Spot) → a ≤ stage_of t → There s t → Earlier t g.spot → Dec (stage_of t < b) → good_at s t ≡ true
       go t lo th e (yes h) = f t lo h th
       go t lo th e (no h) = g.before t (omega (arith, h)) th e
-  join a b c l m (Refused p) y f g =
+  join a b c l m (Err (At p)) y f g =
       record { spot = f.spot; low = f.low; high = omega (arith, m, f.high); there = f.there; at = f.at; bad = f.bad; before = f.before }
 
   -- a stage of one spot
@@ -172,7 +173,7 @@ module _ (s : List ℕ) where
   entry k = one (Entry k) (entry_back k) tt (entry_good s k) refl (entry_at k) refl
 
   -- 36 bytes and the head are one spot
-  heads : (a h : Bool) (x y : TableAnswer) → then_check (demand a 0) (then_check (then_check (demand h 0) x) y)
+  heads : (a h : Bool) (x y : Result Unit BadTable) → then_check (demand a 0) (then_check (then_check (demand h 0) x) y)
       ≡ then_check (demand (a && h) 0) (then_check x y)
   unfolding then_check
   heads true true x y = refl
@@ -195,9 +196,9 @@ module _ (s : List ℕ) where
       (join 8 9 10 (omega arith) (omega arith) (rows_place s Route) (rows_place s Destination) (rows Route) (rows Destination)))))))
 
   -- in words
-  in_words : (x : TableAnswer) → Part 0 10 x → TableSays s x
-  in_words Accepted f = λ t th. spot_words s t (f t (omega arith) (stage-most t) th)
-  in_words (Refused p) f =
+  in_words : (x : Result Unit BadTable) → Part 0 10 x → TableSays s x
+  in_words (Ok tt) f = λ t th. spot_words s t (f t (omega arith) (stage-most t) th)
+  in_words (Err (At p)) f =
       record {
         spot = f.spot;
         there = f.there;
@@ -210,19 +211,19 @@ module _ (s : List ℕ) where
   told = in_words (check_table s) whole
 
   -- only one answer has what it says
-  only_one : (x y : TableAnswer) → TableSays s x → TableSays s y → x ≡ y
-  only_one Accepted Accepted f g = refl
-  only_one Accepted (Refused q) f g = absurd (g.bad (f g.spot g.there))
-  only_one (Refused p) Accepted f g = absurd (f.bad (g f.spot f.there))
-  only_one (Refused p) (Refused q) f g =
+  only_one : (x y : Result Unit BadTable) → TableSays s x → TableSays s y → x ≡ y
+  only_one (Ok u) (Ok v) f g = refl
+  only_one (Ok u) (Err (At p)) f g = absurd (g.bad (f g.spot g.there))
+  only_one (Err (At p)) (Ok u) f g = absurd (f.bad (g f.spot f.there))
+  only_one (Err (At p)) (Err (At q)) f g =
       compare f.spot g.spot
       (λ e. absurd (f.bad (g.before f.spot f.there e)))
       (λ e. absurd (g.bad (f.before g.spot g.there e)))
-      (λ e. ap Refused (sym f.at ∙ ap (spot_place s) e ∙ g.at))
+      (λ e. ap (λ x. Err (At x)) (sym f.at ∙ ap (spot_place s) e ∙ g.at))
 
-  pub table-given : (x : TableAnswer) → TableSays s x → check_table s ≡ x
+  pub table-given : (x : Result Unit BadTable) → TableSays s x → check_table s ≡ x
   table-given x h = only_one (check_table s) x told h
 
   -- EXACTLY WHEN
-  pub table-answer : (x : TableAnswer) → (check_table s ≡ x) ↔ TableSays s x
+  pub table-answer : (x : Result Unit BadTable) → (check_table s ≡ x) ↔ TableSays s x
   table-answer x = (λ (e : check_table s ≡ x). subst (TableSays s) e told, table-given x)

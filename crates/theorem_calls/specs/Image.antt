@@ -1,6 +1,6 @@
 -- AN IMAGE IN THE RULES' WORDS (R1.2 to R1.10): what is good at each spot, the order in which the spots are looked at, and when each answer of the
 -- table check is given.
-use Rattle.std.specs.Prelude.{ℕ, ◌+◌, ◌<◌, ◌≤◌, ◌≡◌, true, List, length}
+use Rattle.std.specs.Prelude.{ℕ, ◌+◌, ◌<◌, ◌≤◌, ◌≡◌, true, List, length, Result, Ok, Err}
 use Rattle.wire.specs.Be.{be}
 use Rattle.table_layout.specs.Layout.{number, most_rows, entry_at, rows_of, start_of, end_of, row_of}
 use Rattle.table_layout.specs.declared.Kind.{Kind}
@@ -16,12 +16,12 @@ use Rattle.table_rows.specs.Rows.{
   route_of,
   destination_of,
 }
-use Rattle.table.specs.declared.TableAnswer.{TableAnswer}
-use Rattle.table.specs.declared.TableAnswer.TheVariants.{Accepted, Refused}
+use Rattle.table.specs.declared.BadTable.TheVariants.{At}
 use Rattle.table_fault.specs.declared.Spot.{Spot}
 use Rattle.table_fault.specs.declared.Spot.TheVariants.{Head, Entry, Total, Row}
 use Rattle.table_fault.specs.Spots.{spot_place}
 use Rattle.table_fault.specs.Good.{There}
+use Rattle.table.specs.declared.BadTable.{BadTable}
 
 -- R1.10, the order: the head, the contents entries, the total length, the rows of each kind, and of one kind by their number
 abbrev pub stage_of : Spot → ℕ
@@ -111,6 +111,6 @@ module _ (s : List ℕ) where
     pub before : (t : Spot) → There s t → Earlier t spot → GoodSpot t
 
   -- R1.10: when each answer is given
-  abbrev pub TableSays : TableAnswer → Type 0
-  TableSays Accepted = MeetsAll
-  TableSays (Refused place) = FirstFault place
+  abbrev pub TableSays : Result Unit BadTable → Type 0
+  TableSays (Ok tt) = MeetsAll
+  TableSays (Err (At place)) = FirstFault place

@@ -1,5 +1,5 @@
 -- DEMAND 1 AND DEMAND 2 (R4.1, R4.7, R5.5, R7.5, R8.2, R10.2, R10.10, R5.17), each as one statement of a table image and a machine.
-use Rattle.std.specs.Prelude.{ℕ, ◌<◌, ◌≤◌, ◌≡◌, ◌↔◌, ◌⊎◌, Bool, true, cond, length}
+use Rattle.std.specs.Prelude.{ℕ, ◌<◌, ◌≤◌, ◌≡◌, ◌↔◌, ◌⊎◌, Bool, true, cond, length, Result, Ok, Err}
 use mathlib.Core.List.{List, [], ◌++◌, flatten, map}
 use Rattle.table_layout.specs.Layout.{rows_of}
 use Rattle.table_layout.specs.declared.Kind.TheVariants.{Connection as Connections}
@@ -16,10 +16,8 @@ use Rattle.connection.specs.Connection.{wildcard, tick_of}
 use Rattle.connection.specs.Event.{step_of}
 use Rattle.state.specs.State.{record_at}
 use Rattle.state.specs.Fresh.{config_of}
-use Rattle.select.specs.declared.Arrival.{Arrival}
 use Rattle.entry_arrivals.specs.Arrivals.{arrival_of}
 use Rattle.entry_receive.specs.Routes.{routes_in, DecidedIn}
-use Rattle.send.specs.declared.Transmission.{Transmission}
 use Rattle.entry_send.specs.Sending.{send_of}
 use Rattle.law_waits.specs.Waits.{waits, any_empties, since}
 use Rattle.law_transitions.specs.Table.{place_of, happening_of, tick_happening, move}
@@ -36,6 +34,8 @@ use Rattle.theorems.specs.Trip.{outgoing, Reader, Walker, as_walks}
 use Rattle.theorem_answers.specs.When.{first_failing, checks_for}
 use Rattle.theorem_transmit.specs.Exactly.{ExactlyWhen}
 use Rattle.theorem_match.specs.Match.{Arrives}
+use Rattle.select.specs.declared.NotMet.{NotMet}
+use Rattle.send.specs.declared.NotSent.{NotSent}
 
 -- DEMAND 1, of any image and any machine of sixteen records
 pub record Demand1 (image : List ℕ) (m : Machine) : Type 0 where
@@ -63,7 +63,7 @@ module _ (image : List ℕ) (m : Machine) where
     -- switches: on when the groups are 0 or share a set bit
     pub switches : (groups word : ℕ) → (is_on groups word ≡ true) ↔ ((groups ≡ 0) ⊎ Shared groups word)
     -- selection: a datagram, an accept
-    pub selection : (accept : Bool) (group : ℕ) (source : Remote) (x : Arrival)
+    pub selection : (accept : Bool) (group : ℕ) (source : Remote) (x : Result ℕ NotMet)
         → ((arrival_of (lent_to image m) accept group source).answer ≡ x) ↔ Arrives (lent_to image m) accept group source x
     -- connection states: events and ticks move mode and wishes as the one table says
     pub states : (k : ℕ) → k < rows_of image Connections → (e : Change)
@@ -75,7 +75,7 @@ module _ (image : List ℕ) (m : Machine) where
         ≡ move (tick_happening (demanded_row k) (demanded_record k)) (demanded_row k).tcp (demanded_row k).automatic (wildcard (demanded_record k).remote)
         (transferring (demanded_record k).part) (place_of (demanded_record k))
     -- send buffers: a transmit's answer, and what waits after any run
-    pub transmits : (pdu : ℕ) (payload : List ℕ) (x : Transmission)
+    pub transmits : (pdu : ℕ) (payload : List ℕ) (x : Result Unit NotSent)
         → ((send_of (loan_to image m) pdu payload).answer ≡ x) ↔ ExactlyWhen (loan_to image m) pdu payload x
     pub waiting : (j : ℕ) (es : List Event) → RunBytes es
         → waits (after_run image m es).state (after_run image m es).tx j

@@ -1,4 +1,5 @@
 -- TIMER AND DUE MARK IN ANY RUN: at each moment they say of the PDUs that wait what the rule says.
+use Rattle.std.proofs.Common.{Result, Ok, Err}
 use Prim.Native.Nat.{ℕ, suc, ◌+◌, ◌<◌}
 use mathlib.Core.Path.{◌≡◌, refl, sym, ap, ◌∙◌, subst}
 use mathlib.Core.Logic.{◌⊎◌, inl, inr}
@@ -27,7 +28,6 @@ use Rattle.connection.proofs.Ticks.{step-either}
 use Rattle.frame.specs.Frame.{frames}
 use Rattle.state.specs.State.{record_at}
 use Rattle.state.specs.Fresh.{config_of}
-use Rattle.gate.specs.declared.Gate.{Gate}
 use Rattle.gate.specs.Gate.{through}
 use Rattle.gate.proofs.Pass.{passed_gate}
 use Rattle.gate.proofs.Records.{row-sound, record-at}
@@ -63,6 +63,7 @@ use Rattle.theorem_records.specs.Records.{TakeLeaves, nothing_taken, back_to_rec
 use Rattle.theorem_records.proofs.Records.{others_stay, take-leaves}
 use Rattle.theorem_records.proofs.Untouched.{tick-own}
 use Rattle.theorem_due.specs.Buffer.{appends_to, steps_with, steps_after, steps_in}
+use Rattle.connection.specs.declared.Refusal.{Refusal}
 
 -- what the timer and the due mark of a record say of these steps
 abbrev Reads : List BufferStep → Connection → Type 0
@@ -329,7 +330,7 @@ module _ (image : List ℕ) (j : ℕ) (there : j < rows_of image Connections) (m
     sent : Reads (steps_with image j m (on_whole (transmit pdu payload)) steps) (record_at (after_event image (on_whole (transmit pdu payload)) m).state j)
     unfolding after_event after_whole send_of transmit_of
     sent =
-        subst (λ (g : Gate). Reads (steps_with image j m (on_whole (transmit pdu payload)) steps)
+        subst (λ (g : Result Unit Refusal). Reads (steps_with image j m (on_whole (transmit pdu payload)) steps)
         (record_at (through g (not_sent m.state) (transmitted_of image m.state pdu payload m.tx)).state j)) (sym (passed_gate (lent_to image m)
         good.passed))
         (go (is_stored (check_of image m.state pdu (length payload))))

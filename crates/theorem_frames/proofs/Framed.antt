@@ -1,4 +1,5 @@
 -- WHAT THE FRAMING FUNCTION WRITES IS READ BACK: over a stream cut in any way, and as one datagram.
+use Rattle.std.proofs.Common.{Result, Ok, Err}
 use Prim.Native.Nat.{ℕ, ◌+◌, ◌≤◌}
 use mathlib.Core.Path.{◌≡◌, refl, sym, ap, ap₂, ◌∙◌}
 use mathlib.Core.Bool.{Bool, true, false, cond}
@@ -12,8 +13,7 @@ use Rattle.wire.proofs.Lay.{lay-own, lay-after}
 use Rattle.wire.proofs.Spell.{length-spell}
 use Rattle.frame.specs.Frame.{frame, frames}
 use Rattle.frame.specs.Framing.{framing_of, out_after, framed_out}
-use Rattle.frame.specs.declared.Framed.{Framed}
-use Rattle.frame.specs.declared.Framed.TheVariants.{Done, TooLong, NoRoom}
+use Rattle.frame.specs.declared.FrameError.TheVariants.{TooLong, NoRoom}
 use Rattle.reading.specs.Feed.{Pdu, as_out}
 use Rattle.reading.specs.Routed.{Routed}
 use Rattle.entry_receive.specs.Routes.{routes_in}
@@ -24,6 +24,7 @@ use Rattle.model_refines.specs.Run.{Good, given_in}
 use Rattle.theorems.specs.Trip.{Reader, Walker, as_walks}
 use Rattle.theorems.proofs.Trip.{read_back, walk_back}
 use Rattle.theorem_frames.specs.Calls.{FramingCall, framed_pdu, framed_front, framed_fronts, AllDone}
+use Rattle.frame.specs.declared.FrameError.{FrameError}
 
 -- a frame's bytes
 frame-long : (id : ℕ) (payload : List ℕ) → length (frame id payload) ≡ 8 + length payload
@@ -34,25 +35,25 @@ frame-long id payload =
     omega (arith, a, b, length-spell 4 id, length-spell 4 (length payload))
 
 -- done: there is room for header and payload
-done_room : (n room : ℕ) → framing_of n room ≡ Done → 8 + n ≤ room
+done_room : (n room : ℕ) → framing_of n room ≡ Ok tt → 8 + n ≤ room
 unfolding framing_of
 done_room n room e = go (ltb 1464 n) (ltb room (8 + n)) refl e
   where
-    number : Framed → ℕ
-    number Done = 0
-    number TooLong = 1
-    number NoRoom = 2
+    number : Result Unit FrameError → ℕ
+    number (Ok tt) = 0
+    number (Err TooLong) = 1
+    number (Err NoRoom) = 2
 
-    go : (a b : Bool) → ltb room (8 + n) ≡ b → cond a TooLong (cond b NoRoom Done) ≡ Done → 8 + n ≤ room
+    go : (a b : Bool) → ltb room (8 + n) ≡ b → ◌≡◌ {A = Result Unit FrameError} (cond a (Err TooLong) (cond b (Err NoRoom) (Ok tt))) (Ok tt) → 8 + n ≤ room
     go true b f e = absurd (let z : ◌≡◌ {A = ℕ} 1 0 = ap number e in omega (arith, z))
     go false true f e = absurd (let z : ◌≡◌ {A = ℕ} 2 0 = ap number e in omega (arith, z))
     go false false f e = ltb-false room (8 + n) f
 
 -- ONE CALL: the frame at the front, and the buffer as it was behind it
-module _ (c : FramingCall) (done : framing_of (length c.payload) (length c.out) ≡ Done) where
+module _ (c : FramingCall) (done : framing_of (length c.payload) (length c.out) ≡ Ok tt) where
   laid : framed_out c.id c.payload c.out ≡ lay c.out 0 (frame c.id c.payload)
   unfolding framed_out
-  laid = ap (λ (a : Framed). out_after a c.id c.payload c.out) done
+  laid = ap (λ (a : Result Unit FrameError). out_after a c.id c.payload c.out) done
 
   fits : length (frame c.id c.payload) ≤ length c.out
   fits = omega (arith, frame-long c.id c.payload, done_room (length c.payload) (length c.out) done)

@@ -1,8 +1,7 @@
 -- CALLS OF THE FRAMING FUNCTION one after the other (R5.17, R6.3), each with an id, a payload and an out buffer, and the bytes that they write.
-use Rattle.std.specs.Prelude.{ℕ, ◌+◌, ◌≡◌, List, [], ◌∷◌, ◌++◌, length, take}
+use Rattle.std.specs.Prelude.{ℕ, ◌+◌, ◌≡◌, List, [], ◌∷◌, ◌++◌, length, take, Ok}
 use Rattle.frame.specs.Frame.{Sent}
 use Rattle.frame.specs.Framing.{framing_of, framed_out}
-use Rattle.frame.specs.declared.Framed.TheVariants.{Done}
 
 pub record FramingCall : Type 0 where
   pub id : ℕ
@@ -25,4 +24,4 @@ framed_fronts (c ∷ cs) = framed_front c ++ framed_fronts cs
 -- each call is answered done
 abbrev pub AllDone : List FramingCall → Type 0
 AllDone [] = Unit {0}
-AllDone (c ∷ cs) = (framing_of (length c.payload) (length c.out) ≡ Done) × AllDone cs
+AllDone (c ∷ cs) = (framing_of (length c.payload) (length c.out) ≡ Ok tt) × AllDone cs

@@ -1,4 +1,5 @@
 -- THE BEST MATCH, over what matching and its classes mean and not over the score that the code computes.
+use Rattle.std.proofs.Common.{Result, Ok, Err, Option, ℕ, Some, None}
 use Prim.Native.Nat.{ℕ, zero, suc, ◌+◌, ◌-◌, ◌<◌, ◌≤◌}
 use mathlib.Core.Path.{◌≡◌, refl, sym, ap, ◌∙◌, subst}
 use mathlib.Core.Logic.{◌↔◌}
@@ -17,14 +18,9 @@ use Rattle.connection.specs.declared.Remote.{Remote}
 use Rattle.connection.specs.declared.Refusal.TheVariants.{Missing, Denied}
 use Rattle.connection.specs.Connection.{is_reconnect, is_online, equal_fields, wild_fields, wildcard}
 use Rattle.state.specs.State.{record_at}
-use Rattle.gate.specs.declared.Gate.{Gate}
-use Rattle.gate.specs.declared.Gate.TheVariants.{Pass, Refused as Shut}
 use Rattle.gate.specs.Lent.{Lent}
 use Rattle.gate.specs.Gate.{gate_of, through}
 use Rattle.gate.proofs.Pass.{rows_in-sixteen}
-use Rattle.select.specs.declared.Arrival.{Arrival}
-use Rattle.select.specs.declared.Chosen.{Chosen}
-use Rattle.select.specs.declared.Chosen.TheVariants.{Nobody, At}
 use Rattle.select.specs.Best.{Best, IsChosen}
 use Rattle.select.specs.Choose.{rank_of, matches, member_counts, score_of, member, score_at, chosen_in, meet, arrival_refused, protocol_of, denied_of}
 use Rattle.select.specs.Choose.{arrive_of}
@@ -33,6 +29,8 @@ use Rattle.entry_arrivals.specs.Arrivals.{arrival_of}
 use Rattle.theorem_match.specs.Match.{MatchClass, both, any-port, any-address, neither, class_place, MatchesAs, by_both}
 use Rattle.theorem_match.specs.Match.{by_address, by_port, by_neither, CountsIn, in_reconnect, in_online, Matching, BestMatch}
 use Rattle.theorem_match.specs.Match.{GroupFor, Welcome, Arrives, shut, no_group, not_welcome, none_matches, meets}
+use Rattle.connection.specs.declared.Refusal.{Refusal}
+use Rattle.select.specs.declared.NotMet.{NotMet}
 
 -- places and scores
 place-most : (x : MatchClass) → class_place x ≤ 3
@@ -224,20 +222,20 @@ module _ (l : Lent) (accept : Bool) (group : ℕ) (source : Remote) where
       twice false e = impossible (sym e)
 
   -- THE ENTRY POINT
-  abbrev Given : Arrival → Type 0
+  abbrev Given : Result ℕ NotMet → Type 0
   Given = Arrives l accept group source
 
-  past-says : gate_of l ≡ Pass → Given (arrive_of l.image l.state accept group source).answer
+  past-says : gate_of l ≡ Ok tt → Given (arrive_of l.image l.state accept group source).answer
   unfolding arrive_of
   past-says g = there (leb (rows_of l.image Group) group) refl
     where
       most : rows_of l.image Connections ≤ 16
       most = rows_in-sixteen l g
 
-      chosen : group < rows_of l.image Group → Welcome l accept group source → (x : Chosen)
+      chosen : group < rows_of l.image Group → Welcome l accept group source → (x : Option ℕ)
           → IsChosen score 16 x → Given (meet l.image l.state source x).answer
-      chosen h w Nobody none = none_matches g h w (none_match w.address w.port most none)
-      chosen h w (At k) b = meets k g h w (best_match w.address w.port most k b)
+      chosen h w None none = none_matches g h w (none_match w.address w.port most none)
+      chosen h w (Some k) b = meets k g h w (best_match w.address w.port most k b)
 
       welcome : group < rows_of l.image Group → (b : Bool) → denied_of l.image accept group source ≡ b
           → Given (cond b (arrival_refused l.state Denied) (meet l.image l.state source (chosen_in l.image l.state accept group source))).answer
@@ -256,17 +254,17 @@ module _ (l : Lent) (accept : Bool) (group : ℕ) (source : Remote) where
   unfolding arrival_of
   told = go (gate_of l) refl
     where
-      go : (g : Gate) → gate_of l ≡ g → Given (through g (arrival_refused l.state) (arrive_of l.image l.state accept group source)).answer
-      go Pass e = past-says e
-      go (Shut r) e = shut r e
+      go : (g : Result Unit Refusal) → gate_of l ≡ g → Given (through g (arrival_refused l.state) (arrive_of l.image l.state accept group source)).answer
+      go (Ok tt) e = past-says e
+      go (Err r) e = shut r e
 
-  chosen_is : group < rows_of l.image Group → Welcome l accept group source → gate_of l ≡ Pass → (x : Chosen) → IsChosen score 16 x
+  chosen_is : group < rows_of l.image Group → Welcome l accept group source → gate_of l ≡ Ok tt → (x : Option ℕ) → IsChosen score 16 x
       → (arrival_of l accept group source).answer ≡ (meet l.image l.state source x).answer
   unfolding arrival_of arrive_of
   chosen_is h w g x b =
       rw (g, lt-leb (rows_of l.image Group) group h, welcome_not_denied w, ← chosen_is_only l.image l.state accept group source x b)
 
-  given : (x : Arrival) → Given x → (arrival_of l accept group source).answer ≡ x
+  given : (x : Result ℕ NotMet) → Given x → (arrival_of l accept group source).answer ≡ x
   unfolding arrival_of arrive_of
   given _ (shut r g) = rw g
   given _ (no_group g h) = rw (g, le-leb (rows_of l.image Group) group h)
@@ -275,9 +273,9 @@ module _ (l : Lent) (accept : Bool) (group : ℕ) (source : Remote) where
       denied : (b : Bool) → denied_of l.image accept group source ≡ b → b ≡ true
       denied true e = refl
       denied false e = absurd (n (not_denied_welcome e))
-  given _ (none_matches g h w none) = chosen_is h w g Nobody (λ i _. match_none w.address w.port (rows_in-sixteen l g) none i)
-  given _ (meets k g h w b) = chosen_is h w g (At k) (match_best w.address w.port (rows_in-sixteen l g) k b)
+  given _ (none_matches g h w none) = chosen_is h w g None (λ i _. match_none w.address w.port (rows_in-sixteen l g) none i)
+  given _ (meets k g h w b) = chosen_is h w g (Some k) (match_best w.address w.port (rows_in-sixteen l g) k b)
 
   -- EXACTLY WHEN
-  pub arrival_answer : (x : Arrival) → ((arrival_of l accept group source).answer ≡ x) ↔ Arrives l accept group source x
+  pub arrival_answer : (x : Result ℕ NotMet) → ((arrival_of l accept group source).answer ≡ x) ↔ Arrives l accept group source x
   arrival_answer x = (λ (e : (arrival_of l accept group source).answer ≡ x). subst Given e told, given x)

@@ -1,5 +1,5 @@
 -- A DATAGRAM'S AND AN ACCEPT'S ANSWER IN THE RULES' WORDS (R7.1 to R7.5): who counts, who matches, who is the best, and when each answer is given.
-use Rattle.std.specs.Prelude.{ℕ, ◌<◌, ◌≤◌, ◌≡◌, Bool, true, false}
+use Rattle.std.specs.Prelude.{ℕ, ◌<◌, ◌≤◌, ◌≡◌, Bool, true, false, Ok, Err, Result}
 use Rattle.table_layout.specs.Layout.{rows_of}
 use Rattle.table_layout.specs.declared.Kind.TheVariants.{Connection as Connections, Group}
 use Rattle.table_rows.specs.Rows.{group_of, connection_of}
@@ -9,11 +9,10 @@ use Rattle.connection.specs.declared.Remote.{Remote}
 use Rattle.connection.specs.declared.Refusal.{Refusal}
 use Rattle.connection.specs.declared.Refusal.TheVariants.{Missing, Denied}
 use Rattle.state.specs.State.{record_at}
-use Rattle.gate.specs.declared.Gate.TheVariants.{Pass, Refused as Shut}
 use Rattle.gate.specs.Lent.{Lent}
 use Rattle.gate.specs.Gate.{gate_of}
-use Rattle.select.specs.declared.Arrival.{Arrival}
-use Rattle.select.specs.declared.Arrival.TheVariants.{Met, Refused, Unmatched}
+use Rattle.select.specs.declared.NotMet.TheVariants.{Refused, Unmatched}
+use Rattle.select.specs.declared.NotMet.{NotMet}
 
 -- R7.5: the four classes of a match, and the place of each, best first: both fields, the address with any port, any address with the port, neither
 pub data MatchClass : Type 0 where
@@ -64,9 +63,9 @@ module _ (l : Lent) (accept : Bool) (group : ℕ) (source : Remote) where
     pub port : source.port ≡ 0 → ⊥
 
   -- WHEN EACH ANSWER IS GIVEN: 11 or 12 by the gate; 2; 3; 10; or the best match
-  pub data Arrives : Arrival → Type 0 where
-    shut : (r : Refusal) → gate_of l ≡ Shut r → Arrives (Refused r)
-    no_group : gate_of l ≡ Pass → rows_of l.image Group ≤ group → Arrives (Refused Missing)
-    not_welcome : gate_of l ≡ Pass → group < rows_of l.image Group → (Welcome → ⊥) → Arrives (Refused Denied)
-    none_matches : gate_of l ≡ Pass → group < rows_of l.image Group → Welcome → ((i : ℕ) (x : MatchClass) → Matching i x → ⊥) → Arrives Unmatched
-    meets : (k : ℕ) → gate_of l ≡ Pass → group < rows_of l.image Group → Welcome → BestMatch k → Arrives (Met k)
+  pub data Arrives : Result ℕ NotMet → Type 0 where
+    shut : (r : Refusal) → gate_of l ≡ Err r → Arrives (Err (Refused r))
+    no_group : gate_of l ≡ Ok tt → rows_of l.image Group ≤ group → Arrives (Err (Refused Missing))
+    not_welcome : gate_of l ≡ Ok tt → group < rows_of l.image Group → (Welcome → ⊥) → Arrives (Err (Refused Denied))
+    none_matches : gate_of l ≡ Ok tt → group < rows_of l.image Group → Welcome → ((i : ℕ) (x : MatchClass) → Matching i x → ⊥) → Arrives (Err Unmatched)
+    meets : (k : ℕ) → gate_of l ≡ Ok tt → group < rows_of l.image Group → Welcome → BestMatch k → Arrives (Ok k)

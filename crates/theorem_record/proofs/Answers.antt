@@ -1,4 +1,5 @@
 -- EVERY ANSWER FITS ITS EVENT (R17.2): what the dispatcher answers to arguments that spell an event is laid out as that event's answer.
+use Rattle.std.proofs.Common.{Result, Ok, Err, ℕ}
 use Prim.Native.Nat.{ℕ, zero, suc, ◌+◌, ◌≤◌, ◌<◌, ◌^◌}
 use mathlib.Core.Path.{◌≡◌, refl, sym, ap, ◌∙◌, subst}
 use mathlib.Core.Bool.{Bool, true, false, ◌||◌}
@@ -9,6 +10,7 @@ use borrow.Author.Tests.{le-leb, eq-eqb, eqb-true}
 use lib.Dec.{eqb, ltb, leb}
 use lib.ListN.{length, take, drop, replicate, length-append, length-drop, length-take}
 use lib.Seq.{drop_at}
+use Rattle.reading.specs.Reasons.{reason_number}
 use Rattle.wire.specs.Be.{be}
 use Rattle.wire.specs.Lay.{spell}
 use Rattle.wire.proofs.Spell.{length-spell}
@@ -19,35 +21,26 @@ use Rattle.connection.specs.declared.Remote.{Remote}
 use Rattle.connection.specs.declared.Refusal.{Refusal}
 use Rattle.connection.specs.declared.Event.{Event}
 use Rattle.connection.specs.declared.Event.TheVariants.{Open, Close, Connected, SetRemote, Switch, Cancel}
-use Rattle.connection.specs.declared.Answer.{Answer}
-use Rattle.connection.specs.declared.Answer.TheVariants.{Done, Refused}
 use Rattle.connection.specs.Event.{refusal_number}
 use Rattle.gate.specs.Lent.{Loan, sizes}
-use Rattle.gate.specs.declared.Gate.{Gate}
-use Rattle.gate.specs.declared.Gate.TheVariants as Gated
 use Rattle.gate.specs.Gate.{gate_of, through}
 use Rattle.entry_events.specs.Change.{event_of, loss_of}
 use Rattle.entry_events.specs.Module.{switch_all_of}
 use Rattle.entry_events.specs.Count.{read_of, clear_of}
 use Rattle.entry_arrivals.specs.Arrivals.{datagram_of, accept_of}
 use Rattle.entry_receive.specs.Walk.{walk_of}
-use Rattle.entry_events.specs.declared.CountAnswer.{CountAnswer}
-use Rattle.entry_events.specs.declared.CountAnswer.TheVariants as Counts
 use Rattle.receive_stream.specs.declared.Outcome.{Outcome}
 use Rattle.receive_stream.specs.declared.Outcome.TheVariants as Found
 use Rattle.receive_datagram.specs.declared.Outcome.{Outcome as Walked}
 use Rattle.receive_datagram.specs.declared.Outcome.TheVariants as Met
-use Rattle.entry_receive.specs.declared.Answer.{Answer as Received}
 use Rattle.entry_receive.specs.Answer.{is_done}
-use Rattle.select.specs.declared.Arrival.{Arrival}
-use Rattle.select.specs.declared.Arrival.TheVariants as Arrived
-use Rattle.send.specs.declared.Transmission.{Transmission}
-use Rattle.send.specs.declared.Transmission.TheVariants as Sent
+use Rattle.select.specs.declared.NotMet.TheVariants as Arrived
+use Rattle.send.specs.declared.NotSent.TheVariants as Sent
 use Rattle.send.specs.Send.{transmitted_of}
-use Rattle.send_waiting.specs.declared.Taking.{Taking}
-use Rattle.send_waiting.specs.declared.Taking.TheVariants as Took
+use Rattle.send_waiting.specs.declared.NotTaken.TheVariants as Took
 use Rattle.entry_send.specs.Sending.{not_sent, send_of, taken_waiting, taken_out}
 use Rattle.event_decode.specs.declared.Call.{Call}
+use Rattle.event_decode.specs.declared.BadCall.{BadCall}
 use Rattle.event_decode.specs.declared.Call.TheVariants.{Own, Lost, Segment, Walk, TakeWaiting, Datagram, Accept, Transmit, SwitchAll, ReadCount, ClearCount}
 use Rattle.event_decode.specs.Calls.{remote_in, call_of, bytes_from}
 use Rattle.event_answer.specs.Answers.{refused, refusal, done_alone, done_with, found_bytes, waiting}
@@ -72,6 +65,11 @@ use Rattle.dispatch_refines.proofs.Fits.{take-fits}
 use Rattle.recording.specs.Entry.{is_recorded, is_spelt, take_fits, pdu_needs, other_needs, take_needs, takes_fit, segment_fits, step_fits}
 use Rattle.recording.specs.Entry.{done_long, done_fits, answer_fits}
 use Rattle.theorem_record.proofs.Numbers.{by_call}
+use Rattle.entry_receive.specs.declared.NotReceived.{NotReceived}
+use Rattle.entry_receive.specs.declared.NotReceived.TheVariants as Received
+use Rattle.select.specs.declared.NotMet.{NotMet}
+use Rattle.send.specs.declared.NotSent.{NotSent}
+use Rattle.send_waiting.specs.declared.NotTaken.{NotTaken}
 
 -- A REFUSAL: its number, and four bytes more
 refused-fits : (n number destination : ℕ) → number < 256 ^ 2 → eqb number 0 ≡ false → answer_fits n (refused number destination) ≡ true
@@ -103,22 +101,22 @@ alone_fits n plain long =
     done-fits n done_alone [] (sym (append-nil done_alone)) (plain done_alone ∙ eq-eqb (done_long n) (length done_alone) (long ∙ sym (length-spell 2 0)))
 
 module _ (n : ℕ) (plain : Plain n) where
-  told_fits : (a : Answer) → done_long n ≡ 2 → answer_fits n (told_bytes a) ≡ true
-  told_fits Done long = alone_fits n plain long
-  told_fits (Refused r) long = refusal-fits n r
+  told_fits : (a : Result Unit Refusal) → done_long n ≡ 2 → answer_fits n (told_bytes a) ≡ true
+  told_fits (Ok tt) long = alone_fits n plain long
+  told_fits (Err r) long = refusal-fits n r
 
-  loss_fits : (a : Answer) (failed : Bool) → done_long n ≡ 3 → answer_fits n (loss_bytes a failed) ≡ true
-  loss_fits Done failed long = with-fits n 1 (failed_byte failed) plain long
-  loss_fits (Refused r) failed long = refusal-fits n r
+  loss_fits : (a : Result Unit Refusal) (failed : Bool) → done_long n ≡ 3 → answer_fits n (loss_bytes a failed) ≡ true
+  loss_fits (Ok tt) failed long = with-fits n 1 (failed_byte failed) plain long
+  loss_fits (Err r) failed long = refusal-fits n r
 
-  counted-fits : (a : CountAnswer) → done_long n ≡ 6 → answer_fits n (count_bytes a) ≡ true
-  counted-fits (Counts.Count v) long = with-fits n 4 v plain long
-  counted-fits (Counts.Refused r) long = refusal-fits n r
+  counted-fits : (a : Result ℕ Refusal) → done_long n ≡ 6 → answer_fits n (count_bytes a) ≡ true
+  counted-fits (Ok v) long = with-fits n 4 v plain long
+  counted-fits (Err r) long = refusal-fits n r
 
-  arrival_fits : (a : Arrival) → done_long n ≡ 3 → answer_fits n (arrival_bytes a) ≡ true
-  arrival_fits (Arrived.Met k) long = with-fits n 1 k plain long
-  arrival_fits (Arrived.Refused r) long = refusal-fits n r
-  arrival_fits Arrived.Unmatched long = refused-fits n 10 0 (omega arith) refl
+  arrival_fits : (a : Result ℕ NotMet) → done_long n ≡ 3 → answer_fits n (arrival_bytes a) ≡ true
+  arrival_fits (Ok k) long = with-fits n 1 k plain long
+  arrival_fits (Err (Arrived.Refused r)) long = refusal-fits n r
+  arrival_fits (Err Arrived.Unmatched) long = refused-fits n 10 0 (omega arith) refl
 
   -- the destination that refuses a transmit is named with 4, 7 or 8
   named-number : (a : ℕ) → among a (4 ∷ 7 ∷ 8 ∷ []) ≡ true → (a < 256 ^ 2) × (eqb a 0 ≡ false)
@@ -134,27 +132,27 @@ module _ (n : ℕ) (plain : Plain n) where
       go false false true p q s e = subst Some (sym (eqb-true a 8 s)) (omega arith, refl)
       go false false false p q s e = impossible e
 
-  transmission_fits : (t : Transmission) → ((a d : ℕ) → t ≡ Sent.RefusedAt a d → among a (4 ∷ 7 ∷ 8 ∷ []) ≡ true) → done_long n ≡ 2
+  transmission_fits : (t : Result Unit NotSent) → ((a d : ℕ) → t ≡ Err (Sent.RefusedAt a d) → among a (4 ∷ 7 ∷ 8 ∷ []) ≡ true) → done_long n ≡ 2
       → answer_fits n (transmission_bytes t) ≡ true
-  transmission_fits Sent.Stored named long = alone_fits n plain long
-  transmission_fits (Sent.Refused r) named long = refusal-fits n r
-  transmission_fits Sent.NoDestination named long = refused-fits n 5 0 (omega arith) refl
-  transmission_fits Sent.SwitchedOff named long = refused-fits n 6 0 (omega arith) refl
-  transmission_fits (Sent.RefusedAt a d) named long = let h = named-number a (named a d refl) in refused-fits n a d h.0 h.1
+  transmission_fits (Ok tt) named long = alone_fits n plain long
+  transmission_fits (Err (Sent.Refused r)) named long = refusal-fits n r
+  transmission_fits (Err Sent.NoDestination) named long = refused-fits n 5 0 (omega arith) refl
+  transmission_fits (Err Sent.SwitchedOff) named long = refused-fits n 6 0 (omega arith) refl
+  transmission_fits (Err (Sent.RefusedAt a d)) named long = let h = named-number a (named a d refl) in refused-fits n a d h.0 h.1
 
   sent-fits : (l : Loan) (pdu : ℕ) (payload : List ℕ) → done_long n ≡ 2 → answer_fits n (transmission_bytes (send_of l pdu payload).answer) ≡ true
   unfolding send_of
   sent-fits l pdu payload long = go (gate_of (sizes l))
     where
-      go : (g : Gate)
+      go : (g : Result Unit Refusal)
           → answer_fits n (transmission_bytes (through g (not_sent l.state) (transmitted_of l.image l.state pdu payload l.tx)).answer) ≡ true
-      go Gated.Pass = transmission_fits _ (refused-at l.image (machine l.state l.rx l.tx) pdu payload) long
-      go (Gated.Refused r) = refusal-fits n r
+      go (Ok tt) = transmission_fits _ (refused-at l.image (machine l.state l.rx l.tx) pdu payload) long
+      go (Err r) = refusal-fits n r
 
 -- WAITING BYTES, no more than the call's own buffer has
-taking_fits : (a : Taking) (buffer : List ℕ) → length buffer ≤ 1472 → answer_fits 9 (taking_bytes a buffer) ≡ true
+taking_fits : (a : Result (ℕ × Remote) NotTaken) (buffer : List ℕ) → length buffer ≤ 1472 → answer_fits 9 (taking_bytes a buffer) ≡ true
 unfolding done_fits
-taking_fits (Took.Bytes count remote) buffer short =
+taking_fits (Ok (count, remote)) buffer short =
     let bytes : List ℕ = take count buffer in
     let a : List ℕ = waiting remote bytes in
     let told : be 4 a 2 ≡ length bytes =
@@ -162,8 +160,8 @@ taking_fits (Took.Bytes count remote) buffer short =
     (omega (arith, short, length-take count buffer)) (length-spell 2 0) (simp append_assoc) in
     done-fits 9 a (spell 4 (length bytes) ++ (spell 1 4 ++ spell 12 0 ++ spell 4 remote.address ++ spell 2 remote.port) ++ bytes) (simp append_assoc)
     (eq-eqb (be 4 a 2 + 25) (length a) (omega (arith, told, length-waiting remote bytes)))
-taking_fits (Took.Refused r) buffer short = refusal-fits 9 r
-taking_fits Took.Short buffer short = refused-fits 9 9 0 (omega arith) refl
+taking_fits (Err (Took.Refused r)) buffer short = refusal-fits 9 r
+taking_fits (Err Took.Short) buffer short = refused-fits 9 9 0 (omega arith) refl
 
 taken-fits : (l : Loan) (c room : ℕ) → answer_fits 9 (take_answer l c (take (room_of room) (replicate 1472 0))) ≡ true
 taken-fits l c room =
@@ -188,7 +186,10 @@ step_fits_lem next (Met.Pdu route id at n) =
     let is : walk_bytes next (Met.Pdu route id at n) ≡ done_alone ++ (found_bytes next 1 route id n ++ spell 4 at) = append_assoc done_alone _ (spell 4 at) in
     rw (step-kind next 1 route id n (spell 4 at) is (omega arith), length-pdu next route id n at) refl
 step_fits_lem next (Met.Drop reason id n) =
-    rw (step-kind next 2 reason id n [] (nothing-behind (found_bytes next 2 reason id n)) (omega arith), length-step next 2 reason id n) refl
+    rw (
+      step-kind next 2 (reason_number reason) id n [] (nothing-behind (found_bytes next 2 (reason_number reason) id n)) (omega arith),
+      length-step next 2 (reason_number reason) id n,
+    ) refl
 
 walk_done : (next : ℕ) (o : Walked) → answer_fits 8 (walk_bytes next o) ≡ true
 unfolding done_fits
@@ -196,12 +197,12 @@ walk_done next Met.End = done-fits 8 _ (found_bytes next 0 0 0 0) refl (step_fit
 walk_done next (Met.Pdu route id at n) =
     done-fits 8 _ (found_bytes next 1 route id n ++ spell 4 at) (append_assoc done_alone (found_bytes next 1 route id n) (spell 4 at))
     (step_fits_lem next (Met.Pdu route id at n))
-walk_done next (Met.Drop reason id n) = done-fits 8 _ (found_bytes next 2 reason id n) refl (step_fits_lem next (Met.Drop reason id n))
+walk_done next (Met.Drop reason id n) = done-fits 8 _ (found_bytes next 2 (reason_number reason) id n) refl (step_fits_lem next (Met.Drop reason id n))
 
-or_fits : (n : ℕ) (a : Received) (bytes : List ℕ) → (a ≡ Received.Done → answer_fits n bytes ≡ true) → answer_fits n (or_refused a bytes) ≡ true
-or_fits n Received.Done bytes h = h refl
-or_fits n (Received.Refused r) bytes h = refusal-fits n r
-or_fits n Received.NotReceiving bytes h = refused-fits n 4 0 (omega arith) refl
+or_fits : (n : ℕ) (a : Result Unit NotReceived) (bytes : List ℕ) → (a ≡ Ok tt → answer_fits n bytes ≡ true) → answer_fits n (or_refused a bytes) ≡ true
+or_fits n (Ok tt) bytes h = h refl
+or_fits n (Err (Received.Refused r)) bytes h = refusal-fits n r
+or_fits n (Err Received.NotReceiving) bytes h = refused-fits n 4 0 (omega arith) refl
 
 -- A TAKE, and other bytes behind it: its kind and mark are known, and it has as many bytes as they say
 module _ (l : List ℕ) where
@@ -234,8 +235,8 @@ unfolding other_needs
 take-stands begins read Found.More payload rest h =
     stands_by (found_bytes read 0 0 0 0) rest 14 (other-needs _ 0 14 (kind_at read 0 0 0 0 rest refl (omega arith)) refl refl refl) (length_found read 0 0 0 0)
 take-stands begins read (Found.Drop reason id n) payload rest h =
-    stands_by (found_bytes read 2 reason id n) rest 14
-    (other-needs _ 2 14 (kind_at read 2 reason id n rest refl (omega arith)) refl refl refl) (length_found read 2 reason id n)
+    stands_by (found_bytes read 2 (reason_number reason) id n) rest 14
+    (other-needs _ 2 14 (kind_at read 2 (reason_number reason) id n rest refl (omega arith)) refl refl refl) (length_found read 2 (reason_number reason) id n)
 take-stands begins read (Found.Start route id n last) payload rest h =
     stands_by (found_bytes read 3 route id n) rest 14
     (other-needs _ 3 14 (kind_at read 3 route id n rest refl (omega arith)) refl refl refl) (length_found read 3 route id n)
@@ -317,51 +318,51 @@ module _ (l : Loan) (k : ℕ) (seg : List ℕ) (bytes : Bytes seg) (short : leng
 
 -- EVERY EVENT: of arguments that spell it
 module _ (l : Loan) (a : List ℕ) where
-  abbrev Fitting : ℕ → Call → Type 0
+  abbrev Fitting : ℕ → Result Call BadCall → Type 0
   Fitting n call = Short a call → answer_fits n (answer_of l a call) ≡ true
 
-  own-fits : (n c : ℕ) (event : Event) → Plain n → done_long n ≡ 2 → Fitting n (Own c event)
+  own-fits : (n c : ℕ) (event : Event) → Plain n → done_long n ≡ 2 → Fitting n (Ok (Own c event))
   unfolding answer_of
   own-fits n c event plain long short = told_fits n plain (event_of (sizes l) c event).answer long
 
-  lost-fits : (n c : ℕ) → Plain n → done_long n ≡ 3 → Fitting n (Lost c)
+  lost-fits : (n c : ℕ) → Plain n → done_long n ≡ 3 → Fitting n (Ok (Lost c))
   unfolding answer_of
   lost-fits n c plain long short = loss_fits n plain (loss_of (sizes l) c).answer (loss_of (sizes l) c).failed long
 
-  segment-fits : Bytes a → (c at : ℕ) → Fitting 7 (Segment c at)
+  segment-fits : Bytes a → (c at : ℕ) → Fitting 7 (Ok (Segment c at))
   unfolding answer_of
   segment-fits bytes c at short = takes-answer-fits l c (bytes_from a at) (bytes_drop at a bytes) (not-long a c at short)
 
-  walk-fits : (c place at : ℕ) → Fitting 8 (Walk c place at)
+  walk-fits : (c place at : ℕ) → Fitting 8 (Ok (Walk c place at))
   unfolding answer_of
   walk-fits c place at short =
       let w = walk_of (sizes l) c (bytes_from a at) place in or_fits 8 w.answer (walk_bytes w.next w.outcome) (λ _. walk_done w.next w.outcome)
 
-  waiting-fits : (c room : ℕ) → Fitting 9 (TakeWaiting c room)
+  waiting-fits : (c room : ℕ) → Fitting 9 (Ok (TakeWaiting c room))
   unfolding answer_of
   waiting-fits c room short = taken-fits l c room
 
-  datagram-fits : (n group : ℕ) (source : Remote) → Plain n → done_long n ≡ 3 → Fitting n (Datagram group source)
+  datagram-fits : (n group : ℕ) (source : Remote) → Plain n → done_long n ≡ 3 → Fitting n (Ok (Datagram group source))
   unfolding answer_of
   datagram-fits n group source plain long short = arrival_fits n plain (datagram_of (sizes l) group source).answer long
 
-  accept-fits : (n group : ℕ) (source : Remote) → Plain n → done_long n ≡ 3 → Fitting n (Accept group source)
+  accept-fits : (n group : ℕ) (source : Remote) → Plain n → done_long n ≡ 3 → Fitting n (Ok (Accept group source))
   unfolding answer_of
   accept-fits n group source plain long short = arrival_fits n plain (accept_of (sizes l) group source).answer long
 
-  transmit-fits : (n pdu at : ℕ) → Plain n → done_long n ≡ 2 → Fitting n (Transmit pdu at)
+  transmit-fits : (n pdu at : ℕ) → Plain n → done_long n ≡ 2 → Fitting n (Ok (Transmit pdu at))
   unfolding answer_of
   transmit-fits n pdu at plain long short = sent-fits n plain l pdu (bytes_from a at) long
 
-  switches-fit : (n number : ℕ) (position : Bool) → Plain n → done_long n ≡ 2 → Fitting n (SwitchAll number position)
+  switches-fit : (n number : ℕ) (position : Bool) → Plain n → done_long n ≡ 2 → Fitting n (Ok (SwitchAll number position))
   unfolding answer_of
   switches-fit n number position plain long short = told_fits n plain (switch_all_of (sizes l) number position).answer long
 
-  read_fits : (n protocol : ℕ) → Plain n → done_long n ≡ 6 → Fitting n (ReadCount protocol)
+  read_fits : (n protocol : ℕ) → Plain n → done_long n ≡ 6 → Fitting n (Ok (ReadCount protocol))
   unfolding answer_of
   read_fits n protocol plain long short = counted-fits n plain (read_of (sizes l) protocol).answer long
 
-  clear_fits : (n protocol : ℕ) → Plain n → done_long n ≡ 6 → Fitting n (ClearCount protocol)
+  clear_fits : (n protocol : ℕ) → Plain n → done_long n ≡ 6 → Fitting n (Ok (ClearCount protocol))
   unfolding answer_of
   clear_fits n protocol plain long short = counted-fits n plain (clear_of (sizes l) protocol).answer long
 

@@ -1,10 +1,10 @@
 -- RECORDED IN ONE MEMORY, REPLAYED IN ANOTHER: of the right lengths, whatever stands in them at the start.
+use Rattle.std.proofs.Common.{Ok}
 use Prim.Native.Nat.{ℕ, suc, ◌≤◌}
 use mathlib.Core.Path.{◌≡◌, refl, sym, ap, ap₂, ◌∙◌, subst}
 use mathlib.Core.List.{List, [], ◌∷◌, ◌++◌}
 use lib.ListN.{length, replicate}
 use Rattle.lists.specs.Each.{each}
-use Rattle.table.specs.declared.TableAnswer.TheVariants.{Accepted}
 use Rattle.table.specs.Table.{check_table}
 use Rattle.reading_lengths.specs.Listed.{Bytes}
 use Rattle.connection.specs.declared.Connection.{Connection}
@@ -80,7 +80,7 @@ module _ (image : List ℕ) where
   fresh_view rx rx' tx tx' k (c ∷ cs) =
       ap (λ (hs : List Held). record { connection = fresh_at image k c; received = []; waiting = [] } ∷ hs) (fresh_view rx rx' tx tx' (suc k) cs)
 
-  module _ (accepted : check_table image ≡ Accepted) (rx rx' tx tx' : List ℕ)
+  module _ (accepted : check_table image ≡ Ok tt) (rx rx' tx tx' : List ℕ)
       (a : length rx ≡ 23424) (a' : length rx' ≡ 23424) (b : length tx ≡ 23552) (b' : length tx' ≡ 23552) where
     fresh-alike : HoldsAlike (machine (fresh_state image) rx tx) (machine (fresh_state image) rx' tx')
     unfolding fresh_state

@@ -1,10 +1,10 @@
 -- CALLS, RECORDED FROM A FRESH STATE, are read back as those calls, and replay with no difference.
+use Rattle.std.proofs.Common.{Ok}
 use Prim.Native.Nat.{ℕ, ◌≤◌}
 use mathlib.Core.Path.{◌≡◌, refl, sym, ap, ◌∙◌, subst}
 use mathlib.Core.List.{List, [], ◌∷◌, ◌++◌, map}
 use native.Mathlib.Omega.{arith}
 use lib.ListN.{length, length-map}
-use Rattle.table.specs.declared.TableAnswer.TheVariants.{Accepted}
 use Rattle.table.specs.Table.{check_table}
 use Rattle.state.specs.Fresh.{fresh_state}
 use Rattle.event_answer.specs.Answers.{room}
@@ -49,7 +49,7 @@ module _ (image rx tx : List ℕ) (cs : List Timed) (more : List ℕ) (can : Rec
       ∙ recorded-calls image (first_at cs) fresh cs
 
   -- REPLAYED WITH NO DIFFERENCE
-  pub calls_replay : check_table image ≡ Accepted → (out : List ℕ) → room ≤ length out
+  pub calls_replay : check_table image ≡ Ok tt → (out : List ℕ) → room ≤ length out
       → NoDifference (length cs) (replay_of image made rx tx out)
   calls_replay accepted out long =
       let es : List Noted = recorded_fresh image rx tx cs in

@@ -1,4 +1,5 @@
 -- WHAT STOOD IN LENT MEMORY BEFORE DOES NOT MATTER: two machines that hold the same (`seen`) are answered the same, event by event, all bytes.
+use Rattle.std.proofs.Common.{Result, Ok, Err}
 use Prim.Native.Nat.{ℕ, zero, suc, ◌+◌, ◌*◌}
 use mathlib.Core.Path.{◌≡◌, refl, sym, ap, ap₂, ◌∙◌, subst}
 use mathlib.Core.Bool.{Bool, true, false, cond, false≢true}
@@ -19,8 +20,6 @@ use Rattle.state.specs.State.{record_at, with_record}
 use Rattle.state.specs.Fresh.{config_of}
 use Rattle.state.specs.Memory.{stretch}
 use Rattle.gate.specs.Lent.{Lent, lent, Loan, sizes}
-use Rattle.gate.specs.declared.Gate.{Gate}
-use Rattle.gate.specs.declared.Gate.TheVariants as Gated
 use Rattle.gate.specs.Gate.{gate_of, gate_at, through}
 use Rattle.law_keeps.proofs.Transmitted.{all_fit}
 use Rattle.entry_events.specs.Change.{event_of, loss_of}
@@ -29,12 +28,13 @@ use Rattle.entry_events.specs.Count.{read_of, clear_of}
 use Rattle.entry_ticks.specs.Tick.{ticks_event}
 use Rattle.entry_arrivals.specs.Arrivals.{datagram_of, accept_of}
 use Rattle.entry_receive.specs.Walk.{walk_of}
-use Rattle.send.specs.declared.Transmission.TheVariants as Sent
+use Rattle.send.specs.declared.NotSent.TheVariants as Sent
 use Rattle.send.specs.Send.{check_of, transmitted_of}
 use Rattle.send_waiting.specs.Waiting.{waiting_of, out_of}
 use Rattle.entry_send.specs.Sending.{not_sent, send_of, not_taken, take_past, taken_waiting, taken_out}
 use Rattle.event_decode.specs.declared.Call.{Call}
-use Rattle.event_decode.specs.declared.Call.TheVariants.{Unknown, Unfit, Ticks, Own, Lost, Segment, Walk}
+use Rattle.event_decode.specs.declared.BadCall.{BadCall}
+use Rattle.event_decode.specs.declared.Call.TheVariants.{Ticks, Own, Lost, Segment, Walk}
 use Rattle.event_decode.specs.declared.Call.TheVariants.{TakeWaiting, Datagram, Accept, Transmit, SwitchAll, ReadCount, ClearCount}
 use Rattle.event_decode.specs.Calls.{bytes_from}
 use Rattle.dispatch_events.specs.Events.{told_bytes, loss_bytes, ticks_bytes, count_bytes}
@@ -44,8 +44,6 @@ use Rattle.receive_stream.specs.declared.Outcome.{Outcome}
 use Rattle.receive_stream.specs.declared.Outcome.TheVariants as Found
 use Rattle.receive_stream.specs.declared.Taken.{Taken}
 use Rattle.receive_stream.specs.Stream.{cell_of, is_in_segment, id_of, answered, took_of, taken_of}
-use Rattle.entry_receive.specs.declared.Answer.{Answer}
-use Rattle.entry_receive.specs.declared.Answer.TheVariants as Received
 use Rattle.entry_receive.specs.declared.SegmentTaken.{SegmentTaken}
 use Rattle.entry_receive.specs.Answer.{is_done}
 use Rattle.entry_receive.specs.Segment.{count_take, taken_at, take_on, none_taken, segment_answer, segment_of, payload_of}
@@ -64,6 +62,8 @@ use Rattle.model_refines.proofs.Take.{Open, took_at, one_view, one_told, open_af
 use Rattle.dispatch_refines.specs.Told.{Take, bytes_in, next_take, took_then, takes_from}
 use Rattle.dispatch_refines.specs.Answer.{takes_over, takes_answer, take_answer, answer_of}
 use Rattle.dispatch_refines.proofs.Segment.{machine_at}
+use Rattle.connection.specs.declared.Refusal.{Refusal}
+use Rattle.entry_receive.specs.declared.NotReceived.{NotReceived}
 
 -- machines that hold the same, in memories of the same lengths
 pub record HoldsAlike (m m' : Machine) : Type 0 where
@@ -111,7 +111,7 @@ module _ (image : List ℕ) (k : ℕ) {m m' : Machine} (same : HoldsAlike m m') 
       by l t =
           cond (is_done (segment_answer l k))
           (record {
-            answer = Received.Done;
+            answer = Ok tt;
             read = t.read;
             outcome = t.outcome;
             state = count_take t.outcome (with_record k (with_part t.part (record_at l.state k)) l.state);
@@ -256,26 +256,26 @@ module _ (image : List ℕ) (k : ℕ) (seg : List ℕ) (bytes : Bytes seg) (m m'
       takes_same (length seg) (begun m.state m.rx) (begun m'.state m'.rx) same refl in
       let a : (all_takes l k seg).answer ≡ (all_takes l' k seg).answer =
       first-answer l k seg bytes ∙ ap (λ (t : SegmentTaken). t.answer) (taken-same image k same (drop 0 seg)) ∙ sym (first-answer l' k seg bytes) in
-      ap₂ (λ (x : Answer) (ts : List Take). event_bytes x (length ts) (bytes_in ts)) a ts
+      ap₂ (λ (x : Result Unit NotReceived) (ts : List Take). event_bytes x (length ts) (bytes_in ts)) a ts
 
 -- EVERY EVENT
 module _ (image : List ℕ) {m m' : Machine} (good : Good image m) (good' : Good image m') (same : HoldsAlike m m') where
   -- a transmit is answered by lengths alone
   sent_by : (l : Loan) (number : ℕ) (payload : List ℕ)
-      → (send_of l number payload).answer ≡ through (gate_of (sizes l)) Sent.Refused (check_of l.image l.state number (length payload))
+      → (send_of l number payload).answer ≡ through (gate_of (sizes l)) (λ x. Err (Sent.Refused x)) (check_of l.image l.state number (length payload))
   unfolding send_of
   sent_by l number payload = go (gate_of (sizes l))
     where
-      go : (g : Gate)
+      go : (g : Result Unit Refusal)
           → (through g (not_sent l.state) (transmitted_of l.image l.state number payload l.tx)).answer
-          ≡ through g Sent.Refused (check_of l.image l.state number (length payload))
-      go Gated.Pass = refl
-      go (Gated.Refused r) = refl
+          ≡ through g (λ x. Err (Sent.Refused x)) (check_of l.image l.state number (length payload))
+      go (Ok tt) = refl
+      go (Err r) = refl
 
   sent-same : (number : ℕ) (payload : List ℕ) → (send_of (loan_to image m) number payload).answer ≡ (send_of (loan_to image m') number payload).answer
   sent-same number payload =
       sent_by (loan_to image m) number payload
-      ∙ ap (λ (l : Lent). through (gate_of l) Sent.Refused (check_of l.image l.state number (length payload))) (lent_same image same)
+      ∙ ap (λ (l : Lent). through (gate_of l) (λ x. Err (Sent.Refused x)) (check_of l.image l.state number (length payload))) (lent_same image same)
       ∙ sym (sent_by (loan_to image m') number payload)
 
   -- the waiting bytes are what the machine holds
@@ -300,19 +300,18 @@ module _ (image : List ℕ) {m m' : Machine} (good : Good image m) (good' : Good
       (lent_same image same) (waits-same c)
 
   -- THE ANSWER OF A CALL, whose body is bytes
-  pub answers-same : (a : List ℕ) → Bytes a → (call : Call) → answer_of (loan_to image m) a call ≡ answer_of (loan_to image m') a call
+  pub answers-same : (a : List ℕ) → Bytes a → (call : Result Call BadCall) → answer_of (loan_to image m) a call ≡ answer_of (loan_to image m') a call
   unfolding answer_of
-  answers-same a b Unknown = refl
-  answers-same a b Unfit = refl
-  answers-same a b (Ticks n) = ap (λ (l : Lent). ticks_bytes (ticks_event l n).answer (ticks_event l n).failed) (lent_same image same)
-  answers-same a b (Own c e) = ap (λ (l : Lent). told_bytes (event_of l c e).answer) (lent_same image same)
-  answers-same a b (Lost c) = ap (λ (l : Lent). loss_bytes (loss_of l c).answer (loss_of l c).failed) (lent_same image same)
-  answers-same a b (Segment c at) = segment-same image c (bytes_from a at) (bytes_drop at a b) m m' same
-  answers-same a b (Walk c place at) = ap (λ (l : Lent). walked_bytes (walk_of l c (bytes_from a at) place)) (lent_same image same)
-  answers-same a b (TakeWaiting c n) = waiting-same c (take (room_of n) (replicate 1472 0))
-  answers-same a b (Datagram group source) = ap (λ (l : Lent). arrival_bytes (datagram_of l group source).answer) (lent_same image same)
-  answers-same a b (Accept group source) = ap (λ (l : Lent). arrival_bytes (accept_of l group source).answer) (lent_same image same)
-  answers-same a b (Transmit number at) = ap transmission_bytes (sent-same number (bytes_from a at))
-  answers-same a b (SwitchAll number position) = ap (λ (l : Lent). told_bytes (switch_all_of l number position).answer) (lent_same image same)
-  answers-same a b (ReadCount protocol) = ap (λ (l : Lent). count_bytes (read_of l protocol).answer) (lent_same image same)
-  answers-same a b (ClearCount protocol) = ap (λ (l : Lent). count_bytes (clear_of l protocol).answer) (lent_same image same)
+  answers-same a b (Err bad) = refl
+  answers-same a b (Ok (Ticks n)) = ap (λ (l : Lent). ticks_bytes (ticks_event l n).answer (ticks_event l n).failed) (lent_same image same)
+  answers-same a b (Ok (Own c e)) = ap (λ (l : Lent). told_bytes (event_of l c e).answer) (lent_same image same)
+  answers-same a b (Ok (Lost c)) = ap (λ (l : Lent). loss_bytes (loss_of l c).answer (loss_of l c).failed) (lent_same image same)
+  answers-same a b (Ok (Segment c at)) = segment-same image c (bytes_from a at) (bytes_drop at a b) m m' same
+  answers-same a b (Ok (Walk c place at)) = ap (λ (l : Lent). walked_bytes (walk_of l c (bytes_from a at) place)) (lent_same image same)
+  answers-same a b (Ok (TakeWaiting c n)) = waiting-same c (take (room_of n) (replicate 1472 0))
+  answers-same a b (Ok (Datagram group source)) = ap (λ (l : Lent). arrival_bytes (datagram_of l group source).answer) (lent_same image same)
+  answers-same a b (Ok (Accept group source)) = ap (λ (l : Lent). arrival_bytes (accept_of l group source).answer) (lent_same image same)
+  answers-same a b (Ok (Transmit number at)) = ap transmission_bytes (sent-same number (bytes_from a at))
+  answers-same a b (Ok (SwitchAll number position)) = ap (λ (l : Lent). told_bytes (switch_all_of l number position).answer) (lent_same image same)
+  answers-same a b (Ok (ReadCount protocol)) = ap (λ (l : Lent). count_bytes (read_of l protocol).answer) (lent_same image same)
+  answers-same a b (Ok (ClearCount protocol)) = ap (λ (l : Lent). count_bytes (clear_of l protocol).answer) (lent_same image same)

@@ -10,11 +10,13 @@ use borrow.Author.Tests.{eqb-true, leb-true, ltb-true}
 use lib.Dec.{eqb, ltb, leb}
 use lib.ListN.{length, drop}
 use lib.Seq.{take-append_seam, drop-append_seam}
+use Rattle.std.proofs.Common.{Result, Ok}
 use Rattle.wire.specs.Be.{be}
 use Rattle.wire.proofs.Part.{be-front}
 use Rattle.lists.proofs.Both.{impossible, and_left, and_right}
 use Rattle.connection.specs.declared.Event.TheVariants.{Open, Close, Connected, SetRemote, Switch, Cancel}
 use Rattle.event_decode.specs.declared.Call.{Call}
+use Rattle.event_decode.specs.declared.BadCall.{BadCall}
 use Rattle.event_decode.specs.declared.Call.TheVariants.{Own, Lost, Segment, Walk, TakeWaiting, Datagram, Accept, Transmit, SwitchAll, ReadCount, ClearCount}
 use Rattle.event_decode.specs.Calls.{fitted, plain, length_fits, address_fits, addressed, remote_in, positioned, call_of}
 use Rattle.recording.specs.Entry.{is_recorded, arguments_long, arguments_in, answer_in, is_spelt}
@@ -45,28 +47,28 @@ by_number P p₁ p₂ p₃ p₄ p₅ p₆ p₇ p₈ p₉ p₁₀ p₁₁ p₁₂
     (next-number P 0 n p₁ (λ none. absurd (omega arith))))))))))))))))) (leb-true n 16 (and_right (ltb 0 n) (leb n 16) e))
 
 -- .. so what holds of the call of each number, of arguments that fit, holds of all that spell an event
-when_spelt : (P : Call → Type 0) (t : Bool) (call : Call) → is_spelt (fitted t call) ≡ true → (t ≡ true → P call) → P (fitted t call)
+when_spelt : (P : Result Call BadCall → Type 0) (t : Bool) (call : Call) → is_spelt (fitted t call) ≡ true → (t ≡ true → P (Ok call)) → P (fitted t call)
 unfolding is_spelt
 when_spelt P true call e h = h refl
 when_spelt P false call e h = impossible e
 
-pub by_call : (P : ℕ → List ℕ → Call → Type 0)
-    → ((a : List ℕ) → plain a 2 ≡ true → P 1 a (Own (be 1 a 1) Open))
-    → ((a : List ℕ) → plain a 2 ≡ true → P 2 a (Own (be 1 a 1) Close))
-    → ((a : List ℕ) → plain a 2 ≡ true → P 3 a (Own (be 1 a 1) Connected))
-    → ((a : List ℕ) → plain a 2 ≡ true → P 4 a (Lost (be 1 a 1)))
-    → ((a : List ℕ) → addressed a ≡ true → P 5 a (Own (be 1 a 1) (SetRemote (remote_in (drop 2 a)))))
-    → ((a : List ℕ) → positioned a 4 3 ≡ true → P 6 a (Own (be 1 a 1) (Switch (be 1 a 2) (eqb (be 1 a 3) 1))))
-    → ((a : List ℕ) → length_fits a 2 ≡ true → P 7 a (Segment (be 1 a 1) 6))
-    → ((a : List ℕ) → length_fits a 6 ≡ true → P 8 a (Walk (be 1 a 1) (be 4 a 2) 10))
-    → ((a : List ℕ) → plain a 6 ≡ true → P 9 a (TakeWaiting (be 1 a 1) (be 4 a 2)))
-    → ((a : List ℕ) → addressed a ≡ true → P 10 a (Datagram (be 1 a 1) (remote_in (drop 2 a))))
-    → ((a : List ℕ) → addressed a ≡ true → P 11 a (Accept (be 1 a 1) (remote_in (drop 2 a))))
-    → ((a : List ℕ) → length_fits a 3 ≡ true → P 12 a (Transmit (be 2 a 1) 7))
-    → ((a : List ℕ) → positioned a 3 2 ≡ true → P 13 a (SwitchAll (be 1 a 1) (eqb (be 1 a 2) 1)))
-    → ((a : List ℕ) → plain a 2 ≡ true → P 14 a (ReadCount (be 1 a 1)))
-    → ((a : List ℕ) → plain a 2 ≡ true → P 15 a (ClearCount (be 1 a 1)))
-    → ((a : List ℕ) → plain a 2 ≡ true → P 16 a (Own (be 1 a 1) Cancel))
+pub by_call : (P : ℕ → List ℕ → Result Call BadCall → Type 0)
+    → ((a : List ℕ) → plain a 2 ≡ true → P 1 a (Ok (Own (be 1 a 1) Open)))
+    → ((a : List ℕ) → plain a 2 ≡ true → P 2 a (Ok (Own (be 1 a 1) Close)))
+    → ((a : List ℕ) → plain a 2 ≡ true → P 3 a (Ok (Own (be 1 a 1) Connected)))
+    → ((a : List ℕ) → plain a 2 ≡ true → P 4 a (Ok (Lost (be 1 a 1))))
+    → ((a : List ℕ) → addressed a ≡ true → P 5 a (Ok (Own (be 1 a 1) (SetRemote (remote_in (drop 2 a))))))
+    → ((a : List ℕ) → positioned a 4 3 ≡ true → P 6 a (Ok (Own (be 1 a 1) (Switch (be 1 a 2) (eqb (be 1 a 3) 1)))))
+    → ((a : List ℕ) → length_fits a 2 ≡ true → P 7 a (Ok (Segment (be 1 a 1) 6)))
+    → ((a : List ℕ) → length_fits a 6 ≡ true → P 8 a (Ok (Walk (be 1 a 1) (be 4 a 2) 10)))
+    → ((a : List ℕ) → plain a 6 ≡ true → P 9 a (Ok (TakeWaiting (be 1 a 1) (be 4 a 2))))
+    → ((a : List ℕ) → addressed a ≡ true → P 10 a (Ok (Datagram (be 1 a 1) (remote_in (drop 2 a)))))
+    → ((a : List ℕ) → addressed a ≡ true → P 11 a (Ok (Accept (be 1 a 1) (remote_in (drop 2 a)))))
+    → ((a : List ℕ) → length_fits a 3 ≡ true → P 12 a (Ok (Transmit (be 2 a 1) 7)))
+    → ((a : List ℕ) → positioned a 3 2 ≡ true → P 13 a (Ok (SwitchAll (be 1 a 1) (eqb (be 1 a 2) 1))))
+    → ((a : List ℕ) → plain a 2 ≡ true → P 14 a (Ok (ReadCount (be 1 a 1))))
+    → ((a : List ℕ) → plain a 2 ≡ true → P 15 a (Ok (ClearCount (be 1 a 1))))
+    → ((a : List ℕ) → plain a 2 ≡ true → P 16 a (Ok (Own (be 1 a 1) Cancel)))
     → (n : ℕ) → is_recorded n ≡ true → (a : List ℕ) → is_spelt (call_of n a) ≡ true → P n a (call_of n a)
 unfolding call_of
 by_call P p₁ p₂ p₃ p₄ p₅ p₆ p₇ p₈ p₉ p₁₀ p₁₁ p₁₂ p₁₃ p₁₄ p₁₅ p₁₆ =

@@ -1,5 +1,6 @@
 -- RECORD, THEN REPLAY: for any calls from a fresh state with stamps whose distances are at most 65,535, the recording made of them and their
 -- answers replays with no difference.
+use Rattle.std.proofs.Common.{Ok}
 use Prim.Native.Nat.{ℕ, suc, ◌+◌, ◌-◌, ◌%◌, ◌≤◌, ◌<◌, ◌^◌}
 use mathlib.Core.Path.{◌≡◌, refl, sym, ap, ap₂, ◌∙◌, subst}
 use mathlib.Core.Bool.{true, cond}
@@ -8,12 +9,10 @@ use native.Mathlib.Omega.{arith}
 use borrow.Author.Tests.{le-ltb, le-leb}
 use lib.ListN.{length, drop, length-append, length-drop}
 use Rattle.lists.specs.Search.{bad_from}
-use Rattle.table.specs.declared.TableAnswer.TheVariants.{Accepted}
 use Rattle.table.specs.Table.{check_table}
 use Rattle.state.specs.Fresh.{fresh_state}
 use Rattle.event_answer.specs.Answers.{room}
 use Rattle.model_refines.specs.Machine.{Machine, machine, loan_to}
-use Rattle.recording.specs.declared.Front.TheVariants.{Sized}
 use Rattle.recording.specs.Recording.{contents_to, entry_row, stamp_in, body_long, distance_in, stamps, body_short, sized_of, shown_by}
 use Rattle.replay_step.specs.Step.{Stepped, entry_step}
 use Rattle.replay_whole.specs.Replay.{Going, Left, is_run, is_other, first_other, step_at, ongoing, stopped, replay_from, under_front, under_table, replay_of}
@@ -22,7 +21,7 @@ use Rattle.theorem_record.specs.Again.{after_ticks, after_note, Answered, NoDiff
 use Rattle.theorem_record.proofs.Back.{WrittenAt, row_back, body-first, long-is, stamp_back}
 use Rattle.theorem_record.proofs.Back.{written_on, edition_back, entries_back, front-there, made_written}
 use Rattle.theorem_record.proofs.Step.{stepped_to, step_same}
-use Rattle.replay_step.specs.declared.Played.TheVariants as Entry
+use Rattle.replay_step.specs.declared.Compared.TheVariants as Entry
 
 -- THE CONTENTS: whole, of this edition, and no entry too long
 none_long : (r : List ℕ) (i at : ℕ) (es : List Noted) (behind more : List ℕ) → WrittenAt r i at es behind more → AllNotable es
@@ -40,7 +39,7 @@ module _ (es : List Noted) (more : List ℕ) (can : Recordable es) where
   few : length es < 256 ^ 2
   few = omega (arith, can.entries)
 
-  sized : sized_of r (length es) ≡ Sized
+  sized : sized_of r (length es) ≡ Ok tt
   unfolding sized_of
   sized =
       let all : bad_from (body_short r) (length es) 0 ≡ 0 + length es =
@@ -52,7 +51,7 @@ module _ (es : List Noted) (more : List ℕ) (can : Recordable es) where
       )
       refl
 
-  front-sized : shown_by r ≡ Sized
+  front-sized : shown_by r ≡ Ok tt
   unfolding shown_by
   front-sized =
       rw (le-ltb (length r) 2 (omega (arith, front-there es more few)), edition_back es more few, entries_back es more few) sized
@@ -83,7 +82,7 @@ module _ (image r behind more : List ℕ) where
       let short : length e.answer ≤ length out = omega (arith, n.short, length-append e.arguments e.answer, long) in
       let long' : room ≤ length out' =
       omega (arith, length-append e.answer (drop (length e.answer) out), length-drop (length e.answer) out, short, long) in
-      let step : step_at image r i g ≡ stepped_to (Entry.Same (length e.answer)) after out' =
+      let step : step_at image r i g ≡ stepped_to (Ok (Entry.Same (length e.answer))) after out' =
       ap₂ (λ (row rest : List ℕ). entry_step (loan_to image m) out before row rest) (row_back s) (body-first s)
       ∙ step_same image m out long before e n close is (bodies_for es ++ more) in
       let stamp : stamp_in (entry_row r i) ≡ e.stamp = ap stamp_in (row_back s) ∙ stamp_back e n in
@@ -129,7 +128,7 @@ module _ (image rx tx out more : List ℕ) (long : room ≤ length out) where
       (replays image (recording_of (e ∷ es) ++ more) (bodies_for (e ∷ es) ++ more) more (e ∷ es) 0 (contents_to (length (e ∷ es))) e.stamp 0 fresh out long
       stands can.each (zeroth, can.near) said))
 
-  replay_is : (es : List Noted) → check_table image ≡ Accepted → Recordable es
+  replay_is : (es : List Noted) → check_table image ≡ Ok tt → Recordable es
       → replay_of image (recording_of es ++ more) rx tx out ≡ replayed es (stamp_in (entry_row (recording_of es ++ more) 0))
   unfolding replay_of under_table under_front
   replay_is es accepted can =
@@ -141,7 +140,7 @@ module _ (image rx tx out more : List ℕ) (long : room ≤ length out) where
 
 -- RECORD, THEN REPLAY: what was answered so from a fresh state under an accepted table replays with no difference, whatever bytes stand behind
 -- the last body
-pub record_replay : (image rx tx out : List ℕ) (es : List Noted) (more : List ℕ) → check_table image ≡ Accepted → room ≤ length out → Recordable es
+pub record_replay : (image rx tx out : List ℕ) (es : List Noted) (more : List ℕ) → check_table image ≡ Ok tt → room ≤ length out → Recordable es
     → Answered image (first_stamp es) (machine (fresh_state image) rx tx) es → NoDifference (length es) (replay_of image (recording_of es ++ more) rx tx out)
 record_replay image rx tx out es more accepted long can said =
     subst (NoDifference (length es)) (sym (replay_is image rx tx out more long es accepted can)) (all_same image rx tx out more long es can said)

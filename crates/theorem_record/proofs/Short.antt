@@ -1,4 +1,5 @@
 -- CALLS THAT CAN BE RECORDED: whatever is answered, arguments of so many bytes leave room for it in a body of 4,096 bytes.
+use Rattle.std.proofs.Common.{Result, Ok}
 use Prim.Native.Nat.{ℕ, ◌+◌, suc, ◌*◌, ◌/◌, ◌≤◌}
 use mathlib.Core.Path.{◌≡◌, refl, ap}
 use mathlib.Core.Bool.{Bool, true, false}
@@ -18,6 +19,7 @@ use Rattle.entry_arrivals.specs.Arrivals.{datagram_of, accept_of}
 use Rattle.entry_receive.specs.Walk.{walk_of}
 use Rattle.entry_send.specs.Sending.{send_of, taken_waiting, taken_out}
 use Rattle.event_decode.specs.declared.Call.{Call}
+use Rattle.event_decode.specs.declared.BadCall.{BadCall}
 use Rattle.event_decode.specs.declared.Call.TheVariants.{Own, Lost, Segment, Walk, TakeWaiting, Datagram, Accept, Transmit, SwitchAll, ReadCount, ClearCount}
 use Rattle.event_decode.specs.Calls.{remote_in, call_of, bytes_from}
 use Rattle.dispatch_receive.specs.Segment.{none_marked}
@@ -37,71 +39,71 @@ use Rattle.theorem_record.proofs.Numbers.{by_call, plain-long, told_long}
 
 -- ANSWERS: of a segment event at most 1,503 bytes and 32 for every nine of the segment; where no route is marked, 1,502 and 3 for each
 module _ (l : Loan) (a : List ℕ) where
-  abbrev Below : ℕ → Call → Type 0
+  abbrev Below : ℕ → Result Call BadCall → Type 0
   Below k call = length (answer_of l a call) ≤ k
 
-  segment_below : (c at : ℕ) → Below (1503 + 32 * length (drop at a) / 9) (Segment c at)
+  segment_below : (c at : ℕ) → Below (1503 + 32 * length (drop at a) / 9) (Ok (Segment c at))
   unfolding answer_of
   segment_below c at = omega (arith, event-fits l c (bytes_from a at), ap length (segment-named l c (bytes_from a at)))
 
-  plain_below : none_marked l.image ≡ true → (c at : ℕ) → Below (1502 + 3 * length (drop at a)) (Segment c at)
+  plain_below : none_marked l.image ≡ true → (c at : ℕ) → Below (1502 + 3 * length (drop at a)) (Ok (Segment c at))
   unfolding answer_of
   plain_below none c at = omega (arith, plain_fits l c (bytes_from a at) none, ap length (segment-named l c (bytes_from a at)))
 
-  waiting_below : (c n : ℕ) → Below 1497 (TakeWaiting c n)
+  waiting_below : (c n : ℕ) → Below 1497 (Ok (TakeWaiting c n))
   unfolding answer_of
   waiting_below c n =
       let buffer : List ℕ = take (room_of n) (replicate 1472 0) in
       omega (arith, taking_size (taken_waiting l c buffer).answer (taken_out l c buffer), taken_size l c buffer, buffer_size n)
 
-  walk_below : (c place at : ℕ) → Below 20 (Walk c place at)
+  walk_below : (c place at : ℕ) → Below 20 (Ok (Walk c place at))
   unfolding answer_of
   walk_below c place at = let w = walk_of (sizes l) c (bytes_from a at) place in walked_size w.answer w.next w.outcome
 
-  own_below : (c : ℕ) (e : Event) → Below 6 (Own c e)
+  own_below : (c : ℕ) (e : Event) → Below 6 (Ok (Own c e))
   unfolding answer_of
   own_below c e = told_size (event_of (sizes l) c e).answer
 
-  lost_below : (c : ℕ) → Below 6 (Lost c)
+  lost_below : (c : ℕ) → Below 6 (Ok (Lost c))
   unfolding answer_of
   lost_below c = loss_size (loss_of (sizes l) c).answer (loss_of (sizes l) c).failed
 
-  datagram_below : (group : ℕ) (source : Remote) → Below 6 (Datagram group source)
+  datagram_below : (group : ℕ) (source : Remote) → Below 6 (Ok (Datagram group source))
   unfolding answer_of
   datagram_below group source = arrival_size (datagram_of (sizes l) group source).answer
 
-  accept_below : (group : ℕ) (source : Remote) → Below 6 (Accept group source)
+  accept_below : (group : ℕ) (source : Remote) → Below 6 (Ok (Accept group source))
   unfolding answer_of
   accept_below group source = arrival_size (accept_of (sizes l) group source).answer
 
-  transmit_below : (pdu at : ℕ) → Below 6 (Transmit pdu at)
+  transmit_below : (pdu at : ℕ) → Below 6 (Ok (Transmit pdu at))
   unfolding answer_of
   transmit_below pdu at = transmission_size (send_of l pdu (bytes_from a at)).answer
 
-  switches_below : (number : ℕ) (position : Bool) → Below 6 (SwitchAll number position)
+  switches_below : (number : ℕ) (position : Bool) → Below 6 (Ok (SwitchAll number position))
   unfolding answer_of
   switches_below number position = told_size (switch_all_of (sizes l) number position).answer
 
-  read_below : (protocol : ℕ) → Below 6 (ReadCount protocol)
+  read_below : (protocol : ℕ) → Below 6 (Ok (ReadCount protocol))
   unfolding answer_of
   read_below protocol = count_size (read_of (sizes l) protocol).answer
 
-  clear_below : (protocol : ℕ) → Below 6 (ClearCount protocol)
+  clear_below : (protocol : ℕ) → Below 6 (Ok (ClearCount protocol))
   unfolding answer_of
   clear_below protocol = count_size (clear_of (sizes l) protocol).answer
 
   -- with its arguments
-  abbrev Fills : Call → Type 0
+  abbrev Fills : Result Call BadCall → Type 0
   Fills call = length a + length (answer_of l a call) ≤ 4096
 
-  six : (call : Call) → length a ≤ 4076 → Below 6 call → Fills call
+  six : (call : Result Call BadCall) → length a ≤ 4076 → Below 6 call → Fills call
   six call h b = omega (arith, h, b)
 
   -- .. of a segment, the bytes of which stand behind the first six
-  segment_fills : (c : ℕ) → 6 ≤ length a → length a ≤ segment_arguments (none_marked l.image) → Fills (Segment c 6)
+  segment_fills : (c : ℕ) → 6 ≤ length a → length a ≤ segment_arguments (none_marked l.image) → Fills (Ok (Segment c 6))
   segment_fills c long h = go (none_marked l.image) refl h
     where
-      go : (b : Bool) → none_marked l.image ≡ b → length a ≤ segment_arguments b → Fills (Segment c 6)
+      go : (b : Bool) → none_marked l.image ≡ b → length a ≤ segment_arguments b → Fills (Ok (Segment c 6))
       go true none q = omega (arith, q, long, plain_below none c 6, length-drop 6 a)
       go false some q = omega (arith, q, long, segment_below c 6, length-drop 6 a)
 

@@ -1,4 +1,5 @@
 -- ONE ENTRY REPLAYED: of an entry that was recorded so, the ticks and the event are run, and today's answer is the recorded one.
+use Rattle.std.proofs.Common.{Result, Ok}
 use Prim.Native.Nat.{ℕ, ◌≤◌}
 use mathlib.Core.Path.{◌≡◌, refl, sym, ap, ap₂, ◌∙◌}
 use mathlib.Core.Bool.{Bool, true, false, cond, false≢true}
@@ -11,8 +12,7 @@ use lib.Seq.{take-append_seam}
 use Rattle.lists.proofs.Both.{and_both}
 use Rattle.gate.specs.Lent.{Loan}
 use Rattle.event_decode.specs.Calls.{call_of}
-use Rattle.event_answer.specs.declared.Verdict.{Verdict}
-use Rattle.event_answer.specs.declared.Verdict.TheVariants as Said
+use Rattle.event_answer.specs.declared.NoAnswer.TheVariants as Said
 use Rattle.event_answer.specs.Answers.{Effect, room}
 use Rattle.dispatch.specs.Dispatch.{dispatch_of}
 use Rattle.model_refines.specs.Machine.{Machine, loan_to}
@@ -22,11 +22,11 @@ use Rattle.dispatch_refines.proofs.Event.{dispatched_events}
 use Rattle.dispatch_refines.proofs.Ticks.{ticks-run}
 use Rattle.dispatch_refines.proofs.Answer.{event-answered, answer-named}
 use Rattle.recording.specs.declared.Fault.{Fault}
-use Rattle.recording.specs.declared.Fault.TheVariants.{Nothing}
 use Rattle.recording.specs.Recording.{number_in, body_long, distance_in, stamps}
 use Rattle.recording.specs.Entry.{is_spelt, answer_fits, body_fits, fault_of}
-use Rattle.replay_step.specs.declared.Played.{Played}
-use Rattle.replay_step.specs.declared.Played.TheVariants.{Same}
+use Rattle.replay_step.specs.declared.Unplayed.{Unplayed}
+use Rattle.replay_step.specs.declared.Compared.{Compared}
+use Rattle.replay_step.specs.declared.Compared.TheVariants.{Same}
 use Rattle.replay_step.proofs.Same.{same_self}
 use Rattle.replay_step.specs.Step.{Stepped, played_by, told_beside, ticked_by, then_happens, unless_fault, entered, entry_step}
 use Rattle.theorem_record.specs.Record.{Noted, note_body, note_row, Notable}
@@ -34,13 +34,14 @@ use Rattle.theorem_record.specs.Again.{after_ticks, after_note, answer_to}
 use Rattle.theorem_record.proofs.Numbers.{arguments-in, answer-in}
 use Rattle.theorem_record.proofs.Answers.{answer-fits}
 use Rattle.theorem_record.proofs.Back.{stamp_back, number_back, zero_back, long_back}
+use Rattle.event_answer.specs.Answers.{Verdict}
 
 -- what a step leaves
-abbrev pub stepped_to : Played → Machine → List ℕ → Stepped
+abbrev pub stepped_to : Result Compared Unplayed → Machine → List ℕ → Stepped
 stepped_to p m out = record { played = p; state = m.state; rx = m.rx; tx = m.tx; out = out }
 
 -- the recorded answer at the front of the out buffer
-played-same : (a behind : List ℕ) → played_by (Said.Done (length a)) (a ++ behind) a ≡ Same (length a)
+played-same : (a behind : List ℕ) → played_by (Ok (length a)) (a ++ behind) a ≡ Ok (Same (length a))
 unfolding played_by
 played-same a behind = rw (take-append_seam a behind, same_self a) refl
 
@@ -53,11 +54,11 @@ module _ (image : List ℕ) (m : Machine) (out : List ℕ) (long : room ≤ leng
     abbrev happened : Effect
     happened = dispatch_of (loan_to image m) out e.number e.arguments
 
-    verdict-is : happened.verdict ≡ Said.Done (length e.answer)
+    verdict-is : happened.verdict ≡ Ok (length e.answer)
     unfolding is_spelt
     verdict-is =
         event-answered image m spoken long (λ u. false≢true (sym (ap is_spelt u) ∙ n.spells)) (λ u. false≢true (sym (ap is_spelt u) ∙ n.spells))
-        ∙ ap (λ (l : List ℕ). Said.Done (length l)) (sym is)
+        ∙ ap (λ (l : List ℕ). Ok (length l)) (sym is)
 
     out-is : happened.out ≡ e.answer ++ drop (length e.answer) out
     out-is = (answer-named image m spoken (length e.answer) verdict-is).1 ∙ ap (λ (l : List ℕ). l ++ drop (length e.answer) out) (sym is)
@@ -69,11 +70,11 @@ module _ (image : List ℕ) (m : Machine) (out : List ℕ) (long : room ≤ leng
         ∙ ap (λ (b : Bool). after_run image m (cond b [] (events_of e.arguments (call_of e.number e.arguments)))) (le-ltb (length out) room long)
 
     told_same : told_beside e.answer happened
-        ≡ stepped_to (Same (length e.answer)) (after_note image e.number e.arguments m) (e.answer ++ drop (length e.answer) out)
+        ≡ stepped_to (Ok (Same (length e.answer))) (after_note image e.number e.arguments m) (e.answer ++ drop (length e.answer) out)
     told_same =
         ap (λ (v : Verdict). stepped_to (played_by v happened.out e.answer) (machine_of happened) happened.out) verdict-is
-        ∙ ap₂ (λ (x : Machine) (o : List ℕ). stepped_to (played_by (Said.Done (length e.answer)) o e.answer) x o) machine-is out-is
-        ∙ ap (λ (p : Played). stepped_to p (after_note image e.number e.arguments m) (e.answer ++ drop (length e.answer) out))
+        ∙ ap₂ (λ (x : Machine) (o : List ℕ). stepped_to (played_by (Ok (length e.answer)) o e.answer) x o) machine-is out-is
+        ∙ ap (λ (p : Result Compared Unplayed). stepped_to p (after_note image e.number e.arguments m) (e.answer ++ drop (length e.answer) out))
         (played-same e.answer (drop (length e.answer) out))
 
 -- AN ENTRY of a recording
@@ -98,13 +99,13 @@ module _ (image : List ℕ) (m : Machine) (out : List ℕ) (long : room ≤ leng
         ∙ answer-fits e.number n.event (loan_to image later) e.arguments n.bytes n.spells)
 
     -- no fault
-    fault_none : fault_of ticks (note_row e) (note_body e) ≡ Nothing
+    fault_none : fault_of ticks (note_row e) (note_body e) ≡ Ok tt
     unfolding fault_of
     fault_none =
         rw (le-ltb 65535 ticks near, number_back e n, n.event, zero_back e, body-fits) refl
 
     happens-same : then_happens (loan_to image m) out ticks e.number (note_body e)
-        ≡ stepped_to (Same (length e.answer)) (after_note image e.number e.arguments later) (e.answer ++ drop (length e.answer) out)
+        ≡ stepped_to (Ok (Same (length e.answer))) (after_note image e.number e.arguments later) (e.answer ++ drop (length e.answer) out)
     happens-same =
         ap₂ (λ (a g : List ℕ). told_beside a (dispatch_of (ticked_by (loan_to image m) out ticks) out e.number g))
         (answer-in e.number e.arguments e.answer n.event n.spells) (arguments-in e.number e.arguments e.answer n.event n.spells)
@@ -112,15 +113,15 @@ module _ (image : List ℕ) (m : Machine) (out : List ℕ) (long : room ≤ leng
         ∙ told_same image later out long e n is
 
     entered-same : entered (loan_to image m) out ticks (note_row e) (note_body e)
-        ≡ stepped_to (Same (length e.answer)) (after_note image e.number e.arguments later) (e.answer ++ drop (length e.answer) out)
+        ≡ stepped_to (Ok (Same (length e.answer))) (after_note image e.number e.arguments later) (e.answer ++ drop (length e.answer) out)
     unfolding entered unless_fault
     entered-same =
-        ap (λ (f : Fault). unless_fault (loan_to image m) out f ticks (number_in (note_row e)) (note_body e)) fault_none
+        ap (λ (f : Result Unit Fault). unless_fault (loan_to image m) out f ticks (number_in (note_row e)) (note_body e)) fault_none
         ∙ ap (λ (k : ℕ). then_happens (loan_to image m) out ticks k (note_body e)) (number_back e n)
         ∙ happens-same
 
     pub step_same : (rest : List ℕ) → entry_step (loan_to image m) out before (note_row e) (note_body e ++ rest)
-        ≡ stepped_to (Same (length e.answer)) (after_note image e.number e.arguments later) (e.answer ++ drop (length e.answer) out)
+        ≡ stepped_to (Ok (Same (length e.answer))) (after_note image e.number e.arguments later) (e.answer ++ drop (length e.answer) out)
     unfolding entry_step
     step_same rest =
         let there : ltb (length (note_body e ++ rest)) (body_long (note_row e)) ≡ false =

@@ -1,6 +1,6 @@
 -- CALLS AND THEIR ANSWERS (R17.8), entry by entry with the ticks between them, as a run of the machine gives them; and a replay that
 -- finds no difference.
-use Rattle.std.specs.Prelude.{ℕ, ◌≤◌, ◌<◌, ◌≡◌, Bool, true, false, cond, List, [], ◌∷◌, eqb, length, replicate}
+use Rattle.std.specs.Prelude.{ℕ, ◌≤◌, ◌<◌, ◌≡◌, Bool, true, false, cond, List, [], ◌∷◌, eqb, length, replicate, Ok}
 use Rattle.reading_lengths.specs.Listed.{Bytes}
 use Rattle.state.specs.Fresh.{fresh_state}
 use Rattle.event_decode.specs.Calls.{call_of}
@@ -12,7 +12,6 @@ use Rattle.dispatch_refines.specs.Spelt.{events_of}
 use Rattle.dispatch_refines.specs.Answer.{answer_of}
 use Rattle.recording.specs.Recording.{distance_in, stamps}
 use Rattle.recording.specs.Entry.{is_recorded, is_spelt}
-use Rattle.replay_whole.specs.declared.End.TheVariants.{Whole}
 use Rattle.replay_whole.specs.Replay.{Left}
 use Rattle.theorem_record.specs.Record.{Noted}
 
@@ -95,6 +94,6 @@ timed_of e = record { stamp = e.stamp; number = e.number; arguments = e.argument
 
 -- A REPLAY THAT FINDS NO DIFFERENCE in so many entries, all run
 pub record NoDifference (n : ℕ) (left : Left) : Type 0 where
-  pub end : left.replayed.end ≡ Whole
+  pub end : left.replayed.end ≡ Ok tt
   pub run : left.replayed.run ≡ n
   pub differs : left.replayed.differs ≡ 0

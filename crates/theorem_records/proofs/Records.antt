@@ -1,4 +1,5 @@
 -- WHAT EVENTS LEAVE OF THE RECORDS.
+use Rattle.std.proofs.Common.{Result, Ok, Err, Option, ℕ, Some, None}
 use Prim.Native.Nat.{ℕ, suc, ◌<◌, ◌≤◌}
 use mathlib.Core.Path.{◌≡◌, refl, sym, ap, ◌∙◌, subst}
 use mathlib.Core.Bool.{Bool, true, false, cond, not, ◌&&◌, ◌||◌, false≢true}
@@ -10,7 +11,6 @@ use borrow.Author.Tests.{eqb-true, eqb-false, ltb-true, ltb-false}
 use Rattle.connection.specs.declared.Config.{Config}
 use Rattle.connection.specs.declared.Connection.{Connection}
 use Rattle.connection.specs.declared.Remote.{Remote}
-use Rattle.connection.specs.declared.Answer.TheVariants.{Done}
 use Rattle.connection.specs.declared.Refusal.TheVariants.{Missing, Denied}
 use Rattle.connection.specs.declared.Event.{Event as Change}
 use Rattle.connection.specs.declared.Event.TheVariants.{Open, Close, Connected, Lost, SetRemote, Switch, Cancel}
@@ -23,15 +23,10 @@ use Rattle.table_layout.specs.Layout.{rows_of}
 use Rattle.table_layout.specs.declared.Kind.TheVariants.{Group}
 use Rattle.state.specs.State.{record_at, with_record}
 use Rattle.state.specs.Fresh.{config_of}
-use Rattle.gate.specs.declared.Gate.{Gate}
-use Rattle.gate.specs.declared.Gate.TheVariants.{Pass, Refused as Shut}
 use Rattle.gate.specs.Lent.{Lent}
 use Rattle.gate.specs.Gate.{gate_of, through}
-use Rattle.select.specs.declared.Arrival.{Arrival}
-use Rattle.select.specs.declared.Arrival.TheVariants.{Met, Refused, Unmatched}
+use Rattle.select.specs.declared.NotMet.TheVariants.{Refused, Unmatched}
 use Rattle.select.specs.declared.Arrived.{Arrived}
-use Rattle.select.specs.declared.Chosen.{Chosen}
-use Rattle.select.specs.declared.Chosen.TheVariants.{Nobody, At}
 use Rattle.select.specs.Choose.{chosen_in, meet, arrival_refused, denied_of, arrive_of}
 use Rattle.entry_arrivals.specs.Arrivals.{arrival_of}
 use Rattle.send_waiting.specs.Waiting.{after_take, take_of}
@@ -47,6 +42,8 @@ use Rattle.model_refines.proofs.Steps.{event_view}
 use Rattle.theorem_records.specs.Records.{RemoteAfter, lost_configured, lost_refused, set_given, set_refused, kept_open, kept_close}
 use Rattle.theorem_records.specs.Records.{kept_connected, kept_switch, kept_cancel, RemoteAtTick, closed_configured, let_go_configured, kept_ticking}
 use Rattle.theorem_records.specs.Records.{Drained, TakeLeaves, nothing_taken, back_to_reconnect, to_be_closed, stays_as_it_is}
+use Rattle.connection.specs.declared.Refusal.{Refusal}
+use Rattle.select.specs.declared.NotMet.{NotMet}
 
 -- A CONNECTION EVENT LEAVES EVERY OTHER CONNECTION AS IT WAS: its record, and the bytes that it holds
 others-step : (image : List ℕ) (w : World) (k : ℕ) (e : Own) (i : ℕ) → (i ≡ k → ⊥) → held_at (step (table_of image) (whole_of image) w (on k e)) i ≡ held_at w i
@@ -67,8 +64,8 @@ module _ (g : Config) (c : Connection) where
   stepped e P done refused is = rw is (go (allowed e g c) refl)
     where
       go : (b : Bool) → allowed e g c ≡ b
-          → P (cond (not b) (refused_by Denied c) (record { answer = Done; connection = record_after e g c })).connection.remote
-          (cond (not b) (refused_by Denied c) (record { answer = Done; connection = record_after e g c })).connection.watch.remote_set
+          → P (cond (not b) (refused_by Denied c) (record { answer = Ok tt; connection = record_after e g c })).connection.remote
+          (cond (not b) (refused_by Denied c) (record { answer = Ok tt; connection = record_after e g c })).connection.watch.remote_set
       go true q = done q
       go false q = refused q
 
@@ -79,8 +76,8 @@ module _ (g : Config) (c : Connection) where
   switch_remote n position = go (known (Switch n position))
     where
       go : (b : Bool) → RemoteAfter g c (Switch n position)
-          (cond (not b) (refused_by Missing c) (record { answer = Done; connection = record_after (Switch n position) g c })).connection.remote
-          (cond (not b) (refused_by Missing c) (record { answer = Done; connection = record_after (Switch n position) g c })).connection.watch.remote_set
+          (cond (not b) (refused_by Missing c) (record { answer = Ok tt; connection = record_after (Switch n position) g c })).connection.remote
+          (cond (not b) (refused_by Missing c) (record { answer = Ok tt; connection = record_after (Switch n position) g c })).connection.watch.remote_set
       go true = kept_switch n position
       go false = kept_switch n position
 
@@ -138,24 +135,24 @@ module _ (g : Config) (room : ℕ) (c : Connection) where
 -- A DATAGRAM OR AN ACCEPT that meets connection k leaves it online with the source as remote, and every other record and both counts as they were
 module _ (l : Lent) (accept : Bool) (group : ℕ) (source : Remote) (k : ℕ) where
   abbrev Met_is : Arrived → Type 0
-  Met_is x = x.answer ≡ Met k → x.state ≡ with_record k (met_of (config_of l.image k) source (record_at l.state k)) l.state
+  Met_is x = x.answer ≡ Ok k → x.state ≡ with_record k (met_of (config_of l.image k) source (record_at l.state k)) l.state
 
-  whom : Arrival → ℕ
-  whom (Met n) = suc n
-  whom (Refused r) = 0
-  whom Unmatched = 0
+  whom : Result ℕ NotMet → ℕ
+  whom (Ok n) = suc n
+  whom (Err (Refused r)) = 0
+  whom (Err Unmatched) = 0
 
   not_met : (x : Arrived) → whom x.answer ≡ 0 → Met_is x
   unfolding whom
   not_met x z e = absurd (omega (arith, z, ap whom e))
 
-  met-is : (x : Chosen) → Met_is (meet l.image l.state source x)
+  met-is : (x : Option ℕ) → Met_is (meet l.image l.state source x)
   unfolding whom
-  met-is Nobody e = not_met (meet l.image l.state source Nobody) refl e
-  met-is (At j) e = let q : j ≡ k = omega (arith, ap whom e) in
+  met-is None e = not_met (meet l.image l.state source None) refl e
+  met-is (Some j) e = let q : j ≡ k = omega (arith, ap whom e) in
       ap (λ (n : ℕ). with_record n (met_of (config_of l.image n) source (record_at l.state n)) l.state) q
 
-  pub arrival_leaves : (arrival_of l accept group source).answer ≡ Met k
+  pub arrival_leaves : (arrival_of l accept group source).answer ≡ Ok k
       → (arrival_of l accept group source).state ≡ with_record k (met_of (config_of l.image k) source (record_at l.state k)) l.state
   unfolding arrival_of arrive_of whom
   arrival_leaves = gate (gate_of l)
@@ -171,6 +168,6 @@ module _ (l : Lent) (accept : Bool) (group : ℕ) (source : Remote) (k : ℕ) wh
       there true = not_met (arrival_refused l.state Missing) refl
       there false = asked (denied_of l.image accept group source)
 
-      gate : (g : Gate) → Met_is (through g (arrival_refused l.state) (arrive_of l.image l.state accept group source))
-      gate Pass = there (leb (rows_of l.image Group) group)
-      gate (Shut r) = not_met (arrival_refused l.state r) refl
+      gate : (g : Result Unit Refusal) → Met_is (through g (arrival_refused l.state) (arrive_of l.image l.state accept group source))
+      gate (Ok tt) = there (leb (rows_of l.image Group) group)
+      gate (Err r) = not_met (arrival_refused l.state r) refl

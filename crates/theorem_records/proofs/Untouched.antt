@@ -1,5 +1,6 @@
 -- WHAT A GROUP OR MODULE EVENT DOES NOT TOUCH IT LEAVES AS IT WAS, record and held bytes; a switch on all connections changes switches alone, a
 -- transmit bytes used, timer and due mark alone, and a count event no record.
+use Rattle.std.proofs.Common.{Result, Ok, Err, Option, ℕ, Some, None}
 use Prim.Native.Nat.{ℕ, zero, suc, ◌+◌, ◌<◌, ◌≤◌}
 use mathlib.Core.Path.{◌≡◌, refl, sym, ap, ap₂, ◌∙◌, subst}
 use mathlib.Core.Bool.{Bool, true, false, cond, ◌&&◌}
@@ -25,21 +26,15 @@ use Rattle.connection.specs.declared.Connection.{Connection}
 use Rattle.connection.specs.declared.Remote.{Remote}
 use Rattle.connection.specs.declared.Refusal.{Refusal}
 use Rattle.connection.specs.declared.Refusal.TheVariants.{Missing, Denied}
-use Rattle.connection.specs.declared.Answer.TheVariants.{Done}
 use Rattle.connection.specs.Connection.{zero_record, with_send, tick_of}
 use Rattle.state.specs.declared.State.{State}
 use Rattle.state.specs.State.{record_at}
 use Rattle.state.specs.Fresh.{config_of}
 use Rattle.state.specs.Memory.{stretch}
-use Rattle.gate.specs.declared.Gate.{Gate}
-use Rattle.gate.specs.declared.Gate.TheVariants.{Pass, Refused as Shut}
 use Rattle.gate.specs.Lent.{Lent, Loan, sizes}
 use Rattle.gate.specs.Gate.{gate_of, through}
 use Rattle.gate.proofs.Pass.{passed_gate}
-use Rattle.select.specs.declared.Arrival.TheVariants.{Met}
 use Rattle.select.specs.declared.Arrived.{Arrived}
-use Rattle.select.specs.declared.Chosen.{Chosen}
-use Rattle.select.specs.declared.Chosen.TheVariants.{Nobody, At}
 use Rattle.select.specs.Choose.{chosen_in, meet, arrival_refused, denied_of, arrive_of}
 use Rattle.entry_arrivals.specs.Arrivals.{arrival_of}
 use Rattle.entry_events.specs.declared.Told.{Told}
@@ -82,14 +77,14 @@ each-inside f d b (suc n) (x ∷ xs) (suc i) h l =
 -- A DATAGRAM, AN ACCEPT: every record but that of the answer
 module _ (l : Lent) (tcp : Bool) (group : ℕ) (source : Remote) (i : ℕ) where
   abbrev Stays : Arrived → Type 0
-  Stays x = (x.answer ≡ Met i → ⊥) → record_at x.state i ≡ record_at l.state i
+  Stays x = (x.answer ≡ Ok i → ⊥) → record_at x.state i ≡ record_at l.state i
 
-  met-stays : (c : Chosen) → Stays (meet l.image l.state source c)
-  met-stays Nobody h = refl
-  met-stays (At k) h = go (ℕ_discrete k i)
+  met-stays : (c : Option ℕ) → Stays (meet l.image l.state source c)
+  met-stays None h = refl
+  met-stays (Some k) h = go (ℕ_discrete k i)
     where
-      go : Dec (k ≡ i) → record_at (meet l.image l.state source (At k)).state i ≡ record_at l.state i
-      go (yes e) = absurd (h (ap Met e))
+      go : Dec (k ≡ i) → record_at (meet l.image l.state source (Some k)).state i ≡ record_at l.state i
+      go (yes e) = absurd (h (ap Ok e))
       go (no ne) = get_or-set_other l.state.connections k i _ zero_record (λ e. ne (sym e))
 
   pub arrival_others : Stays (arrival_of l tcp group source)
@@ -107,9 +102,9 @@ module _ (l : Lent) (tcp : Bool) (group : ℕ) (source : Remote) (i : ℕ) where
       there true h = refl
       there false h = asked (denied_of l.image tcp group source) h
 
-      gate : (g : Gate) → Stays (through g (arrival_refused l.state) (arrive_of l.image l.state tcp group source))
-      gate Pass h = there (leb (rows_of l.image Group) group) h
-      gate (Shut r) h = refl
+      gate : (g : Result Unit Refusal) → Stays (through g (arrival_refused l.state) (arrive_of l.image l.state tcp group source))
+      gate (Ok tt) h = there (leb (rows_of l.image Group) group) h
+      gate (Err r) h = refl
 
 -- A TICK, A SWITCH ON ALL CONNECTIONS: every record past the row count; and the switch changes switches alone
 module _ (l : Lent) (i : ℕ) where
@@ -123,17 +118,17 @@ module _ (l : Lent) (i : ℕ) where
       rows : ℕ
       rows = rows_of l.image Connections
 
-      gate : (g : Gate) → record_at (through g (unticked l.state) (ticked_from rows l.state (ticked_to l.image rows l.state))).state i ≡ c
-      gate Pass = each-past (tick_at l.image) zero_record 0 rows l.state.connections i out
-      gate (Shut r) = refl
+      gate : (g : Result Unit Refusal) → record_at (through g (unticked l.state) (ticked_from rows l.state (ticked_to l.image rows l.state))).state i ≡ c
+      gate (Ok tt) = each-past (tick_at l.image) zero_record 0 rows l.state.connections i out
+      gate (Err r) = refl
 
   -- each row's record by itself
-  pub tick-own : gate_of l ≡ Pass → i < rows_of l.image Connections → i < length l.state.connections
+  pub tick-own : gate_of l ≡ Ok tt → i < rows_of l.image Connections → i < length l.state.connections
       → record_at (tick_event l).state i ≡ tick_of (config_of l.image i) c
   unfolding tick_event ticked_to
   tick-own passes there low =
       let z : 0 + i ≡ i = omega arith in
-      ap (λ (g : Gate). record_at (through g (unticked l.state) (ticked_from rows l.state (ticked_to l.image rows l.state))).state i) passes
+      ap (λ (g : Result Unit Refusal). record_at (through g (unticked l.state) (ticked_from rows l.state (ticked_to l.image rows l.state))).state i) passes
       ∙ each-inside (tick_at l.image) zero_record 0 rows l.state.connections i there low
       ∙ ap (λ (k : ℕ). tick_of (config_of l.image k) c) z
     where
@@ -148,15 +143,15 @@ module _ (l : Lent) (i : ℕ) where
       where
         event : Bool → Told
         event b =
-            cond b (record { answer = Done; state = switched_all (rows_of l.image Connections) number position l.state }) (refused_told l.state Missing)
+            cond b (record { answer = Ok tt; state = switched_all (rows_of l.image Connections) number position l.state }) (refused_told l.state Missing)
 
         inner : (b : Bool) → P (record_at (event b).state i)
         inner true = q
         inner false = p
 
-        gate : (g : Gate) → P (record_at (through g (refused_told l.state) (event (ltb number 32))).state i)
-        gate Pass = inner (ltb number 32)
-        gate (Shut r) = p
+        gate : (g : Result Unit Refusal) → P (record_at (through g (refused_told l.state) (event (ltb number 32))).state i)
+        gate (Ok tt) = inner (ltb number 32)
+        gate (Err r) = p
 
     switch_past : rows_of l.image Connections ≤ i → record_at (switch_all_of l number position).state i ≡ c
     unfolding switched_all
@@ -185,10 +180,10 @@ module _ (l : Lent) (protocol : ℕ) where
       inner false true = is true
       inner false false = refl
 
-      gate : (g : Gate) → kept (through g (uncounted l.state) (cond (eqb protocol 1) (f false) (cond (eqb protocol 2) (f true) (uncounted
+      gate : (g : Result Unit Refusal) → kept (through g (uncounted l.state) (cond (eqb protocol 1) (f false) (cond (eqb protocol 2) (f true) (uncounted
           l.state Denied))))
-      gate Pass = inner (eqb protocol 1) (eqb protocol 2)
-      gate (Shut r) = refl
+      gate (Ok tt) = inner (eqb protocol 1) (eqb protocol 2)
+      gate (Err r) = refl
 
   pub read-records : kept (read_of l protocol)
   unfolding read_of read_past
@@ -236,9 +231,9 @@ module _ (l : Loan) (pdu : ℕ) (payload : List ℕ) (i : ℕ) where
       inner true = store_alone
       inner false = refl
 
-      gate : (g : Gate) → OnlySend before (record_at (through g (not_sent l.state) (transmitted_of l.image l.state pdu payload l.tx)).state i)
-      gate Pass = inner (is_stored (check_of l.image l.state pdu (length payload)))
-      gate (Shut r) = refl
+      gate : (g : Result Unit Refusal) → OnlySend before (record_at (through g (not_sent l.state) (transmitted_of l.image l.state pdu payload l.tx)).state i)
+      gate (Ok tt) = inner (is_stored (check_of l.image l.state pdu (length payload)))
+      gate (Err r) = refl
 
 -- WHAT IS NOT TOUCHED, of a good machine: the record and the bytes that it holds
 module _ (image : List ℕ) (m : Machine) (good : Good image m) (i : ℕ) where
@@ -295,7 +290,7 @@ module _ (image : List ℕ) (m : Machine) (good : Good image m) (i : ℕ) where
         (seen m) i
     unfolding send_of sent_memory
     transmit-stays =
-        ap (λ (g : Gate). held_at (view_of (through g (not_sent m.state) (transmitted_of image m.state pdu payload m.tx)).state m.rx
+        ap (λ (g : Result Unit Refusal). held_at (view_of (through g (not_sent m.state) (transmitted_of image m.state pdu payload m.tx)).state m.rx
         (through g (λ (r : Refusal). m.tx) after.memory)) i) (passed_gate (lent_to image m) good.passed)
         ∙ sent-stays
 

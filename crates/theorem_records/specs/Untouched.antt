@@ -1,5 +1,5 @@
 -- WHICH CONNECTIONS A GROUP OR MODULE EVENT TOUCHES (R8.1), by the answers and the table that its rule speaks of; and what it may change there.
-use Rattle.std.specs.Prelude.{ℕ, ◌<◌, ◌≡◌, Bool, true, List}
+use Rattle.std.specs.Prelude.{ℕ, ◌<◌, ◌≡◌, Bool, true, List, Ok}
 use Rattle.table_layout.specs.Layout.{rows_of}
 use Rattle.table_layout.specs.declared.Kind.TheVariants.{Connection as Connections}
 use Rattle.table_rows.specs.Rows.{destination_of}
@@ -8,7 +8,6 @@ use Rattle.connection.specs.declared.Connection.{Connection}
 use Rattle.connection.specs.declared.Remote.{Remote}
 use Rattle.connection.specs.Connection.{with_switches, with_send}
 use Rattle.state.specs.State.{record_at}
-use Rattle.select.specs.declared.Arrival.TheVariants.{Met}
 use Rattle.entry_arrivals.specs.Arrivals.{datagram_of, accept_of}
 use Rattle.send.specs.Send.{destinations}
 use Rattle.model.specs.Events.{Whole, datagram, accept, tick, transmit, switch_all}
@@ -17,9 +16,9 @@ use Rattle.model_refines.specs.Machine.{Machine, lent_to}
 -- a count event touches none
 pub data Touches (image : List ℕ) (m : Machine) : Whole → ℕ → Type 0 where
   -- a datagram, an accept: the connection that it is answered with (R7.6)
-  datagram_meets : (group : ℕ) (source : Remote) (k : ℕ) → (datagram_of (lent_to image m) group source).answer ≡ Met k
+  datagram_meets : (group : ℕ) (source : Remote) (k : ℕ) → (datagram_of (lent_to image m) group source).answer ≡ Ok k
       → Touches image m (datagram group source) k
-  accept_meets : (group : ℕ) (source : Remote) (k : ℕ) → (accept_of (lent_to image m) group source).answer ≡ Met k → Touches image m (accept group source) k
+  accept_meets : (group : ℕ) (source : Remote) (k : ℕ) → (accept_of (lent_to image m) group source).answer ≡ Ok k → Touches image m (accept group source) k
   -- a tick: each connection that is there (R9.1)
   tick_each : (k : ℕ) → k < rows_of image Connections → Touches image m tick k
   -- a transmit: the connection of a destination that has the PDU and is on (R10.3)

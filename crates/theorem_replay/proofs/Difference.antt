@@ -1,12 +1,12 @@
 -- THE FIRST DIFFERENCE (R17.7), under an accepted table, for every recording, memories and out buffer: it is the first entry whose recorded answer
 -- is not the answer of the run; none is told exactly when there is none.
+use Rattle.std.proofs.Common.{Ok}
 use Prim.Native.Nat.{ℕ, suc, ◌<◌}
 use mathlib.Core.Path.{◌≡◌, refl, sym, ◌∙◌}
 use mathlib.Core.Logic.{◌↔◌}
 use mathlib.Core.Bool.{Bool, true, false}
 use mathlib.Core.List.{List}
 use Rattle.lists.proofs.Both.{impossible}
-use Rattle.table.specs.declared.TableAnswer.TheVariants as Answered
 use Rattle.table.specs.Table.{check_table}
 use Rattle.replay_whole.specs.declared.Replayed.{Replayed}
 use Rattle.replay_whole.specs.Replay.{replay_of}
@@ -45,7 +45,7 @@ module _ (image r rx tx : List ℕ) where
   unlike_first : (n i : ℕ) → FirstUnlike image r rx tx n i → unlike_in image r rx tx n ≡ suc i
   unlike_first n i f = first-other (same_at image r rx tx) n i f.0 (from_unlike i f.1) (λ j h. from_alike j (f.2 j h))
 
-  module _ (out : List ℕ) (accepted : check_table image ≡ Answered.Accepted) where
+  module _ (out : List ℕ) (accepted : check_table image ≡ Ok tt) where
     abbrev replay : Replayed
     replay = (replay_of image r rx tx out).replayed
 

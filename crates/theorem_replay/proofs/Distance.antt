@@ -1,4 +1,5 @@
 -- THE DISTANCE BETWEEN TWO STAMPS (R17.5), over any width: numbers below `most`, counted modulo `most`; and of a recording's own stamps.
+use Rattle.std.proofs.Common.{Result, Err}
 use Prim.Native.Nat.{ℕ, zero, suc, ◌+◌, ◌-◌, ◌%◌, ◌<◌, ◌≤◌}
 use mathlib.Core.Path.{◌≡◌, refl, sym, ap, ◌∙◌}
 use mathlib.Core.Bool.{Bool, true, false, cond}
@@ -56,12 +57,12 @@ module _ (most before stamp : ℕ) (low : before < most) (high : stamp < most) w
 pub distance_after : (most stamp n : ℕ) → stamp < most → n < most → distance_in most stamp ((n + stamp) % most) ≡ n
 distance_after most stamp n low h = sym (distance_only most stamp ((n + stamp) % most) n low h refl)
 
-far_first : (b : Bool) (f : Fault) → b ≡ true → cond b FarStamp f ≡ FarStamp
+far_first : (b : Bool) (f : Result Unit Fault) → b ≡ true → cond b (Err FarStamp) f ≡ Err FarStamp
 far_first b f e = rw e
 
 -- SO A STAMP THAT GOES BACK IS REFUSED, unless it goes back so far that it is fewer than 65,536 ticks ahead
 pub back_refused : (before : ℕ) (row body : List ℕ) → before < stamps → stamp_in row < before → before ≤ stamp_in row + (stamps - 65536)
-    → fault_of (distance_in stamps before (stamp_in row)) row body ≡ FarStamp
+    → fault_of (distance_in stamps before (stamp_in row)) row body ≡ Err FarStamp
 unfolding fault_of
 back_refused before row body low back near =
     far_first (ltb 65535 (distance_in stamps before (stamp_in row))) _ (lt-ltb 65535 (distance_in stamps before (stamp_in row)) far)

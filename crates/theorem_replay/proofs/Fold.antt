@@ -1,4 +1,5 @@
 -- A REPLAY IS A FOLD (R17.4) that goes along with the run of the events: where it stands before entry i, and where it ends.
+use Rattle.std.proofs.Common.{Result, Ok, Err}
 use Prim.Native.Nat.{ℕ, zero, suc, ◌+◌, ◌<◌, ◌≤◌}
 use mathlib.Core.Path.{◌≡◌, refl, sym, ap, ap₂, ◌∙◌, subst}
 use mathlib.Core.Bool.{Bool, true, false, cond, not, ◌&&◌}
@@ -12,12 +13,13 @@ use Rattle.lists.specs.Search.{bad_from}
 use Rattle.lists.proofs.Both.{impossible}
 use Rattle.event_answer.specs.Answers.{room}
 use Rattle.recording.specs.declared.Fault.{Fault}
-use Rattle.recording.specs.declared.Fault.TheVariants.{Nothing, FarStamp, NoEvent, ZeroField, Misfit}
 use Rattle.recording.specs.Recording.{entry_row, stamp_in, body_long, distance_in, stamps}
-use Rattle.replay_step.specs.declared.Played.TheVariants as Entry
+use Rattle.replay_step.specs.declared.Unplayed.{Unplayed}
+use Rattle.replay_step.specs.declared.Unplayed.TheVariants as Entry
+use Rattle.replay_step.specs.declared.Compared.TheVariants.{Same, Differs}
 use Rattle.replay_step.specs.Step.{same_bytes, Stepped, entry_step, unplayed}
 use Rattle.replay_whole.specs.declared.End.{End}
-use Rattle.replay_whole.specs.declared.End.TheVariants.{Whole, Cut, Refused}
+use Rattle.replay_whole.specs.declared.End.TheVariants.{Small, Cut, Refused}
 use Rattle.replay_whole.specs.Replay.{Going, Left, is_run, is_other, first_other, end_at, step_at, ongoing, stopped, finished, replay_from}
 use Rattle.model_refines.specs.Machine.{Machine, machine, loan_to}
 use Rattle.model_refines.specs.Run.{after_run}
@@ -32,7 +34,7 @@ compared-run : (a b : List ℕ) → is_run (compared_to a b) ≡ true
 unfolding is_run compared_to
 compared-run a b = go (same_bytes b a)
   where
-    go : (t : Bool) → is_run (cond t (Entry.Same (length b)) (Entry.Differs (length b))) ≡ true
+    go : (t : Bool) → is_run (cond t (Ok (Same (length b))) (Ok (Differs (length b)))) ≡ true
     go true = refl
     go false = refl
 
@@ -40,27 +42,25 @@ compared_other : (a b : List ℕ) → is_other (compared_to a b) ≡ not (same_b
 unfolding is_other compared_to
 compared_other a b = go (same_bytes b a)
   where
-    go : (t : Bool) → is_other (cond t (Entry.Same (length b)) (Entry.Differs (length b))) ≡ not t
+    go : (t : Bool) → is_other (cond t (Ok (Same (length b))) (Ok (Differs (length b)))) ≡ not t
     go true = refl
     go false = refl
 
-pub nothing_is : (f : Fault) → is_nothing f ≡ true → f ≡ Nothing
+pub nothing_is : (f : Result Unit Fault) → is_nothing f ≡ true → f ≡ Ok tt
 unfolding is_nothing
-nothing_is Nothing e = refl
-nothing_is FarStamp e = impossible e
-nothing_is NoEvent e = impossible e
-nothing_is ZeroField e = impossible e
-nothing_is Misfit e = impossible e
+nothing_is (Ok tt) e = refl
+nothing_is (Err fault) e = impossible e
 
 -- the two sides of an entry that is fine
 pub fine-whole : (c n : Bool) → not c && n ≡ true → (c ≡ false) × (n ≡ true)
 fine-whole true n e = impossible e
 fine-whole false n e = (refl, e)
 
--- how an entry that is not fine ends a replay
-unfoldable pub end_by : Bool → ℕ → Fault → End
-end_by true i f = Cut (i + 1)
-end_by false i f = Refused (i + 1) f
+-- how an entry that is not fine ends a replay: cut, or by its fault
+unfoldable pub end_by : Bool → ℕ → Result Unit Fault → Result Unit End
+end_by true i f = Err (Cut (i + 1))
+end_by false i (Err fault) = Err (Refused (i + 1) fault)
+end_by false i (Ok tt) = Err Small
 
 module _ (image r rx tx : List ℕ) where
   -- the first of n entries whose answer differs, from 1; 0 where none does
@@ -124,35 +124,45 @@ module _ (image r rx tx : List ℕ) where
     goes_on fine = ap is_run (runs fine).played ∙ compared-run (recorded_answer r i) (today_answer image r rx tx i)
 
     -- where it was not, nothing of it is run
-    abbrev not_run : Bool → Stepped
-    not_run c = unplayed (loan_to image (before i)) g.out (cond c Entry.Cut (Entry.Refused (fault_of_entry r i)))
+    abbrev not_run : Unplayed → Stepped
+    not_run why = unplayed (loan_to image (before i)) g.out why
 
-    not-run : is_fine r i ≡ false → here ≡ not_run (is_cut r i)
-    not-run bad = step_run_lem i g s ∙ go (is_cut r i) refl bad
+    -- .. why, and so how the replay ends
+    pub record NotRun : Type 0 where
+      pub why : Unplayed
+      pub step : here ≡ not_run why
+      pub ends : (c : Bool) → is_cut r i ≡ c → end_at i (Err why) ≡ end_by c i (fault_of_entry r i)
+
+    not-run : is_fine r i ≡ false → NotRun
+    unfolding end_at end_by is_nothing
+    not-run bad = go (is_cut r i) refl (fault_of_entry r i) refl bad
       where
-        go : (c : Bool) → is_cut r i ≡ c → not c && is_nothing (fault_of_entry r i) ≡ false → step_run i g.out ≡ not_run c
-        go true e b = step_cut image (before i) g.out (stamp_before r i) (entry_row r i) (bytes_left r i) s.long e
-        go false e b = step-refused image (before i) g.out (stamp_before r i) (entry_row r i) (bytes_left r i) s.long e b
+        go : (c : Bool) → is_cut r i ≡ c → (f : Result Unit Fault) → fault_of_entry r i ≡ f → not c && is_nothing f ≡ false → NotRun
+        go true e f h b =
+            record {
+              why = Entry.Cut;
+              step = step_run_lem i g s ∙ step_cut image (before i) g.out (stamp_before r i) (entry_row r i) (bytes_left r i) s.long e;
+              ends = λ d q. sym (ap (λ (x : Bool). end_by x i (fault_of_entry r i)) (sym q ∙ e));
+            }
+        go false e (Err fault) h b =
+            record {
+              why = Entry.Refused fault;
+              step =
+                  step_run_lem i g s ∙ step-refused image (before i) g.out (stamp_before r i) (entry_row r i) (bytes_left r i) s.long e fault h;
+              ends = λ d q. sym (ap₂ (λ (x : Bool) (y : Result Unit Fault). end_by x i y) (sym q ∙ e) h);
+            }
+        go false e (Ok tt) h b = impossible (sym b)
 
     pub stops : is_fine r i ≡ false → is_run here.played ≡ false
     unfolding is_run
-    stops bad = ap (λ (t : Stepped). is_run t.played) (not-run bad) ∙ go (is_cut r i)
-      where
-        go : (c : Bool) → is_run (cond c Entry.Cut (Entry.Refused (fault_of_entry r i))) ≡ false
-        go true = refl
-        go false = refl
+    stops bad = ap (λ (t : Stepped). is_run t.played) (not-run bad).step
 
     ends_so : is_fine r i ≡ false → end_at i here.played ≡ end_by (is_cut r i) i (fault_of_entry r i)
-    unfolding end_at end_by
-    ends_so bad = ap (λ (t : Stepped). end_at i t.played) (not-run bad) ∙ go (is_cut r i)
-      where
-        go : (c : Bool) → end_at i (cond c Entry.Cut (Entry.Refused (fault_of_entry r i))) ≡ end_by c i (fault_of_entry r i)
-        go true = refl
-        go false = refl
+    ends_so bad = ap (λ (t : Stepped). end_at i t.played) (not-run bad).step ∙ (not-run bad).ends (is_cut r i) refl
 
   -- WHERE IT ENDS, k entries run of so many
-  unfoldable pub end_of : ℕ → ℕ → End
-  end_of total k = cond (ltb k total) (end_by (is_cut r k) k (fault_of_entry r k)) Whole
+  unfoldable pub end_of : ℕ → ℕ → Result Unit End
+  end_of total k = cond (ltb k total) (end_by (is_cut r k) k (fault_of_entry r k)) (Ok tt)
 
   pub record Ended (total k : ℕ) (l : Left) : Type 0 where
     pub run : l.replayed.run ≡ k
@@ -166,7 +176,7 @@ module _ (image r rx tx : List ℕ) where
   finished-ended i g s =
       record {
         run = refl;
-        end = ap (λ (b : Bool). cond b (end_by (is_cut r i) i (fault_of_entry r i)) Whole) (sym (le-ltb i i (omega arith)));
+        end = ap (λ (b : Bool). cond b (end_by (is_cut r i) i (fault_of_entry r i)) (Ok tt)) (sym (le-ltb i i (omega arith)));
         ticks = s.ticks;
         differs = s.differs;
         left = s.left;
@@ -178,10 +188,10 @@ module _ (image r rx tx : List ℕ) where
       record {
         run = refl;
         end =
-            ends_so i g s bad ∙ ap (λ (b : Bool). cond b (end_by (is_cut r i) i (fault_of_entry r i)) Whole) (sym (lt-ltb i total h));
+            ends_so i g s bad ∙ ap (λ (b : Bool). cond b (end_by (is_cut r i) i (fault_of_entry r i)) (Ok tt)) (sym (lt-ltb i total h));
         ticks = s.ticks;
         differs = s.differs;
-        left = ap machine_stepped (not-run i g s bad);
+        left = ap machine_stepped (not-run i g s bad).step;
       }
 
   -- THE ENTRIES FROM i ON: those before the first that is not fine are run

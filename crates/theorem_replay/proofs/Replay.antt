@@ -1,5 +1,6 @@
 -- REPLAYING EQUALS CALLING THE EVENTS ONE BY ONE (R17.4), under an accepted table, for every recording, memories and out buffer; and the answers
 -- that are compared are those of that run.
+use Rattle.std.proofs.Common.{Ok, Err, Result}
 use Prim.Native.Nat.{ℕ, zero, suc, ◌-◌, ◌<◌, ◌≤◌}
 use mathlib.Core.Path.{◌≡◌, refl, sym, ap, ◌∙◌, subst}
 use mathlib.Core.Bool.{true, cond}
@@ -8,16 +9,15 @@ use native.Mathlib.Decide.{dec_lt}
 use native.Mathlib.Omega.{arith}
 use lib.ListN.{length, drop}
 use Rattle.lists.specs.Search.{first_bad}
-use Rattle.table.specs.declared.TableAnswer.TheVariants as Answered
+use Rattle.table.specs.declared.BadTable.TheVariants as Answered
 use Rattle.table.specs.Table.{check_table}
 use Rattle.state.specs.Fresh.{fresh_state, empty_state}
 use Rattle.event_answer.specs.Answers.{room}
-use Rattle.recording.specs.declared.Front.{Front}
-use Rattle.recording.specs.declared.Front.TheVariants as Shown
+use Rattle.recording.specs.declared.Unreadable.{Unreadable}
 use Rattle.recording.specs.Recording.{entries_in, contents_to, entry_row, stamp_in, shown_by}
 use Rattle.replay_step.specs.Step.{Stepped}
 use Rattle.replay_whole.specs.declared.End.{End}
-use Rattle.replay_whole.specs.declared.End.TheVariants.{Whole, Table, Unread, Small}
+use Rattle.replay_whole.specs.declared.End.TheVariants.{Table, Unread, Small}
 use Rattle.replay_whole.specs.Replay.{Going, Left, is_run, end_at, step_at, ongoing, stopped, replay_from, before_first, unrun, under_front, under_table}
 use Rattle.replay_whole.specs.Replay.{replay_of}
 use Rattle.model_refines.specs.Run.{after_run}
@@ -39,9 +39,10 @@ module _ (image r rx tx out : List ℕ) where
     pub roomy : 0 < l.replayed.run → room ≤ length out
 
   -- nothing is run
-  none_along : (e : End) → Along (unrun image r rx tx out e (fresh_state image))
+  nothing_along : (e : Result Unit End)
+      → Along (record { replayed = record { end = e; run = 0; ticks = 0; differs = 0; state = fresh_state image }; rx = rx; tx = tx; out = out })
   unfolding events_up_to ticks_up_to other_in after_run
-  none_along e =
+  nothing_along e =
       record {
         left = refl;
         ticks = refl;
@@ -50,6 +51,9 @@ module _ (image r rx tx out : List ℕ) where
         most = omega arith;
         roomy = λ h. absurd (omega (arith, h));
       }
+
+  none_along : (e : End) → Along (unrun image r rx tx out e (fresh_state image))
+  none_along e = nothing_along (Err e)
 
   abbrev start : Going
   start = before_first image r rx tx out (fresh_state image)
@@ -66,7 +70,7 @@ module _ (image r rx tx out : List ℕ) where
 
   small_along : length out < room → (n : ℕ) → Along (played n)
   unfolding replay_from
-  small_along short zero = none_along Whole
+  small_along short zero = nothing_along (Ok tt)
   small_along short (suc n) = subst Along (sym (small-stops short n)) (none_along Small)
 
   -- into one that has the room, the entries before the first that is not fine are run
@@ -87,53 +91,40 @@ module _ (image r rx tx out : List ℕ) where
         roomy = λ h. long;
       }
 
-  front_along : (f : Front) → Along (under_front image r rx tx out f)
+  front_along : (f : Result Unit Unreadable) → Along (under_front image r rx tx out f)
   unfolding under_front
-  front_along Shown.Contents = none_along (Unread Shown.Contents)
-  front_along Shown.Edition = none_along (Unread Shown.Edition)
-  front_along Shown.Many = none_along (Unread Shown.Many)
-  front_along (Shown.Long i) = none_along (Unread (Shown.Long i))
-  front_along Shown.Sized = go (dec_lt (length out) room)
+  front_along (Err why) = none_along (Unread why)
+  front_along (Ok tt) = go (dec_lt (length out) room)
     where
       go : Dec (length out < room) → Along (played (entries_in r))
       go (yes short) = small_along short (entries_in r)
       go (no long) = ended_along (omega (arith, long)) (entries_in r) (played (entries_in r)) (long-ends (omega (arith, long)))
 
-  unread : (f : Front) → (f ≡ Shown.Sized → ⊥) → under_front image r rx tx out f ≡ unrun image r rx tx out (Unread f) (fresh_state image)
+  run-sized : (f : Result Unit Unreadable) → 0 < (under_front image r rx tx out f).replayed.run → f ≡ Ok tt
   unfolding under_front
-  unread Shown.Contents h = refl
-  unread Shown.Edition h = refl
-  unread Shown.Many h = refl
-  unread (Shown.Long i) h = refl
-  unread Shown.Sized h = absurd (h refl)
-
-  run-sized : (f : Front) → 0 < (under_front image r rx tx out f).replayed.run → f ≡ Shown.Sized
-  unfolding under_front
-  run-sized Shown.Contents h = absurd (omega (arith, h))
-  run-sized Shown.Edition h = absurd (omega (arith, h))
-  run-sized Shown.Many h = absurd (omega (arith, h))
-  run-sized (Shown.Long i) h = absurd (omega (arith, h))
-  run-sized Shown.Sized h = refl
+  run-sized (Err why) h = absurd (omega (arith, h))
+  run-sized (Ok tt) h = refl
 
   abbrev replay : Left
   replay = replay_of image r rx tx out
 
   -- A REFUSED TABLE: nothing is run
-  pub table-refused : (place : ℕ) → check_table image ≡ Answered.Refused place → replay ≡ unrun image r rx tx out (Table place) empty_state
+  pub table-refused : (place : ℕ) → check_table image ≡ Err (Answered.At place) → replay ≡ unrun image r rx tx out (Table place) empty_state
   unfolding replay_of under_table
   table-refused place refused = ap (under_table image r rx tx out) refused
 
-  module _ (accepted : check_table image ≡ Answered.Accepted) where
+  module _ (accepted : check_table image ≡ Ok tt) where
     pub under_accepted : replay ≡ under_front image r rx tx out (shown_by r)
     unfolding replay_of under_table
     under_accepted = ap (under_table image r rx tx out) accepted
 
     -- CONTENTS THAT ARE CUT OFF, OF ANOTHER EDITION, OR PAST A LIMIT: nothing is run
-    pub front_unread : (shown_by r ≡ Shown.Sized → ⊥) → replay ≡ unrun image r rx tx out (Unread (shown_by r)) (fresh_state image)
-    front_unread unsized = under_accepted ∙ unread (shown_by r) unsized
+    pub front_unread : (why : Unreadable) → shown_by r ≡ Err why → replay ≡ unrun image r rx tx out (Unread why) (fresh_state image)
+    unfolding under_front
+    front_unread why unsized = under_accepted ∙ ap (under_front image r rx tx out) unsized
 
     -- AN OUT BUFFER THAT IS TOO SHORT for entries that are there: nothing is run
-    pub replay_small : shown_by r ≡ Shown.Sized → length out < room → 0 < entries_in r → replay ≡ unrun image r rx tx out Small (fresh_state image)
+    pub replay_small : shown_by r ≡ Ok tt → length out < room → 0 < entries_in r → replay ≡ unrun image r rx tx out Small (fresh_state image)
     unfolding under_front
     replay_small sized short some = under_accepted ∙ ap (under_front image r rx tx out) sized ∙ go (entries_in r) some
       where
@@ -169,7 +160,7 @@ module _ (image r rx tx out : List ℕ) where
           let fault = nothing_is (fault_of_entry r i) (fine-whole (is_cut r i) (is_nothing (fault_of_entry r i)) (replay_along.fine i h)).1 in
           (no_fault-is (ticks_before r i) (entry_row r i) (entry_body r i) fault).0
 
-      sized : shown_by r ≡ Shown.Sized
+      sized : shown_by r ≡ Ok tt
       sized = run-sized (shown_by r) (subst (λ (l : Left). 0 < l.replayed.run) under_accepted (omega (arith, h)))
 
       -- .. and the replay makes these steps: after i of them the rest of it is left

@@ -1,21 +1,18 @@
 -- THE ENTRIES OF A RECORDING, each by its number from 0 (R17.1, R17.2): where its body begins, the ticks before it, the events that its
 -- arguments spell, the recorded answer, and whether it is cut or has a fault.
-use Rattle.std.specs.Prelude.{ℕ, zero, suc, ◌+◌, Bool, true, false, not, ◌&&◌, List, [], ◌++◌, ltb, length, take, drop, replicate}
+use Rattle.std.specs.Prelude.{ℕ, zero, suc, ◌+◌, Bool, true, false, not, ◌&&◌, List, [], ◌++◌, ltb, length, take, drop, replicate, Result, Ok, Err}
 use Rattle.event_decode.specs.declared.Call.{Call}
+use Rattle.event_decode.specs.declared.BadCall.{BadCall}
 use Rattle.event_decode.specs.Calls.{call_of}
 use Rattle.recording.specs.declared.Fault.{Fault}
-use Rattle.recording.specs.declared.Fault.TheVariants.{Nothing, FarStamp, NoEvent, ZeroField, Misfit}
 use Rattle.recording.specs.Recording.{entries_in, contents_to, entry_row, stamp_in, number_in, body_long, distance_in, stamps}
 use Rattle.recording.specs.Entry.{arguments_in, answer_in, fault_of}
 use Rattle.model.specs.Events.{tick, Event, on_whole}
 use Rattle.dispatch_refines.specs.Spelt.{events_of}
 
-unfoldable pub is_nothing : Fault → Bool
-is_nothing Nothing = true
-is_nothing FarStamp = false
-is_nothing NoEvent = false
-is_nothing ZeroField = false
-is_nothing Misfit = false
+unfoldable pub is_nothing : Result Unit Fault → Bool
+is_nothing (Ok tt) = true
+is_nothing (Err fault) = false
 
 -- so many ticks
 abbrev pub tick_events : ℕ → List Event
@@ -54,7 +51,7 @@ module _ (r : List ℕ) where
   abbrev pub entry_arguments : ℕ → List ℕ
   entry_arguments i = arguments_in (entry_number i) (entry_body i)
 
-  abbrev pub entry_call : ℕ → Call
+  abbrev pub entry_call : ℕ → Result Call BadCall
   entry_call i = call_of (entry_number i) (entry_arguments i)
 
   abbrev pub recorded_answer : ℕ → List ℕ
@@ -72,7 +69,7 @@ module _ (r : List ℕ) where
   abbrev pub is_cut : ℕ → Bool
   is_cut i = ltb (length (bytes_left i)) (body_long (entry_row r i))
 
-  abbrev pub fault_of_entry : ℕ → Fault
+  abbrev pub fault_of_entry : ℕ → Result Unit Fault
   fault_of_entry i = fault_of (ticks_before i) (entry_row r i) (entry_body i)
 
   abbrev pub is_fine : ℕ → Bool

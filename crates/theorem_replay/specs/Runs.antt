@@ -1,14 +1,16 @@
 -- THE RUN OF THE EVENTS THAT A RECORDING SPELLS (R17.4), from a fresh state under the table: the machine after its first n entries, and
 -- the answer that this run gives to the event of an entry.
-use Rattle.std.specs.Prelude.{ℕ, zero, suc, ◌<◌, ◌≤◌, ◌≡◌, true, false, cond, List, ◌++◌, length, drop}
+use Rattle.std.specs.Prelude.{ℕ, zero, suc, ◌<◌, ◌≤◌, ◌≡◌, true, false, cond, List, ◌++◌, length, drop, Result, Ok}
 use Rattle.state.specs.Fresh.{fresh_state}
 use Rattle.event_decode.specs.declared.Call.{Call}
+use Rattle.event_decode.specs.declared.BadCall.{BadCall}
 use Rattle.event_decode.specs.Calls.{call_of}
 use Rattle.event_answer.specs.Answers.{room}
 use Rattle.recording.specs.Recording.{entries_in}
 use Rattle.recording.specs.Entry.{arguments_in, answer_in}
-use Rattle.replay_step.specs.declared.Played.{Played}
-use Rattle.replay_step.specs.declared.Played.TheVariants.{Same, Differs}
+use Rattle.replay_step.specs.declared.Unplayed.{Unplayed}
+use Rattle.replay_step.specs.declared.Compared.{Compared}
+use Rattle.replay_step.specs.declared.Compared.TheVariants.{Same, Differs}
 use Rattle.replay_step.specs.Step.{same_bytes, Stepped}
 use Rattle.replay_whole.specs.Replay.{Going, Left, step_at, ongoing, before_first}
 use Rattle.model_refines.specs.Machine.{Machine, machine, loan_to}
@@ -26,13 +28,13 @@ abbrev pub machine_left : Left → Machine
 machine_left l = machine l.replayed.state l.rx l.tx
 
 -- the entry was run: today's answer, all bytes, is the recorded one, or it differs
-unfoldable pub compared_to : List ℕ → List ℕ → Played
-compared_to recorded today = cond (same_bytes today recorded) (Same (length today)) (Differs (length today))
+unfoldable pub compared_to : List ℕ → List ℕ → Result Compared Unplayed
+compared_to recorded today = cond (same_bytes today recorded) (Ok (Same (length today))) (Ok (Differs (length today)))
 
 -- A STEP THAT IS RUN, of so many ticks and the event that a number and a body's arguments spell: the machine after these events; all bytes of the
 -- event's answer at the front of the out buffer, behind them the buffer as it was; and this answer is what the body's recorded one is compared with
 module _ (image : List ℕ) (m : Machine) (out : List ℕ) (ticks number : ℕ) (body : List ℕ) where
-  abbrev pub call_stepped : Call
+  abbrev pub call_stepped : Result Call BadCall
   call_stepped = call_of number (arguments_in number body)
 
   abbrev pub answer_stepped : List ℕ

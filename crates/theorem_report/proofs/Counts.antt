@@ -2,6 +2,7 @@
 use Prim.Native.Nat.{ℕ, zero, suc, ◌<◌, ◌≤◌}
 use mathlib.Core.Path.{◌≡◌, refl, sym, ap, ap₂, subst, ◌∙◌}
 use mathlib.Core.Bool.{Bool, true, false, cond}
+use Rattle.std.proofs.Common.{Result, Ok, Err}
 use mathlib.Core.List.{List, [], ◌∷◌, ◌++◌}
 use native.Mathlib.Decide.{dec_lt}
 use native.Mathlib.Omega.{arith}
@@ -10,11 +11,10 @@ use Rattle.lists.proofs.Each.{one_at}
 use Rattle.report.specs.declared.RouteFigures.{RouteFigures}
 use Rattle.report.specs.declared.Drops.{Drops}
 use Rattle.report.specs.declared.Report.{Report}
-use Rattle.report.specs.declared.Joined.{Joined}
 use Rattle.report.specs.Pairwise.{pairwise}
 use Rattle.report.specs.Figures.{no_pdus, one_pdu, add_figures, no_drops, one_drop, add_drops, Between, Bare}
 use Rattle.report.specs.Report.{empty_report, figures_at, FullReport, Item, got, lost, count_item, count_from, report_of, add_reports}
-use Rattle.report.specs.Report.{reports_fit, join_reports, runs_from, runs_report}
+use Rattle.report.specs.Report.{reports_fit, join_reports, report_given, runs_from, runs_report}
 use Rattle.theorem_report.proofs.Sums.{pairs_none, one_added}
 use Rattle.theorem_report.proofs.Figures.{figures_none, figures_sums, drops_none, drops-sums}
 use Rattle.theorem_report.proofs.Figures.{between_none, between_one, between_sum, bare_none, bare_one, bare_sum}
@@ -116,18 +116,18 @@ AllHave P [] = Unit {0}
 AllHave P (x ∷ xs) = ((i : ℕ) → P (figures_at x i)) × AllHave P xs
 
 module _ (P : RouteFigures → Type 0) (sum : (f g : RouteFigures) → P f → P g → P (add_figures f g)) where
-  join-each : (a b : Report) → ((i : ℕ) → P (figures_at a i)) → ((i : ℕ) → P (figures_at b i)) → (i : ℕ) → P (figures_at (join_reports a b).report i)
+  join-each : (a b : Report) → ((i : ℕ) → P (figures_at a i)) → ((i : ℕ) → P (figures_at b i)) → (i : ℕ) → P (figures_at (report_given (join_reports a b)) i)
   unfolding join_reports add_reports
   join-each a b p q i = go (reports_fit a b)
     where
-      go : (x : Bool) → P (figures_at (cond {A = Joined} x (record { fits = true; report = add_reports a b }) (record { fits = false; report = a })).report i)
+      go : (x : Bool) → P (figures_at (report_given (cond {A = Result Report Report} x (Ok (add_reports a b)) (Err a))) i)
       go true = pairs_each add_figures no_pdus P sum a.routes b.routes i (p i) (q i)
       go false = p i
 
   runs_each : (r : Report) (xs : List Report) → ((i : ℕ) → P (figures_at r i)) → AllHave P xs → (i : ℕ) → P (figures_at (runs_from r xs) i)
   unfolding runs_from
   runs_each r [] p all i = p i
-  runs_each r (x ∷ xs) p (q, all) i = runs_each (join_reports r x).report xs (join-each r x p q) all i
+  runs_each r (x ∷ xs) p (q, all) i = runs_each (report_given (join_reports r x)) xs (join-each r x p q) all i
 
 -- R21.7, R21.8, of the report of a set of runs
 pub runs_between : (xs : List Report) → AllHave Between xs → (i : ℕ) → Between (figures_at (runs_report xs) i)

@@ -11,7 +11,7 @@ use Rattle.lists.proofs.Both.{and_both}
 use Rattle.report.specs.declared.RouteFigures.{RouteFigures}
 use Rattle.report.specs.declared.Drops.{Drops}
 use Rattle.report.specs.Figures.{no_pdus, one_pdu, smallest_by, add_figures, figures_fit, drops_by, no_drops, add_drops, drops_fit, Between, Bare}
-use Rattle.report.proofs.Turns.{figures_small, SmallDrops, drops-small}
+use Rattle.report.proofs.Turns.{figures_small, SmallDrops, drops_small}
 use Rattle.theorem_report.proofs.Sums.{Sums}
 
 -- THE SMALLEST LENGTH
@@ -142,13 +142,13 @@ drops-fit_comm d e =
 pub drops-fit-turn : (d e f : Drops) → drops_fit d e ≡ true → drops_fit (add_drops d e) f ≡ true → drops_fit d (add_drops e f) ≡ true
 unfolding add_drops
 drops-fit-turn d e f first h =
-    let s = drops-small (add_drops d e) f h in
+    let s = drops_small (add_drops d e) f h in
     fits-drops d (add_drops e f) (record { unrouted = omega arith; off = omega arith; long = omega arith; cut = omega arith; short = omega arith })
 
 pub drops-fit_less : (d e f : Drops) → drops_fit d (add_drops e f) ≡ true → drops_fit d e ≡ true
 unfolding add_drops
 drops-fit_less d e f h =
-    let s = drops-small d (add_drops e f) h in
+    let s = drops_small d (add_drops e f) h in
     fits-drops d e (record { unrouted = omega arith; off = omega arith; long = omega arith; cut = omega arith; short = omega arith })
 
 abbrev pub drops-sums : Sums Drops

@@ -2,6 +2,8 @@
 use Prim.Native.Nat.{ℕ, zero, suc, ◌<◌}
 use mathlib.Core.Path.{◌≡◌, refl, sym, ap, ap₂, subst, ◌∙◌}
 use mathlib.Core.Bool.{Bool, true, false, cond, ◌&&◌}
+use Rattle.std.proofs.Common.{Result, Ok, Err}
+use Rattle.std.specs.Result.{is_ok}
 use mathlib.Core.List.{List, [], ◌∷◌, ◌++◌}
 use native.Mathlib.Omega.{arith}
 use lib.ListN.{length, get_or, replicate}
@@ -9,12 +11,11 @@ use Rattle.lists.proofs.Both.{and_left, and_right, and_both, impossible}
 use Rattle.report.specs.declared.RouteFigures.{RouteFigures}
 use Rattle.report.specs.declared.Drops.{Drops}
 use Rattle.report.specs.declared.Report.{Report}
-use Rattle.report.specs.declared.Joined.{Joined}
 use Rattle.report.specs.Pairwise.{pairwise, all_pairs}
 use Rattle.report.specs.Figures.{no_pdus, add_figures, figures_fit, no_drops, add_drops, drops_fit}
 use Rattle.report.proofs.Turns.{SmallDrops}
 use Rattle.report.specs.Report.{empty_report, figures_at, drops_at, FullReport, add_reports, routes_fit}
-use Rattle.report.specs.Report.{connections_fit, reports_fit, join_reports, runs_from, runs_report}
+use Rattle.report.specs.Report.{connections_fit, reports_fit, join_reports, report_given, runs_from, runs_report}
 use Rattle.theorem_report.proofs.Sums.{Sums, fit_back, fit-second, list_sums, pairs_none}
 use Rattle.theorem_report.proofs.Figures.{fits_figures, fits-drops, figures_none, figures_sums, drops_none, drops-sums}
 
@@ -80,63 +81,63 @@ report_sums =
     }
 
 -- R21.4, A JOIN: made, or refused with the first report
-pub join_made : (a b : Report) → reports_fit a b ≡ true → join_reports a b ≡ record { fits = true; report = add_reports a b }
+pub join_made : (a b : Report) → reports_fit a b ≡ true → join_reports a b ≡ Ok (add_reports a b)
 unfolding join_reports
 join_made a b e = rw e
 
-pub join-refused : (a b : Report) → reports_fit a b ≡ false → join_reports a b ≡ record { fits = false; report = a }
+pub join-refused : (a b : Report) → reports_fit a b ≡ false → join_reports a b ≡ Err a
 unfolding join_reports
 join-refused a b e = rw e
 
 -- exactly where no sum passes 64 bits
-pub join-fits : (a b : Report) → (join_reports a b).fits ≡ reports_fit a b
+pub join-fits : (a b : Report) → is_ok (join_reports a b) ≡ reports_fit a b
 unfolding join_reports
 join-fits a b = go (reports_fit a b)
   where
-    go : (x : Bool) → (cond {A = Joined} x (record { fits = true; report = add_reports a b }) (record { fits = false; report = a })).fits ≡ x
+    go : (x : Bool) → is_ok (cond {A = Result Report Report} x (Ok (add_reports a b)) (Err a)) ≡ x
     go true = refl
     go false = refl
 
 -- R21.6: joining is commutative and associative where nothing is refused, and then nothing is refused in the other order or grouping either
-pub join_comm : (a b : Report) → (join_reports a b).fits ≡ true → join_reports a b ≡ join_reports b a
+pub join_comm : (a b : Report) → is_ok (join_reports a b) ≡ true → join_reports a b ≡ join_reports b a
 join_comm a b h =
     let e : reports_fit a b ≡ true = sym (join-fits a b) ∙ h in
-    join_made a b e ∙ ap (λ (r : Report). record { fits = true; report = r }) (add_comm a b) ∙ sym (join_made b a (sym (fit_comm a b) ∙ e))
+    join_made a b e ∙ ap Ok (add_comm a b) ∙ sym (join_made b a (sym (fit_comm a b) ∙ e))
 
-pub join_assoc : (a b c : Report) → (join_reports a b).fits ≡ true → (join_reports (join_reports a b).report c).fits ≡ true
-    → ((join_reports b c).fits ≡ true) × (join_reports a (join_reports b c).report ≡ join_reports (join_reports a b).report c)
+pub join_assoc : (a b c : Report) → is_ok (join_reports a b) ≡ true → is_ok (join_reports (report_given (join_reports a b)) c) ≡ true
+    → (is_ok (join_reports b c) ≡ true) × (join_reports a (report_given (join_reports b c)) ≡ join_reports (report_given (join_reports a b)) c)
 join_assoc a b c h k =
     let e : reports_fit a b ≡ true = sym (join-fits a b) ∙ h in
-    let ab : (join_reports a b).report ≡ add_reports a b = ap (λ (j : Joined). j.report) (join_made a b e) in
-    let f : reports_fit (add_reports a b) c ≡ true = ap (λ (r : Report). reports_fit r c) (sym ab) ∙ sym (join-fits (join_reports a b).report c) ∙ k in
+    let ab : report_given (join_reports a b) ≡ add_reports a b = ap report_given (join_made a b e) in
+    let f : reports_fit (add_reports a b) c ≡ true = ap (λ (r : Report). reports_fit r c) (sym ab) ∙ sym (join-fits (report_given (join_reports a b)) c) ∙ k in
     let g : reports_fit b c ≡ true = fit-second report_sums a b c f in
-    let bc : (join_reports b c).report ≡ add_reports b c = ap (λ (j : Joined). j.report) (join_made b c g) in (
+    let bc : report_given (join_reports b c) ≡ add_reports b c = ap report_given (join_made b c g) in (
       join-fits b c ∙ g,
       ap (join_reports a) bc ∙ join_made a (add_reports b c) (fit-turn a b c e f)
-          ∙ ap (λ (r : Report). record { fits = true; report = r }) (sym (add_assoc a b c))
+          ∙ ap Ok (sym (add_assoc a b c))
           ∙ sym (ap (λ (r : Report). join_reports r c) ab ∙ join_made (add_reports a b) c f),
     )
 
 -- .. from the other side
-pub join_assoc_back : (a b c : Report) → (join_reports b c).fits ≡ true → (join_reports a (join_reports b c).report).fits ≡ true
-    → ((join_reports a b).fits ≡ true) × (join_reports a (join_reports b c).report ≡ join_reports (join_reports a b).report c)
+pub join_assoc_back : (a b c : Report) → is_ok (join_reports b c) ≡ true → is_ok (join_reports a (report_given (join_reports b c))) ≡ true
+    → (is_ok (join_reports a b) ≡ true) × (join_reports a (report_given (join_reports b c)) ≡ join_reports (report_given (join_reports a b)) c)
 join_assoc_back a b c h k =
     let g : reports_fit b c ≡ true = sym (join-fits b c) ∙ h in
-    let bc : (join_reports b c).report ≡ add_reports b c = ap (λ (j : Joined). j.report) (join_made b c g) in
-    let f : reports_fit a (add_reports b c) ≡ true = ap (reports_fit a) (sym bc) ∙ sym (join-fits a (join_reports b c).report) ∙ k in
+    let bc : report_given (join_reports b c) ≡ add_reports b c = ap report_given (join_made b c g) in
+    let f : reports_fit a (add_reports b c) ≡ true = ap (reports_fit a) (sym bc) ∙ sym (join-fits a (report_given (join_reports b c))) ∙ k in
     let e : reports_fit a b ≡ true = fit_less a b c f in
-    let ab : (join_reports a b).report ≡ add_reports a b = ap (λ (j : Joined). j.report) (join_made a b e) in (
+    let ab : report_given (join_reports a b) ≡ add_reports a b = ap report_given (join_made a b e) in (
       join-fits a b ∙ e,
-      ap (join_reports a) bc ∙ join_made a (add_reports b c) f ∙ ap (λ (r : Report). record { fits = true; report = r }) (sym (add_assoc a b c))
+      ap (join_reports a) bc ∙ join_made a (add_reports b c) f ∙ ap Ok (sym (add_assoc a b c))
           ∙ sym (ap (λ (r : Report). join_reports r c) ab ∙ join_made (add_reports a b) c (fit_back report_sums a b c g f)),
     )
 
 -- R21.6: the empty report is the neutral element of reports whose numbers have 64 bits, as those of every value have
-pub join_empty : (a : Report) → FullReport a → reports_fit a empty_report ≡ true → join_reports a empty_report ≡ record { fits = true; report = a }
-join_empty a full e = join_made a empty_report e ∙ ap (λ (r : Report). record { fits = true; report = r }) (add_empty a full)
+pub join_empty : (a : Report) → FullReport a → reports_fit a empty_report ≡ true → join_reports a empty_report ≡ Ok a
+join_empty a full e = join_made a empty_report e ∙ ap Ok (add_empty a full)
 
-pub empty_join : (a : Report) → FullReport a → reports_fit a empty_report ≡ true → join_reports empty_report a ≡ record { fits = true; report = a }
-empty_join a full e = join_made empty_report a (fit_comm empty_report a ∙ e) ∙ ap (λ (r : Report). record { fits = true; report = r }) (empty_add a full)
+pub empty_join : (a : Report) → FullReport a → reports_fit a empty_report ≡ true → join_reports empty_report a ≡ Ok a
+empty_join a full e = join_made empty_report a (fit_comm empty_report a ∙ e) ∙ ap Ok (empty_add a full)
 
 all_none : {A : Type 0} (t : A → A → Bool) (z : A) (xs : List A) (n : ℕ) → ((i : ℕ) → t (get_or xs i z) z ≡ true) → all_pairs t xs (replicate n z) ≡ true
 unfolding all_pairs
@@ -155,17 +156,17 @@ numbers_fit a p q =
     (all_none drops_fit no_drops a.connections 16 (λ k. fits-drops (drops_at a k) no_drops (q k)))
 
 -- R21.5, SETS OF RUNS
-joined_by : (a b : Report) (x : Bool) → reports_fit a b ≡ x → (join_reports a b).report ≡ cond x (add_reports a b) a
-joined_by a b true e = ap (λ (j : Joined). j.report) (join_made a b e)
-joined_by a b false e = ap (λ (j : Joined). j.report) (join-refused a b e)
+joined_by : (a b : Report) (x : Bool) → reports_fit a b ≡ x → report_given (join_reports a b) ≡ cond x (add_reports a b) a
+joined_by a b true e = ap report_given (join_made a b e)
+joined_by a b false e = ap report_given (join-refused a b e)
 
 -- what fits with a set's report fits with the report of its first runs
 runs_fit : (r e : Report) (xs : List Report) → reports_fit r (runs_from e xs) ≡ true → reports_fit r e ≡ true
 unfolding runs_from
 runs_fit r e [] h = h
-runs_fit r e (x ∷ xs) h = go (reports_fit e x) refl (runs_fit r (join_reports e x).report xs h)
+runs_fit r e (x ∷ xs) h = go (reports_fit e x) refl (runs_fit r (report_given (join_reports e x)) xs h)
   where
-    go : (b : Bool) → reports_fit e x ≡ b → reports_fit r (join_reports e x).report ≡ true → reports_fit r e ≡ true
+    go : (b : Bool) → reports_fit e x ≡ b → reports_fit r (report_given (join_reports e x)) ≡ true → reports_fit r e ≡ true
     go true f k = fit_less r e x (ap (reports_fit r) (sym (joined_by e x true f)) ∙ k)
     go false f k = ap (reports_fit r) (sym (joined_by e x false f)) ∙ k
 
@@ -173,15 +174,16 @@ runs_fit r e (x ∷ xs) h = go (reports_fit e x) refl (runs_fit r (join_reports 
 runs_behind : (r e : Report) (xs : List Report) → reports_fit r (runs_from e xs) ≡ true → runs_from (add_reports r e) xs ≡ add_reports r (runs_from e xs)
 unfolding runs_from
 runs_behind r e [] h = refl
-runs_behind r e (x ∷ xs) h = go (reports_fit e x) refl (runs_fit r (join_reports e x).report xs h) (runs_behind r (join_reports e x).report xs h)
+runs_behind r e (x ∷ xs) h =
+    go (reports_fit e x) refl (runs_fit r (report_given (join_reports e x)) xs h) (runs_behind r (report_given (join_reports e x)) xs h)
   where
     none : (b : Bool) → reports_fit (add_reports r e) x ≡ b → reports_fit e x ≡ false → reports_fit (add_reports r e) x ≡ false
     none true g f = impossible (sym f ∙ fit-second report_sums r e x g)
     none false g f = g
 
-    go : (b : Bool) → reports_fit e x ≡ b → reports_fit r (join_reports e x).report ≡ true
-        → runs_from (add_reports r (join_reports e x).report) xs ≡ add_reports r (runs_from (join_reports e x).report xs)
-        → runs_from (join_reports (add_reports r e) x).report xs ≡ add_reports r (runs_from (join_reports e x).report xs)
+    go : (b : Bool) → reports_fit e x ≡ b → reports_fit r (report_given (join_reports e x)) ≡ true
+        → runs_from (add_reports r (report_given (join_reports e x))) xs ≡ add_reports r (runs_from (report_given (join_reports e x)) xs)
+        → runs_from (report_given (join_reports (add_reports r e) x)) xs ≡ add_reports r (runs_from (report_given (join_reports e x)) xs)
     go true f k rest =
         let g : reports_fit r (add_reports e x) ≡ true = ap (reports_fit r) (sym (joined_by e x true f)) ∙ k in
         ap (λ (w : Report). runs_from w xs)
@@ -195,7 +197,7 @@ runs_behind r e (x ∷ xs) h = go (reports_fit e x) refl (runs_fit r (join_repor
 runs_append : (r : Report) (xs ys : List Report) → runs_from r (xs ++ ys) ≡ runs_from (runs_from r xs) ys
 unfolding runs_from
 runs_append r [] ys = refl
-runs_append r (x ∷ xs) ys = runs_append (join_reports r x).report xs ys
+runs_append r (x ∷ xs) ys = runs_append (report_given (join_reports r x)) xs ys
 
 -- every report of a set is one of 64 routes and 16 connections
 pairs_long : {A : Type 0} (f : A → A → A) (xs ys : List A) → length xs ≡ length ys → length (pairwise f xs ys) ≡ length xs
@@ -222,16 +224,16 @@ AllFull (x ∷ xs) = FullReport x × AllFull xs
 pub runs_full : (r : Report) (xs : List Report) → FullReport r → AllFull xs → FullReport (runs_from r xs)
 unfolding runs_from
 runs_full r [] f all = f
-runs_full r (x ∷ xs) f (g, all) = runs_full (join_reports r x).report xs (go (reports_fit r x) refl) all
+runs_full r (x ∷ xs) f (g, all) = runs_full (report_given (join_reports r x)) xs (go (reports_fit r x) refl) all
   where
-    go : (b : Bool) → reports_fit r x ≡ b → FullReport (join_reports r x).report
+    go : (b : Bool) → reports_fit r x ≡ b → FullReport (report_given (join_reports r x))
     go true e = subst FullReport (sym (joined_by r x true e)) (add-full r x f g)
     go false e = subst FullReport (sym (joined_by r x false e)) f
 
 -- R21.5: "Joining the reports of two sets equals the report of both together whenever no joint sum passes 64 bits": also where single runs of a set
 -- were refused
-pub sets_joined : (xs ys : List Report) → AllFull xs → (join_reports (runs_report xs) (runs_report ys)).fits ≡ true
-    → (join_reports (runs_report xs) (runs_report ys)).report ≡ runs_report (xs ++ ys)
+pub sets_joined : (xs ys : List Report) → AllFull xs → is_ok (join_reports (runs_report xs) (runs_report ys)) ≡ true
+    → report_given (join_reports (runs_report xs) (runs_report ys)) ≡ runs_report (xs ++ ys)
 sets_joined xs ys full h =
     let e : reports_fit (runs_report xs) (runs_report ys) ≡ true = sym (join-fits (runs_report xs) (runs_report ys)) ∙ h in
     joined_by (runs_report xs) (runs_report ys) true e ∙ sym (runs_append empty_report xs ys
@@ -239,6 +241,6 @@ sets_joined xs ys full h =
     ∙ runs_behind (runs_report xs) empty_report ys e)
 
 -- "a join that would is refused and gives the first report"
-pub sets_refused : (xs ys : List Report) → (join_reports (runs_report xs) (runs_report ys)).fits ≡ false
-    → (join_reports (runs_report xs) (runs_report ys)).report ≡ runs_report xs
+pub sets_refused : (xs ys : List Report) → is_ok (join_reports (runs_report xs) (runs_report ys)) ≡ false
+    → report_given (join_reports (runs_report xs) (runs_report ys)) ≡ runs_report xs
 sets_refused xs ys h = joined_by (runs_report xs) (runs_report ys) false (sym (join-fits (runs_report xs) (runs_report ys)) ∙ h)

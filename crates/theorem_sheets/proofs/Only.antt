@@ -1,4 +1,5 @@
 -- THE WORDS ARE THE ONLY ONES (R18.9): words that leave the same state from every start are the same, and so are the words of two sheets that do.
+use Rattle.std.proofs.Common.{Ok}
 use Prim.Native.Nat.{ℕ, ◌+◌, ◌<◌, ◌≤◌, ◌^◌}
 use mathlib.Core.Path.{◌≡◌, sym, ap, ◌∙◌}
 use mathlib.Core.List.{List}
@@ -7,7 +8,6 @@ use native.Mathlib.Decide.{dec_lt}
 use lib.ListN.{length, length-set}
 use lib.Seq.{get_or-set_same}
 use Rattle.connection.specs.declared.Connection.{Connection}
-use Rattle.connection.specs.declared.Answer.TheVariants.{Done}
 use Rattle.connection.specs.Connection.{zero_record, with_switches}
 use Rattle.lists.proofs.Each.{one_at}
 use Rattle.state.specs.declared.State.{State}
@@ -95,5 +95,5 @@ module _ (l : Lent) (start : Start l) where
       → sheet_words (table_rows l) ss ≡ sheet_words (table_rows l) ts
   only_sheets ss ts same =
       only_words _ _ (sheet_proper ss) (sheet_proper ts)
-      (λ s begin. sheet-words (next l s) begin.passed ss ∙ ap (λ (t : State). record { answer = Done; state = t }) (same s begin)
+      (λ s begin. sheet-words (next l s) begin.passed ss ∙ ap (λ (t : State). record { answer = Ok tt; state = t }) (same s begin)
       ∙ sym (sheet-words (next l s) begin.passed ts))

@@ -1,5 +1,6 @@
 -- A SHEET IS TWO WORDS FOR EACH CONNECTION (R18.8): from an accepted table, a sound state and memory of the right lengths, its words applied leave
 -- the state that its switches leave, called one by one, refused ones left out. What two sheets leave is then a matter of their words.
+use Rattle.std.proofs.Common.{Result, Ok, Err}
 use Prim.Native.Nat.{ℕ}
 use mathlib.Core.Path.{◌≡◌, refl, sym, ap, subst, ◌∙◌}
 use mathlib.Core.Bool.{Bool, true, false, cond}
@@ -7,11 +8,8 @@ use native.Mathlib.Omega.{arith}
 use mathlib.Core.List.{List, [], ◌∷◌, ◌++◌}
 use Rattle.connection.specs.declared.Refusal.{Refusal}
 use Rattle.connection.specs.declared.Refusal.TheVariants.{Denied}
-use Rattle.connection.specs.declared.Answer.TheVariants.{Done, Refused}
 use Rattle.state.specs.declared.State.{State}
 use Rattle.gate.specs.Lent.{Lent, next}
-use Rattle.gate.specs.declared.Gate.{Gate}
-use Rattle.gate.specs.declared.Gate.TheVariants as Gates
 use Rattle.gate.specs.Gate.{gate_of, through, Passed}
 use Rattle.entry_events.specs.declared.Told.{Told}
 use Rattle.entry_events.specs.Change.{refused_told}
@@ -19,9 +17,8 @@ use Rattle.gate.proofs.Pass.{passed_gate}
 use Rattle.sheet.specs.declared.Words.{Words}
 use Rattle.sheet.specs.declared.Switching.{Switching}
 use Rattle.sheet.specs.Force.{no_words, join_words, agreeing}
-use Rattle.sheet.specs.declared.SheetFit.{SheetFit}
-use Rattle.sheet.specs.declared.SheetFit.TheVariants.{Fits}
-use Rattle.sheet.specs.Sheet.{sheet_switches, fit_from, switch_there, add_switch, sheet_from, sheet_words, words_where, shorten_of, kept_of}
+use Rattle.sheet.specs.declared.Unfit.{Unfit}
+use Rattle.sheet.specs.Sheet.{sheet_switches, fit_from, switch_there, add_switch, sheet_from, sheet_words, words_where, words_given, shorten_of, kept_of}
 use Rattle.sheet.proofs.Joins.{at, Full, no_full, add-full, add_missing, add_twice, add-swap, words_agree}
 use Rattle.sheet.proofs.Kept.{kept_words}
 use Rattle.entry_sheet.specs.Apply.{forced_rows, apply_of}
@@ -54,7 +51,7 @@ module _ (l : Lent) (passed : Passed l) where
   switches_forced ss = ap (λ (t : State). after_switches (next l t) ss) (sym (forced_none (table_rows l) l.state)) ∙ more no_words ss no_full
 
   -- words without a bit in both are applied
-  pub applied : (ws : Words) → agreeing ws ≡ true → apply_of l ws ≡ record { answer = Done; state = forced_rows (table_rows l) ws l.state }
+  pub applied : (ws : Words) → agreeing ws ≡ true → apply_of l ws ≡ record { answer = Ok tt; state = forced_rows (table_rows l) ws l.state }
   unfolding apply_of
   applied ws e = rw (passed_gate l passed, e)
 
@@ -72,10 +69,10 @@ module _ (l : Lent) (passed : Passed l) where
       go false e = subst (λ (t : Told). Passed (next l t.state)) (sym (both-refused ws e)) passed
 
   -- R18.8: ANY SHEET EQUALS ITS WORDS: applied, they are answered 0 and leave the state that the switches leave, called one by one
-  pub sheet-words : (ss : List Switching) → apply_of l (sheet_words (table_rows l) ss) ≡ record { answer = Done; state = after_switches l ss }
+  pub sheet-words : (ss : List Switching) → apply_of l (sheet_words (table_rows l) ss) ≡ record { answer = Ok tt; state = after_switches l ss }
   sheet-words ss =
       applied (sheet_words (table_rows l) ss) (words_agree (table_rows l) ss)
-      ∙ ap (λ (t : State). record { answer = Done; state = t }) (sym (switches_forced ss))
+      ∙ ap (λ (t : State). record { answer = Ok tt; state = t }) (sym (switches_forced ss))
 
   -- sheets with the same words leave the same state
   pub same_words_same_state : (ss ts : List Switching) → sheet_words (table_rows l) ss ≡ sheet_words (table_rows l) ts → after_switches l ss
@@ -83,10 +80,11 @@ module _ (l : Lent) (passed : Passed l) where
   same_words_same_state ss ts e = switches_forced ss ∙ ap (λ (w : Words). forced_rows (table_rows l) w l.state) e ∙ sym (switches_forced ts)
 
   -- R18.6: a sheet that fits, shortened and applied
-  pub shortened_applied : (sheet : List ℕ) → fit_from 0 sheet ≡ Fits
-      → apply_of l (shorten_of (table_rows l) sheet).words ≡ record { answer = Done; state = after_switches l (sheet_switches sheet) }
+  pub shortened_applied : (sheet : List ℕ) → fit_from 0 sheet ≡ Ok tt
+      → apply_of l (words_given (shorten_of (table_rows l) sheet)) ≡ record { answer = Ok tt; state = after_switches l (sheet_switches sheet) }
   unfolding shorten_of
-  shortened_applied sheet e = ap (λ (f : SheetFit). apply_of l (words_where f (table_rows l) sheet)) e ∙ sheet-words (sheet_switches sheet)
+  shortened_applied sheet e =
+      ap (λ (f : Result Unit Unfit). apply_of l (words_given (words_where f (table_rows l) sheet))) e ∙ sheet-words (sheet_switches sheet)
 
   -- R18.7: the shortened sheet, its switches called one by one, leaves the state of the whole one
   pub short_sheet : (sheet : List ℕ) → after_switches l (kept_of (table_rows l) sheet) ≡ after_switches l (sheet_switches sheet)
@@ -108,9 +106,9 @@ module _ (l : Lent) (passed : Passed l) where
   unfolding after_switches
   empty_switches = refl
 
-  pub empty_words : apply_of l no_words ≡ record { answer = Done; state = l.state }
+  pub empty_words : apply_of l no_words ≡ record { answer = Ok tt; state = l.state }
   unfolding sheet_from
-  empty_words = sheet-words [] ∙ ap (λ (t : State). record { answer = Done; state = t }) empty_switches
+  empty_words = sheet-words [] ∙ ap (λ (t : State). record { answer = Ok tt; state = t }) empty_switches
 
   -- R18.8: words applied one after the other are the words joined
   pub join_applied : (a b : Words) → Full a → forced_rows (table_rows l) (join_words a b) l.state
@@ -118,18 +116,18 @@ module _ (l : Lent) (passed : Passed l) where
   join_applied a b f = forced_join (table_rows l) a b l.state (few l passed) f
 
 -- R18.6: a refusal changes nothing, from any table, state and memory
-pub apply_stays : (l : Lent) (ws : Words) (r : Refusal) → (apply_of l ws).answer ≡ Refused r → (apply_of l ws).state ≡ l.state
+pub apply_stays : (l : Lent) (ws : Words) (r : Refusal) → (apply_of l ws).answer ≡ Err r → (apply_of l ws).state ≡ l.state
 unfolding apply_of
 apply_stays l ws r e = go (gate_of l) (agreeing ws) e
   where
     done : Told
-    done = record { answer = Done; state = forced_rows (table_rows l) ws l.state }
+    done = record { answer = Ok tt; state = forced_rows (table_rows l) ws l.state }
 
-    go : (g : Gate) (b : Bool) → (through g (refused_told l.state) (cond b done (refused_told l.state Denied))).answer ≡ Refused r
+    go : (g : Result Unit Refusal) (b : Bool) → (through g (refused_told l.state) (cond b done (refused_told l.state Denied))).answer ≡ Err r
         → (through g (refused_told l.state) (cond b done (refused_told l.state Denied))).state ≡ l.state
-    go (Gates.Refused q) b p = refl
-    go Gates.Pass false p = refl
-    go Gates.Pass true p = absurd (let z : ◌≡◌ {A = ℕ} 0 1 = cc in omega arith)
+    go (Err q) b p = refl
+    go (Ok tt) false p = refl
+    go (Ok tt) true p = absurd (let z : ◌≡◌ {A = ℕ} 0 1 = cc in omega arith)
 
 -- sheets one after the other, in calls
 pub after-append : (l : Lent) (ss ts : List Switching) → after_switches l (ss ++ ts) ≡ after_switches (next l (after_switches l ss)) ts

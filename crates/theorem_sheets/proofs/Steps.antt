@@ -1,4 +1,5 @@
 -- ONE SWITCH through the entry point, and words applied, past the gate: what each leaves, and that both pass the gate again.
+use Rattle.std.proofs.Common.{Result, Ok, Err}
 use Prim.Native.Nat.{ℕ, ◌<◌, ◌≤◌, ◌+◌}
 use mathlib.Core.Path.{◌≡◌, refl, sym, ap, ◌∙◌}
 use mathlib.Core.Bool.{Bool, true, false, cond, not, ◌&&◌}
@@ -15,7 +16,6 @@ use Rattle.connection.specs.declared.Connection.{Connection}
 use Rattle.connection.specs.declared.Event.TheVariants.{Switch}
 use Rattle.connection.specs.Connection.{zero_record, with_switches, switch_of, switched_of}
 use Rattle.connection.specs.declared.Refusal.TheVariants.{Missing, Denied}
-use Rattle.connection.specs.declared.Answer.TheVariants.{Done}
 use Rattle.connection.specs.declared.Stepped.{Stepped}
 use Rattle.connection.specs.Event.{refused_by, step_of}
 use Rattle.connection.proofs.Keeps.{switches-keep}
@@ -26,8 +26,6 @@ use Rattle.state.specs.State.{record_at, with_record, with_records}
 use Rattle.state.specs.Fresh.{config_of}
 use Rattle.gate.specs.Lent.{Lent, next}
 use Rattle.gate.specs.Sound.{sound_at, records_sound}
-use Rattle.gate.specs.declared.Gate.{Gate}
-use Rattle.gate.specs.declared.Gate.TheVariants.{Pass, Refused}
 use Rattle.gate.specs.Gate.{gate_at, through, Passed}
 use Rattle.gate.proofs.Pass.{passed_gate, passed_gate_at, passed-next}
 use Rattle.gate.proofs.Records.{row-sound, row-routed, sound-row}
@@ -43,6 +41,7 @@ use Rattle.sheet.proofs.Turns.{there-row, there_below}
 use Rattle.entry_sheet.specs.Apply.{forced_of, force_at, forced_rows}
 use Rattle.theorem_sheets.specs.Switched.{table_rows, after_switch}
 use Rattle.law_lists.proofs.Each.{each_same, each-still, each_twice, each_more}
+use Rattle.connection.specs.declared.Refusal.{Refusal}
 
 -- other switches leave a row's record sound
 pub word_sound : (image : List ℕ) (n : ℕ) (c : Connection) (w : ℕ) → sound_at image n c ≡ true → n < rows_of image Connections
@@ -106,7 +105,7 @@ change-state image t c n on = go (ltb n 32)
   where
     stepped : Bool → Stepped
     stepped b = cond (not b) (refused_by Missing (record_at t c))
-        (cond (not true) (refused_by Denied (record_at t c)) (record { answer = Done; connection = switched_of n on (record_at t c) }))
+        (cond (not true) (refused_by Denied (record_at t c)) (record { answer = Ok tt; connection = switched_of n on (record_at t c) }))
 
     go : (b : Bool) → (told_of t c (stepped b).answer (stepped b).connection).state ≡ cond b (with_record c (switched_of n on (record_at t c)) t) t
     go true = refl
@@ -124,17 +123,17 @@ module _ (l : Lent) (passed : Passed l) where
       (all-each (sound_at l.image) (force_at ws) 0 (table_rows l) l.state.connections passed.sound
       (λ j c u p. word_sound l.image j c _ p (omega arith)))
 
-  through_gate : (s : Switching) (g : Gate) → gate_at l s.connection ≡ g
+  through_gate : (s : Switching) (g : Result Unit Refusal) → gate_at l s.connection ≡ g
       → after_switch l s ≡ (through g (refused_told l.state) (change_of l.image l.state s.connection (Switch s.number s.on))).state
   unfolding after_switch event_of
-  through_gate s g e = ap (λ (x : Gate). (through x (refused_told l.state)
+  through_gate s g e = ap (λ (x : Result Unit Refusal). (through x (refused_told l.state)
       (change_of l.image l.state s.connection (Switch s.number s.on))).state) e
 
   -- a switch of a connection that is there
   in_row : (s : Switching) → s.connection < table_rows l
       → after_switch l s ≡ cond (ltb s.number 32)
       (with_record s.connection (switched_of s.number s.on (record_at l.state s.connection)) l.state) l.state
-  in_row s h = through_gate s Pass (passed_gate_at l s.connection passed h) ∙ change-state l.image l.state s.connection s.number s.on
+  in_row s h = through_gate s (Ok tt) (passed_gate_at l s.connection passed h) ∙ change-state l.image l.state s.connection s.number s.on
 
   -- a switch that is there is done, and another leaves the state
   pub switch_done : (s : Switching) → switch_there (table_rows l) s ≡ true
@@ -144,7 +143,7 @@ module _ (l : Lent) (passed : Passed l) where
       ∙ ap (λ (b : Bool). cond b (with_record s.connection (switched_of s.number s.on (record_at l.state s.connection)) l.state) l.state)
       (and3 (ltb s.connection (table_rows l)) (ltb s.connection 16) (ltb s.number 32) e).2
 
-  gate_missing : (c : ℕ) → table_rows l ≤ c → gate_at l c ≡ Refused Missing
+  gate_missing : (c : ℕ) → table_rows l ≤ c → gate_at l c ≡ Err Missing
   unfolding gate_at
   gate_missing c h = rw (passed_gate l passed, le-ltb c (table_rows l) h)
 
@@ -155,7 +154,7 @@ module _ (l : Lent) (passed : Passed l) where
       last x y z p q r = rw (p, q) at r
 
       go : Dec (s.connection < table_rows l) → after_switch l s ≡ l.state
-      go (no h) = through_gate s (Refused Missing) (gate_missing s.connection (omega arith))
+      go (no h) = through_gate s (Err Missing) (gate_missing s.connection (omega arith))
       go (yes h) =
           let m = few in
           in_row s h

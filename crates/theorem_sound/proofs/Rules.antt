@@ -1,4 +1,5 @@
 -- THE GATE'S TEST IS THESE RULES: state and table pass it exactly when they are sound, rule by rule.
+use Rattle.std.proofs.Common.{Result, Ok, Err}
 use Prim.Native.Nat.{ℕ, suc, ◌+◌, ◌/◌, ◌^◌, ◌<◌, ◌≤◌}
 use mathlib.Core.Path.{◌≡◌, refl, sym, ap, ◌∙◌, subst}
 use mathlib.Core.Logic.{◌↔◌}
@@ -15,8 +16,7 @@ use Rattle.table_layout.specs.Layout.{rows_of, body_of}
 use Rattle.table_layout.specs.declared.Kind.TheVariants.{Connection as Connections, Route as Routes}
 use Rattle.table_layout.proofs.Parts.{body-rows}
 use Rattle.table_rows.specs.Rows.{route_of}
-use Rattle.table.specs.declared.TableAnswer.{TableAnswer}
-use Rattle.table.specs.declared.TableAnswer.TheVariants.{Accepted, Refused}
+use Rattle.table.specs.declared.BadTable.TheVariants.{At}
 use Rattle.table.specs.Table.{check_table}
 use Rattle.table.proofs.Facts.{accepted_facts}
 use Rattle.receive_part.specs.declared.Part.{Part}
@@ -36,6 +36,7 @@ use Rattle.gate.specs.Sound.{routed, sound_at, records_sound, is_accepted, sound
 use Rattle.gate.proofs.Records.{row-sound, row-routed, sound-row, past-zero, zero-past, record-at}
 use Rattle.theorem_calls.proofs.Image.{table-answer}
 use Rattle.theorem_sound.specs.Rules.{PartRule, RecordRules, SoundTogether}
+use Rattle.table.specs.declared.BadTable.{BadTable}
 
 -- tests and what they say
 or_then : (a b : Bool) → (a || b) ≡ true → a ≡ false → b ≡ true
@@ -228,19 +229,19 @@ zero_words image k =
       watched = λ h. absurd (omega (arith, h));
     }
 
-accepted-is : (a : TableAnswer) → is_accepted a ≡ true → a ≡ Accepted
-accepted-is Accepted e = refl
-accepted-is (Refused place) e = impossible e
+accepted-is : (a : Result Unit BadTable) → is_accepted a ≡ true → a ≡ Ok tt
+accepted-is (Ok tt) e = refl
+accepted-is (Err (At place)) e = impossible e
 
 -- STATE AND TABLE: the gate's test and the rules, both ways
 module _ (image : List ℕ) (s : State) where
   abbrev cs : List Connection
   cs = s.connections
 
-  laid : check_table image ≡ Accepted → length (body_of image Routes) / 16 ≡ rows_of image Routes
+  laid : check_table image ≡ Ok tt → length (body_of image Routes) / 16 ≡ rows_of image Routes
   laid ok = body-rows image (accepted_facts image ok).laid Routes
 
-  row_words : check_table image ≡ Accepted → records_sound image cs ≡ true → (k : ℕ) → k < rows_of image Connections → RecordRules image k (record_at s k)
+  row_words : check_table image ≡ Ok tt → records_sound image cs ≡ true → (k : ℕ) → k < rows_of image Connections → RecordRules image k (record_at s k)
   row_words ok sound k there = go (dec_lt k (length cs))
     where
       go : Dec (k < length cs) → RecordRules image k (record_at s k)
@@ -259,11 +260,11 @@ module _ (image : List ℕ) (s : State) where
   test_words : sound_state image s ≡ true → SoundTogether image s
   unfolding sound_state
   test_words e =
-      let ok : check_table image ≡ Accepted = accepted-is (check_table image) (and_left (is_accepted (check_table image)) (records_sound image cs) e) in
+      let ok : check_table image ≡ Ok tt = accepted-is (check_table image) (and_left (is_accepted (check_table image)) (records_sound image cs) e) in
       let sound : records_sound image cs ≡ true = and_right (is_accepted (check_table image)) (records_sound image cs) e in
-      record { table = (table-answer image Accepted).0 ok; rows = row_words ok sound; past = past_words sound }
+      record { table = (table-answer image (Ok tt)).0 ok; rows = row_words ok sound; past = past_words sound }
 
-  words_at : SoundTogether image s → check_table image ≡ Accepted → (k : ℕ) → sound_at image k (record_at s k) ≡ true
+  words_at : SoundTogether image s → check_table image ≡ Ok tt → (k : ℕ) → sound_at image k (record_at s k) ≡ true
   words_at w ok k = go (dec_lt k (rows_of image Connections))
     where
       go : Dec (k < rows_of image Connections) → sound_at image k (record_at s k) ≡ true
@@ -277,7 +278,7 @@ module _ (image : List ℕ) (s : State) where
   words_test : SoundTogether image s → sound_state image s ≡ true
   unfolding sound_state records_sound
   words_test w =
-      let ok : check_table image ≡ Accepted = (table-answer image Accepted).1 w.table in
+      let ok : check_table image ≡ Ok tt = (table-answer image (Ok tt)).1 w.table in
       and_both (ap is_accepted ok) (all-from (sound_at image) 0 cs zero_record (λ i l. let z : i ≡ 0 + i = omega arith in
       subst (λ (j : ℕ). sound_at image j (record_at s i) ≡ true) z (words_at w ok i)))
 

@@ -1,5 +1,6 @@
 -- ANY CALL, COUNTED FROM ITS NUMBER, ITS ARGUMENTS AND ITS ANSWER, counts what the machine gives at the events that it spells (R21.9, R21.10): a segment or a
 -- walk its takes, any other call nothing.
+use Rattle.std.proofs.Common.{Result, Ok, Err}
 use Prim.Native.Nat.{ℕ, zero, suc, ◌+◌, ◌≤◌}
 use mathlib.Core.Path.{◌≡◌, refl, sym, ap, subst, ◌∙◌}
 use mathlib.Core.Bool.{Bool, true, false, cond, ◌&&◌}
@@ -18,7 +19,9 @@ use Rattle.connection.specs.declared.Event.{Event as Change}
 use Rattle.connection.specs.declared.Event.TheVariants.{Open, Close, Connected, SetRemote, Switch, Cancel}
 use Rattle.connection.specs.declared.Remote.{Remote}
 use Rattle.event_decode.specs.declared.Call.{Call}
-use Rattle.event_decode.specs.declared.Call.TheVariants.{Unknown, Unfit, Ticks, Own, Lost, Segment, Walk}
+use Rattle.event_decode.specs.declared.BadCall.{BadCall}
+use Rattle.event_decode.specs.declared.BadCall.TheVariants.{Unknown, Unfit}
+use Rattle.event_decode.specs.declared.Call.TheVariants.{Ticks, Own, Lost, Segment, Walk}
 use Rattle.event_decode.specs.declared.Call.TheVariants.{TakeWaiting, Datagram, Accept, Transmit, SwitchAll, ReadCount, ClearCount}
 use Rattle.event_decode.specs.Calls.{fitted, plain, length_fits, addressed, remote_in, positioned, call_of, bytes_from}
 use Rattle.dispatch_receive.specs.Long.{longest_body}
@@ -41,7 +44,7 @@ use Rattle.theorem_tally.proofs.Tallied.{kept_at, Tallied, tallied_same, none_ta
 
 -- CALLS THAT TELL NOTHING, one law for each kind
 module _ (image : List ℕ) (k : ℕ) (body : List ℕ) where
-  abbrev pub Silent : Call → Type 0
+  abbrev pub Silent : Result Call BadCall → Type 0
   Silent call = (m : Machine) → given_in image k m (events_of body call) ≡ []
 
   pub ticks_silent : (n : ℕ) (m : Machine) → given_in image k m (replicate n (on_whole tick)) ≡ []
@@ -49,62 +52,62 @@ module _ (image : List ℕ) (k : ℕ) (body : List ℕ) where
   ticks_silent zero m = refl
   ticks_silent (suc n) m = ticks_silent n (after_event image (on_whole tick) m)
 
-  unknown_tells : Silent Unknown
+  unknown_tells : Silent (Err Unknown)
   unfolding events_of given_in
   unknown_tells m = refl
 
-  unfit_tells : Silent Unfit
+  unfit_tells : Silent (Err Unfit)
   unfolding events_of given_in
   unfit_tells m = refl
 
-  ticks_tell : (n : ℕ) → Silent (Ticks n)
+  ticks_tell : (n : ℕ) → Silent (Ok (Ticks n))
   unfolding events_of
   ticks_tell n m = ticks_silent n m
 
-  own_tells : (c : ℕ) (e : Change) → Silent (Own c e)
+  own_tells : (c : ℕ) (e : Change) → Silent (Ok (Own c e))
   unfolding events_of given_in given
   own_tells c e m = refl
 
-  lost_tells : (c : ℕ) → Silent (Lost c)
+  lost_tells : (c : ℕ) → Silent (Ok (Lost c))
   unfolding events_of given_in given
   lost_tells c m = refl
 
-  taking_tells : (c n : ℕ) → Silent (TakeWaiting c n)
+  taking_tells : (c n : ℕ) → Silent (Ok (TakeWaiting c n))
   unfolding events_of given_in given
   taking_tells c n m = refl
 
-  datagram_tells : (group : ℕ) (source : Remote) → Silent (Datagram group source)
+  datagram_tells : (group : ℕ) (source : Remote) → Silent (Ok (Datagram group source))
   unfolding events_of given_in given
   datagram_tells group source m = refl
 
-  accept_tells : (group : ℕ) (source : Remote) → Silent (Accept group source)
+  accept_tells : (group : ℕ) (source : Remote) → Silent (Ok (Accept group source))
   unfolding events_of given_in given
   accept_tells group source m = refl
 
-  transmit_tells : (number at : ℕ) → Silent (Transmit number at)
+  transmit_tells : (number at : ℕ) → Silent (Ok (Transmit number at))
   unfolding events_of given_in given
   transmit_tells number at m = refl
 
-  switching_tells : (number : ℕ) (position : Bool) → Silent (SwitchAll number position)
+  switching_tells : (number : ℕ) (position : Bool) → Silent (Ok (SwitchAll number position))
   unfolding events_of given_in given
   switching_tells number position m = refl
 
-  reading_tells : (protocol : ℕ) → Silent (ReadCount protocol)
+  reading_tells : (protocol : ℕ) → Silent (Ok (ReadCount protocol))
   unfolding events_of given_in given
   reading_tells protocol m = refl
 
-  clearing_tells : (protocol : ℕ) → Silent (ClearCount protocol)
+  clearing_tells : (protocol : ℕ) → Silent (Ok (ClearCount protocol))
   unfolding events_of given_in given
   clearing_tells protocol m = refl
 
-  either : (t : Bool) (x y : Call) → Silent x → Silent y → Silent (cond t x y)
+  either : (t : Bool) (x y : Result Call BadCall) → Silent x → Silent y → Silent (cond t x y)
   either true x y p q = p
   either false x y p q = q
 
-  not_this : (t : Bool) (x y : Call) → t ≡ false → Silent y → Silent (cond t x y)
+  not_this : (t : Bool) (x y : Result Call BadCall) → t ≡ false → Silent y → Silent (cond t x y)
   not_this t x y e q = subst (λ (b : Bool). Silent (cond b x y)) (sym e) q
 
-  fitting : (t : Bool) (x : Call) → Silent x → Silent (fitted t x)
+  fitting : (t : Bool) (x : Call) → Silent (Ok x) → Silent (fitted t x)
   fitting true x p = p
   fitting false x p = unfit_tells
 
@@ -191,20 +194,20 @@ carried_long : (b : List ℕ) (at : ℕ) → length b ≤ longest_body → lengt
 carried_long b at h = omega (arith, h, length-drop at b)
 
 module _ (image : List ℕ) (m : Machine) (body : List ℕ) (bytes : Bytes body) (r : Run) where
-  abbrev Counted : ℕ → Call → Type 0
+  abbrev Counted : ℕ → Result Call BadCall → Type 0
   Counted number call =
       Tallied r (λ k. given_in image k m (events_of body call)) (event_counted number body (answer_of (loan_to image m) body call) r)
 
   -- a segment
-  segment_tells : (c at k : ℕ) → alone r c (told_segment image c m (bytes_from body at)) k ≡ given_in image k m (events_of body (Segment c at))
+  segment_tells : (c at k : ℕ) → alone r c (told_segment image c m (bytes_from body at)) k ≡ given_in image k m (events_of body (Ok (Segment c at)))
   unfolding events_of given_in given
   segment_tells c at k = sym (append-nil _)
 
-  segment_tallied : length body ≤ longest_body → Counted 7 (Segment (be 1 body 1) 6)
+  segment_tallied : length body ≤ longest_body → Counted 7 (Ok (Segment (be 1 body 1) 6))
   unfolding answer_of
   segment_tallied h =
       tallied_same r (event_counted 7 body (takes_answer (loan_to image m) (be 1 body 1) (bytes_from body 6)) r)
-      (alone r (be 1 body 1) (told_segment image (be 1 body 1) m (bytes_from body 6))) (λ k. given_in image k m (events_of body (Segment (be 1 body 1) 6)))
+      (alone r (be 1 body 1) (told_segment image (be 1 body 1) m (bytes_from body 6))) (λ k. given_in image k m (events_of body (Ok (Segment (be 1 body 1) 6))))
       (λ k l. segment_tells (be 1 body 1) 6 k)
       (event_tallied 7 body (takes_answer (loan_to image m) (be 1 body 1) (bytes_from body 6)) r (told_segment image (be 1 body 1) m (bytes_from body 6))
       (segment-given image m (be 1 body 1) (bytes_from body 6) (bytes_drop 6 body bytes) (carried_long body 6 h) (counting_at (be 1 body 1) r)))
@@ -212,16 +215,16 @@ module _ (image : List ℕ) (m : Machine) (body : List ℕ) (bytes : Bytes body)
   -- a walk
   walk_tells : (c place at k : ℕ)
       → alone r c (told_walk (bytes_from body at) (walk_of (lent_to image m) c (bytes_from body at) place).outcome) k
-      ≡ given_in image k m (events_of body (Walk c place at))
+      ≡ given_in image k m (events_of body (Ok (Walk c place at)))
   unfolding events_of given_in given
   walk_tells c place at k = sym (append-nil _)
 
-  walk_tallied : length body ≤ longest_body → Counted 8 (Walk (be 1 body 1) (be 4 body 2) 10)
+  walk_tallied : length body ≤ longest_body → Counted 8 (Ok (Walk (be 1 body 1) (be 4 body 2) 10))
   unfolding answer_of
   walk_tallied h =
       tallied_same r (event_counted 8 body (walked_bytes (walk_of (lent_to image m) (be 1 body 1) (bytes_from body 10) (be 4 body 2))) r)
       (alone r (be 1 body 1) (told_walk (bytes_from body 10) (walk_of (lent_to image m) (be 1 body 1) (bytes_from body 10) (be 4 body 2)).outcome))
-      (λ k. given_in image k m (events_of body (Walk (be 1 body 1) (be 4 body 2) 10)))
+      (λ k. given_in image k m (events_of body (Ok (Walk (be 1 body 1) (be 4 body 2) 10))))
       (λ k l. walk_tells (be 1 body 1) (be 4 body 2) 10 k)
       (event_tallied 8 body (walked_bytes (walk_of (lent_to image m) (be 1 body 1) (bytes_from body 10) (be 4 body 2))) r
       (told_walk (bytes_from body 10) (walk_of (lent_to image m) (be 1 body 1) (bytes_from body 10) (be 4 body 2)).outcome)
@@ -229,16 +232,17 @@ module _ (image : List ℕ) (m : Machine) (body : List ℕ) (bytes : Bytes body)
       (counting_at (be 1 body 1) r)))
 
   -- a body that does not fit has no answer: of a segment no take, of a walk one that says nothing
-  silent_tallied : (number : ℕ) (call : Call) → ((k : ℕ) → Silent image k body call) → takes_in number (answer_of (loan_to image m) body call) ≡ 0
+  silent_tallied : (number : ℕ) (call : Result Call BadCall) → ((k : ℕ) → Silent image k body call)
+      → takes_in number (answer_of (loan_to image m) body call) ≡ 0
       → Counted number call
   silent_tallied number call silent none =
       subst (λ (d : Run). Tallied r (λ k. given_in image k m (events_of body call)) d)
       (sym (none_counted number body (answer_of (loan_to image m) body call) r none))
       (tallied_same r r (λ k. []) (λ k. given_in image k m (events_of body call)) (λ k l. sym (silent k m)) (none_tallied r))
 
-  unfit-segment : Counted 7 Unfit
+  unfit-segment : Counted 7 (Err Unfit)
   unfolding answer_of takes_in be
-  unfit-segment = silent_tallied 7 Unfit (λ k. unfit_tells image k body) refl
+  unfit-segment = silent_tallied 7 (Err Unfit) (λ k. unfit_tells image k body) refl
 
   unfit-counted : (c : Counting) → counted_at (be 1 body 1) 8 [] c ≡ one_counted (be 1 body 1) (adds_nothing c.kept) c
   unfolding takes_counted takes_in takes_at adds_of_kind be
@@ -260,10 +264,10 @@ module _ (image : List ℕ) (m : Machine) (body : List ℕ) (bytes : Bytes body)
       go true = refl
       go false = refl
 
-  unfit-walk : Counted 8 Unfit
+  unfit-walk : Counted 8 (Err Unfit)
   unfolding answer_of
   unfit-walk =
-      tallied_same r (event_counted 8 body [] r) (alone r (be 1 body 1) []) (λ k. given_in image k m (events_of body Unfit))
+      tallied_same r (event_counted 8 body [] r) (alone r (be 1 body 1) []) (λ k. given_in image k m (events_of body (Err Unfit)))
       (λ k l. alone_none (be 1 body 1) k ∙ sym (unfit_tells image k body m))
       (event_tallied 8 body [] r [] (unfit_told (counting_at (be 1 body 1) r)))
 

@@ -9,6 +9,7 @@ use lib.Dec.{eqb, ltb}
 use lib.ListN.{length, set, drop, length-append}
 use lib.Seq.{set_out, set-get_or, drop_at}
 use borrow.Author.Tests.{ltb-false}
+use Rattle.reading.specs.Reasons.{reason_number}
 use Rattle.lists.proofs.Both.{and_left, and_right}
 use Rattle.wire.specs.Be.{be}
 use Rattle.wire.specs.Lay.{spell}
@@ -133,7 +134,7 @@ pdu_kept route n kept = go (ltb route 64)
 abbrev adds_found : Outcome → ℕ → Adds
 adds_found Found.More kept = adds_nothing kept
 adds_found (Found.Pdu route id inside at n) kept = adds_pdu route n kept
-adds_found (Found.Drop reason id n) kept = adds_drop reason kept
+adds_found (Found.Drop reason id n) kept = adds_drop (reason_number reason) kept
 adds_found (Found.Start route id n last) kept = adds_start route n
 adds_found (Found.Piece route id at n true) kept = adds_pdu route kept kept
 adds_found (Found.Piece route id at n false) kept = adds_nothing kept
@@ -177,7 +178,7 @@ module _ (k : ℕ) (c : Counting) (seg : List ℕ) (begins : ℕ) where
     subst (λ (m : ℕ). Counts (got route m ∷ []) c (one_counted k (adds_pdu route n c.kept) c)) (sym e) (pdu-counts k c route n c.kept),
     pdu_kept route n c.kept,
   )
-  take_told (Found.Drop reason id n) payload e = (drop-counts k c reason c.kept, refl)
+  take_told (Found.Drop reason id n) payload e = (drop-counts k c (reason_number reason) c.kept, refl)
   take_told (Found.Start route id n last) payload e = start_told route id n last payload e
   take_told (Found.Piece route id at n true) payload e = (pdu-counts k c route c.kept c.kept, pdu_kept route c.kept c.kept)
   take_told (Found.Piece route id at n false) payload e = (nothing-counts k c c.kept, refl)
@@ -201,7 +202,7 @@ bytes-add : (begins read : ℕ) (o : Outcome) (payload rest : List ℕ) → Take
     → adds_of (take_bytes begins read o payload ++ rest) kept ≡ adds_found o kept
 unfolding adds_of_kind
 bytes-add begins read Found.More payload rest h kept = found-adds read 0 0 0 0 rest refl (omega arith) (omega arith) (omega arith) kept
-bytes-add begins read (Found.Drop reason id n) payload rest h kept = found-adds read 2 reason id n rest refl (omega arith) h.0 h.1.1 kept
+bytes-add begins read (Found.Drop reason id n) payload rest h kept = found-adds read 2 (reason_number reason) id n rest refl (omega arith) h.0 h.1.1 kept
 bytes-add begins read (Found.Start route id n last) payload rest h kept = found-adds read 3 route id n rest refl (omega arith) h.0.0 h.0.1.1 kept
 bytes-add begins read (Found.Piece route id at n last) payload rest h kept =
     let is : piece_spelt read route id n last begins at ++ rest ≡ found_bytes read (piece_kind last) route id n ++ (spell 4 (begins + at) ++ rest) =
@@ -236,7 +237,7 @@ unfolding items_from length_kept
 items_append k kept [] ps = refl
 items_append k kept (nothing ∷ os) ps = items_append k kept os ps
 items_append k kept (pdu r p ∷ os) ps = ap (λ (l : List Item). got r (length p) ∷ l) (items_append k kept os ps)
-items_append k kept (dropped j i n ∷ os) ps = ap (λ (l : List Item). lost k j ∷ l) (items_append k kept os ps)
+items_append k kept (dropped j i n ∷ os) ps = ap (λ (l : List Item). lost k (reason_number j) ∷ l) (items_append k kept os ps)
 items_append k kept (start r i n true ∷ os) ps = ap (λ (l : List Item). got r n ∷ l) (items_append k n os ps)
 items_append k kept (start r i n false ∷ os) ps = items_append k n os ps
 items_append k kept (piece r p true ∷ os) ps = ap (λ (l : List Item). got r kept ∷ l) (items_append k kept os ps)

@@ -5,6 +5,7 @@ use mathlib.Core.Bool.{Bool, true, false, cond}
 use mathlib.Core.List.{List, [], ◌∷◌}
 use lib.Dec.{eqb}
 use lib.ListN.{length}
+use Rattle.reading.specs.Reasons.{reason_number}
 use Rattle.reading.specs.Feed.{Out, nothing, pdu, dropped, start, piece, singles, fine}
 use Rattle.reading.specs.Feed.{Handed, complete, began, middle, finished, push, push_all, marked, compared}
 use Rattle.report.specs.declared.Report.{Report}
@@ -33,7 +34,7 @@ module _ (k : ℕ) where
   items_fine kept [] = refl
   items_fine kept (nothing ∷ os) = items_fine kept os
   items_fine kept (pdu r p ∷ os) = ap (λ (l : List Item). got r (length p) ∷ l) (items_fine kept os)
-  items_fine kept (dropped j i n ∷ os) = ap (λ (l : List Item). lost k j ∷ l) (items_fine kept os)
+  items_fine kept (dropped j i n ∷ os) = ap (λ (l : List Item). lost k (reason_number j) ∷ l) (items_fine kept os)
   items_fine kept (start r i n true ∷ os) = ap (λ (l : List Item). got r n ∷ l) (items_fine n os)
   items_fine kept (start r i n false ∷ os) = items_fine n os
   items_fine kept (piece r [] true ∷ os) = ap (λ (l : List Item). got r kept ∷ l) (items_fine kept os)

@@ -1,4 +1,5 @@
 -- A SEGMENT EVENT, COUNTED FROM THE BYTES OF ITS ANSWER, counts what the machine gives at it (R21.9, R21.10): PDUs, transfers at their end, and drops.
+use Rattle.std.proofs.Common.{Result, Ok, Err}
 use Prim.Native.Nat.{ℕ, zero, suc, ◌^◌, ◌<◌, ◌≤◌}
 use mathlib.Core.Path.{◌≡◌, refl, sym, ap, ap₂, subst, ◌∙◌}
 use mathlib.Core.Bool.{false}
@@ -15,8 +16,7 @@ use Rattle.reading.specs.Feed.{Out}
 use Rattle.reading_lengths.specs.Listed.{Bytes}
 use Rattle.connection.specs.Event.{refusal_number}
 use Rattle.gate.specs.Lent.{Loan}
-use Rattle.entry_receive.specs.declared.Answer.{Answer}
-use Rattle.entry_receive.specs.declared.Answer.TheVariants.{Done, Refused, NotReceiving}
+use Rattle.entry_receive.specs.declared.NotReceived.TheVariants.{Refused, NotReceiving}
 use Rattle.entry_receive.specs.Answer.{is_done}
 use Rattle.event_answer.specs.Answers.{refused, done_with}
 use Rattle.dispatch_receive.specs.Long.{longest_body}
@@ -33,13 +33,15 @@ use Rattle.dispatch_refines.proofs.Takes.{segment-takes_told}
 use Rattle.theorem_tally.specs.Items.{items_from, length_kept}
 use Rattle.theorem_tally.proofs.Counted.{Counts, takes_told}
 use Rattle.theorem_tally.proofs.Exact.{takes_stand}
+use Rattle.entry_receive.specs.declared.NotReceived.{NotReceived}
 
 -- the takes that an answer says it has, and where they stand
 done_takes : (ts : List Take) → length ts < 256 ^ 2
-    → (takes_in 7 (event_bytes Done (length ts) (bytes_in ts)) ≡ length ts) × (drop (takes_at 7) (event_bytes Done (length ts) (bytes_in ts)) ≡ bytes_in ts)
+    → (takes_in 7 (event_bytes (Ok tt) (length ts) (bytes_in ts)) ≡ length ts)
+    × (drop (takes_at 7) (event_bytes (Ok tt) (length ts) (bytes_in ts)) ≡ bytes_in ts)
 unfolding takes_in takes_at
 done_takes ts few =
-    let l : List ℕ = event_bytes Done (length ts) (bytes_in ts) in
+    let l : List ℕ = event_bytes (Ok tt) (length ts) (bytes_in ts) in
     let zero-at : be 2 l 0 ≡ 0 = number_at 2 0 [] (spell 2 (length ts) ++ bytes_in ts) 0 (omega arith) refl (simp append_assoc) in
     let count : be 2 l 2 ≡ length ts = number_at 2 (length ts) (spell 2 0) (bytes_in ts) 2 few (length-spell 2 0) (simp append_assoc) in
     (rw (zero-at, count) refl, drop_at (done_with 2 (length ts)) (bytes_in ts) 4 (simp (length-append, length-spell)))
@@ -87,17 +89,17 @@ module _ (l : Loan) (k : ℕ) (seg : List ℕ) (bytes : Bytes seg) (not_long : l
   pub segment-counted : (c : Counting) → ToldBy (outs_in seg ts) c (counted (takes_answer l k seg) c)
   segment-counted c = go (all_takes l k seg).answer refl
     where
-      few : (all_takes l k seg).answer ≡ Done → length ts < 256 ^ 2
+      few : (all_takes l k seg).answer ≡ Ok tt → length ts < 256 ^ 2
       few e = omega (arith, zero-add (length ts), takes_count l k seg (length seg) (begun l.state l.rx) (ap is_done e), count_fits l k seg not_long)
 
-      go : (a : Answer) → (all_takes l k seg).answer ≡ a → ToldBy (outs_in seg ts) c (counted (event_bytes a (length ts) (bytes_in ts)) c)
-      go Done e =
+      go : (a : Result Unit NotReceived) → (all_takes l k seg).answer ≡ a → ToldBy (outs_in seg ts) c (counted (event_bytes a (length ts) (bytes_in ts)) c)
+      go (Ok tt) e =
           let d = done_takes ts (few e) in
           subst (λ (x : Counting). ToldBy (outs_in seg ts) c x)
           (sym (ap₂ (λ (n : ℕ) (x : List ℕ). takes_counted k n x c) d.0 d.1))
           (takes_told k seg ts c (takes_stand l k seg bytes not_long (length seg) (begun l.state l.rx) (omega arith)))
-      go (Refused r) e = no_takes c _ (refused_none (refusal_number r) (some_number r).0 (some_number r).1) (none (ap is_done e))
-      go NotReceiving e = no_takes c _ (refused_none 4 (omega arith) refl) (none (ap is_done e))
+      go (Err (Refused r)) e = no_takes c _ (refused_none (refusal_number r) (some_number r).0 (some_number r).1) (none (ap is_done e))
+      go (Err NotReceiving) e = no_takes c _ (refused_none 4 (omega arith) refl) (none (ap is_done e))
 
 -- .. and what the machine gives at the event
 pub segment-given : (image : List ℕ) (m : Machine) (k : ℕ) (seg : List ℕ) → Bytes seg → length seg ≤ longest_body → (c : Counting)

@@ -11,7 +11,7 @@ use Rattle.recording.specs.Entry.{take_needs}
 use Rattle.report.specs.declared.RouteFigures.{RouteFigures}
 use Rattle.report.specs.declared.Drops.{Drops}
 use Rattle.report.specs.declared.Report.{Report}
-use Rattle.report.proofs.Turns.{figures_small, drops-small}
+use Rattle.report.proofs.Turns.{figures_small, drops_small}
 use Rattle.report.specs.Pairwise.{all_pairs}
 use Rattle.report.specs.Figures.{no_pdus, add_figures, figures_fit, plus_figures, no_drops, add_drops, drops_fit, plus_drops}
 use Rattle.report.specs.Report.{empty_report, figures_at, drops_at, FullReport, routes_fit, connections_fit, reports_fit}
@@ -61,7 +61,7 @@ drops_plus_small d e h = go (drops_fit d e) refl
   where
     go : (b : Bool) → drops_fit d e ≡ b → drops_fit (cond b (add_drops d e) d) no_drops ≡ true
     go true x =
-        let s = drops-small d e x in
+        let s = drops_small d e x in
         fits-drops (add_drops d e) no_drops
         (record {
           unrouted = omega (arith, s.unrouted);

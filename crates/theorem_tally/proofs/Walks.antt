@@ -1,4 +1,5 @@
 -- A WALK, COUNTED FROM THE BYTES OF ITS ANSWER, counts what it found (R21.9, R21.10).
+use Rattle.std.proofs.Common.{Result, Ok, Err}
 use Prim.Native.Nat.{ℕ, ◌+◌, ◌/◌, ◌^◌, ◌<◌, ◌≤◌}
 use mathlib.Core.Path.{◌≡◌, refl, sym, ap, subst, ◌∙◌}
 use mathlib.Core.Bool.{Bool, true, false, cond, true≢false}
@@ -8,6 +9,8 @@ use lib.Dec.{eqb, leb}
 use lib.ListN.{length, take, drop, length-drop}
 use lib.Seq.{drop_at, length-take-le}
 use borrow.Author.Tests.{leb-true}
+use Rattle.reading.specs.Reasons.{reason_number}
+use Rattle.reading.proofs.Reasons.{reason_small}
 use Rattle.wire.specs.Be.{be}
 use Rattle.wire.specs.Lay.{spell}
 use Rattle.wire.proofs.Spell.{length-spell}
@@ -30,8 +33,7 @@ use Rattle.receive_datagram.specs.Datagram as met
 use Rattle.connection.specs.Event.{refusal_number}
 use Rattle.state.specs.State.{record_at}
 use Rattle.gate.specs.Lent.{Lent}
-use Rattle.entry_receive.specs.declared.Answer.{Answer}
-use Rattle.entry_receive.specs.declared.Answer.TheVariants.{Done, Refused, NotReceiving}
+use Rattle.entry_receive.specs.declared.NotReceived.TheVariants.{Refused, NotReceiving}
 use Rattle.entry_receive.specs.Answer.{is_done}
 use Rattle.entry_receive.specs.Walk.{walk_on, none_walked, walk_answer, walk_of}
 use Rattle.event_answer.specs.Answers.{refused, found_bytes}
@@ -43,15 +45,16 @@ use Rattle.report_count.specs.Count.{adds_nothing, adds_drop, adds_pdu, adds_of_
 use Rattle.report.specs.Report.{got, count_from}
 use Rattle.model_refines.specs.Run.{told_walk}
 use Rattle.dispatch_refines.proofs.Read.{number_at, some_number, StepFits}
-use Rattle.dispatch_refines.proofs.Drops.{reason_small, head_small}
+use Rattle.dispatch_refines.proofs.Drops.{head_small}
 use Rattle.theorem_tally.specs.Items.{items_from, length_kept}
 use Rattle.theorem_tally.proofs.Counted.{Counts, nothing-counts, drop-counts, pdu-counts, pdu_kept, found-adds}
+use Rattle.entry_receive.specs.declared.NotReceived.{NotReceived}
 
 -- what a step adds, by what it found
 abbrev adds_step : Step → ℕ → Adds
 adds_step Met.End kept = adds_nothing kept
 adds_step (Met.Pdu route id at n) kept = adds_pdu route n kept
-adds_step (Met.Drop reason id n) kept = adds_drop reason kept
+adds_step (Met.Drop reason id n) kept = adds_drop (reason_number reason) kept
 
 -- the payload that it names is as long as it says
 abbrev ExactStep : List ℕ → Step → Type 0
@@ -69,7 +72,7 @@ step_told k c d (Met.Pdu route id at n) e = (
   subst (λ (m : ℕ). Counts (got route m ∷ []) c (one_counted k (adds_pdu route n c.kept) c)) (sym e) (pdu-counts k c route n c.kept),
   pdu_kept route n c.kept,
 )
-step_told k c d (Met.Drop reason id n) e = (drop-counts k c reason c.kept, refl)
+step_told k c d (Met.Drop reason id n) e = (drop-counts k c (reason_number reason) c.kept, refl)
 
 -- its bytes
 abbrev counted : ℕ → List ℕ → Counting → Counting
@@ -91,7 +94,8 @@ plain_step k c next kind which id n a p q r e =
 step-counted : (k : ℕ) (c : Counting) (next : ℕ) (o : Step) → StepFits o → counted k (walk_bytes next o) c ≡ one_counted k (adds_step o c.kept) c
 unfolding adds_of_kind
 step-counted k c next Met.End h = plain_step k c next 0 0 0 0 (adds_nothing c.kept) (omega arith) (omega arith) (omega arith) refl
-step-counted k c next (Met.Drop reason id n) h = plain_step k c next 2 reason id n (adds_drop reason c.kept) (omega arith) h.0 h.1.1 refl
+step-counted k c next (Met.Drop reason id n) h =
+    plain_step k c next 2 (reason_number reason) id n (adds_drop (reason_number reason) c.kept) (omega arith) h.0 h.1.1 refl
 step-counted k c next (Met.Pdu route id at n) h =
     let l : List ℕ = walk_bytes next (Met.Pdu route id at n) in
     one-take k c l (found_bytes next 1 route id n ++ spell 4 at) (adds_pdu route n c.kept)
@@ -147,7 +151,7 @@ module _ (l : Lent) (k : ℕ) (d : List ℕ) (place : ℕ) (bytes : Bytes d) (no
       pdu-stands r i n (omega (arith, (route_transfers routes k (record_at l.state k).switches i n r a).bears.there, few_rows routes)) e
   decided (Decided.Refuse j) i n a e =
       let h = head_small (drop place d) (bytes_drop place d bytes) (whole i n) e in
-      ((reason_small routes k (record_at l.state k).switches i n j a, (h.0, h.1)), tt)
+      ((reason_small j, (h.0, h.1)), tt)
 
   stands : (h : Head) → head_of (drop place d) ≡ h → Stands d (met.walk_outcome (walk_step R (length d) place h).found)
   stands ended e = (tt, tt)
@@ -155,13 +159,13 @@ module _ (l : Lent) (k : ℕ) (d : List ℕ) (place : ℕ) (bytes : Bytes d) (no
   stands (beyond i n) e = let h = head_small (drop place d) (bytes_drop place d bytes) (beyond i n) e in ((omega arith, (h.0, h.1)), tt)
   stands (whole i n) e = decided (R i n) i n refl e
 
-  answered : (c : Counting) (a : Answer) (next : ℕ) (o : Step) → Stands d o → (is_done a ≡ false → o ≡ Met.End)
+  answered : (c : Counting) (a : Result Unit NotReceived) (next : ℕ) (o : Step) → Stands d o → (is_done a ≡ false → o ≡ Met.End)
       → ToldStep k (told_walk d o) c (counted k (or_refused a (walk_bytes next o)) c)
-  answered c Done next o s none = subst (λ (x : Counting). ToldStep k (told_walk d o) c x) (sym (step-counted k c next o s.0)) (step_told k c d o s.1)
-  answered c (Refused r) next o s none =
+  answered c (Ok tt) next o s none = subst (λ (x : Counting). ToldStep k (told_walk d o) c x) (sym (step-counted k c next o s.0)) (step_told k c d o s.1)
+  answered c (Err (Refused r)) next o s none =
       subst (λ (x : Step). ToldStep k (told_walk d x) c (counted k (refused (refusal_number r) 0) c)) (sym (none refl))
       (refused-counted k c (refusal_number r) (some_number r).0 (some_number r).1)
-  answered c NotReceiving next o s none =
+  answered c (Err NotReceiving) next o s none =
       subst (λ (x : Step). ToldStep k (told_walk d x) c (counted k (refused 4 0) c)) (sym (none refl)) (refused-counted k c 4 (omega arith) refl)
 
   -- R21.9: what a walk adds, by the bytes of its answer, is what it found
@@ -173,6 +177,6 @@ module _ (l : Lent) (k : ℕ) (d : List ℕ) (place : ℕ) (bytes : Bytes d) (no
           → ToldStep k (told_walk d (cond b (walk_on l.image l.state k d place) (none_walked l.state place (walk_answer l k d place))).outcome) c
           (counted k (walked_bytes (cond b (walk_on l.image l.state k d place) (none_walked l.state place (walk_answer l k d place)))) c)
       go true =
-          answered c Done (walk_on l.image l.state k d place).next (walk_on l.image l.state k d place).outcome
+          answered c (Ok tt) (walk_on l.image l.state k d place).next (walk_on l.image l.state k d place).outcome
           (stands (head_of (drop place d)) refl) (λ z. absurd (true≢false z))
       go false = answered c (walk_answer l k d place) place Met.End (tt, tt) (λ z. refl)

@@ -1,5 +1,6 @@
 -- WHAT COUNTS OF A RUN (R21.9, R21.11): of all outcomes that a connection has told, in order, the PDUs, the transfers that ended, and the drops.
 use Rattle.std.specs.Prelude.{ℕ, zero, suc, true, false, List, [], ◌∷◌, length}
+use Rattle.reading.specs.Reasons.{reason_number}
 use Rattle.reading.specs.Feed.{Out, nothing, pdu, dropped, start, piece, Handed, complete, began, middle, finished}
 use Rattle.report.specs.declared.Report.{Report}
 use Rattle.report.specs.Report.{empty_report, Item, got, lost, report_of, add_reports}
@@ -13,7 +14,7 @@ unfoldable pub items_from : ℕ → ℕ → List Out → List Item
 items_from k kept [] = []
 items_from k kept (nothing ∷ os) = items_from k kept os
 items_from k kept (pdu r p ∷ os) = got r (length p) ∷ items_from k kept os
-items_from k kept (dropped j i n ∷ os) = lost k j ∷ items_from k kept os
+items_from k kept (dropped j i n ∷ os) = lost k (reason_number j) ∷ items_from k kept os
 items_from k kept (start r i n true ∷ os) = got r n ∷ items_from k n os
 items_from k kept (start r i n false ∷ os) = items_from k n os
 items_from k kept (piece r p true ∷ os) = got r kept ∷ items_from k kept os

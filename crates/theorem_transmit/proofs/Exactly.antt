@@ -1,4 +1,5 @@
 -- EACH ANSWER OF A TRANSMIT IS GIVEN EXACTLY WHEN ITS RULE SAYS SO, the destination of 4, 7 and 8 named, from any table, state and memory.
+use Rattle.std.proofs.Common.{Result, Ok, Err}
 use Prim.Native.Nat.{ℕ, ◌+◌, ◌<◌, ◌≤◌}
 use mathlib.Core.Path.{◌≡◌, refl, sym, ◌∙◌, subst}
 use mathlib.Core.Logic.{◌↔◌}
@@ -20,18 +21,17 @@ use Rattle.connection.specs.declared.Connection.{Connection}
 use Rattle.connection.specs.Connection.{is_online}
 use Rattle.connection.specs.Event.{receiving}
 use Rattle.state.specs.declared.State.{State}
-use Rattle.gate.specs.declared.Gate.{Gate}
-use Rattle.gate.specs.declared.Gate.TheVariants.{Pass, Refused as Shut}
 use Rattle.gate.specs.Lent.{Loan, sizes}
 use Rattle.gate.specs.Gate.{gate_of, through}
 use Rattle.send_destination.specs.Destination.{refusal_of, look_of}
-use Rattle.send.specs.declared.Transmission.{Transmission}
-use Rattle.send.specs.declared.Transmission.TheVariants.{Stored, Refused, NoDestination, SwitchedOff, RefusedAt}
+use Rattle.send.specs.declared.NotSent.TheVariants.{Refused, NoDestination, SwitchedOff, RefusedAt}
 use Rattle.send.specs.Verdict.{is_out, passes, decided_at, verdict_of}
 use Rattle.send.specs.Send.{destinations, look_at, check_of, transmitted_of}
 use Rattle.entry_send.specs.Sending.{not_sent, send_of}
 use Rattle.theorem_transmit.specs.Exactly.{sender_of, HasPdu, IsOn, Asked, TakesAll, RefusesBy}
 use Rattle.theorem_transmit.specs.Exactly.{not-online, too_long, no_room, FirstRefusing, PastGate, ExactlyWhen}
+use Rattle.connection.specs.declared.Refusal.{Refusal}
+use Rattle.send.specs.declared.NotSent.{NotSent}
 
 -- where not all are good, one is not
 some-bad : (good : ℕ → Bool) (n : ℕ) → every good n ≡ false → (i : ℕ) × (i < n) × (good i ≡ false)
@@ -189,7 +189,7 @@ module _ (image : List ℕ) (s : State) (pdu len : ℕ) where
       first = first_bad (λ i. passes (look i)) rows
 
       decides : every (λ i. is_out (look i)) rows ≡ false → (b : Bool) → ltb first rows ≡ b
-          → PastGate image s pdu len (cond b (RefusedAt (look first) first) Stored)
+          → PastGate image s pdu len (cond b (Err (RefusedAt (look first) first)) (Ok tt))
       decides f true e = first_refusing first refl (ltb-true first rows e)
       decides f false e =
           let x = some-bad (λ i. is_out (look i)) rows f in
@@ -199,7 +199,7 @@ module _ (image : List ℕ) (s : State) (pdu len : ℕ) where
           )
 
       offs : every (λ i. eqb (look i) 5) rows ≡ false → (b : Bool) → every (λ i. is_out (look i)) rows ≡ b
-          → PastGate image s pdu len (cond b SwitchedOff (decided_at look rows first))
+          → PastGate image s pdu len (cond b (Err SwitchedOff) (decided_at look rows first))
       offs f true e =
           let x = some-bad (λ i. eqb (look i) 5) rows f in (
             (x.0, record { there = x.1; its = (row x.0).has x.2 }),
@@ -208,7 +208,7 @@ module _ (image : List ℕ) (s : State) (pdu len : ℕ) where
       offs f false e = decides e (ltb first rows) refl
 
       nowhere : (b : Bool) → every (λ i. eqb (look i) 5) rows ≡ b
-          → PastGate image s pdu len (cond b NoDestination (cond (every (λ i. is_out (look i)) rows) SwitchedOff (decided_at look rows first)))
+          → PastGate image s pdu len (cond b (Err NoDestination) (cond (every (λ i. is_out (look i)) rows) (Err SwitchedOff) (decided_at look rows first)))
       nowhere true e = λ i h. (row i).five (every-at (λ j. eqb (look j) 5) rows i e h.there) h.its
       nowhere false e = offs e (every (λ i. is_out (look i)) rows) refl
 
@@ -241,69 +241,69 @@ module _ (image : List ℕ) (s : State) (pdu len : ℕ) where
       go true e = absurd (not_both i n ((row i).takes e a.0.its a.1) r)
       go false e = (refl, one_number i (look i) n ((row i).refuses e).2 r)
 
-  check-given : (x : Transmission) → PastGate image s pdu len x → check_of image s pdu len ≡ x
+  check-given : (x : Result Unit NotSent) → PastGate image s pdu len x → check_of image s pdu len ≡ x
   unfolding check_of verdict_of
-  check-given (Refused r) h = absurd h
-  check-given NoDestination h =
+  check-given (Err (Refused r)) h = absurd h
+  check-given (Err NoDestination) h =
       let none : every (λ i. eqb (look i) 5) rows ≡ true = every-all (λ i. eqb (look i) 5) rows (λ i l. go i l (eqb (look i) 5) refl) in
       rw none
     where
       go : (i : ℕ) → i < rows → (b : Bool) → eqb (look i) 5 ≡ b → b ≡ true
       go i l true e = refl
       go i l false e = absurd (h i (record { there = l; its = (row i).has e }))
-  check-given SwitchedOff h =
+  check-given (Err SwitchedOff) h =
       let none : every (λ i. is_out (look i)) rows ≡ true = every-all (λ i. is_out (look i)) rows (λ i l. go i l (is_out (look i)) refl) in
       rw (some-has h.0.0 h.0.1, none)
     where
       go : (i : ℕ) → i < rows → (b : Bool) → is_out (look i) ≡ b → b ≡ true
       go i l true e = refl
       go i l false e = let a = (row i).asked e in absurd (h.1 i (record { there = l; its = a.0 }, a.1))
-  check-given (RefusedAt n k) h =
+  check-given (Err (RefusedAt n k)) h =
       let at = refuses_look k n h.asked h.refuses in
       let first : first_bad (λ i. passes (look i)) rows ≡ k =
       bad-only (λ i. passes (look i)) rows k h.asked.0.there (λ j l. takes_pass j (omega (arith, l, h.asked.0.there)) (h.before j l)) at.0
       in
       rw (some-has k h.asked.0, some-asked k h.asked, first, lt-ltb k rows h.asked.0.there, at.1)
-  check-given Stored h =
+  check-given (Ok tt) h =
       let none : first_bad (λ i. passes (look i)) rows ≡ rows = bad_none (λ i. passes (look i)) rows (λ i l. takes_pass i l (h.1 i)) in
       rw (some-has h.0.0 h.0.1.0, some-asked h.0.0 h.0.1, none, le-ltb rows rows (omega arith))
 
 -- THE ENTRY POINT
 module _ (l : Loan) (pdu : ℕ) (payload : List ℕ) where
-  abbrev past : Transmission → Type 0
+  abbrev past : Result Unit NotSent → Type 0
   past = PastGate l.image l.state pdu (length payload)
 
-  behind : (x : Transmission) → gate_of (sizes l) ≡ Pass → past x → ExactlyWhen l pdu payload x
-  behind (Refused r) g h = absurd h
-  behind NoDestination g h = (g, h)
-  behind SwitchedOff g h = (g, h)
-  behind (RefusedAt n k) g h = (g, h)
-  behind Stored g h = (g, h)
+  behind : (x : Result Unit NotSent) → gate_of (sizes l) ≡ Ok tt → past x → ExactlyWhen l pdu payload x
+  behind (Err (Refused r)) g h = absurd h
+  behind (Err NoDestination) g h = (g, h)
+  behind (Err SwitchedOff) g h = (g, h)
+  behind (Err (RefusedAt n k)) g h = (g, h)
+  behind (Ok tt) g h = (g, h)
 
-  answer-of : Gate → Transmission
+  answer-of : Result Unit Refusal → Result Unit NotSent
   answer-of g = (through g (not_sent l.state) (transmitted_of l.image l.state pdu payload l.tx)).answer
 
-  answered : (g : Gate) → gate_of (sizes l) ≡ g → ExactlyWhen l pdu payload (answer-of g)
+  answered : (g : Result Unit Refusal) → gate_of (sizes l) ≡ g → ExactlyWhen l pdu payload (answer-of g)
   unfolding answer-of
-  answered Pass e = behind (check_of l.image l.state pdu (length payload)) e (check-says l.image l.state pdu (length payload))
-  answered (Shut r) e = e
+  answered (Ok tt) e = behind (check_of l.image l.state pdu (length payload)) e (check-says l.image l.state pdu (length payload))
+  answered (Err r) e = e
 
-  passed : (x : Transmission) → gate_of (sizes l) ≡ Pass → past x → (send_of l pdu payload).answer ≡ x
+  passed : (x : Result Unit NotSent) → gate_of (sizes l) ≡ Ok tt → past x → (send_of l pdu payload).answer ≡ x
   unfolding send_of
   passed x g h = rw g (check-given l.image l.state pdu (length payload) x h)
 
-  given : (x : Transmission) → ExactlyWhen l pdu payload x → (send_of l pdu payload).answer ≡ x
+  given : (x : Result Unit NotSent) → ExactlyWhen l pdu payload x → (send_of l pdu payload).answer ≡ x
   unfolding send_of
-  given (Refused r) e = rw e
-  given NoDestination e = passed NoDestination e.0 e.1
-  given SwitchedOff e = passed SwitchedOff e.0 e.1
-  given (RefusedAt n k) e = passed (RefusedAt n k) e.0 e.1
-  given Stored e = passed Stored e.0 e.1
+  given (Err (Refused r)) e = rw e
+  given (Err NoDestination) e = passed (Err NoDestination) e.0 e.1
+  given (Err SwitchedOff) e = passed (Err SwitchedOff) e.0 e.1
+  given (Err (RefusedAt n k)) e = passed (Err (RefusedAt n k)) e.0 e.1
+  given (Ok tt) e = passed (Ok tt) e.0 e.1
 
   told : ExactlyWhen l pdu payload (send_of l pdu payload).answer
   unfolding send_of answer-of
   told = answered (gate_of (sizes l)) refl
 
   -- EXACTLY WHEN
-  pub transmit-answer : (x : Transmission) → ((send_of l pdu payload).answer ≡ x) ↔ ExactlyWhen l pdu payload x
+  pub transmit-answer : (x : Result Unit NotSent) → ((send_of l pdu payload).answer ≡ x) ↔ ExactlyWhen l pdu payload x
   transmit-answer x = (λ (e : (send_of l pdu payload).answer ≡ x). subst (ExactlyWhen l pdu payload) e told, given x)

@@ -1,5 +1,5 @@
 -- A TRANSMIT'S ANSWER IN THE RULES' WORDS (R10.1, R10.2): when each is given, and which destination is named.
-use Rattle.std.specs.Prelude.{ℕ, ◌+◌, ◌<◌, ◌≤◌, ◌≡◌, true, false, List, length}
+use Rattle.std.specs.Prelude.{ℕ, ◌+◌, ◌<◌, ◌≤◌, ◌≡◌, true, false, List, length, Ok, Err, Result}
 use Rattle.table_rows.specs.Rows.{connection_of, destination_of}
 use Rattle.switches.specs.Switches.{is_on}
 use Rattle.connection.specs.declared.Connection.{Connection}
@@ -8,10 +8,9 @@ use Rattle.state.specs.declared.State.{State}
 use Rattle.state.specs.State.{record_at}
 use Rattle.gate.specs.Lent.{Loan, sizes}
 use Rattle.gate.specs.Gate.{gate_of}
-use Rattle.gate.specs.declared.Gate.TheVariants.{Pass, Refused as Shut}
-use Rattle.send.specs.declared.Transmission.{Transmission}
-use Rattle.send.specs.declared.Transmission.TheVariants.{Stored, Refused, NoDestination, SwitchedOff, RefusedAt}
+use Rattle.send.specs.declared.NotSent.TheVariants.{Refused, NoDestination, SwitchedOff, RefusedAt}
 use Rattle.send.specs.Send.{destinations}
+use Rattle.send.specs.declared.NotSent.{NotSent}
 
 -- of a payload of len bytes for a PDU
 module _ (image : List ℕ) (s : State) (pdu len : ℕ) where
@@ -52,17 +51,17 @@ module _ (image : List ℕ) (s : State) (pdu len : ℕ) where
     pub before : (j : ℕ) → j < i → Asked j → TakesAll j
 
   -- past the gate, what each answer says: 5, 6, the refusal of a destination, or done
-  abbrev pub PastGate : Transmission → Type 0
-  PastGate Stored = ((i : ℕ) × Asked i) × ((i : ℕ) → Asked i → TakesAll i)
-  PastGate (Refused r) = ⊥
-  PastGate NoDestination = (i : ℕ) → HasPdu i → ⊥
-  PastGate SwitchedOff = ((i : ℕ) × HasPdu i) × ((i : ℕ) → Asked i → ⊥)
-  PastGate (RefusedAt number i) = FirstRefusing number i
+  abbrev pub PastGate : Result Unit NotSent → Type 0
+  PastGate (Ok tt) = ((i : ℕ) × Asked i) × ((i : ℕ) → Asked i → TakesAll i)
+  PastGate (Err (Refused r)) = ⊥
+  PastGate (Err NoDestination) = (i : ℕ) → HasPdu i → ⊥
+  PastGate (Err SwitchedOff) = ((i : ℕ) × HasPdu i) × ((i : ℕ) → Asked i → ⊥)
+  PastGate (Err (RefusedAt number i)) = FirstRefusing number i
 
 -- the gate's refusal; or the gate passes, and the above
-abbrev pub ExactlyWhen : Loan → ℕ → List ℕ → Transmission → Type 0
-ExactlyWhen l pdu payload (Refused r) = gate_of (sizes l) ≡ Shut r
-ExactlyWhen l pdu payload Stored = (gate_of (sizes l) ≡ Pass) × PastGate l.image l.state pdu (length payload) Stored
-ExactlyWhen l pdu payload NoDestination = (gate_of (sizes l) ≡ Pass) × PastGate l.image l.state pdu (length payload) NoDestination
-ExactlyWhen l pdu payload SwitchedOff = (gate_of (sizes l) ≡ Pass) × PastGate l.image l.state pdu (length payload) SwitchedOff
-ExactlyWhen l pdu payload (RefusedAt number i) = (gate_of (sizes l) ≡ Pass) × PastGate l.image l.state pdu (length payload) (RefusedAt number i)
+abbrev pub ExactlyWhen : Loan → ℕ → List ℕ → Result Unit NotSent → Type 0
+ExactlyWhen l pdu payload (Err (Refused r)) = gate_of (sizes l) ≡ Err r
+ExactlyWhen l pdu payload (Ok tt) = (gate_of (sizes l) ≡ Ok tt) × PastGate l.image l.state pdu (length payload) (Ok tt)
+ExactlyWhen l pdu payload (Err NoDestination) = (gate_of (sizes l) ≡ Ok tt) × PastGate l.image l.state pdu (length payload) (Err NoDestination)
+ExactlyWhen l pdu payload (Err SwitchedOff) = (gate_of (sizes l) ≡ Ok tt) × PastGate l.image l.state pdu (length payload) (Err SwitchedOff)
+ExactlyWhen l pdu payload (Err (RefusedAt number i)) = (gate_of (sizes l) ≡ Ok tt) × PastGate l.image l.state pdu (length payload) (Err (RefusedAt number i))

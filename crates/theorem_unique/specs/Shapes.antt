@@ -11,6 +11,10 @@ Equation definition r = r ≡ definition
 abbrev pub WithBound : {A : Type 0} → A → (A → Type 0) → A → Type 0
 WithBound definition Bound r = (r ≡ definition) × Bound r
 
+-- an equation of the answer's number, where no two answers have one number: `number r ≡ definition`
+abbrev pub ByNumber : {A : Type 0} → (A → ℕ) → ℕ → A → Type 0
+ByNumber number definition r = number r ≡ definition
+
 -- a part of a lent slice: its bytes and its place
 abbrev pub PartShape : List ℕ → ℕ × ℕ → Bor (List ℕ) → Type 0
 PartShape bytes place r = (r.now ≡ bytes) × (r.ref_ptr ≡ place)

@@ -1,62 +1,61 @@
 -- EACH ANSWER ENUM BY ITS NUMBER AND ITS VALUES (R4.1, R14.9): one definition for each.
-use Rattle.std.specs.Prelude.{ℕ, List, [], ◌∷◌}
-use Rattle.connection.specs.declared.Answer.{Answer}
+use Rattle.std.specs.Prelude.{ℕ, List, [], ◌∷◌, Result, Ok, Err}
 use Rattle.connection.specs.Event.{answer_number}
-use Rattle.entry_events.specs.declared.CountAnswer.{CountAnswer}
-use Rattle.entry_events.specs.declared.CountAnswer.TheVariants as Counts
 use Rattle.entry_events.specs.Count.{count_number}
-use Rattle.entry_receive.specs.declared.Answer.{Answer as ReceiveAnswer}
 use Rattle.entry_receive.specs.Answer.{receive_number}
-use Rattle.select.specs.declared.Arrival.{Arrival}
-use Rattle.select.specs.declared.Arrival.TheVariants as Arrivals
+use Rattle.select.specs.declared.NotMet.TheVariants as Arrivals
 use Rattle.select.specs.Choose.{arrival_number}
-use Rattle.send.specs.declared.Transmission.{Transmission}
-use Rattle.send.specs.declared.Transmission.TheVariants as Sends
+use Rattle.send.specs.declared.NotSent.TheVariants as Sends
 use Rattle.send.specs.Verdict.{transmission_number}
-use Rattle.send_waiting.specs.declared.Taking.{Taking}
-use Rattle.send_waiting.specs.declared.Taking.TheVariants as Takes
+use Rattle.send_waiting.specs.declared.NotTaken.TheVariants as Takes
 use Rattle.send_waiting.specs.Waiting.{taking_number}
-use Rattle.table.specs.declared.TableAnswer.{TableAnswer}
-use Rattle.table.specs.declared.TableAnswer.TheVariants as Tables
-use Rattle.frame.specs.declared.Framed.{Framed}
+use Rattle.table.specs.declared.BadTable.TheVariants as Tables
+use Rattle.frame.specs.declared.FrameError.{FrameError}
 use Rattle.frame.specs.Framing.{framed_number}
+use Rattle.table.specs.declared.BadTable.{BadTable}
+use Rattle.connection.specs.declared.Refusal.{Refusal}
+use Rattle.entry_receive.specs.declared.NotReceived.{NotReceived}
+use Rattle.select.specs.declared.NotMet.{NotMet}
+use Rattle.send.specs.declared.NotSent.{NotSent}
+use Rattle.send_waiting.specs.declared.NotTaken.{NotTaken}
+use Rattle.connection.specs.declared.Remote.{Remote}
 
 -- a connection event, a switch on all, a tick; framing; a segment, a walk: the number alone
-abbrev pub answer_values : Answer → List ℕ
+abbrev pub answer_values : Result Unit Refusal → List ℕ
 answer_values a = answer_number a ∷ []
 
-abbrev pub framed_values : Framed → List ℕ
+abbrev pub framed_values : Result Unit FrameError → List ℕ
 framed_values a = framed_number a ∷ []
 
-abbrev pub receive_values : ReceiveAnswer → List ℕ
+abbrev pub receive_values : Result Unit NotReceived → List ℕ
 receive_values a = receive_number a ∷ []
 
 -- the table check: 1 with its place
-abbrev pub table_values : TableAnswer → List ℕ
-table_values Tables.Accepted = 0 ∷ []
-table_values (Tables.Refused place) = 1 ∷ place ∷ []
+abbrev pub table_values : Result Unit BadTable → List ℕ
+table_values (Ok tt) = 0 ∷ []
+table_values (Err (Tables.At place)) = 1 ∷ place ∷ []
 
 -- a count: 0 with the value read
-abbrev pub count_values : CountAnswer → List ℕ
-count_values (Counts.Count value) = 0 ∷ value ∷ []
-count_values (Counts.Refused r) = count_number (Counts.Refused r) ∷ []
+abbrev pub count_values : Result ℕ Refusal → List ℕ
+count_values (Ok value) = 0 ∷ value ∷ []
+count_values (Err r) = count_number (Err r) ∷ []
 
 -- a datagram, an accept: 0 with the connection met
-abbrev pub arrival_values : Arrival → List ℕ
-arrival_values (Arrivals.Met connection) = 0 ∷ connection ∷ []
-arrival_values (Arrivals.Refused r) = arrival_number (Arrivals.Refused r) ∷ []
-arrival_values Arrivals.Unmatched = 10 ∷ []
+abbrev pub arrival_values : Result ℕ NotMet → List ℕ
+arrival_values (Ok connection) = 0 ∷ connection ∷ []
+arrival_values (Err (Arrivals.Refused r)) = arrival_number (Err (Arrivals.Refused r)) ∷ []
+arrival_values (Err Arrivals.Unmatched) = 10 ∷ []
 
 -- a transmit: 4, 7 and 8 with the destination
-abbrev pub transmission_values : Transmission → List ℕ
-transmission_values Sends.Stored = 0 ∷ []
-transmission_values (Sends.Refused r) = transmission_number (Sends.Refused r) ∷ []
-transmission_values Sends.NoDestination = 5 ∷ []
-transmission_values Sends.SwitchedOff = 6 ∷ []
-transmission_values (Sends.RefusedAt number destination) = number ∷ destination ∷ []
+abbrev pub transmission_values : Result Unit NotSent → List ℕ
+transmission_values (Ok tt) = 0 ∷ []
+transmission_values (Err (Sends.Refused r)) = transmission_number (Err (Sends.Refused r)) ∷ []
+transmission_values (Err Sends.NoDestination) = 5 ∷ []
+transmission_values (Err Sends.SwitchedOff) = 6 ∷ []
+transmission_values (Err (Sends.RefusedAt number destination)) = number ∷ destination ∷ []
 
 -- the waiting bytes: 0 with their count and the remote before the call
-abbrev pub taking_values : Taking → List ℕ
-taking_values (Takes.Bytes count remote) = 0 ∷ count ∷ remote.address ∷ remote.port ∷ []
-taking_values (Takes.Refused r) = taking_number (Takes.Refused r) ∷ []
-taking_values Takes.Short = 9 ∷ []
+abbrev pub taking_values : Result (ℕ × Remote) NotTaken → List ℕ
+taking_values (Ok (count, remote)) = 0 ∷ count ∷ remote.address ∷ remote.port ∷ []
+taking_values (Err (Takes.Refused r)) = taking_number (Err (Takes.Refused r)) ∷ []
+taking_values (Err Takes.Short) = 9 ∷ []

@@ -28,7 +28,7 @@ use Rattle.reading.specs.declared.Decision.TheVariants.{Accept}
 use Rattle.reading_lengths.specs.Head.{head_of}
 use Rattle.reading_lengths.specs.Split.{splits, split}
 use Rattle.reading_lengths.specs.Listed.{mark, accepted, listed, listed_from, Bytes}
-use Rattle.receive_route.specs.Route.{rows_in, counts, row_for, reason_in, reason_of, decision_of, lookup_of}
+use Rattle.receive_route.specs.Route.{rows_in, counts, row_for, row_found, row_decision, lookup_of}
 use Rattle.send_destination.specs.Destination.{refusal_of, look_of}
 use Rattle.send.specs.Verdict.{verdict_of}
 use Rattle.send.specs.Send.{look_at, check_of, wanted_at}
@@ -91,7 +91,7 @@ protocols = (refl, refl)
 
 routes_say : (routes_in gauges gauges_up 0 0x101 2 ≡ Accept 0) × (routes_in gauges gauges_up 1 0x101 2 ≡ Accept 1)
 unfolding gauges be rows_of body_bytes start_of part_of body_of row_in group_row connection_row route_row
-    config_of fresh_state is_on rows_in counts row_for reason_in reason_of decision_of lookup_of bad_from
+    config_of fresh_state is_on rows_in counts row_for row_found row_decision lookup_of bad_from
 routes_say = (refl, refl)
 
 sent-to : (sent_to gauges gauges_up 9 pressure 0 ≡ sent_pressure ∷ []) × (sent_to gauges gauges_up 9 pressure 1 ≡ sent_pressure ∷ [])
@@ -191,8 +191,8 @@ is_segment (on_whole e) = false
 
 -- its list, by lengths
 half_listed : listed_in (lookup_of (body_of gauges Routes) 1) (cell 5 (header 1)) (streams (map (mark 0) rest_read) []) ≡ complete 1 pressure ∷ []
-unfolding gauges be rows_of body_bytes start_of part_of body_of row_in route_row is_on rows_in counts row_for reason_in
-    reason_of decision_of lookup_of bad_from head_of splits split accepted listed listed_from listed_later listed_in spell
+unfolding gauges be rows_of body_bytes start_of part_of body_of row_in route_row is_on rows_in counts row_for row_found
+    row_decision lookup_of bad_from head_of splits split accepted listed listed_from listed_later listed_in spell
 half_listed = refl
 
 module _ (rx tx : List ℕ) (long : length rx ≡ 23424) (wide : length tx ≡ 23552) where

@@ -16,7 +16,7 @@ use Rattle.frame.specs.Frame.{frame, frames}
 use Rattle.reading.specs.Feed.{pdu, handed}
 use Rattle.reading.specs.Routed.{Routed, routed_none, routed_one}
 use Rattle.reading.specs.declared.Decision.TheVariants.{Accept}
-use Rattle.receive_route.specs.Route.{rows_in, counts, row_for, reason_in, reason_of, decision_of, lookup_of}
+use Rattle.receive_route.specs.Route.{rows_in, counts, row_for, row_found, row_decision, lookup_of}
 use Rattle.connection.specs.declared.Connection.{Connection}
 use Rattle.connection.specs.Event.{receiving}
 use Rattle.state.specs.State.{record_at}
@@ -51,7 +51,7 @@ closed_reads =
 -- its routes take the pressure on route 1
 takes-pressure : lookup_of (body_of gauges Route) 1 (record_at gauges_up 1).switches 0x101 2 ≡ Accept 1
 unfolding gauges be rows_of body_bytes start_of part_of body_of row_in connection_row route_row
-    config_of fresh_state is_on rows_in counts row_for reason_in reason_of decision_of lookup_of bad_from
+    config_of fresh_state is_on rows_in counts row_for row_found row_decision lookup_of bad_from
 takes-pressure = refl
 
 routed : Routed (routes_at (table_of gauges) 1 (held_at world 1)) (sent_pressure ∷ []) (handed 1 pressure ∷ [])

@@ -1,4 +1,5 @@
 -- WHAT IS WRITTEN STANDS IN THE STRETCH OF ITS OWN CONNECTION (R2.7).
+use Rattle.std.proofs.Common.{Result, Ok, Err}
 use Prim.Native.Nat.{ℕ, ◌+◌, ◌-◌, ◌*◌, ◌≤◌, ◌<◌}
 use mathlib.Core.Path.{◌≡◌, refl, sym, ap₂, subst}
 use mathlib.Core.Bool.{Bool, true, false}
@@ -20,12 +21,10 @@ use Rattle.state.specs.State.{record_at}
 use Rattle.state.specs.Memory.{stretch}
 use Rattle.receive_stream.specs.declared.Outcome.{Outcome}
 use Rattle.receive_stream.specs.Stream.{cell_of, part_from, is_in_segment, id_of, take_outcome, took_of, taken_of, Fit}
-use Rattle.receive_stream.proofs.Takes.{payload-fit, accepted-short}
+use Rattle.receive_stream.proofs.Takes.{payload_fit, accepted-short}
 use Rattle.receive_stream.proofs.Leaves.{Sane, Told, PartHolds, part_sane, take_sane}
 use Rattle.entry_receive.specs.Segment.{segment_of}
 use Rattle.table.proofs.Facts.{accepted_facts}
-use Rattle.gate.specs.declared.Gate.{Gate}
-use Rattle.gate.specs.declared.Gate.TheVariants.{Pass, Refused}
 use Rattle.gate.specs.Gate.{gate_of, through}
 use Rattle.gate.proofs.Pass.{gate_passed}
 use Rattle.send.specs.Verdict.{is_stored}
@@ -37,6 +36,7 @@ use Rattle.model.specs.World.{held_by}
 use Rattle.model_refines.specs.Machine.{Machine, lent_to, loan_to, taken, after_one}
 use Rattle.theorem_writes.specs.Writes.{Within, added_by, payload_held, TakeWrites, SegmentWrites, by_first_take, by_later_take, FrameWrites}
 use Rattle.theorem_writes.proofs.Segment.{is_answered, takes-here, outcome-is, record_is}
+use Rattle.connection.specs.declared.Refusal.{Refusal}
 
 -- payloads of 1,464 bytes at most
 abbrev Short : ℕ → ℕ → Type 0
@@ -63,7 +63,7 @@ module _ (routes : List ℕ) (k switches : ℕ) (part : Part) (st bytes : List �
   short : (p : Part) → Fit routes p st → (held_by p ≤ 1464) × (PartHolds Short Any p)
   short (Header held value) f = (omega arith, tt)
   short (Payload route n held) f =
-      let h : (held < n) × (n ≤ length st) = payload-fit routes (Payload route n held) st f route n held refl in
+      let h : (held < n) × (n ≤ length st) = payload_fit routes (Payload route n held) st f route n held refl in
       (omega (arith, f.room), omega (arith, f.room))
   short (Skip n) f = (omega arith, tt)
   short (Transfer route n) f = (omega arith, tt)
@@ -113,14 +113,14 @@ module _ (image : List ℕ) (k i : ℕ) where
 -- SEND MEMORY: the frame at destination row d of a stored transmit
 module _ (image : List ℕ) (m : Machine) (pdu : ℕ) (payload : List ℕ) where
   stored_past : is_stored (send_of (loan_to image m) pdu payload).answer ≡ true
-      → (gate_of (lent_to image m) ≡ Pass) × (is_stored (check_of image m.state pdu (length payload)) ≡ true)
+      → (gate_of (lent_to image m) ≡ Ok tt) × (is_stored (check_of image m.state pdu (length payload)) ≡ true)
   unfolding send_of
   stored_past = go (gate_of (lent_to image m))
     where
-      go : (g : Gate) → is_stored (through g (not_sent m.state) (transmitted_of image m.state pdu payload m.tx)).answer ≡ true
-          → (g ≡ Pass) × (is_stored (check_of image m.state pdu (length payload)) ≡ true)
-      go Pass e = (refl, e)
-      go (Refused r) e = impossible e
+      go : (g : Result Unit Refusal) → is_stored (through g (not_sent m.state) (transmitted_of image m.state pdu payload m.tx)).answer ≡ true
+          → (g ≡ Ok tt) × (is_stored (check_of image m.state pdu (length payload)) ≡ true)
+      go (Ok tt) e = (refl, e)
+      go (Err r) e = impossible e
 
   pub frame-inside : (d i : ℕ) → is_stored (send_of (loan_to image m) pdu payload).answer ≡ true
       → d < destinations image → wanted_at image m.state pdu payload d ≡ true → FrameWrites image m d payload i

@@ -15,7 +15,7 @@ use Rattle.receive_part.specs.declared.Part.{Part}
 use Rattle.receive_part.specs.declared.Part.TheVariants.{Header, Payload, Skip, Transfer}
 use Rattle.receive_route.specs.Route.{lookup_of}
 use Rattle.receive_stream.specs.Stream.{part_from, held_in, is_in_segment, id_of, take_outcome, wrote, took_of, taken_of, rx_after, Fit}
-use Rattle.receive_stream.proofs.Takes.{payload-fit}
+use Rattle.receive_stream.proofs.Takes.{payload_fit}
 use Rattle.model.specs.World.{held_by}
 use Rattle.theorem_writes.specs.Writes.{added_by}
 use Rattle.theorem_writes.proofs.Laid.{lay-behind}
@@ -75,7 +75,7 @@ take_lays routes k switches (Transfer route n) st bytes fit =
 take_lays routes k switches (Payload route n held) st bytes fit = go (dec_le (n - held) (length bytes))
   where
     there : (held < n) × (n ≤ length st)
-    there = payload-fit routes (Payload route n held) st fit route n held refl
+    there = payload_fit routes (Payload route n held) st fit route n held refl
 
     c : Cell
     c = cell (n - held) (payload route (take held st))

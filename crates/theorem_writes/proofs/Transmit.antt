@@ -1,4 +1,5 @@
 -- A TRANSMIT on the machine: it writes the frames that it appends, each byte of send memory elsewhere stays.
+use Rattle.std.proofs.Common.{Result, Ok, Err}
 use Prim.Native.Nat.{ℕ, suc, ◌+◌, ◌*◌, ◌≤◌, ◌<◌}
 use mathlib.Core.Path.{◌≡◌, refl, sym, ◌∙◌, subst}
 use mathlib.Core.Bool.{Bool, true, false, cond}
@@ -14,11 +15,8 @@ use Rattle.table_rows.specs.Rows.{destination_of}
 use Rattle.connection.specs.declared.Connection.{Connection}
 use Rattle.state.specs.declared.State.{State}
 use Rattle.state.specs.State.{record_at}
-use Rattle.gate.specs.declared.Gate.{Gate}
-use Rattle.gate.specs.declared.Gate.TheVariants.{Pass, Refused}
 use Rattle.gate.specs.Gate.{gate_of, through}
 use Rattle.gate.proofs.Pass.{gate_passed}
-use Rattle.send.specs.declared.Transmission.{Transmission}
 use Rattle.send.specs.Verdict.{is_stored}
 use Rattle.send.specs.Send.{destinations, Sending, sending, append_of, wanted_at, store_of, store_all, check_of, transmit_of, Ready}
 use Rattle.send.proofs.Store.{wanted_apart}
@@ -29,6 +27,8 @@ use Rattle.model.specs.Events.{transmit, on_whole}
 use Rattle.model_refines.specs.Machine.{Machine, lent_to, loan_to}
 use Rattle.theorem_writes.specs.Writes.{Within, FrameWrites, WritesTx, by_transmit}
 use Rattle.theorem_writes.proofs.Laid.{lay_other}
+use Rattle.connection.specs.declared.Refusal.{Refusal}
+use Rattle.send.specs.declared.NotSent.{NotSent}
 
 module _ (image : List ℕ) (m : Machine) (pdu : ℕ) (payload : List ℕ) where
   abbrev s : State
@@ -78,20 +78,20 @@ module _ (image : List ℕ) (m : Machine) (pdu : ℕ) (payload : List ℕ) where
   unfolding sent_memory transmit_of send_of
   sent-stays i not = gate (gate_of (lent_to image m)) refl
     where
-      check : Transmission
+      check : Result Unit NotSent
       check = check_of image s pdu (length payload)
 
-      past : gate_of (lent_to image m) ≡ Pass → (b : Bool) → is_stored check ≡ b
+      past : gate_of (lent_to image m) ≡ Ok tt → (b : Bool) → is_stored check ≡ b
           → byte_at (cond b (store_all image s pdu payload m.tx) (sending s m.tx)).memory i ≡ byte_at m.tx i
       past g false e = refl
       past g true e =
           stored_kept (ready_from image (accepted_facts image (gate_passed (lent_to image m) g).table)) i
           (λ d l w at. not (by_transmit pdu payload d i (rw g e) l w at))
 
-      gate : (g : Gate) → gate_of (lent_to image m) ≡ g
+      gate : (g : Result Unit Refusal) → gate_of (lent_to image m) ≡ g
           → byte_at (through g (λ r. m.tx) (cond (is_stored check) (store_all image s pdu payload m.tx) (sending s m.tx)).memory) i ≡ byte_at m.tx i
-      gate Pass e = past e (is_stored check) refl
-      gate (Refused r) e = refl
+      gate (Ok tt) e = past e (is_stored check) refl
+      gate (Err r) e = refl
 
   -- and send memory is as long as it was
   store_long : (x : Sending) (d : ℕ) → length (store_of image s pdu payload x d).memory ≡ length x.memory
@@ -106,9 +106,10 @@ module _ (image : List ℕ) (m : Machine) (pdu : ℕ) (payload : List ℕ) where
   unfolding sent_memory transmit_of store_all
   sent-long = go (gate_of (lent_to image m)) (is_stored (check_of image s pdu (length payload)))
     where
-      go : (g : Gate) (b : Bool) → length (through g (λ r. m.tx) (cond b (store_all image s pdu payload m.tx) (sending s m.tx)).memory) ≡ length m.tx
-      go Pass true =
+      go : (g : Result Unit Refusal) (b : Bool) → length (through g (λ r. m.tx) (cond b (store_all image s pdu payload m.tx)
+          (sending s m.tx)).memory) ≡ length m.tx
+      go (Ok tt) true =
           fold_keeps (store_of image s pdu payload) (λ (x : Sending). length x.memory ≡ length m.tx) (destinations image) 0 (sending s m.tx)
           (λ d x l u e. store_long x d ∙ e) refl
-      go Pass false = refl
-      go (Refused r) b = refl
+      go (Ok tt) false = refl
+      go (Err r) b = refl

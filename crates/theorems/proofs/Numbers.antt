@@ -1,4 +1,5 @@
 -- WHICH NUMBERS (R4.1): from any table, state and memory each event is answered one of the numbers listed for it.
+use Rattle.std.proofs.Common.{Result, Ok, Err, Option, ℕ, Some, None}
 use Prim.Native.Nat.{ℕ, ◌+◌}
 use mathlib.Core.Path.{◌≡◌, refl, sym, subst, ◌∙◌}
 use mathlib.Core.Bool.{Bool, true, false, cond, not, ◌||◌, or-true}
@@ -18,7 +19,6 @@ use Rattle.connection.specs.declared.Connection.{Connection}
 use Rattle.connection.specs.declared.Config.{Config}
 use Rattle.connection.specs.declared.Remote.{Remote}
 use Rattle.connection.specs.declared.Refusal.TheVariants.{Memory, Unsound, Missing, Denied}
-use Rattle.connection.specs.declared.Answer.TheVariants.{Done}
 use Rattle.connection.specs.declared.Stepped.{Stepped}
 use Rattle.connection.specs.declared.Event.{Event as Change}
 use Rattle.connection.proofs.Leaves.{not_denied}
@@ -27,8 +27,6 @@ use Rattle.connection.specs.Event.{answer_number, receiving, known, allowed, rec
 use Rattle.state.specs.declared.State.{State}
 use Rattle.state.specs.State.{record_at}
 use Rattle.state.specs.Fresh.{config_of}
-use Rattle.gate.specs.declared.Gate.{Gate}
-use Rattle.gate.specs.declared.Gate.TheVariants.{Pass, Refused}
 use Rattle.gate.specs.Gate.{gate_of, gate_at, then_there, through}
 use Rattle.gate.specs.Sound.{sound_state}
 use Rattle.entry_events.specs.declared.Told.{Told}
@@ -38,27 +36,26 @@ use Rattle.entry_events.specs.Module.{switched_all, switch_all_of}
 use Rattle.entry_events.specs.Count.{count_number, of_protocol, read_from, clear_from, uncounted, read_past, clear_past, read_of, clear_of}
 use Rattle.entry_ticks.specs.Tick.{ticked_to, unticked, ticked_from, tick_event}
 use Rattle.select.specs.declared.Arrived.{Arrived}
-use Rattle.select.specs.declared.Chosen.{Chosen}
-use Rattle.select.specs.declared.Chosen.TheVariants.{Nobody, At}
 use Rattle.select.specs.Choose.{arrival_number, meet, arrival_refused as not_met, denied_of, chosen_in, arrive_of}
 use Rattle.entry_arrivals.specs.Arrivals.{arrival_of}
-use Rattle.entry_receive.specs.declared.Answer.{Answer}
-use Rattle.entry_receive.specs.declared.Answer.TheVariants as Receive
+use Rattle.entry_receive.specs.declared.NotReceived.TheVariants as Receive
 use Rattle.entry_receive.specs.Answer.{receive_number, is_done, judged_of, judged_answer}
 use Rattle.entry_receive.specs.Segment.{take_on, none_taken, segment_of, segment_answer}
 use Rattle.entry_receive.specs.Walk.{walk_on, none_walked, walk_answer, walk_allowed, walk_of}
 use Rattle.send_destination.specs.Destination.{refusal_of, look_of}
-use Rattle.send.specs.declared.Transmission.{Transmission}
-use Rattle.send.specs.declared.Transmission.TheVariants as Sent
+use Rattle.send.specs.declared.NotSent.TheVariants as Sent
 use Rattle.send.specs.Verdict.{is_out, passes, verdict_of, transmission_number}
 use Rattle.send.specs.Send.{destinations, look_at, check_of, transmitted_of}
-use Rattle.send_waiting.specs.declared.Taking.{Taking}
-use Rattle.send_waiting.specs.declared.Taking.TheVariants as Taken
+use Rattle.send_waiting.specs.declared.NotTaken.TheVariants as Taken
 use Rattle.send_waiting.specs.Waiting.{taking_number, taking_of}
 use Rattle.entry_send.specs.Sending.{not_sent, send_of, not_taken, take_past, taken_waiting}
 use Rattle.model.specs.Events.{change, segment, walk, take_waiting, datagram, accept, tick, transmit, switch_all, read_count, clear_count, Event, on, on_whole}
 use Rattle.model_refines.specs.Machine.{Machine, lent_to, loan_to}
 use Rattle.theorems.specs.Numbers.{number_of, numbers_for, among}
+use Rattle.connection.specs.declared.Refusal.{Refusal}
+use Rattle.entry_receive.specs.declared.NotReceived.{NotReceived}
+use Rattle.send.specs.declared.NotSent.{NotSent}
+use Rattle.send_waiting.specs.declared.NotTaken.{NotTaken}
 
 -- a number among some is among more
 sooner : (n : ℕ) (xs ys : List ℕ) → among n xs ≡ true → among n (xs ++ ys) ≡ true
@@ -86,21 +83,21 @@ module _ (image : List ℕ) (m : Machine) where
   tx = length m.tx
 
   -- the gate refuses by 11 or 12, at a connection's number by 2 as well
-  gate_is : (P : Gate → Type 0) → P Pass → P (Refused Memory) → P (Refused Unsound) → P (gate_of (lent_to image m))
+  gate_is : (P : Result Unit Refusal → Type 0) → P (Ok tt) → P (Err Memory) → P (Err Unsound) → P (gate_of (lent_to image m))
   unfolding gate_of
   gate_is P pass memory unsound = go (not (eqb rx 23424) || not (eqb tx 23552)) (sound_state image s)
     where
-      go : (a b : Bool) → P (cond a (Refused Memory) (cond b Pass (Refused Unsound)))
+      go : (a b : Bool) → P (cond a (Err Memory) (cond b (Ok tt) (Err Unsound)))
       go true b = memory
       go false true = pass
       go false false = unsound
 
-  gate-at : (k : ℕ) (P : Gate → Type 0) → P Pass → P (Refused Memory) → P (Refused Unsound) → P (Refused Missing) → P (gate_at (lent_to image m) k)
+  gate-at : (k : ℕ) (P : Result Unit Refusal → Type 0) → P (Ok tt) → P (Err Memory) → P (Err Unsound) → P (Err Missing) → P (gate_at (lent_to image m) k)
   unfolding gate_at
   gate-at k P pass memory unsound missing =
       gate_is (λ g. P (then_there (ltb k (rows_of image Connections)) g)) (go (ltb k (rows_of image Connections))) memory unsound
     where
-      go : (b : Bool) → P (cond b Pass (Refused Missing))
+      go : (b : Bool) → P (cond b (Ok tt) (Err Missing))
       go true = pass
       go false = missing
 
@@ -138,7 +135,7 @@ module _ (image : List ℕ) (m : Machine) where
 
       step : Bool → Bool → Stepped
       step x y = cond (not x) (not_stepped Missing c)
-          (cond (not y) (not_stepped Denied c) (record { answer = Done; connection = record_after e (config_of image k) c }))
+          (cond (not y) (not_stepped Denied c) (record { answer = Ok tt; connection = record_after e (config_of image k) c }))
 
       go : (x y : Bool) → allowed e (config_of image k) c ≡ y
           → Listed (on k (change e)) (answer_number (told_of s k (step x y).answer (step x y).connection).answer)
@@ -154,15 +151,15 @@ module _ (image : List ℕ) (m : Machine) where
       (always k e).2
 
   -- a take, a walk: 3, then 4
-  abbrev Received : Answer → Type 0
+  abbrev Received : Result Unit NotReceived → Type 0
   Received a = among (receive_number a) (11 ∷ 12 ∷ 2 ∷ 3 ∷ 4 ∷ 0 ∷ []) ≡ true
 
   receive-listed : (k : ℕ) (ok : Bool) → Received (judged_answer (lent_to image m) k ok)
   unfolding judged_answer judged_of among
-  receive-listed k ok = gate-at k (λ g. Received (through g Receive.Refused (judged_of ok (record_at s k))))
+  receive-listed k ok = gate-at k (λ g. Received (through g (λ x. Err (Receive.Refused x)) (judged_of ok (record_at s k))))
       (past ok (receiving (record_at s k))) refl refl refl
     where
-      past : (a b : Bool) → Received (cond a (cond b Receive.Done Receive.NotReceiving) (Receive.Refused Denied))
+      past : (a b : Bool) → Received (cond a (cond b (Ok tt) (Err Receive.NotReceiving)) (Err (Receive.Refused Denied)))
       past true true = refl
       past true false = refl
       past false b = refl
@@ -189,10 +186,10 @@ module _ (image : List ℕ) (m : Machine) where
   take-listed k out = gate-at k (λ g. Takes (through g (not_taken s) (take_past image s k (length out))).answer)
       (past (ltb (length out) (record_at s k).used)) refl refl refl
     where
-      Takes : Taking → Type 0
+      Takes : Result (ℕ × Remote) NotTaken → Type 0
       Takes t = among (taking_number t) (11 ∷ 12 ∷ 2 ∷ 9 ∷ 0 ∷ []) ≡ true
 
-      past : (b : Bool) → Takes (cond b Taken.Short (Taken.Bytes (record_at s k).used (record_at s k).remote))
+      past : (b : Bool) → Takes (cond b (Err Taken.Short) (Ok ((record_at s k).used, (record_at s k).remote)))
       past true = refl
       past false = refl
 
@@ -207,11 +204,11 @@ module _ (image : List ℕ) (m : Machine) where
       Met : Arrived → Type 0
       Met t = among (arrival_number t.answer) (11 ∷ 12 ∷ 2 ∷ 3 ∷ 10 ∷ 0 ∷ []) ≡ true
 
-      past : (x y : Bool) (c : Chosen) → Met (cond x (not_met s Missing) (cond y (not_met s Denied) (meet image s source c)))
+      past : (x y : Bool) (c : Option ℕ) → Met (cond x (not_met s Missing) (cond y (not_met s Denied) (meet image s source c)))
       past true y c = refl
       past false true c = refl
-      past false false Nobody = refl
-      past false false (At k) = refl
+      past false false None = refl
+      past false false (Some k) = refl
 
   -- a switch on all connections: 2; a count: 3
   switches-listed : (n : ℕ) (b : Bool) → Listed (on_whole (switch_all n b)) (number_of image m (on_whole (switch_all n b)))
@@ -220,7 +217,7 @@ module _ (image : List ℕ) (m : Machine) where
       gate_is (λ g. Listed (on_whole (switch_all n b)) (answer_number (through g (refused_told s) (event (ltb n 32))).answer)) (past (ltb n 32)) refl refl
     where
       event : Bool → Told
-      event x = cond x (record { answer = Done; state = switched_all (rows_of image Connections) n b s }) (refused_told s Missing)
+      event x = cond x (record { answer = Ok tt; state = switched_all (rows_of image Connections) n b s }) (refused_told s Missing)
 
       past : (x : Bool) → Listed (on_whole (switch_all n b)) (answer_number (event x).answer)
       past true = refl
@@ -265,12 +262,12 @@ module _ (image : List ℕ) (m : Machine) where
         go true true false false false p = impossible (sym p)
 
     -- the check never answers for the gate, and the row that decides is one that refuses
-    abbrev Checked : Transmission → Type 0
-    Checked Sent.Stored = Unit {0}
-    Checked (Sent.Refused r) = ⊥
-    Checked Sent.NoDestination = Unit {0}
-    Checked Sent.SwitchedOff = Unit {0}
-    Checked (Sent.RefusedAt n d) = among n (4 ∷ 7 ∷ 8 ∷ []) ≡ true
+    abbrev Checked : Result Unit NotSent → Type 0
+    Checked (Ok tt) = Unit {0}
+    Checked (Err (Sent.Refused r)) = ⊥
+    Checked (Err Sent.NoDestination) = Unit {0}
+    Checked (Err Sent.SwitchedOff) = Unit {0}
+    Checked (Err (Sent.RefusedAt n d)) = among n (4 ∷ 7 ∷ 8 ∷ []) ≡ true
 
     checked : Checked (check_of image s pdu (length payload))
     unfolding check_of verdict_of
@@ -285,23 +282,24 @@ module _ (image : List ℕ) (m : Machine) where
         k : ℕ
         k = first_bad (λ i. passes (look i)) rows
 
-        go : (x y z : Bool) → ltb k rows ≡ z → Checked (cond x Sent.NoDestination (cond y Sent.SwitchedOff (cond z (Sent.RefusedAt (look k) k) Sent.Stored)))
+        go : (x y z : Bool) → ltb k rows ≡ z → Checked (cond x (Err Sent.NoDestination) (cond y (Err Sent.SwitchedOff) (cond z (Err (Sent.RefusedAt
+            (look k) k)) (Ok tt))))
         go true y z p = tt
         go false true z p = tt
         go false false true p = look_refuses k (found-bad (λ i. passes (look i)) rows (ltb-true k rows p))
         go false false false p = tt
 
     -- R10.2: the first refusal decides and names its destination: by 4, 7 or 8
-    pub refused-at : (number d : ℕ) → check_of image s pdu (length payload) ≡ Sent.RefusedAt number d → among number (4 ∷ 7 ∷ 8 ∷ []) ≡ true
+    pub refused-at : (number d : ℕ) → check_of image s pdu (length payload) ≡ Err (Sent.RefusedAt number d) → among number (4 ∷ 7 ∷ 8 ∷ []) ≡ true
     refused-at number d e = subst Checked e checked
 
-    number-listed : (t : Transmission) → Checked t → Listed (on_whole (transmit pdu payload)) (transmission_number t)
+    number-listed : (t : Result Unit NotSent) → Checked t → Listed (on_whole (transmit pdu payload)) (transmission_number t)
     unfolding numbers_for among
-    number-listed Sent.Stored c = refl
-    number-listed (Sent.Refused r) c = absurd c
-    number-listed Sent.NoDestination c = refl
-    number-listed Sent.SwitchedOff c = refl
-    number-listed (Sent.RefusedAt n d) c = later n (11 ∷ 12 ∷ 5 ∷ 6 ∷ []) (4 ∷ 7 ∷ 8 ∷ 0 ∷ []) (sooner n (4 ∷ 7 ∷ 8 ∷ []) (0 ∷ []) c)
+    number-listed (Ok tt) c = refl
+    number-listed (Err (Sent.Refused r)) c = absurd c
+    number-listed (Err Sent.NoDestination) c = refl
+    number-listed (Err Sent.SwitchedOff) c = refl
+    number-listed (Err (Sent.RefusedAt n d)) c = later n (11 ∷ 12 ∷ 5 ∷ 6 ∷ []) (4 ∷ 7 ∷ 8 ∷ 0 ∷ []) (sooner n (4 ∷ 7 ∷ 8 ∷ []) (0 ∷ []) c)
 
     transmit-listed : Listed (on_whole (transmit pdu payload)) (number_of image m (on_whole (transmit pdu payload)))
     unfolding send_of numbers_for among

@@ -1,5 +1,6 @@
 -- R4.7, a refusal changes neither state nor lent memory: of every event, and of many ticks under one check,
 -- from any table, state and memory.
+use Rattle.std.proofs.Common.{Result, Ok, Err, Option, ℕ, Some, None}
 use Prim.Native.Nat.{ℕ}
 use mathlib.Core.Path.{◌≡◌, refl, ap, ◌∙◌}
 use mathlib.Core.Bool.{Bool, true, false, cond, or-true}
@@ -11,15 +12,11 @@ use Rattle.table_layout.specs.declared.Kind.TheVariants.{Connection as Connectio
 use Rattle.connection.specs.declared.Connection.{Connection}
 use Rattle.connection.specs.declared.Remote.{Remote}
 use Rattle.connection.specs.declared.Refusal.TheVariants.{Missing, Denied}
-use Rattle.connection.specs.declared.Answer.{Answer}
-use Rattle.connection.specs.declared.Answer.TheVariants.{Done, Refused}
 use Rattle.connection.specs.declared.Event.{Event as Change}
 use Rattle.connection.specs.Event.{answer_number, step_of}
 use Rattle.state.specs.declared.State.{State}
 use Rattle.state.specs.State.{record_at}
 use Rattle.state.specs.Fresh.{config_of}
-use Rattle.gate.specs.declared.Gate.{Gate}
-use Rattle.gate.specs.declared.Gate.TheVariants as Gated
 use Rattle.gate.specs.Gate.{gate_of, gate_at, through}
 use Rattle.entry_events.specs.declared.Told.{Told}
 use Rattle.entry_events.specs.declared.Counted.{Counted}
@@ -29,15 +26,12 @@ use Rattle.entry_events.specs.Count.{count_number, of_protocol, read_from, clear
 use Rattle.entry_ticks.specs.declared.Ticked.{Ticked}
 use Rattle.entry_ticks.specs.Tick.{ticked_to, ticks_to, unticked, ticked_from, tick_event, ticks_event}
 use Rattle.select.specs.declared.Arrived.{Arrived}
-use Rattle.select.specs.declared.Chosen.{Chosen}
-use Rattle.select.specs.declared.Chosen.TheVariants.{Nobody, At}
 use Rattle.select.specs.Choose.{arrival_number, meet, arrival_refused as not_met, denied_of, chosen_in, arrive_of}
 use Rattle.entry_arrivals.specs.Arrivals.{arrival_of}
 use Rattle.entry_receive.specs.Answer.{receive_number, is_done}
 use Rattle.entry_receive.specs.Segment.{take_on, segment_answer, segment_of}
 use Rattle.entry_receive.specs.Walk.{walk_on, none_walked, walk_answer, walk_of}
-use Rattle.send.specs.declared.Transmission.{Transmission}
-use Rattle.send.specs.declared.Transmission.TheVariants as Sent
+use Rattle.send.specs.declared.NotSent.TheVariants as Sent
 use Rattle.send.specs.Verdict.{transmission_number, is_stored}
 use Rattle.send.specs.Send.{Sending, sending, check_of, transmit_of, transmitted_of}
 use Rattle.send_waiting.specs.Waiting.{taking_number, taking_of, take_of}
@@ -50,6 +44,8 @@ use Rattle.theorems.specs.Numbers.{number_of}
 use Rattle.state.proofs.Records.{put_back}
 use Rattle.law_keeps.proofs.Past.{past_or}
 use Rattle.model_refines.proofs.Segments.{no_segment}
+use Rattle.connection.specs.declared.Refusal.{Refusal}
+use Rattle.send.specs.declared.NotSent.{NotSent}
 
 module _ (image : List ℕ) (m : Machine) where
   abbrev s : State
@@ -71,15 +67,15 @@ module _ (image : List ℕ) (m : Machine) where
   abbrev StaysCounted : Counted → Type 0
   StaysCounted a = (count_number a.answer ≡ 0 → ⊥) → a.state ≡ s
 
-  told_stays : (k : ℕ) (a : Answer) (c : Connection) → (answer_number a ≡ 0 → ⊥) → (told_of s k a c).state ≡ s
+  told_stays : (k : ℕ) (a : Result Unit Refusal) (c : Connection) → (answer_number a ≡ 0 → ⊥) → (told_of s k a c).state ≡ s
   unfolding told_of
-  told_stays k Done c no_zero = absurd (no_zero refl)
-  told_stays k (Refused r) c no_zero = refl
+  told_stays k (Ok tt) c no_zero = absurd (no_zero refl)
+  told_stays k (Err r) c no_zero = refl
 
-  told_answer : (k : ℕ) (a : Answer) (c : Connection) → (told_of s k a c).answer ≡ a
+  told_answer : (k : ℕ) (a : Result Unit Refusal) (c : Connection) → (told_of s k a c).answer ≡ a
   unfolding told_of
-  told_answer k Done c = refl
-  told_answer k (Refused r) c = refl
+  told_answer k (Ok tt) c = refl
+  told_answer k (Err r) c = refl
 
   change-stays : (k : ℕ) (e : Change) → StaysTold (event_of (lent_to image m) k e)
   unfolding event_of change_of
@@ -87,7 +83,7 @@ module _ (image : List ℕ) (m : Machine) where
       past_or StaysTold (gate_at (lent_to image m) k) (refused_told s) (change_of image s k e) (λ r no_zero. refl)
       (λ _ no_zero. told_stays k a c (λ z. no_zero (ap answer_number (told_answer k a c) ∙ z)))
     where
-      a : Answer
+      a : Result Unit Refusal
       a = (step_of e (config_of image k) (record_at s k)).answer
 
       c : Connection
@@ -134,11 +130,11 @@ module _ (image : List ℕ) (m : Machine) where
   unfolding arrive_of
   arrive_stays a group source = go (leb (rows_of image Group) group) (denied_of image a group source) (chosen_in image s a group source)
     where
-      go : (x y : Bool) (c : Chosen) → StaysArrived (cond x (not_met s Missing) (cond y (not_met s Denied) (meet image s source c)))
+      go : (x y : Bool) (c : Option ℕ) → StaysArrived (cond x (not_met s Missing) (cond y (not_met s Denied) (meet image s source c)))
       go true y c no_zero = refl
       go false true c no_zero = refl
-      go false false Nobody no_zero = refl
-      go false false (At k) no_zero = absurd (no_zero refl)
+      go false false None no_zero = refl
+      go false false (Some k) no_zero = absurd (no_zero refl)
 
   arrival_stays : (a : Bool) (group : ℕ) (source : Remote) → StaysArrived (arrival_of (lent_to image m) a group source)
   unfolding arrival_of
@@ -164,10 +160,10 @@ module _ (image : List ℕ) (m : Machine) where
   unfolding switch_all_of
   switches_stay n b =
       past_or StaysTold (gate_of (lent_to image m)) (refused_told s)
-      (cond (ltb n 32) (record { answer = Done; state = switched_all (rows_of image Connections) n b s }) (refused_told s Missing))
+      (cond (ltb n 32) (record { answer = Ok tt; state = switched_all (rows_of image Connections) n b s }) (refused_told s Missing))
       (λ r no_zero. refl) (λ _. go (ltb n 32))
     where
-      go : (x : Bool) → StaysTold (cond x (record { answer = Done; state = switched_all (rows_of image Connections) n b s }) (refused_told s Missing))
+      go : (x : Bool) → StaysTold (cond x (record { answer = Ok tt; state = switched_all (rows_of image Connections) n b s }) (refused_told s Missing))
       go true no_zero = absurd (no_zero refl)
       go false no_zero = refl
 
@@ -192,12 +188,12 @@ module _ (image : List ℕ) (m : Machine) where
   clear_stays p = count-stays (clear_from s) (λ b. refl) p
 
   -- a transmit: nothing is stored anywhere
-  not_stored : (a : Transmission) → (transmission_number a ≡ 0 → ⊥) → is_stored a ≡ false
-  not_stored Sent.Stored no_zero = absurd (no_zero refl)
-  not_stored (Sent.Refused r) no_zero = refl
-  not_stored Sent.NoDestination no_zero = refl
-  not_stored Sent.SwitchedOff no_zero = refl
-  not_stored (Sent.RefusedAt n d) no_zero = refl
+  not_stored : (a : Result Unit NotSent) → (transmission_number a ≡ 0 → ⊥) → is_stored a ≡ false
+  not_stored (Ok tt) no_zero = absurd (no_zero refl)
+  not_stored (Err (Sent.Refused r)) no_zero = refl
+  not_stored (Err Sent.NoDestination) no_zero = refl
+  not_stored (Err Sent.SwitchedOff) no_zero = refl
+  not_stored (Err (Sent.RefusedAt n d)) no_zero = refl
 
   nothing-sent : (pdu : ℕ) (payload : List ℕ) → (transmission_number (check_of image s pdu (length payload)) ≡ 0 → ⊥)
       → transmit_of image s pdu payload m.tx ≡ sending s m.tx
@@ -209,11 +205,11 @@ module _ (image : List ℕ) (m : Machine) where
   unfolding send_of sent_memory
   transmit-stays pdu payload = go (gate_of (lent_to image m))
     where
-      go : (g : Gate) → (transmission_number (through g (not_sent s) (transmitted_of image s pdu payload m.tx)).answer ≡ 0 → ⊥)
+      go : (g : Result Unit Refusal) → (transmission_number (through g (not_sent s) (transmitted_of image s pdu payload m.tx)).answer ≡ 0 → ⊥)
           → machine (through g (not_sent s) (transmitted_of image s pdu payload m.tx)).state
           m.rx (through g (λ r. m.tx) (transmit_of image s pdu payload m.tx).memory) ≡ m
-      go Gated.Pass no_zero = ap (λ (x : Sending). machine x.state m.rx x.memory) (nothing-sent pdu payload no_zero)
-      go (Gated.Refused r) no_zero = refl
+      go (Ok tt) no_zero = ap (λ (x : Sending). machine x.state m.rx x.memory) (nothing-sent pdu payload no_zero)
+      go (Err r) no_zero = refl
 
   -- EVERY EVENT
   pub refusal-stays : (e : Event) → (number_of image m e ≡ 0 → ⊥) → after_event image e m ≡ m

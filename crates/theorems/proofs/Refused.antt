@@ -1,6 +1,7 @@
 -- DEMAND 1, of any table, state and memory: where the gate refuses, it is by 11 or 12 as R4.3 says; every event of a run is answered
 -- that number, and leaves state and lent memory as they were. So from any machine of sixteen records a run passes the gate and keeps it
 -- good, or is refused throughout and leaves it as it is.
+use Rattle.std.proofs.Common.{Result, Ok, Err}
 use Prim.Native.Nat.{ℕ}
 use mathlib.Core.Path.{◌≡◌, refl, sym, ap, ap₂, ◌∙◌, subst}
 use mathlib.Core.Bool.{Bool, true, false, cond, not, ◌||◌, false≢true}
@@ -13,8 +14,6 @@ use Rattle.connection.specs.declared.Refusal.TheVariants.{Memory, Unsound}
 use Rattle.connection.specs.Event.{refusal_number}
 use Rattle.state.specs.declared.State.{State}
 use Rattle.state.specs.Fresh.{config_of}
-use Rattle.gate.specs.declared.Gate.{Gate}
-use Rattle.gate.specs.declared.Gate.TheVariants.{Pass, Refused}
 use Rattle.gate.specs.Gate.{gate_of, gate_at}
 use Rattle.gate.specs.Sound.{sound_state}
 use Rattle.gate.proofs.Pass.{gate_passed}
@@ -37,7 +36,7 @@ use Rattle.theorems.specs.Numbers.{number_of, numbers_in}
 use Rattle.theorems.specs.Refused.{gate_here, Shut, other_length, not_sound, Run, keeps_good, leaves_all}
 use Rattle.theorems.proofs.Runs.{run_good}
 
-module _ (image : List ℕ) (m : Machine) (r : Refusal) (shut : gate_here image m ≡ Refused r) where
+module _ (image : List ℕ) (m : Machine) (r : Refusal) (shut : gate_here image m ≡ Err r) where
   abbrev s : State
   s = m.state
 
@@ -48,7 +47,7 @@ module _ (image : List ℕ) (m : Machine) (r : Refusal) (shut : gate_here image 
   tx = length m.tx
 
   -- at the gate with a connection's number
-  shut_at : (k : ℕ) → gate_at (lent_to image m) k ≡ Refused r
+  shut_at : (k : ℕ) → gate_at (lent_to image m) k ≡ Err r
   unfolding gate_at
   shut_at k = rw shut
 
@@ -114,20 +113,20 @@ module _ (image : List ℕ) (m : Machine) (r : Refusal) (shut : gate_here image 
       ap₂ (λ (n : ℕ) (ns : List ℕ). n ∷ ns) (event-refused e) (ap (λ (n : Machine). numbers_in image n es) (event-stays e) ∙ run-refused es)
 
   -- WHICH NUMBER: 11 where a memory has another length, else 12
-  abbrev number_at : Gate → ℕ
-  number_at Pass = 0
-  number_at (Refused q) = refusal_number q
+  abbrev number_at : Result Unit Refusal → ℕ
+  number_at (Ok tt) = 0
+  number_at (Err q) = refusal_number q
 
-  abbrev passing : Gate → Bool
-  passing Pass = true
-  passing (Refused q) = false
+  abbrev passing : Result Unit Refusal → Bool
+  passing (Ok tt) = true
+  passing (Err q) = false
 
   pub shut_by : Shut image m (refusal_number r)
   unfolding gate_of
   shut_by = go (eqb rx 23424) refl (eqb tx 23552) refl (sound_state image s) refl shut
     where
       go : (a : Bool) → eqb rx 23424 ≡ a → (b : Bool) → eqb tx 23552 ≡ b → (d : Bool) → sound_state image s ≡ d
-          → cond (not a || not b) (Refused Memory) (cond d Pass (Refused Unsound)) ≡ Refused r → Shut image m (refusal_number r)
+          → ◌≡◌ {A = Result Unit Refusal} (cond (not a || not b) (Err Memory) (cond d (Ok tt) (Err Unsound))) (Err r) → Shut image m (refusal_number r)
       go false p b q d o e = subst (Shut image m) (ap number_at e) (other_length (λ h. eqb-false rx 23424 p h.0))
       go true p false q d o e = subst (Shut image m) (ap number_at e) (other_length (λ h. eqb-false tx 23552 q h.1))
       go true p true q true o e = absurd (false≢true (sym (ap passing e)))
@@ -137,6 +136,6 @@ module _ (image : List ℕ) (m : Machine) (r : Refusal) (shut : gate_here image 
 pub any_run : (image : List ℕ) (m : Machine) (es : List Event) → RunBytes es → length m.state.connections ≡ 16 → Run image m es
 any_run image m es b n = go (gate_here image m) refl
   where
-    go : (g : Gate) → gate_here image m ≡ g → Run image m es
-    go Pass e = keeps_good e (run_good image m es b (record { passed = gate_passed (lent_to image m) e; sixteen = n }))
-    go (Refused r) e = leaves_all r e (run-refused image m r e es) (run-stays image m r e es)
+    go : (g : Result Unit Refusal) → gate_here image m ≡ g → Run image m es
+    go (Ok tt) e = keeps_good e (run_good image m es b (record { passed = gate_passed (lent_to image m) e; sixteen = n }))
+    go (Err r) e = leaves_all r e (run-refused image m r e es) (run-stays image m r e es)

@@ -1,5 +1,6 @@
 -- ONE TAKE IS A SEGMENT EVENT, of just the bytes that it reads, from any table, state and memory: so a caller who takes once, does
 -- something else and takes the rest later makes a run of events too.
+use Rattle.std.proofs.Common.{Ok}
 use Prim.Native.Nat.{ℕ, zero, suc, ◌+◌, ◌-◌, ◌≤◌, ◌*◌, ◌/◌, ◌%◌, ◌^◌}
 use mathlib.Core.Path.{◌≡◌, refl, sym, ap, ap₂, ◌∙◌}
 use mathlib.Core.Bool.{Bool, true, false, cond}
@@ -31,7 +32,6 @@ use Rattle.connection.specs.Connection.{with_part}
 use Rattle.state.specs.declared.State.{State}
 use Rattle.state.specs.State.{record_at, with_record}
 use Rattle.state.specs.Memory.{stretch}
-use Rattle.entry_receive.specs.declared.Answer.TheVariants.{Done}
 use Rattle.entry_receive.specs.declared.SegmentTaken.{SegmentTaken}
 use Rattle.entry_receive.specs.Answer.{is_done}
 use Rattle.entry_receive.specs.Segment.{count_take, take_on, memory_on, none_taken, segment_answer, segment_of, memory_of, payload_of}
@@ -228,7 +228,7 @@ module _ (image : List ℕ) (k : ℕ) (m : Machine) (bs : List ℕ) where
       ap
       (λ (u : Taken).
       record {
-        answer = Done;
+        answer = Ok tt;
         read = u.read;
         outcome = u.outcome;
         state = count_take u.outcome (with_record k (with_part u.part c) s);

@@ -1,11 +1,11 @@
 -- DEMAND 3, ONE THEOREM: from one accepted table, one sound state and memory of the right lengths, runs that count as the same end in the
 -- same state, have handed out the same PDUs, and these are exactly demand 2's. And such a start: a fresh state with any memory of the right
 -- lengths.
+use Rattle.std.proofs.Common.{Ok}
 use Prim.Native.Nat.{ℕ}
 use mathlib.Core.Path.{◌≡◌, refl}
 use mathlib.Core.List.{List}
 use lib.ListN.{length, replicate, length-replicate}
-use Rattle.table.specs.declared.TableAnswer.TheVariants.{Accepted}
 use Rattle.table.specs.Table.{check_table}
 use Rattle.state.specs.Fresh.{fresh_state}
 use Rattle.law_keeps.proofs.Fresh.{fresh-passed}
@@ -27,7 +27,7 @@ demand_3 image m good {es} {fs} alike bytes =
     }
 
 -- SUCH A START: the fresh state of an accepted table
-module _ (image : List ℕ) (accepted : check_table image ≡ Accepted) where
+module _ (image : List ℕ) (accepted : check_table image ≡ Ok tt) where
   pub fresh_good : (rx tx : List ℕ) → length rx ≡ 23424 → length tx ≡ 23552 → Good image (machine (fresh_state image) rx tx)
   unfolding fresh_state
   fresh_good rx tx r t =

@@ -1,5 +1,6 @@
 -- SEND BUFFERS OVER RUNS: what waits on a connection is what waited at the start and the frames stored since, or only the frames stored
 -- since the last loss, closing tick, expiry or non-empty take. So from nothing waiting it is the frames of the PDUs that were stored, by name.
+use Rattle.std.proofs.Common.{Result, Ok, Err}
 use Prim.Native.Nat.{ℕ, zero, suc, ◌*◌, ◌≤◌}
 use mathlib.Core.Path.{◌≡◌, refl, sym, ap, ap₂, ◌∙◌, subst}
 use mathlib.Core.Bool.{Bool, true, false, cond, ◌&&◌}
@@ -15,7 +16,6 @@ use Rattle.connection.specs.declared.Connection.{Connection}
 use Rattle.state.specs.declared.State.{State}
 use Rattle.state.specs.State.{record_at}
 use Rattle.state.specs.Fresh.{config_of}
-use Rattle.gate.specs.declared.Gate.{Gate}
 use Rattle.gate.specs.Gate.{through}
 use Rattle.gate.proofs.Pass.{passed_gate}
 use Rattle.frame.specs.Frame.{frame, Sent, frames}
@@ -45,6 +45,7 @@ use Rattle.model_refines.proofs.Modules.{past}
 use Rattle.theorems.specs.Waits.{sent_from, sent_to, own_empties, empties_by, adds_by, turn_of, turns_of, sent_in}
 use Rattle.theorems.proofs.Empties.{ticked-used, own-used, leaves_all, whole-used}
 use Rattle.law_waits.proofs.Turns.{only-emptied}
+use Rattle.connection.specs.declared.Refusal.{Refusal}
 
 -- FRAMES: what a transmit adds is the frames of what it sends
 frames-append : (a b : List Sent) → frames (a ++ b) ≡ frames a ++ frames b
@@ -158,7 +159,7 @@ module _ (image : List ℕ) (j : ℕ) (m : Machine) (good : Good image m) where
   unfolding after_event after_whole
   transmit-waits pdu payload =
       transmit-turn (loan_to image m) pdu payload good.sixteen good.passed.sound j
-      ∙ ap (λ (g : Gate). waits m.state m.tx j ++ through g (λ r. []) (added_to image m.state pdu payload j))
+      ∙ ap (λ (g : Result Unit Refusal). waits m.state m.tx j ++ through g (λ r. []) (added_to image m.state pdu payload j))
       (passed_gate (lent_to image m) good.passed)
       ∙ ap (λ (l : List ℕ). waits m.state m.tx j ++ l) (added_sent image m.state pdu payload j)
 

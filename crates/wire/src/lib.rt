@@ -3,7 +3,7 @@
 #![tactic(auto)]
 
 ghost use Rattle.std.specs.Prelude.{◌≡◌, ◌+◌, ◌≤◌, ◌<◌, leb, length};
-ghost use Rattle.wire.specs.Be.{Number, Little, turn};
+ghost use Rattle.wire.specs.Be.{be, Number, Little, turn};
 ghost use Rattle.wire.specs.Lay.{spell, lay};
 
 fn wide(x: u8) -> usize
@@ -65,14 +65,30 @@ pub fn be32(s: &[u8], at: usize) -> usize
     be16(s, at) * 65536 + be16(s, at + 2)
 }
 
+// The same numbers, each at the type of its own width.
+pub fn u8_at(s: &[u8], at: usize) -> u8
+    ensures { result ≡ be 1 s.now at }
+{
+    be8(s, at) as u8
+}
+
+pub fn u16_at(s: &[u8], at: usize) -> u16
+    ensures { result ≡ be 2 s.now at }
+{
+    be16(s, at) as u16
+}
+
+pub fn u32_at(s: &[u8], at: usize) -> u32
+    ensures { result ≡ be 4 s.now at }
+{
+    be32(s, at) as u32
+}
+
 // n bytes from `at` on stand within `long`.
 fn has_room(at: usize, n: usize, long: usize) -> bool
     ensures { result ≡ leb (at + n) long }
 {
-    if long < at {
-        return false;
-    }
-    n <= long - at
+    at <= long && n <= long - at
 }
 
 pub fn put8(d: &mut [u8], at: usize, v: u8)
@@ -105,13 +121,7 @@ pub fn put32(d: &mut [u8], at: usize, v: u32)
 pub fn copy_in(d: &mut [u8], at: usize, s: &[u8])
     ensures { d.new ≡ lay d.old at s.now }
 {
-    let n = s.len();
-    if !has_room(at, n, d.len()) {
-        return;
-    }
-    let mut j: usize = 0;
-    while j < n {
-        d[at + j] = s[j];
-        j += 1;
+    if has_room(at, s.len(), d.len()) {
+        d[at..at + s.len()].copy_from_slice(s);
     }
 }

@@ -9,40 +9,16 @@
 // Proved to be safe and to return; the words are tried by stored output.
 #![tactic(auto)]
 
-ghost use Rattle.std.specs.Prelude.{◌-◌, ◌≤◌, length};
+ghost use Rattle.std.specs.Prelude.{◌<◌, ◌≤◌};
 
-use pieces::put_piece;
+use pieces::{front, put_piece};
 use table_layout::part_of;
 use text::{decimal, hex};
-use wire::{be8, be16, be32};
-
-// The place after the n-th `/` of a list; its end where it has fewer.
-fn phrase_at(list: &[u8], n: usize) -> usize
-    ensures { result ≤ length list.now }
-{
-    let mut left = n;
-    let mut i: usize = 0;
-    while i < list.len() {
-        if left == 0 {
-            return i;
-        }
-        if list[i] == b'/' {
-            left -= 1;
-        }
-        i += 1;
-    }
-    i
-}
+use wire::{be8, be16, be32, u8_at};
 
 // The phrase number n of a list, counted from 0. Each phrase of a list ends with `/`.
 pub fn phrase(list: &[u8], n: usize) -> &[u8] {
-    let from = phrase_at(list, n);
-    let tail = part_of(list, from, list.len() - from);
-    let next = phrase_at(tail, 1);
-    if next == 0 {
-        return tail;
-    }
-    part_of(tail, 0, next - 1)
+    list.split(|byte| *byte == b'/').nth(n).unwrap_or(b"")
 }
 
 // Where the words of a letter begin in the list of `word`: a byte v picks the one so many behind.
@@ -62,8 +38,7 @@ fn first_word(letter: u8) -> usize
 
 // Which word of the list a byte picks; a drop reason that there is not picks the last.
 fn word_number(letter: u8, v: u8) -> usize {
-    let reason = (20 <= v) & (v <= 23);
-    if (letter == b'd') & !reason {
+    if letter == b'd' && !matches!(v, 20..=23) {
         return 32;
     }
     first_word(letter) + v as usize
@@ -138,7 +113,7 @@ fn port(text: &mut [u8], at: usize, v: usize) -> usize {
 
 // Bytes in hex, and `-` where there are none.
 fn bytes(text: &mut [u8], at: usize, s: &[u8]) -> usize {
-    if s.len() == 0 {
+    if s.is_empty() {
         return put_piece(text, at, b"-");
     }
     hex(text, at, s)
@@ -159,11 +134,13 @@ struct Sign {
     width: usize,
 }
 
-fn sign_of(pattern: &[u8]) -> Sign {
-    let first = be8(pattern, 0) as u8;
+fn sign_of(pattern: &[u8]) -> Sign
+    ensures { 0 < result.width }
+{
+    let first = u8_at(pattern, 0);
     match first {
         b'%' => Sign {
-            letter: be8(pattern, 1) as u8,
+            letter: u8_at(pattern, 1),
             place: be8(pattern, 2) % 16 * 10 + be8(pattern, 3) % 16,
             width: 4,
         },
@@ -181,11 +158,11 @@ fn sign_of(pattern: &[u8]) -> Sign {
 }
 
 // The last number, after a sign.
-fn number(letter: u8, place: usize, last: u64, n: u64, row: &[u8], shown: &[u8]) -> u64 {
-    match letter {
-        b'b' => be8(row, place) as u64,
-        b'h' => be16(row, place) as u64,
-        b'w' => be32(row, place) as u64,
+fn number(sign: Sign, last: u64, n: u64, row: &[u8], shown: &[u8]) -> u64 {
+    match sign.letter {
+        b'b' => be8(row, sign.place) as u64,
+        b'h' => be16(row, sign.place) as u64,
+        b'w' => be32(row, sign.place) as u64,
         b'@' => n,
         b'#' => shown.len() as u64,
         _ => last,
@@ -195,62 +172,35 @@ fn number(letter: u8, place: usize, last: u64, n: u64, row: &[u8], shown: &[u8])
 fn piece(
     text: &mut [u8],
     at: usize,
-    letter: u8,
-    place: usize,
+    sign: Sign,
     last: u64,
     row: &[u8],
     shown: &[u8],
     plain: &[u8],
 ) -> usize {
-    match letter {
+    match sign.letter {
         0 => put_piece(text, at, plain),
         b'b' | b'h' | b'w' | b'@' | b'#' => decimal(text, at, last),
-        b'p' => hex(text, at, part_of(row, place, 2)),
-        b'i' => hex(text, at, part_of(row, place, 4)),
-        b'q' => address(text, at, part_of(row, place, 4)),
-        b'r' => port(text, at, be16(row, place)),
+        b'p' => hex(text, at, part_of(row, sign.place, 2)),
+        b'i' => hex(text, at, part_of(row, sign.place, 4)),
+        b'q' => address(text, at, part_of(row, sign.place, 4)),
+        b'r' => port(text, at, be16(row, sign.place)),
         b'*' => bytes(text, at, shown),
         b'^' => plural(text, at, last),
-        _ => word(letter, be8(row, place) as u8, text, at),
+        letter => word(letter, u8_at(row, sign.place), text, at),
     }
-}
-
-// The place so many bytes on, nearer the end in any case.
-fn moved(long: usize, i: usize, width: usize) -> usize
-    ensures { (long - result ≤ long - i - 1) × (result ≤ long) }
-{
-    if long <= i {
-        return long;
-    }
-    if width == 0 {
-        return long;
-    }
-    if long - i < width {
-        return long;
-    }
-    i + width
 }
 
 // A line, and the place after it.
 pub fn lay(text: &mut [u8], at: usize, pattern: &[u8], n: u64, row: &[u8], shown: &[u8]) -> usize {
     let mut next = at;
     let mut last: u64 = 0;
-    let mut i: usize = 0;
-    while i < pattern.len() {
-        let rest = part_of(pattern, i, pattern.len() - i);
-        let s = sign_of(rest);
-        last = number(s.letter, s.place, last, n, row, shown);
-        next = piece(
-            text,
-            next,
-            s.letter,
-            s.place,
-            last,
-            row,
-            shown,
-            part_of(rest, 0, 1),
-        );
-        i = moved(pattern.len(), i, s.width);
+    let mut rest = pattern;
+    while !rest.is_empty() {
+        let sign = sign_of(rest);
+        last = number(sign, last, n, row, shown);
+        next = piece(text, next, sign, last, row, shown, front(rest, 1));
+        rest = rest.get(sign.width..).unwrap_or(b"");
     }
     next
 }

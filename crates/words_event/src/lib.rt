@@ -2,10 +2,10 @@
 // those of crate words). Proved to be safe and to return; the words are tried by stored output.
 #![tactic(auto)]
 
-use event_decode::{bytes_from, two_bytes};
+use event_decode::bytes_from;
 use pieces::after;
 use table_layout::part_of;
-use wire::{be8, be16, be32};
+use wire::{be8, be16, be32, u16_at};
 use words::{lay, phrase};
 
 // Where the bytes that end a body begin.
@@ -52,27 +52,33 @@ pub fn event(text: &mut [u8], at: usize, number: u16, body: &[u8]) -> usize {
 
 // A PDU whose payload stands in the answer, out of receive memory.
 fn is_held(row: &[u8]) -> bool {
-    (be8(row, 4) == 1) & (be8(row, 14) != 0)
+    be8(row, 4) == 1 && be8(row, 14) != 0
 }
 
-// Length 0 is the end mark.
-fn start_shape(row: &[u8]) -> usize {
-    if be32(row, 10) == 0 { 5 } else { 4 }
+// A start of length 0 is the end mark.
+fn start_pattern(row: &[u8]) -> &'static [u8] {
+    if be32(row, 10) == 0 {
+        return b"; take @ read %w00 byte^: start of a transfer on route %b05, id 0x%i06, length %w10 byte^, the end";
+    }
+    b"; take @ read %w00 byte^: start of a transfer on route %b05, id 0x%i06, length %w10 byte^"
 }
 
-// 0 more wanted, 1 a PDU in the segment, 2 a PDU in receive memory, 3 a drop, 4 a start, 5 a start with the end mark, 6 a piece, 7 the
-// last piece.
-fn take_shape(row: &[u8]) -> usize {
+// More wanted, a PDU in the segment or in receive memory, a start, a piece, the last piece, or a drop.
+fn take_pattern(row: &[u8]) -> &'static [u8] {
     if is_held(row) {
-        return 2;
+        return b"; take @ read %w00 byte^: PDU of route %b05, id 0x%i06, length %w10 byte^, from receive memory: *";
     }
     match be8(row, 4) {
-        0 => 0,
-        1 => 1,
-        3 => start_shape(row),
-        4 => 6,
-        5 => 7,
-        _ => 3,
+        0 => b"; take @ read %w00 byte^: more wanted",
+        1 => {
+            b"; take @ read %w00 byte^: PDU of route %b05, id 0x%i06, length %w10 byte^, from the segment at byte %w15: *"
+        }
+        3 => start_pattern(row),
+        4 =>
+            b"; take @ read %w00 byte^: piece of route %b05, id 0x%i06, %w10 byte^, from the segment at byte %w14: *",
+        5 =>
+            b"; take @ read %w00 byte^: last piece of route %b05, id 0x%i06, %w10 byte^, from the segment at byte %w14: *",
+        _ => b"; take @ read %w00 byte^: drop %b05, %d05, id 0x%i06, length %w10 byte^",
     }
 }
 
@@ -83,16 +89,7 @@ fn place_at(row: &[u8]) -> usize {
 
 // One take, whose bytes of the answer begin with `row`.
 fn take(text: &mut [u8], at: usize, number: u64, row: &[u8], segment: &[u8]) -> usize {
-    let patterns = b"\
-        ; take @ read %w00 byte^: more wanted/\
-        ; take @ read %w00 byte^: PDU of route %b05, id 0x%i06, length %w10 byte^, from the segment at byte %w15: */\
-        ; take @ read %w00 byte^: PDU of route %b05, id 0x%i06, length %w10 byte^, from receive memory: */\
-        ; take @ read %w00 byte^: drop %b05, %d05, id 0x%i06, length %w10 byte^/\
-        ; take @ read %w00 byte^: start of a transfer on route %b05, id 0x%i06, length %w10 byte^/\
-        ; take @ read %w00 byte^: start of a transfer on route %b05, id 0x%i06, length %w10 byte^, the end/\
-        ; take @ read %w00 byte^: piece of route %b05, id 0x%i06, %w10 byte^, from the segment at byte %w14: */\
-        ; take @ read %w00 byte^: last piece of route %b05, id 0x%i06, %w10 byte^, from the segment at byte %w14: */";
-    let pattern = phrase(patterns, take_shape(row));
+    let pattern = take_pattern(row);
     let long = be32(row, 10);
     if is_held(row) {
         return lay(text, at, pattern, number, row, part_of(row, 15, long));
@@ -117,12 +114,10 @@ fn takes(text: &mut [u8], at: usize, answer: &[u8], segment: &[u8]) -> usize {
     let count = be16(answer, 2);
     let mut place: usize = 4;
     let mut next = at;
-    let mut i: usize = 0;
-    while i < count {
+    for i in 0..count {
         let row = bytes_from(answer, place);
         next = take(text, next, i as u64 + 1, row, segment);
         place = after(answer.len(), place, take_bytes(row));
-        i += 1;
     }
     next
 }
@@ -130,60 +125,36 @@ fn takes(text: &mut [u8], at: usize, answer: &[u8], segment: &[u8]) -> usize {
 // ---- the other answers
 
 fn walk(text: &mut [u8], at: usize, row: &[u8], datagram: &[u8]) -> usize {
-    let patterns = b"\
-        ; the end, next byte %w00/\
-        ; PDU of route %b05, id 0x%i06, length %w10 byte^, at byte %w14: *, next byte %w00/\
-        ; drop %b05, %d05, id 0x%i06, length %w10 byte^, next byte %w00/";
-    lay(
-        text,
-        at,
-        phrase(patterns, be8(row, 4)),
-        0,
-        row,
-        part_of(datagram, be32(row, 14), be32(row, 10)),
-    )
+    let pattern: &[u8] = match be8(row, 4) {
+        0 => b"; the end, next byte %w00",
+        1 => b"; PDU of route %b05, id 0x%i06, length %w10 byte^, at byte %w14: *, next byte %w00",
+        2 => b"; drop %b05, %d05, id 0x%i06, length %w10 byte^, next byte %w00",
+        _ => b"",
+    };
+    let payload = part_of(datagram, be32(row, 14), be32(row, 10));
+    lay(text, at, pattern, 0, row, payload)
 }
 
-// A loss that ended a transfer.
-fn loss_shape(failed: usize) -> usize {
-    if failed == 0 { 0 } else { 5 }
-}
-
-// What follows the number and its meaning, where it is no list: 1 with waiting bytes, 2 a connection, 3 a count, 4 the destination of a transmit's
-// 4, 7 and 8, 5 that a transfer failed; 0 nothing.
-fn follows(event: u16, number: usize, answer: &[u8]) -> usize {
-    let named = (number == 4) | (number == 7) | (number == 8);
-    if (event == 12) & named {
-        return 4;
-    }
-    if number != 0 {
-        return 0;
-    }
-    match event {
-        4 => loss_shape(be8(answer, 2)),
-        9 => 1,
-        10 | 11 => 2,
-        14 | 15 => 3,
-        _ => 0,
+// What follows the number and its meaning, where it is no list: waiting bytes, a connection, a count, that a transfer failed, the destination
+// of a transmit's 4, 7 and 8, or nothing.
+fn value_pattern(event: u16, number: usize, answer: &[u8]) -> &'static [u8] {
+    match (event, number) {
+        (4, 0) => if be8(answer, 2) == 0 {
+            b""
+        } else {
+            b"; a transfer failed"
+        },
+        (9, 0) => b"; %w02 byte^ for %q19 port %r23: *",
+        (10 | 11, 0) => b"; connection %b02",
+        (14 | 15, 0) => b"; %w02 drop^",
+        (12, 4 | 7 | 8) => b", destination %w02",
+        _ => b"",
     }
 }
 
 fn value(text: &mut [u8], at: usize, event: u16, number: usize, answer: &[u8]) -> usize {
-    let patterns = b"\
-        /\
-        ; %w02 byte^ for %q19 port %r23: */\
-        ; connection %b02/\
-        ; %w02 drop^/\
-        , destination %w02/\
-        ; a transfer failed/";
-    lay(
-        text,
-        at,
-        phrase(patterns, follows(event, number, answer)),
-        0,
-        answer,
-        bytes_from(answer, 25),
-    )
+    let pattern = value_pattern(event, number, answer);
+    lay(text, at, pattern, 0, answer, bytes_from(answer, 25))
 }
 
 // One of the connections whose transfer failed, behind those before it.
@@ -200,60 +171,40 @@ fn listed(text: &mut [u8], at: usize, k: u64, failed: bool, first: bool) -> usiz
 // The connections whose bit is set, the lowest first.
 fn connections(text: &mut [u8], at: usize, word: u16) -> usize {
     let mut next = at;
-    let mut left = word;
     let mut first = true;
-    let mut k: u64 = 0;
-    while k < 16 {
-        let failed = left % 2 == 1;
-        next = listed(text, next, k, failed, first);
-        first = first & !failed;
-        left = left / 2;
-        k += 1;
+    for k in 0u16..16 {
+        let failed = word >> k & 1 == 1;
+        next = listed(text, next, k as u64, failed, first);
+        first = first && !failed;
     }
     next
 }
 
-// 0 none, 1 one connection, 2 several.
-fn failed_shape(word: u16) -> usize {
-    match u32::count_ones(word as u32) {
-        0 => 0,
-        1 => 1,
-        _ => 2,
-    }
-}
-
 // The transfers that ticks ended: a word with bit k for connection k.
 fn failed(text: &mut [u8], at: usize, word: u16) -> usize {
-    let patterns = b"/; a transfer failed on connection /; transfers failed on connections /";
-    let named = lay(text, at, phrase(patterns, failed_shape(word)), 0, b"", b"");
+    let pattern: &[u8] = match word.count_ones() {
+        0 => b"",
+        1 => b"; a transfer failed on connection ",
+        _ => b"; transfers failed on connections ",
+    };
+    let named = lay(text, at, pattern, 0, b"", b"");
     connections(text, named, word)
-}
-
-// The number's meaning: 1 where it has none, as only a recorded answer may have it.
-fn meaning_shape(number: usize) -> usize {
-    if number <= 12 { 0 } else { 1 }
 }
 
 // The answer: its number, the meaning, and what comes with it.
 pub fn answer(text: &mut [u8], at: usize, event: u16, answer: &[u8], body: &[u8]) -> usize {
     let number = be16(answer, 0);
-    let meanings = b"%h00 %n01/%h00 unknown/";
-    let meant = lay(
-        text,
-        at,
-        phrase(meanings, meaning_shape(number)),
-        0,
-        answer,
-        answer,
-    );
-    if (number == 0) & (event == 0) {
-        return failed(text, meant, two_bytes(answer, 2));
+    // only a recorded answer may have a number with no meaning
+    let pattern: &[u8] = if number <= 12 {
+        b"%h00 %n01"
+    } else {
+        b"%h00 unknown"
+    };
+    let meant = lay(text, at, pattern, 0, answer, answer);
+    match (number, event) {
+        (0, 0) => failed(text, meant, u16_at(answer, 2)),
+        (0, 7) => takes(text, meant, answer, bytes_from(body, 6)),
+        (0, 8) => walk(text, meant, bytes_from(answer, 2), bytes_from(body, 10)),
+        _ => value(text, meant, event, number, answer),
     }
-    if (number == 0) & (event == 7) {
-        return takes(text, meant, answer, bytes_from(body, 6));
-    }
-    if (number == 0) & (event == 8) {
-        return walk(text, meant, bytes_from(answer, 2), bytes_from(body, 10));
-    }
-    value(text, meant, event, number, answer)
 }

@@ -12,24 +12,12 @@ use table_layout::{Kind, part_of, rows_of};
 use wire::{be8, be16, put8, put16, put32};
 use words::{lay, phrase};
 
-fn mode_number(mode: Mode) -> u8 {
-    match mode {
-        Mode::Offline => 0,
-        Mode::Reconnect => 1,
-        Mode::Online => 2,
-    }
-}
-
-fn flag(is: bool) -> u8 {
-    if is { 1 } else { 0 }
-}
-
 // ---- the 46 bytes of a record
 
 fn spell_front(row: &mut [u8], mode: Mode, open: bool, close: bool) {
-    put8(row, 0, mode_number(mode));
-    put8(row, 1, flag(open));
-    put8(row, 2, flag(close));
+    put8(row, 0, mode as u8);
+    put8(row, 1, u8::from(open));
+    put8(row, 2, u8::from(close));
 }
 
 fn spell_header(row: &mut [u8], held: u8, value: u64) {
@@ -70,37 +58,36 @@ fn spell_part(row: &mut [u8], part: Part) {
 fn spell_send(row: &mut [u8], used: u16, timer: u16, due: bool) {
     put16(row, 38, used);
     put16(row, 40, timer);
-    put8(row, 42, flag(due));
+    put8(row, 42, u8::from(due));
 }
 
 fn spell_watch(row: &mut [u8], watch: Watch) {
     put16(row, 43, watch.alive);
-    put8(row, 45, flag(watch.remote_set));
+    put8(row, 45, u8::from(watch.remote_set));
 }
 
-fn spell(row: &mut [u8], c: Connection) {
-    let mode = c.mode;
-    let remote = c.remote;
-    let part = c.part;
-    let watch = c.watch;
-    spell_front(row, mode, c.open_wanted, c.close_wanted);
-    put32(row, 16, remote.address);
-    put16(row, 20, remote.port);
+fn spell(row: &mut [u8], c: &Connection) {
+    spell_front(row, c.mode, c.open_wanted, c.close_wanted);
+    put32(row, 16, c.remote.address);
+    put16(row, 20, c.remote.port);
     put32(row, 22, c.switches);
-    spell_part(row, part);
+    spell_part(row, c.part);
     spell_send(row, c.used, c.timer, c.due);
-    spell_watch(row, watch);
+    spell_watch(row, c.watch);
 }
 
 // ---- its line
 
-// 0 ready, 1 header bytes held, 2 a payload, 3 a skip, 4 a transfer.
-fn part_shape(row: &[u8]) -> usize {
-    let kind = be8(row, 26);
-    if (kind == 0) & (be16(row, 28) == 0) {
-        return 0;
+// Ready, header bytes held, a payload, a skip or a transfer.
+fn part_pattern(row: &[u8]) -> &'static [u8] {
+    match (be8(row, 26), be16(row, 28)) {
+        (0, 0) => b"ready",
+        (0, _) => b"header %h28 byte^: *",
+        (1, _) => b"payload of route %b27, %h28 of %w34 byte^: *",
+        (2, _) => b"skip %w34 byte^",
+        (3, _) => b"transfer of route %b27, %w34 byte^ to come",
+        _ => b"",
     }
-    kind + 1
 }
 
 // The header bytes held: the last of the number's eight.
@@ -114,49 +101,29 @@ fn header_held(row: &[u8]) -> &[u8] {
 
 // The receive part; its stretch of memory holds a payload's bytes.
 fn received(text: &mut [u8], at: usize, row: &[u8], stretch: &[u8]) -> usize {
-    let patterns = b"\
-        ready/\
-        header %h28 byte^: */\
-        payload of route %b27, %h28 of %w34 byte^: */\
-        skip %w34 byte^/\
-        transfer of route %b27, %w34 byte^ to come/";
-    let pattern = phrase(patterns, part_shape(row));
+    let pattern = part_pattern(row);
     if be8(row, 26) == 0 {
         return lay(text, at, pattern, 0, row, header_held(row));
     }
     lay(text, at, pattern, 0, row, front(stretch, be16(row, 28)))
 }
 
-// The timer at a place of the record: 0 stopped, 1 running.
-fn timer_shape(row: &[u8], place: usize) -> usize {
-    if be16(row, place) == 0 { 0 } else { 1 }
-}
-
-// The timer and the due mark.
+// The timer, which may have stopped, and the due mark.
 fn timed(text: &mut [u8], at: usize, row: &[u8]) -> usize {
-    let patterns = b", timer stopped, due %y42/, timer %h40 tick^, due %y42/";
-    lay(
-        text,
-        at,
-        phrase(patterns, timer_shape(row, 40)),
-        0,
-        row,
-        row,
-    )
+    let pattern: &[u8] = match be16(row, 40) {
+        0 => b", timer stopped, due %y42",
+        _ => b", timer %h40 tick^, due %y42",
+    };
+    lay(text, at, pattern, 0, row, row)
 }
 
-// The alive timer and the mark that the upper layer set the remote.
+// The alive timer, which may have stopped, and the mark that the upper layer set the remote.
 fn watched(text: &mut [u8], at: usize, row: &[u8]) -> usize {
-    let patterns =
-        b", alive timer stopped, remote set %y45\n/, alive timer %h43 tick^, remote set %y45\n/";
-    lay(
-        text,
-        at,
-        phrase(patterns, timer_shape(row, 43)),
-        0,
-        row,
-        row,
-    )
+    let pattern: &[u8] = match be16(row, 43) {
+        0 => b", alive timer stopped, remote set %y45\n",
+        _ => b", alive timer %h43 tick^, remote set %y45\n",
+    };
+    lay(text, at, pattern, 0, row, row)
 }
 
 fn line(text: &mut [u8], at: usize, number: u64, row: &[u8], rx: &[u8], tx: &[u8]) -> usize {
@@ -177,7 +144,7 @@ fn line(text: &mut [u8], at: usize, number: u64, row: &[u8], rx: &[u8], tx: &[u8
 }
 
 // The record number so many, with its stretches of receive and send memory.
-fn record(text: &mut [u8], at: usize, number: u64, c: Connection, rx: &[u8], tx: &[u8]) -> usize {
+fn record(text: &mut [u8], at: usize, number: u64, c: &Connection, rx: &[u8], tx: &[u8]) -> usize {
     let mut row = [0u8; 46];
     spell(&mut row, c);
     line(text, at, number, &row, rx, tx)
@@ -192,45 +159,22 @@ fn counts(text: &mut [u8], at: usize, udp: u32, tcp: u32) -> usize {
 
 // ---- all of them
 
-// One line for the record k, where the table has a row for it.
-fn record_of(
-    text: &mut [u8],
-    at: usize,
-    table: &[u8],
-    k: u8,
-    c: Connection,
-    rx: &[u8],
-    tx: &[u8],
-) -> usize {
-    let i = k as usize;
-    if rows_of(table, Kind::Connection) <= i {
-        return at;
-    }
-    record(
-        text,
-        at,
-        k as u64,
-        c,
-        bytes_from(rx, i * 1464),
-        bytes_from(tx, i * 1472),
-    )
-}
-
 // Sixteen records have some 99,000 characters at most.
 pub fn records(
     text: &mut [u8],
     at: usize,
     table: &[u8],
-    state: State,
+    state: &State,
     rx: &[u8],
     tx: &[u8],
 ) -> usize {
-    let mut next: usize = at;
-    let mut k: u8 = 0;
-    while k < 16 {
-        let c = state.connections[k as usize];
-        next = record_of(text, next, table, k, c, rx, tx);
-        k += 1;
+    let rows = rows_of(table, Kind::Connection);
+    let mut next = at;
+    for (k, c) in state.connections.iter().enumerate() {
+        if k < rows {
+            let (held, waiting) = (bytes_from(rx, k * 1464), bytes_from(tx, k * 1472));
+            next = record(text, next, k as u64, c, held, waiting);
+        }
     }
     counts(text, next, state.udp_drops, state.tcp_drops)
 }

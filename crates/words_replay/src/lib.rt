@@ -3,58 +3,53 @@
 // the words are tried by stored output.
 #![tactic(auto)]
 
-ghost use Rattle.std.specs.Prelude.{◌≤◌};
-
 use recording::{
-    Fault, Front, answer_in, arguments_in, body_long, distance, entries_in, entry_row, number_in,
-    stamp_in,
+    Fault, Unreadable, answer_in, arguments_in, body_long, distance, entries_in, entry_row,
+    number_in, stamp_in,
 };
 use table_layout::part_of;
 use wire::copy_in;
-use words::{lay, phrase};
+use words::lay;
 use words_event::{answer, event};
 
-// How an entry leaves the replay: it goes on; its body is cut off after so many bytes; it is refused.
+// How an entry ends the replay: its body is cut off after so many bytes; it is refused.
 #[derive(Clone, Copy)]
-pub enum Last {
-    GoesOn,
+pub enum Ending {
     Cut(usize),
     Refused(Fault),
 }
 
-// How the last entry left the replay, the stamp before, the entries and ticks run; the first entry that differs, from 1, or 0, and how many
-// bytes today's answer to it has; and where the line of the last entry ends.
+// An entry that differs, from 0, and how many bytes today's answer to it has.
 #[derive(Clone, Copy)]
+pub struct Differing {
+    pub entry: u64,
+    pub written: usize,
+}
+
+// How an entry ended the replay, where one did; the stamp before, the entries and ticks run; the first entry that differs, where one does; and
+// where the line of the last entry ends.
+#[derive(Clone, Copy, Default)]
 pub struct Tale {
-    pub last: Last,
+    pub ending: Option<Ending>,
     pub before: u32,
     pub run: u64,
     pub ticks: u64,
-    pub first: u64,
-    pub written: usize,
+    pub first: Option<Differing>,
     pub end: usize,
 }
 
-pub fn untold() -> Tale {
-    Tale {
-        last: Last::GoesOn,
-        before: 0,
-        run: 0,
-        ticks: 0,
-        first: 0,
-        written: 0,
-        end: 0,
-    }
+// The last word on a recording.
+#[derive(Clone, Copy, PartialEq, Eq)]
+pub enum LastWord {
+    Same,
+    Differs,
+    Refused,
+    Cut,
 }
 
 // The room of a body: the most bytes that one has. Of the first entry that differs the body is kept at the front of a buffer, and today's answer
 // behind that room.
 const BODY: usize = 4096;
-
-pub fn goes_on(tale: Tale) -> bool {
-    let last = tale.last;
-    if let Last::GoesOn = last { true } else { false }
-}
 
 // The contents row of the entry after those that were run.
 pub fn next_row(contents: &[u8], run: u64) -> &[u8] {
@@ -97,8 +92,8 @@ pub fn passed(tale: Tale, row: &[u8]) -> Tale {
     let ticks = ticks_to(tale, row) as u64;
     Tale {
         before: stamp_in(row),
-        run: std::num::wrapping_add_u64(tale.run, 1),
-        ticks: std::num::wrapping_add_u64(tale.ticks, ticks),
+        run: tale.run.wrapping_add(1),
+        ticks: tale.ticks.wrapping_add(ticks),
         end: 0,
         ..tale
     }
@@ -108,27 +103,30 @@ pub fn passed(tale: Tale, row: &[u8]) -> Tale {
 pub fn ran(text: &mut [u8], tale: Tale, row: &[u8], body: &[u8], today: &[u8]) -> Tale {
     let next = passed(tale, row);
     let end = entry(text, next.run, row, ticks_to(tale, row), body, today);
-    Tale { end: end, ..next }
+    Tale { end, ..next }
 }
 
 // The next entry differs: where it is the first, it is kept.
 pub fn differed(tale: Tale, body: &[u8], today: &[u8], kept: &mut [u8]) -> Tale {
-    if tale.first != 0 {
+    if tale.first.is_some() {
         return tale;
     }
     copy_in(kept, 0, body);
     copy_in(kept, BODY, today);
-    Tale {
-        first: std::num::wrapping_add_u64(tale.run, 1),
+    let first = Differing {
+        entry: tale.run,
         written: today.len(),
+    };
+    Tale {
+        first: Some(first),
         ..tale
     }
 }
 
 // The next entry ends the replay.
-pub fn stopped(tale: Tale, last: Last) -> Tale {
+pub fn stopped(tale: Tale, ending: Ending) -> Tale {
     Tale {
-        last: last,
+        ending: Some(ending),
         end: 0,
         ..tale
     }
@@ -161,104 +159,112 @@ fn differs(text: &mut [u8], n: u64, row: &[u8], body: &[u8], today: &[u8]) -> us
 }
 
 fn difference(text: &mut [u8], contents: &[u8], tale: Tale, kept: &[u8]) -> usize {
-    let n = tale.first;
-    if n < 1 {
+    let Some(first) = tale.first else {
         return 0;
-    }
-    let row = next_row(contents, n - 1);
+    };
+    let row = next_row(contents, first.entry);
     let body = part_of(kept, 0, body_long(row));
-    differs(text, n, row, body, part_of(kept, BODY, tale.written))
+    let today = part_of(kept, BODY, first.written);
+    differs(text, first.entry.wrapping_add(1), row, body, today)
 }
 
 // ---- what ended it
 
-// 0 for fewer bytes than a front has, 1 for one entry, 2 for more.
-fn contents_shape(contents: &[u8]) -> usize {
+// What the contents would need, where a front is there.
+fn needs_pattern(contents: &[u8]) -> &'static [u8] {
     if contents.len() < 4 {
-        return 0;
+        return b"the front needs 4 bytes\n";
     }
     if entries_in(contents) == 1 {
-        return 1;
+        return b"%h02 entry needs @ bytes\n";
     }
-    2
+    b"%h02 entries need @ bytes\n"
 }
 
 fn contents_cut(text: &mut [u8], at: usize, contents: &[u8], long: usize) -> usize {
-    let patterns = b"\
-        the front needs 4 bytes\n/\
-        %h02 entry needs @ bytes\n/\
-        %h02 entries need @ bytes\n/";
-    let pattern = phrase(patterns, contents_shape(contents));
     let needs = 4 + entries_in(contents) as u64 * 12;
     let cut = b"cut: the contents end after @ byte^, ";
     let told = lay(text, at, cut, long as u64, contents, contents);
-    lay(text, told, pattern, needs, contents, contents)
+    lay(
+        text,
+        told,
+        needs_pattern(contents),
+        needs,
+        contents,
+        contents,
+    )
 }
 
 // Why nothing was run.
-fn unread(text: &mut [u8], at: usize, contents: &[u8], long: usize, shown: Front) -> usize {
-    let patterns = b"\
-        refused: edition %h00 is not 1\n/\
-        over the limit: %h02 entries, 4000 entries are the most\n/\
-        over the limit: entry @: body of %w08 bytes, 4096 bytes are the most\n/";
+fn unread(
+    text: &mut [u8],
+    at: usize,
+    contents: &[u8],
+    long: usize,
+    shown: Result<(), Unreadable>,
+) -> usize {
     match shown {
-        Front::Sized => at,
-        Front::Contents => contents_cut(text, at, contents, long),
-        Front::Edition => lay(text, at, phrase(patterns, 0), 0, contents, contents),
-        Front::Many => lay(text, at, phrase(patterns, 1), 0, contents, contents),
-        Front::Long(i) => lay(
-            text,
-            at,
-            phrase(patterns, 2),
-            i as u64 + 1,
-            entry_row(contents, i),
-            contents,
-        ),
+        Ok(()) => at,
+        Err(Unreadable::Contents) => contents_cut(text, at, contents, long),
+        Err(Unreadable::Edition) => {
+            let pattern = b"refused: edition %h00 is not 1\n";
+            lay(text, at, pattern, 0, contents, contents)
+        },
+        Err(Unreadable::Many) => {
+            let pattern = b"over the limit: %h02 entries, 4000 entries are the most\n";
+            lay(text, at, pattern, 0, contents, contents)
+        },
+        Err(Unreadable::Long(i)) => {
+            let pattern = b"over the limit: entry @: body of %w08 bytes, 4096 bytes are the most\n";
+            lay(
+                text,
+                at,
+                pattern,
+                i as u64 + 1,
+                entry_row(contents, i),
+                contents,
+            )
+        }
     }
 }
 
 // The body of entry n is cut off.
 fn body_cut(text: &mut [u8], at: usize, n: u64, row: &[u8], there: usize) -> usize {
-    let patterns = b"@ bytes are there\n/@ byte is there\n/";
-    let shape = if there == 1 { 1 } else { 0 };
+    let pattern: &[u8] = if there == 1 {
+        b"@ byte is there\n"
+    } else {
+        b"@ bytes are there\n"
+    };
     let told = lay(text, at, b"cut: entry @: body of %w08 byte^, ", n, row, row);
-    lay(text, told, phrase(patterns, shape), there as u64, row, row)
-}
-
-fn fault_number(fault: Fault) -> usize {
-    match fault {
-        Fault::Nothing => 0,
-        Fault::FarStamp => 1,
-        Fault::NoEvent => 2,
-        Fault::ZeroField => 3,
-        Fault::Misfit => 4,
-    }
+    lay(text, told, pattern, there as u64, row, row)
 }
 
 // Entry n, so many ticks after the one before, is refused.
-fn refused(text: &mut [u8], at: usize, n: u64, row: &[u8], ticks: u32, fault: usize) -> usize {
-    let patterns = b"\
-        /\
-        refused: entry @: stamp %w00 is /\
-        refused: entry @: unknown event number %h04\n/\
-        refused: entry @: zero field is not 0\n/\
-        refused: entry @: body does not fit\n/";
-    let far = b"/@ ticks after the one before, 65535 ticks are the most\n/";
-    let told = lay(text, at, phrase(patterns, fault), n, row, row);
-    lay(text, told, phrase(far, fault), ticks as u64, row, row)
+fn refused(text: &mut [u8], at: usize, n: u64, row: &[u8], ticks: u32, fault: Fault) -> usize {
+    let pattern: &[u8] = match fault {
+        Fault::FarStamp => b"refused: entry @: stamp %w00 is ",
+        Fault::NoEvent => b"refused: entry @: unknown event number %h04\n",
+        Fault::ZeroField => b"refused: entry @: zero field is not 0\n",
+        Fault::Misfit => b"refused: entry @: body does not fit\n",
+    };
+    let far: &[u8] = match fault {
+        Fault::FarStamp => b"@ ticks after the one before, 65535 ticks are the most\n",
+        Fault::NoEvent | Fault::ZeroField | Fault::Misfit => b"",
+    };
+    let told = lay(text, at, pattern, n, row, row);
+    lay(text, told, far, ticks as u64, row, row)
 }
 
 // Why it ended, where it did.
 fn ended(text: &mut [u8], at: usize, contents: &[u8], tale: Tale) -> usize {
     let row = next_row(contents, tale.run);
     let n = tale.run % 65536 + 1;
-    let last = tale.last;
-    match last {
-        Last::GoesOn => at,
-        Last::Cut(there) => body_cut(text, at, n, row, there),
-        Last::Refused(fault) => {
+    match tale.ending {
+        None => at,
+        Some(Ending::Cut(there)) => body_cut(text, at, n, row, there),
+        Some(Ending::Refused(fault)) => {
             let ticks = distance(tale.before, stamp_in(row));
-            refused(text, at, n, row, ticks, fault_number(fault))
+            refused(text, at, n, row, ticks, fault)
         }
     }
 }
@@ -266,18 +272,24 @@ fn ended(text: &mut [u8], at: usize, contents: &[u8], tale: Tale) -> usize {
 // ---- the end
 
 // The entries that the recording names: none where its front is not there or of another edition.
-fn named(contents: &[u8], shown: Front) -> u16 {
+fn named(contents: &[u8], shown: Result<(), Unreadable>) -> u16 {
     if contents.len() < 4 {
         return 0;
     }
-    if let Front::Edition = shown {
+    if let Err(Unreadable::Edition) = shown {
         0
     } else {
         entries_in(contents)
     }
 }
 
-fn counts(text: &mut [u8], at: usize, contents: &[u8], shown: Front, tale: Tale) -> usize {
+fn counts(
+    text: &mut [u8],
+    at: usize,
+    contents: &[u8],
+    shown: Result<(), Unreadable>,
+    tale: Tale,
+) -> usize {
     let of = named(contents, shown) as u64;
     let run = lay(
         text,
@@ -297,7 +309,7 @@ pub fn summary(
     text: &mut [u8],
     contents: &[u8],
     long: usize,
-    shown: Front,
+    shown: Result<(), Unreadable>,
     tale: Tale,
     kept: &[u8],
 ) -> usize {
@@ -307,43 +319,37 @@ pub fn summary(
     counts(text, last, contents, shown, tale)
 }
 
-fn last_number(last: Last) -> usize
-    ensures { result ≤ 3 }
-{
-    match last {
-        Last::GoesOn => 0,
-        Last::Cut(_) => 3,
-        Last::Refused(_) => 2,
+fn ending_word(ending: Option<Ending>) -> LastWord {
+    match ending {
+        None => LastWord::Same,
+        Some(Ending::Cut(_)) => LastWord::Cut,
+        Some(Ending::Refused(_)) => LastWord::Refused,
     }
 }
 
-fn ending_number(shown: Front, last: Last) -> usize
-    ensures { result ≤ 3 }
-{
+// The last word: a difference is told before the ending.
+pub fn last_word_of(shown: Result<(), Unreadable>, tale: Tale) -> LastWord {
+    if tale.first.is_some() {
+        return LastWord::Differs;
+    }
     match shown {
-        Front::Sized => last_number(last),
-        Front::Contents => 3,
-        Front::Edition => 2,
-        Front::Many => 2,
-        Front::Long(_) => 2,
+        Ok(()) => ending_word(tale.ending),
+        Err(Unreadable::Contents) => LastWord::Cut,
+        Err(_) => LastWord::Refused,
     }
 }
 
-// The number of the last word: 0 the same, 1 a difference, 2 a refusal, 3 a cut.
-pub fn word_number(shown: Front, tale: Tale) -> usize
-    ensures { result ≤ 3 }
-{
-    let last = tale.last;
-    let ending = ending_number(shown, last);
-    if tale.first == 0 {
-        return ending;
+pub fn spelt(word: LastWord) -> &'static [u8] {
+    match word {
+        LastWord::Same => b"SAME",
+        LastWord::Differs => b"DIFFERS",
+        LastWord::Refused => b"REFUSED",
+        LastWord::Cut => b"CUT",
     }
-    1
 }
 
-// The last word.
-pub fn word(text: &mut [u8], at: usize, shown: Front, tale: Tale) -> usize {
-    let words = b"SAME\n/DIFFERS\n/REFUSED\n/CUT\n/";
-    let number = word_number(shown, tale);
-    lay(text, at, phrase(words, number), 0, b"", b"")
+// The line of the last word.
+pub fn word(text: &mut [u8], at: usize, shown: Result<(), Unreadable>, tale: Tale) -> usize {
+    let told = lay(text, at, spelt(last_word_of(shown, tale)), 0, b"", b"");
+    lay(text, told, b"\n", 0, b"", b"")
 }

@@ -3,10 +3,11 @@
 #![tactic(auto)]
 
 use report::{Drops, RouteFigures};
-use words::{lay, phrase};
+use words::lay;
+use words_replay::{LastWord, spelt};
 
 // How many recordings there were, how they ended, and how many parts were left out.
-#[derive(Clone, Copy)]
+#[derive(Clone, Copy, Default)]
 pub struct Ends {
     pub given: u64,
     pub same: u64,
@@ -16,41 +17,37 @@ pub struct Ends {
     pub out: u64,
 }
 
-pub fn no_ends() -> Ends {
-    Ends {
-        given: 0,
-        same: 0,
-        different: 0,
-        refused: 0,
-        cut: 0,
-        out: 0,
-    }
+// Why a part was left out: nothing of it can be read, or a sum would pass 64 bits.
+#[derive(Clone, Copy)]
+pub enum LeftOut {
+    Unreadable,
+    Sum,
 }
 
+// One more where it is so.
 fn more(n: u64, is: bool) -> u64 {
-    if is {
-        return std::num::wrapping_add_u64(n, 1);
-    }
-    n
+    n.wrapping_add(u64::from(is))
 }
 
-// One recording more: the number of its last word (crate words_replay), and whether it was left out.
-pub fn ended(ends: Ends, word: usize, out: bool) -> Ends {
-    Ends {
-        given: more(ends.given, true),
-        same: more(ends.same, word == 0),
-        different: more(ends.different, word == 1),
-        refused: more(ends.refused, word == 2),
-        cut: more(ends.cut, word == 3),
-        out: more(ends.out, out),
+impl Ends {
+    // One recording more: its last word, and whether it was left out.
+    pub fn ended(self, word: LastWord, out: bool) -> Ends {
+        Ends {
+            given: more(self.given, true),
+            same: more(self.same, word == LastWord::Same),
+            different: more(self.different, word == LastWord::Differs),
+            refused: more(self.refused, word == LastWord::Refused),
+            cut: more(self.cut, word == LastWord::Cut),
+            out: more(self.out, out),
+        }
     }
-}
 
-// One given report more.
-pub fn given(ends: Ends, out: bool) -> Ends {
-    Ends {
-        out: more(ends.out, out),
-        ..ends
+    // One given report more.
+    pub fn given(self, out: bool) -> Ends {
+        Ends {
+            out: more(self.out, out),
+            ..self
+        }
     }
 }
 
@@ -64,30 +61,32 @@ pub fn named(text: &mut [u8], n: u64, long: u64) -> usize {
     number(text, at, b"@ byte^\n", long)
 }
 
-// Why a part was left out: 0 for one that was not, 1 where nothing of it can be read, 2 for a sum.
-fn why(text: &mut [u8], at: usize, out: usize) -> usize {
-    let patterns = b"\
-        \n/\
-        , left out: nothing of it can be read\n/\
-        , left out: a sum would pass 18446744073709551615\n/";
-    number(text, at, phrase(patterns, out), 0)
+// Why a part was left out, where it was.
+fn why(out: Option<LeftOut>) -> &'static [u8] {
+    match out {
+        None => b"\n",
+        Some(LeftOut::Unreadable) => b", left out: nothing of it can be read\n",
+        Some(LeftOut::Sum) => b", left out: a sum would pass 18446744073709551615\n",
+    }
 }
 
-// The last line of recording n: its word, and whether it was left out.
-pub fn closed(text: &mut [u8], at: usize, n: u64, word: usize, out: usize) -> usize {
-    let words = b"SAME/DIFFERS/REFUSED/CUT/";
+// The last line of recording n: its word, and why it was left out, where it was.
+pub fn closed(text: &mut [u8], at: usize, n: u64, word: LastWord, out: Option<LeftOut>) -> usize {
     let head = number(text, at, b"recording @: ", n);
-    let told = number(text, head, phrase(words, word), n);
-    why(text, told, out)
+    let told = number(text, head, spelt(word), n);
+    number(text, told, why(out), 0)
 }
 
 // The line of given report n.
-pub fn joined(text: &mut [u8], n: u64, out: usize) -> usize {
-    let patterns = b"\
-        given report @: joined\n/\
-        given report @: left out: nothing of it can be read\n/\
-        given report @: left out: a sum would pass 18446744073709551615\n/";
-    number(text, 0, phrase(patterns, out), n)
+pub fn joined(text: &mut [u8], n: u64, out: Option<LeftOut>) -> usize {
+    let pattern: &[u8] = match out {
+        None => b"given report @: joined\n",
+        Some(LeftOut::Unreadable) => b"given report @: left out: nothing of it can be read\n",
+        Some(LeftOut::Sum) => {
+            b"given report @: left out: a sum would pass 18446744073709551615\n"
+        }
+    };
+    number(text, 0, pattern, n)
 }
 
 // How the recordings ended.
@@ -121,7 +120,6 @@ pub fn drops_line(text: &mut [u8], i: u64, drops: Drops) -> usize {
 
 // The last word: whether nothing was left out.
 pub fn last_line(text: &mut [u8], ends: Ends) -> usize {
-    let words = b"OK\n/REFUSED\n/";
-    let word = if ends.out == 0 { 0 } else { 1 };
-    number(text, 0, phrase(words, word), 0)
+    let word: &[u8] = if ends.out == 0 { b"OK\n" } else { b"REFUSED\n" };
+    number(text, 0, word, 0)
 }

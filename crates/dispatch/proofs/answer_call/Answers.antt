@@ -1,5 +1,4 @@
 -- `dispatch::answer_call` meets its contract.
-use mathlib.Core.Path.{refl}
 use Rattle.gate.specs.Lent.{loan}
 use Rattle.dispatch.specs.Dispatch.{effect_of}
 use Rattle.dispatch_receive.proofs.Room.{segment-sent, walk_kept}
@@ -7,24 +6,6 @@ use Rattle.dispatch.proofs.Kept.{own_kept, lost_kept, ticks_kept, switch_all_kep
 use Rattle.dispatch.proofs.Kept.{clear_kept, datagram_kept, accept_kept, take_kept, transmit_kept}
 use Rattle.wire.proofs.Clauses.{value_rx_tx_out}
 use Rattle.dispatch.proofs.answer_call.Goals as goal
-
-pub returns-in-Unknown : goal.returns-in-Unknown
-unfolding effect_of
-returns-in-Unknown c = rw c.in-Unknown.is record {
-  value = refl;
-  rx_after = refl;
-  tx_after = refl;
-  out_after = refl;
-}
-
-pub returns-in-Unfit : goal.returns-in-Unfit
-unfolding effect_of
-returns-in-Unfit c = rw c.in-Unfit.is record {
-  value = refl;
-  rx_after = refl;
-  tx_after = refl;
-  out_after = refl;
-}
 
 pub returns-in-Ticks : goal.returns-in-Ticks
 unfolding effect_of

@@ -1,7 +1,6 @@
 -- `dispatch_events::own` meets its contract.
-use Prim.Native.Nat.{◌<◌}
-use mathlib.Core.Path.{sym, ap, ◌∙◌}
-use Rattle.event_answer.proofs.Short.{refuses, replies}
+use Rattle.std.proofs.Common.{sym, ap, ◌∙◌, rules}
+use Rattle.event_answer.proofs.Short.{refuses_so, long_of, replies}
 use Rattle.gate.specs.Lent.{lent_by}
 use Rattle.gate.proofs.Pass.{in_sixteen, gate_at-laid}
 use Rattle.entry_events.specs.declared.Told.{Told}
@@ -10,37 +9,33 @@ use Rattle.dispatch_events.proofs.Replaced.{own-refused, own-past}
 use Rattle.wire.proofs.Clauses.{value_out}
 use Rattle.dispatch_events.proofs.own.Goals as goal
 
-pub returns-then-out-lt16384 : goal.returns-then-out-lt16384
+pub returns-in_err-has_room : goal.returns-in_err-has_room
 unfolding own_effect
-returns-then-out-lt16384 c = value_out (refuses _ _ _ _ _ c.if-out-lt16384.true)
+returns-in_err-has_room c = value_out (refuses_so _ _ _ _ _ c.has_room.ensures c.in_err-has_room.was (search rules))
 
-pub returns-in-Refused : goal.returns-in-Refused
+pub returns-in-Err : goal.returns-in-Err
 unfolding own_effect
-returns-in-Refused c =
+returns-in-Err c =
     let a = c.args in
-    let h = own-refused (lent_by a.image.now a.state a.rx.now a.tx.now) a.connection a.event c.ask_at-asked.ensures c.in-Refused.is in
-    value_out (replies a.state a.rx.now a.tx.now a.out.now c.if-out-lt16384.false
-    c.put_refusal-long.ensures.value c.put_refusal-long.ensures.out_after (ap (λ (u : Told). told_bytes u.answer) h) (ap (λ (u : Told). u.state) h))
+    let h = own-refused (lent_by a.image.now a.state a.rx.now a.tx.now) a.connection a.event c.ask_at.ensures c.in-Err.is in
+    value_out (replies a.state a.rx.now a.tx.now a.out.now (long_of a.out.now c.has_room.ensures c.in_ok-has_room.was)
+    c.put_refusal-length.ensures.value c.put_refusal-length.ensures.out_after (ap (λ (u : Told). told_bytes u.answer) h) (ap (λ (u : Told). u.state) h))
 
-pub bounds-after-n : goal.bounds-after-n
-bounds-after-n c =
-    let small : c.args.connection < 16 = in_sixteen _ _ (sym c.ask_at-asked.ensures ∙ c.in-Pass.is) in
-    small
+pub bounds-state-n : goal.bounds-state-n
+bounds-state-n c = in_sixteen _ _ (sym c.ask_at.ensures ∙ c.in_default.is)
+
+pub bounds-state-n-2 : goal.bounds-state-n-2
+bounds-state-n-2 c = in_sixteen _ _ (sym c.ask_at.ensures ∙ c.in_default.is)
 
 pub config_laid-requires : goal.config_laid-requires
-config_laid-requires c = gate_at-laid _ _ (sym c.ask_at-asked.ensures ∙ c.in-Pass.is)
+config_laid-requires c = gate_at-laid _ _ (sym c.ask_at.ensures ∙ c.in_default.is)
 
-pub bounds-after-n-in-Pass : goal.bounds-after-n-in-Pass
-bounds-after-n-in-Pass c =
-    let small : c.args.connection < 16 = in_sixteen _ _ (sym c.ask_at-asked.ensures ∙ c.in-Pass.is) in
-    small
-
-pub returns-in-Pass : goal.returns-in-Pass
+pub returns : goal.returns
 unfolding own_effect
-returns-in-Pass c =
+returns c =
     let a = c.args in
     let h =
-    own-past (lent_by a.image.now a.state a.rx.now a.tx.now) a.connection a.event c.ask_at-asked.ensures
-    c.in-Pass.is c.config_laid.ensures c.step-stepped.ensures in
-    value_out (replies a.state a.rx.now a.tx.now a.out.now c.if-out-lt16384.false
-    c.put_told-long.ensures.value c.put_told-long.ensures.out_after (ap (λ (u : Told). told_bytes u.answer) h) (ap (λ (u : Told). u.state) h))
+    own-past (lent_by a.image.now a.state a.rx.now a.tx.now) a.connection a.event c.ask_at.ensures
+    c.in_default.is c.config_laid.ensures c.step-stepped.ensures in
+    value_out (replies a.state a.rx.now a.tx.now a.out.now (long_of a.out.now c.has_room.ensures c.in_ok-has_room.was)
+    c.put_told-length.ensures.value c.put_told-length.ensures.out_after (ap (λ (u : Told). told_bytes u.answer) h) (ap (λ (u : Told). u.state) h))

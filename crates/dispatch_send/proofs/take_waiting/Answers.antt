@@ -1,30 +1,22 @@
 -- `dispatch_send::take_waiting` meets its contract.
-use Prim.Native.Nat.{ℕ, ◌≤◌}
-use mathlib.Core.Path.{sym, ap, ◌∙◌}
-use lib.ListN.{length, take, replicate, length-replicate}
-use lib.Seq.{length-take-le}
-use borrow.Author.Tests.{ltb-true, ltb-false}
+use Rattle.std.proofs.Common.{ℕ, ap, ◌∙◌, rules, take, replicate}
 use Rattle.gate.specs.Lent.{loan}
-use Rattle.event_answer.specs.Answers.{Effect, dispatched, room}
-use Rattle.event_answer.proofs.Short.{refuses, goes_on}
+use Rattle.event_answer.specs.Answers.{Effect, dispatched}
+use Rattle.event_answer.proofs.Short.{refuses_so, long_of, goes_on}
 use Rattle.dispatch_send.specs.Send.{room_of, take_into, take_effect}
 use Rattle.wire.proofs.Clauses.{value_out}
 use Rattle.dispatch_send.proofs.take_waiting.Goals as goal
 
-pub returns-then-short : goal.returns-then-short
+pub returns-in_err-has_room : goal.returns-in_err-has_room
 unfolding take_effect
-returns-then-short c = value_out (refuses _ _ _ _ _ (ltb-true _ _ c.if-short.true-raw))
-
-pub slice_bounds-take_into-end : goal.slice_bounds-take_into-end
-slice_bounds-take_into-end c = let n = c.room_of-n in let h : n.result ≤ length (replicate {A = ℕ} 1472 0) =
-    rw length-replicate n.ensures.1 in sym (length-take-le n.result (replicate 1472 0) h)
+returns-in_err-has_room c = value_out (refuses_so _ _ _ _ _ c.has_room.ensures c.in_err-has_room.was (search rules))
 
 pub returns : goal.returns
 unfolding take_effect
 returns c =
     let a = c.args in
-    let e = c.room_of-n.ensures.0 in
     let into : ℕ → Effect =
     λ k. take_into (loan a.image.now a.state a.rx.now a.tx.now) a.out.now a.connection (take k (replicate 1472 0)) in
-    value_out (goes_on a.state a.rx.now a.tx.now a.out.now (into (room_of a.room)) (ltb-false (length a.out.now) room c.if-short.false-raw)
+    let e = c.min-n.ensures in
+    value_out (goes_on a.state a.rx.now a.tx.now a.out.now (into (room_of a.room)) (long_of a.out.now c.has_room.ensures c.in_ok-has_room.was)
     (c.take_into.ensures.value ∙ ap (λ (k : ℕ). dispatched (into k)) e, c.take_into.ensures.out_after ∙ ap (λ (k : ℕ). (into k).out) e))

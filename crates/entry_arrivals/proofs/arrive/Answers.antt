@@ -1,3 +1,4 @@
+use Rattle.std.proofs.Common.{Err}
 use Prim.Native.Nat.{◌+◌, ◌*◌, ◌<◌, ◌≤◌}
 use mathlib.Core.Path.{◌≡◌, sym, ◌∙◌}
 use native.Mathlib.Omega.{arith}
@@ -6,7 +7,7 @@ use Rattle.table_layout.specs.Layout.{Laid}
 use Rattle.table_layout.proofs.Parts.{row-in, row_range}
 use Rattle.gate.specs.Lent.{Lent, lent}
 use Rattle.gate.proofs.Pass.{gate_laid}
-use Rattle.select.specs.declared.Arrival.TheVariants.{Unmatched}
+use Rattle.select.specs.declared.NotMet.TheVariants.{Unmatched}
 use Rattle.select.proofs.Pass.{search_start, search_small, search_on, search_ended}
 use Rattle.entry_arrivals.proofs.Landed.{past, before-laid, before-most, answer-is, met-laid, arrival_is}
 use Rattle.entry_arrivals.proofs.arrive.Goals as goal
@@ -19,7 +20,7 @@ past-before-requires c =
 pub searched-body-requires : goal.searched-body-requires
 searched-body-requires c =
     let by : Lent = let a = c.args in lent a.image.now a.state a.rx a.tx in
-    let laid : c.past-before.result ≡ Unmatched → Laid by.image = let a = c.args in
+    let laid : c.past-before.result ≡ Err Unmatched → Laid by.image = let a = c.args in
     before-laid by a.accept a.group a.source c.ask-asked.result c.ask-asked.ensures c.past-before.result c.past-before.ensures in
     laid
 
@@ -29,7 +30,7 @@ loop-i-init c = search_start _ _ _ _ _ _
 pub overflow_mul-start : goal.overflow_mul-start
 overflow_mul-start c =
     let by : Lent = let a = c.args in lent a.image.now a.state a.rx a.tx in
-    let laid : c.past-before.result ≡ Unmatched → Laid by.image = let a = c.args in
+    let laid : c.past-before.result ≡ Err Unmatched → Laid by.image = let a = c.args in
     before-laid by a.accept a.group a.source c.ask-asked.result c.ask-asked.ensures c.past-before.result c.past-before.ensures in
     let row_small : c.loop-i.i < 16 = let a = c.args in
     search_small a.image.now a.state a.accept a.group a.source c.past-before.result laid _ c.searched-body.ensures.bytes c.loop-i.i
@@ -40,7 +41,7 @@ overflow_mul-start c =
 pub overflow_add-row : goal.overflow_add-row
 overflow_add-row c =
     let by : Lent = let a = c.args in lent a.image.now a.state a.rx a.tx in
-    let laid : c.past-before.result ≡ Unmatched → Laid by.image = let a = c.args in
+    let laid : c.past-before.result ≡ Err Unmatched → Laid by.image = let a = c.args in
     before-laid by a.accept a.group a.source c.ask-asked.result c.ask-asked.ensures c.past-before.result c.past-before.ensures in
     let row_small : c.loop-i.i < 16 = let a = c.args in
     search_small a.image.now a.state a.accept a.group a.source c.past-before.result laid _ c.searched-body.ensures.bytes c.loop-i.i
@@ -56,7 +57,7 @@ slice_bounds-row-end c =
 pub offset_bounds-after-i : goal.offset_bounds-after-i
 offset_bounds-after-i c =
     let by : Lent = let a = c.args in lent a.image.now a.state a.rx a.tx in
-    let laid : c.past-before.result ≡ Unmatched → Laid by.image = let a = c.args in
+    let laid : c.past-before.result ≡ Err Unmatched → Laid by.image = let a = c.args in
     before-laid by a.accept a.group a.source c.ask-asked.result c.ask-asked.ensures c.past-before.result c.past-before.ensures in
     let row_small : c.loop-i.i < 16 = let a = c.args in
     search_small a.image.now a.state a.accept a.group a.source c.past-before.result laid _ c.searched-body.ensures.bytes c.loop-i.i
@@ -67,7 +68,7 @@ offset_bounds-after-i c =
 pub bounds-after-i : goal.bounds-after-i
 bounds-after-i c =
     let by : Lent = let a = c.args in lent a.image.now a.state a.rx a.tx in
-    let laid : c.past-before.result ≡ Unmatched → Laid by.image = let a = c.args in
+    let laid : c.past-before.result ≡ Err Unmatched → Laid by.image = let a = c.args in
     before-laid by a.accept a.group a.source c.ask-asked.result c.ask-asked.ensures c.past-before.result c.past-before.ensures in
     let row_small : c.loop-i.i < 16 = let a = c.args in
     search_small a.image.now a.state a.accept a.group a.source c.past-before.result laid _ c.searched-body.ensures.bytes c.loop-i.i
@@ -75,21 +76,10 @@ bounds-after-i c =
     (before-most by a.accept a.group a.source c.ask-asked.result c.ask-asked.ensures c.past-before.result c.past-before.ensures) in
     row_small
 
-pub overflow_add-i : goal.overflow_add-i
-overflow_add-i c =
-    let by : Lent = let a = c.args in lent a.image.now a.state a.rx a.tx in
-    let laid : c.past-before.result ≡ Unmatched → Laid by.image = let a = c.args in
-    before-laid by a.accept a.group a.source c.ask-asked.result c.ask-asked.ensures c.past-before.result c.past-before.ensures in
-    let row_small : c.loop-i.i < 16 = let a = c.args in
-    search_small a.image.now a.state a.accept a.group a.source c.past-before.result laid _ c.searched-body.ensures.bytes c.loop-i.i
-    c.loop-i-test.true
-    (before-most by a.accept a.group a.source c.ask-asked.result c.ask-asked.ensures c.past-before.result c.past-before.ensures) in
-    omega (arith, row_small)
-
 pub loop-i-preserved : goal.loop-i-preserved
 loop-i-preserved c =
     let by : Lent = let a = c.args in lent a.image.now a.state a.rx a.tx in
-    let laid : c.past-before.result ≡ Unmatched → Laid by.image = let a = c.args in
+    let laid : c.past-before.result ≡ Err Unmatched → Laid by.image = let a = c.args in
     before-laid by a.accept a.group a.source c.ask-asked.result c.ask-asked.ensures c.past-before.result c.past-before.ensures in
     let row_small : c.loop-i.i < 16 = let a = c.args in
     search_small a.image.now a.state a.accept a.group a.source c.past-before.result laid _ c.searched-body.ensures.bytes c.loop-i.i
@@ -106,7 +96,7 @@ answer_after-answer-requires c = c.loop-i.invariant.small
 pub next_of-next-requires : goal.next_of-next-requires
 next_of-next-requires c =
     let by : Lent = let a = c.args in lent a.image.now a.state a.rx a.tx in
-    let laid : c.past-before.result ≡ Unmatched → Laid by.image = let a = c.args in
+    let laid : c.past-before.result ≡ Err Unmatched → Laid by.image = let a = c.args in
     before-laid by a.accept a.group a.source c.ask-asked.result c.ask-asked.ensures c.past-before.result c.past-before.ensures in
     let answered : (let a = c.args in
     c.answer_after-answer.result ≡ past by a.accept a.group a.source c.ask-asked.result) = let a = c.args in
@@ -120,7 +110,7 @@ next_of-next-requires c =
 pub returns : goal.returns
 returns c =
     let by : Lent = let a = c.args in lent a.image.now a.state a.rx a.tx in
-    let laid : c.past-before.result ≡ Unmatched → Laid by.image = let a = c.args in
+    let laid : c.past-before.result ≡ Err Unmatched → Laid by.image = let a = c.args in
     before-laid by a.accept a.group a.source c.ask-asked.result c.ask-asked.ensures c.past-before.result c.past-before.ensures in
     let answered : (let a = c.args in
     c.answer_after-answer.result ≡ past by a.accept a.group a.source c.ask-asked.result) = let a = c.args in

@@ -2,10 +2,10 @@
 use Rattle.entry_events.specs.Count.{read_of}
 use Rattle.entry_events.proofs.read_count.Goals as goal
 
-pub returns-in-Refused : goal.returns-in-Refused
+pub returns-in-Err : goal.returns-in-Err
 unfolding read_of
-returns-in-Refused c = rw (← c.ask-asked.ensures, c.in-Refused.is)
+returns-in-Err c = rw (← c.ask-asked.ensures, c.in-Err.is)
 
-pub returns-in-Pass : goal.returns-in-Pass
+pub returns-in-Ok : goal.returns-in-Ok
 unfolding read_of
-returns-in-Pass c = rw (← c.ask-asked.ensures, c.in-Pass.is) c.read_past.ensures
+returns-in-Ok c = rw (← c.ask-asked.ensures, c.in-Ok.is) c.read_past.ensures

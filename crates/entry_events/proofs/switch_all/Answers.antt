@@ -7,22 +7,22 @@ use Rattle.entry_events.proofs.switch_all.Goals as goal
 
 pub switch_rows-after-requires : goal.switch_rows-after-requires
 switch_rows-after-requires c =
-    rw c.rows_of.ensures.0 (rows_in-sixteen _ (sym c.ask-asked.ensures ∙ c.in-Pass.is))
+    rw c.rows_of.ensures.0 (rows_in-sixteen _ (sym c.ask-asked.ensures ∙ c.in-Ok.is))
 
 pub returns-then-number-lt32 : goal.returns-then-number-lt32
 unfolding switch_all_of
 returns-then-number-lt32 c = rw (
   ← c.ask-asked.ensures,
-  c.in-Pass.is,
+  c.in-Ok.is,
   lt-ltb _ _ c.if-number-lt32.true,
   ← c.rows_of.ensures.0,
   c.switch_rows-after.ensures,
 )
 
-pub returns-in-Refused : goal.returns-in-Refused
+pub returns-in-Err : goal.returns-in-Err
 unfolding switch_all_of
-returns-in-Refused c = rw (← c.ask-asked.ensures, c.in-Refused.is)
+returns-in-Err c = rw (← c.ask-asked.ensures, c.in-Err.is)
 
 pub returns-else-number-lt32 : goal.returns-else-number-lt32
 unfolding switch_all_of
-returns-else-number-lt32 c = rw (← c.ask-asked.ensures, c.in-Pass.is, le-ltb _ _ c.if-number-lt32.false)
+returns-else-number-lt32 c = rw (← c.ask-asked.ensures, c.in-Ok.is, le-ltb _ _ c.if-number-lt32.false)

@@ -13,30 +13,30 @@ use Rattle.entry_send.proofs.take_waiting.Goals as goal
 
 pub bounds-after-n : goal.bounds-after-n
 bounds-after-n c =
-    let small : c.args.connection < 16 = in_sixteen _ _ (sym c.ask_at-asked.ensures ∙ c.in-Pass.is) in
+    let small : c.args.connection < 16 = in_sixteen _ _ (sym c.ask_at-asked.ensures ∙ c.in-Ok.is) in
     small
 
 pub config_laid-config-requires : goal.config_laid-config-requires
-config_laid-config-requires c = gate_at-laid _ _ (sym c.ask_at-asked.ensures ∙ c.in-Pass.is)
+config_laid-config-requires c = gate_at-laid _ _ (sym c.ask_at-asked.ensures ∙ c.in-Ok.is)
 
-pub offset_bounds-after-n-in-Pass : goal.offset_bounds-after-n-in-Pass
-offset_bounds-after-n-in-Pass c =
-    let small : c.args.connection < 16 = in_sixteen _ _ (sym c.ask_at-asked.ensures ∙ c.in-Pass.is) in
+pub offset_bounds-after-n-in-Ok : goal.offset_bounds-after-n-in-Ok
+offset_bounds-after-n-in-Ok c =
+    let small : c.args.connection < 16 = in_sixteen _ _ (sym c.ask_at-asked.ensures ∙ c.in-Ok.is) in
     omega (arith, small)
 
-pub bounds-after-n-in-Pass : goal.bounds-after-n-in-Pass
-bounds-after-n-in-Pass c =
-    let small : c.args.connection < 16 = in_sixteen _ _ (sym c.ask_at-asked.ensures ∙ c.in-Pass.is) in
+pub bounds-after-n-in-Ok : goal.bounds-after-n-in-Ok
+bounds-after-n-in-Ok c =
+    let small : c.args.connection < 16 = in_sixteen _ _ (sym c.ask_at-asked.ensures ∙ c.in-Ok.is) in
     small
 
-pub returns-in-Refused : goal.returns-in-Refused
-returns-in-Refused c = value_out (not_taken_lem _ _ _ _ _ c.ask_at-asked.ensures c.in-Refused.is)
+pub returns-in-Err : goal.returns-in-Err
+returns-in-Err c = value_out (not_taken_lem _ _ _ _ _ c.ask_at-asked.ensures c.in-Err.is)
 
-pub returns-in-Pass : goal.returns-in-Pass
+pub returns-in-Ok : goal.returns-in-Ok
 unfolding taken_waiting taken_out
-returns-in-Pass c =
+returns-in-Ok c =
     let a = c.args in record {
-      value = rw (← c.ask_at-asked.ensures, c.in-Pass.is) (taken_is _ a.state _ _ _ _ c.config_laid-config.ensures c.take-drained.ensures.value);
-      out_after = rw (← c.ask_at-asked.ensures, c.in-Pass.is)
+      value = rw (← c.ask_at-asked.ensures, c.in-Ok.is) (taken_is _ a.state _ _ _ _ c.config_laid-config.ensures c.take-drained.ensures.value);
+      out_after = rw (← c.ask_at-asked.ensures, c.in-Ok.is)
           (c.take-drained.ensures.out_after ∙ ap (λ (w : List ℕ). out_of (record_at a.state a.connection) w a.out.now) c.waiting_of-waiting.ensures.bytes);
     }

@@ -4,19 +4,19 @@ use Rattle.entry_send.proofs.Past.{past_gate}
 use Rattle.entry_send.proofs.transmit.Goals as goal
 
 pub transmit-requires : goal.transmit-requires
-transmit-requires c = past_gate _ _ c.ask-asked.ensures c.in-Pass.is
+transmit-requires c = past_gate _ _ c.ask-asked.ensures c.in-Ok.is
 
-pub returns-in-Refused : goal.returns-in-Refused
+pub returns-in-Err : goal.returns-in-Err
 unfolding send_of sent_memory
-returns-in-Refused c = record {
-  value = rw (← c.ask-asked.ensures, c.in-Refused.is);
-  tx_after = rw (← c.ask-asked.ensures, c.in-Refused.is);
+returns-in-Err c = record {
+  value = rw (← c.ask-asked.ensures, c.in-Err.is);
+  tx_after = rw (← c.ask-asked.ensures, c.in-Err.is);
 }
 
-pub returns-in-Pass : goal.returns-in-Pass
+pub returns-in-Ok : goal.returns-in-Ok
 unfolding send_of sent_memory
-returns-in-Pass c =
+returns-in-Ok c =
     record {
-      value = rw (← c.ask-asked.ensures, c.in-Pass.is) c.transmit.ensures.value;
-      tx_after = rw (← c.ask-asked.ensures, c.in-Pass.is) c.transmit.ensures.tx_after;
+      value = rw (← c.ask-asked.ensures, c.in-Ok.is) c.transmit.ensures.value;
+      tx_after = rw (← c.ask-asked.ensures, c.in-Ok.is) c.transmit.ensures.tx_after;
     }

@@ -6,25 +6,25 @@ use Rattle.entry_sheet.proofs.apply.Goals as goal
 
 pub force_rows-after-requires : goal.force_rows-after-requires
 force_rows-after-requires c =
-    rw c.rows_of.ensures.0 (rows_in-sixteen _ (sym c.ask-asked.ensures ∙ c.in-Pass.is))
+    rw c.rows_of.ensures.0 (rows_in-sixteen _ (sym c.ask-asked.ensures ∙ c.in-Ok.is))
 
 pub returns-then-agrees : goal.returns-then-agrees
 unfolding apply_of
 returns-then-agrees c =
     rw (
       ← c.ask-asked.ensures,
-      c.in-Pass.is,
+      c.in-Ok.is,
       sym c.agrees.ensures
           ∙ c.if-agrees.true,
       ← c.rows_of.ensures.0,
       c.force_rows-after.ensures,
     )
 
-pub returns-in-Refused : goal.returns-in-Refused
+pub returns-in-Err : goal.returns-in-Err
 unfolding apply_of
-returns-in-Refused c = rw (← c.ask-asked.ensures, c.in-Refused.is)
+returns-in-Err c = rw (← c.ask-asked.ensures, c.in-Err.is)
 
 pub returns-else-agrees : goal.returns-else-agrees
 unfolding apply_of
 returns-else-agrees c =
-    rw (← c.ask-asked.ensures, c.in-Pass.is, sym c.agrees.ensures ∙ c.if-agrees.false)
+    rw (← c.ask-asked.ensures, c.in-Ok.is, sym c.agrees.ensures ∙ c.if-agrees.false)

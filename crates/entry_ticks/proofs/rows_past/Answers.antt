@@ -2,7 +2,7 @@
 use Rattle.entry_ticks.proofs.rows_past.Goals as goal
 
 pub rows_laid-requires : goal.rows_laid-requires
-rows_laid-requires c = c.requires c.in-Pass.is
+rows_laid-requires c = c.requires c.in-Ok.is
 
-pub returns-in-Pass : goal.returns-in-Pass
-returns-in-Pass c = rw c.in-Pass.is c.rows_laid.ensures.0
+pub returns-in-Ok : goal.returns-in-Ok
+returns-in-Ok c = rw c.in-Ok.is c.rows_laid.ensures.0

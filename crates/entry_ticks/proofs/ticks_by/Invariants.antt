@@ -1,5 +1,5 @@
 -- `entry_ticks::ticks_by` meets its contract. The invariant: the records below i have ticked, and those that failed are marked.
-use Prim.Native.Nat.{◌≤◌, ◌-◌}
+use Prim.Native.Nat.{◌≤◌}
 use mathlib.Core.Path.{◌≡◌}
 use lib.ListN.{length}
 use Rattle.state.proofs.Upto.{Upto}
@@ -11,6 +11,3 @@ abbrev pub invariant-loop-i : goal.invariant-loop-i
 invariant-loop-i l =
     (l.i ≤ l.rows) × (l.rows ≤ 16) × (length l.initial.after.connections ≡ 16) × Upto (many_at l.image l.count) l.initial.after l.after l.i
     × Marked l.image l.rows l.count l.initial.after l.i l.failed
-
-abbrev pub decreases-loop-i : goal.decreases-loop-i
-decreases-loop-i l = l.rows - l.i

@@ -1,23 +1,12 @@
-use mathlib.Core.Path.{◌≡◌, refl, sym, ap, ap₂, ◌∙◌}
-use mathlib.Core.Bool.{◌&&◌}
-use native.Mathlib.Omega.{arith}
-use native.Mathlib.Numerals.{add-one}
-use Rattle.lists.specs.Search.{every}
-use Rattle.event_start_state.specs.Given.{fits_at, record_fits}
+-- `event_start_state::all_fit` meets its contract.
+use Rattle.std.proofs.Common.{rules, tests, refl, ◌∙◌}
+use Rattle.std.proofs.lemmas.Iterator.{YieldsList-from_range}
+use Rattle.std.proofs.lemmas.Iterator.Search.{all_from_yields_List}
+use Rattle.event_start_state.specs.Given as Is
+use Rattle.event_start_state.proofs.Every.{every-below}
 use Rattle.event_start_state.proofs.all_fit.Goals as goal
 
-pub loop-i-init : goal.loop-i-init
-unfolding every
-loop-i-init c = (omega arith, refl)
-
-pub loop-i-preserved : goal.loop-i-preserved
-unfolding every
-loop-i-preserved c = let l = c.loop-i in let a = c.args in (
-  omega arith,
-  ap₂ ◌&&◌ l.invariant.1 (c.record_fits-one.ensures ∙ ap record_fits c.bytes_from.ensures.bytes)
-      ∙ sym (ap (every (fits_at a.bytes.now)) (add-one l.i)),
-)
-
 pub returns : goal.returns
-returns c = let l = c.loop-i in let a = c.args in
-    let e : l.i ≡ 16 = omega arith in l.invariant.1 ∙ ap (every (fits_at a.bytes.now)) e
+returns c =
+    let fits = Is.fits_at c.args.bytes.now in
+    all_from_yields_List fits _ _ _ c.all.ensures.ran (YieldsList-from_range 0 16 16 refl refl) (λ x b q k. search (rules, tests)) ∙ every-below fits 16

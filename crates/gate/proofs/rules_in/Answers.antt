@@ -2,4 +2,4 @@
 use Rattle.gate.proofs.rules_in.Goals as goal
 
 pub returns : goal.returns
-returns c = rw (c.rules_from.ensures, c.group_in-group.ensures, c.brief_in-row.ensures)
+returns c = rw (c.rules_from.ensures, c.row_at-group.ensures, c.brief_in-row.ensures)

@@ -1,4 +1,4 @@
--- `receive_route::find` meets its contract.
+-- `receive_route::find` meets its contract: no row before the one at `at` counts.
 use Prim.Native.Nat.{◌-◌}
 use Rattle.receive_route.proofs.Laws.{At}
 use Rattle.receive_route.proofs.find.Given as goal

@@ -13,7 +13,7 @@ pub returns-then-here-need : goal.returns-then-here-need
 returns-then-here-need c =
     let a = c.args in
     header-part (id_of a.routes.now) (lookup_of a.routes.now a.connection a.switches) a.value a.held
-    a.total c.gather-w.result a.rx.now a.rest.now (omega arith) c.if-here-need.true c.gather-w.ensures.0
+    a.total c.gather.result a.rx.now a.rest.now (omega arith) c.if-here-need.true c.gather.ensures.0
 
 pub overflow_cast-size-in-Accept : goal.overflow_cast-size-in-Accept
 overflow_cast-size-in-Accept c =

@@ -14,11 +14,11 @@ returns-then-here-eq0 c =
 pub returns-then-here-n : goal.returns-then-here-n
 returns-then-here-n c =
     let a = c.args in
-    λ R rx. piece-part (id_of a.routes.now) R a.left a.route _ rx a.segment.now _ (sym (ap (λ (r : RouteRow). r.id) c.route_in-row.ensures))
+    λ R rx. piece-part (id_of a.routes.now) R a.left a.route _ rx a.segment.now _ (sym (ap (λ (r : RouteRow). r.id) c.row_at-row.ensures))
     (omega (arith, c.if-here-eq0.false)) c.if-here-n.true c.piece_before.ensures
 
 pub returns : goal.returns
 returns c =
     let a = c.args in
-    λ R rx. piece_last (id_of a.routes.now) R a.left a.route _ rx a.segment.now _ (sym (ap (λ (r : RouteRow). r.id) c.route_in-row.ensures))
+    λ R rx. piece_last (id_of a.routes.now) R a.left a.route _ rx a.segment.now _ (sym (ap (λ (r : RouteRow). r.id) c.row_at-row.ensures))
     c.requires c.if-here-n.false c.piece_before-2.ensures

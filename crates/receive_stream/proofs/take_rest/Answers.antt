@@ -1,12 +1,7 @@
 -- `receive_stream::take_rest` meets its contract.
-use mathlib.Core.Path.{sym}
-use lib.Seq.{length-take-le}
 use native.Mathlib.Omega.{arith}
 use Rattle.receive_stream.proofs.Takes.{rest-here, rest_part}
 use Rattle.receive_stream.proofs.take_rest.Goals as goal
-
-pub slice_bounds-copy_in-end : goal.slice_bounds-copy_in-end
-slice_bounds-copy_in-end c = sym (length-take-le _ _ c.if-n-here.true)
 
 pub returns-then-n-here : goal.returns-then-n-here
 returns-then-n-here c =

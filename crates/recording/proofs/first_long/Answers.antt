@@ -1,17 +1,15 @@
-use Rattle.std.proofs.Common.{sym, ◌∙◌, rules}
-use Rattle.lists.proofs.Search.{search_start, search_on, search_found, search_ended}
+use Rattle.std.proofs.Common.{◌≡◌, sym, ◌∙◌, arith}
+use Rattle.lists.proofs.Search.{search_on, search_found, search_ended}
+use Rattle.recording.specs.Recording.{first_long}
 use Rattle.recording.proofs.first_long.Goals as goal
-
-pub loop-i-init : goal.loop-i-init
-loop-i-init c = search_start _ _
 
 pub returns-then-not-is_short : goal.returns-then-not-is_short
 returns-then-not-is_short c =
-    search_found _ _ _ c.loop-i.invariant (search rules) (sym c.is_short.ensures ∙ c.if-not-is_short.true)
+    (c.loop-i-test.true, search_found _ _ _ c.loop-i.invariant c.loop-i-test.true (sym c.is_short.ensures ∙ c.if-not-is_short.true))
 
 pub loop-i-preserved : goal.loop-i-preserved
 loop-i-preserved c =
-    search_on _ _ _ c.loop-i.invariant (search rules) (sym c.is_short.ensures ∙ c.if-not-is_short.false)
+    search_on _ _ _ c.loop-i.invariant c.loop-i-test.true (sym c.is_short.ensures ∙ c.if-not-is_short.false)
 
 pub returns : goal.returns
-returns c = search_ended _ _ _ c.loop-i.invariant (search rules)
+returns c = let e : c.loop-i.i ≡ first_long c.args.recording.now c.args.entries = search_ended _ _ _ c.loop-i.invariant c.loop-i-test.false in omega arith

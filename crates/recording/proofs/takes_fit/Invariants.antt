@@ -1,9 +1,7 @@
--- `recording::takes_fit` meets its contract.
+-- `recording::takes_fit` meets its contract. The invariant: the takes that are left decide.
+use Rattle.std.proofs.Common.{◌-◌}
 use Rattle.recording.proofs.Takes.{LeftTo}
 use Rattle.recording.proofs.takes_fit.Given as goal
 
-abbrev pub invariant-loop-left : goal.invariant-loop-left
-invariant-loop-left l = LeftTo l.count l.s l.left l.at
-
-abbrev pub decreases-loop-left : goal.decreases-loop-left
-decreases-loop-left l = l.left
+abbrev pub invariant-loop-i : goal.invariant-loop-i
+invariant-loop-i l = LeftTo l.count l.s (l.count - l._i) l.at

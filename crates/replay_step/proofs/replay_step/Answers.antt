@@ -9,7 +9,7 @@ use Rattle.replay_step.proofs.replay_step.Goals as goal
 pub returns-then-out-lt16384 : goal.returns-then-out-lt16384
 unfolding entry_step
 returns-then-out-lt16384 c = rw (lt-ltb _ _ c.if-out-lt16384.true) record {
-  value = c.unplayed.ensures;
+  value = c.not_run.ensures;
   rx_after = refl;
   tx_after = refl;
   out_after = refl;
@@ -19,7 +19,7 @@ pub returns-then-rest-long : goal.returns-then-rest-long
 unfolding entry_step
 returns-then-rest-long c = rw (le-ltb _ _ c.if-out-lt16384.false, ← c.body_long-long.ensures, lt-ltb _ _ c.if-rest-long.true)
     record {
-      value = c.unplayed-then-rest-long.ensures;
+      value = c.not_run-then-rest-long.ensures;
       rx_after = refl;
       tx_after = refl;
       out_after = refl;

@@ -14,19 +14,19 @@ loop-i-init c = (
   (refl, (refl, refl)),
 )
 
-pub shape_of-tx-then-not-is_run : goal.shape_of-tx-then-not-is_run
-shape_of-tx-then-not-is_run c =
+pub shape_of-tx-in-Err : goal.shape_of-tx-in-Err
+shape_of-tx-in-Err c =
     omega (arith, c.loop-i.invariant.1.1.0)
 
-pub shape_of-out-then-not-is_run : goal.shape_of-out-then-not-is_run
-shape_of-out-then-not-is_run c =
+pub shape_of-out-in-Err : goal.shape_of-out-in-Err
+shape_of-out-in-Err c =
     omega (arith, c.loop-i.invariant.1.1.1)
 
-pub returns-then-not-is_run : goal.returns-then-not-is_run
-returns-then-not-is_run c =
+pub returns-in-Err : goal.returns-in-Err
+returns-in-Err c =
     value_rx_tx_out (entry_stops _ _ _ _ _ _ _ _ _ c.loop-i.invariant.0 c.loop-i-test.true _ _ _ _ _ _ c.entry_row-row.ensures.bytes c.bytes_from.ensures.bytes
     (c.replay_step-step.ensures.value, (c.replay_step-step.ensures.rx_after, (c.replay_step-step.ensures.tx_after, c.replay_step-step.ensures.out_after))) _
-    _ c.is_run.ensures c.if-not-is_run.true-raw c.end_at.ensures)
+    _ c.in-Err.is c.end_at.ensures)
 
 pub overflow_add-ticks : goal.overflow_add-ticks
 overflow_add-ticks c =
@@ -39,23 +39,15 @@ pub overflow_add-at-in-loop-i : goal.overflow_add-at-in-loop-i
 overflow_add-at-in-loop-i c =
     ⊎_elim (λ x. omega (arith, x)) (λ x. omega (arith, x, c.well_formed))
     (entry_placed _ _ _ _ _ _ _ _ _ c.loop-i.invariant.0 c.loop-i-test.true _ _ _ _ _ _ c.entry_row-row.ensures.bytes c.bytes_from.ensures.bytes
-    (c.replay_step-step.ensures.value, (c.replay_step-step.ensures.rx_after, (c.replay_step-step.ensures.tx_after, c.replay_step-step.ensures.out_after))) _
-    _ c.is_run.ensures
-    c.if-not-is_run.false-raw c.body_long-at.ensures)
-
-pub overflow_add-i : goal.overflow_add-i
-overflow_add-i c = omega (
-  arith,
-  c.loop-i-test.true,
-  c.entries_in-entries.type_inv,
-)
+    (c.replay_step-step.ensures.value, (c.replay_step-step.ensures.rx_after, (c.replay_step-step.ensures.tx_after, c.replay_step-step.ensures.out_after))) _ _
+    c.in_default.is c.body_long-at.ensures)
 
 pub loop-i-preserved : goal.loop-i-preserved
 loop-i-preserved c = (
   entry_on _ _ _ _ _ _ _ _ _ c.loop-i.invariant.0 c.loop-i-test.true _ _ _ _ _ _ c.entry_row-row.ensures.bytes c.bytes_from.ensures.bytes
       (c.replay_step-step.ensures.value, (c.replay_step-step.ensures.rx_after, (c.replay_step-step.ensures.tx_after, c.replay_step-step.ensures.out_after)))
       _ _ _ _ _ _ _
-      c.is_run.ensures c.if-not-is_run.false-raw
+      c.in_default.is
       c.stamp_in.ensures c.distance.ensures
       (omega (arith, c.distance.type_inv)) c.body_long-at.ensures
       c.stamp_in-before-in-loop-i.ensures c.is_other.ensures c.first_other-differs.ensures,

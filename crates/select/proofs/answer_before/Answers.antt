@@ -8,9 +8,9 @@ returns-then-groups-group c = before_missing _ _ _ _ c.requires _ c.body_laid-gr
 pub returns-then-denied : goal.returns-then-denied
 returns-then-denied c =
     before_denied _ _ _ _ c.requires _ c.body_laid-groups.ensures.bytes c.if-groups-group.false _
-    c.group_in-row.ensures _ c.protocol_of.ensures _ c.has_wildcard.ensures c.if-denied.true
+    c.row_at-row.ensures _ c.protocol_of.ensures _ c.has_wildcard.ensures c.if-denied.true
 
 pub returns : goal.returns
 returns c =
     before_nobody _ _ _ _ c.requires _ c.body_laid-groups.ensures.bytes c.if-groups-group.false _
-    c.group_in-row.ensures _ c.protocol_of.ensures _ c.has_wildcard.ensures c.if-denied.false
+    c.row_at-row.ensures _ c.protocol_of.ensures _ c.has_wildcard.ensures c.if-denied.false

@@ -2,5 +2,5 @@
 use native.Mathlib.Omega.{arith}
 use Rattle.select.proofs.place_of.Goals as goal
 
-pub returns-in-Met : goal.returns-in-Met
-returns-in-Met c = (rw c.in-Met.is, omega arith)
+pub returns-in-Ok : goal.returns-in-Ok
+returns-in-Ok c = (rw c.in-Ok.is, omega arith)

@@ -7,16 +7,16 @@ use Rattle.sheet.proofs.fate_of.Goals as goal
 pub returns-then-sheet-k : goal.returns-then-sheet-k
 returns-then-sheet-k c = fate_past _ _ _ c.if-sheet-k.true
 
-pub returns-then-not-there : goal.returns-then-not-there
-returns-then-not-there c =
-    fate_missing _ _ _ (search rules) _ c.switching_at-switching.ensures (sym c.is_there-there.ensures ∙ c.if-not-there.true)
+pub returns-then-not-is_there : goal.returns-then-not-is_there
+returns-then-not-is_there c =
+    fate_missing _ _ _ (search rules) _ c.switching_at-switching.ensures (sym c.is_there.ensures ∙ c.if-not-is_there.true)
 
 pub returns-then-last-k : goal.returns-then-last-k
 returns-then-last-k c =
-    fate_counts _ _ _ (search rules) _ c.switching_at-switching.ensures (sym c.is_there-there.ensures ∙ c.if-not-there.false) _
+    fate_counts _ _ _ (search rules) _ c.switching_at-switching.ensures (sym c.is_there.ensures ∙ c.if-not-is_there.false) _
     c.last_alike-last.ensures c.if-last-k.true
 
 pub returns : goal.returns
 returns c =
-    fate_overridden _ _ _ (search rules) _ c.switching_at-switching.ensures (sym c.is_there-there.ensures ∙ c.if-not-there.false) _
+    fate_overridden _ _ _ (search rules) _ c.switching_at-switching.ensures (sym c.is_there.ensures ∙ c.if-not-is_there.false) _
     c.last_alike-last.ensures c.if-last-k.false

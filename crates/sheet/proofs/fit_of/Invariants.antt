@@ -2,8 +2,5 @@
 use Rattle.sheet.proofs.Turns.{Fitting}
 use Rattle.sheet.proofs.fit_of.Given as goal
 
-abbrev pub invariant-loop-left : goal.invariant-loop-left
-invariant-loop-left l = Fitting l.sheet l.left
-
-abbrev pub decreases-loop-left : goal.decreases-loop-left
-decreases-loop-left l = l.left
+abbrev pub invariant-loop-k : goal.invariant-loop-k
+invariant-loop-k l = Fitting l.sheet l.k

@@ -1,11 +1,11 @@
 -- `soad::soad_walk` meets its contract.
-use mathlib.Core.Path.{refl, sym, ap, ◌∙◌}
+use mathlib.Core.Path.{refl, sym, ap}
 use Rattle.soad_walk.specs.declared.Numbers.{Numbers}
 use Rattle.soad.proofs.soad_walk.Goals as goal
 
-pub returns-in-Refused : goal.returns-in-Refused
-returns-in-Refused c = rw (sym c.walk_table-answer.ensures ∙ c.in-Refused.is) record {
-  value = refl;
+pub returns-in-Err : goal.returns-in-Err
+returns-in-Err c = rw (sym c.in-Err.ensures) record {
+  value = c.from.ensures;
   next_after = refl;
   kind_after = refl;
   number_after = refl;
@@ -14,10 +14,10 @@ returns-in-Refused c = rw (sym c.walk_table-answer.ensures ∙ c.in-Refused.is) 
   at_after = refl;
 }
 
-pub returns-in-Step : goal.returns-in-Step
-returns-in-Step c =
+pub returns-in-Ok : goal.returns-in-Ok
+returns-in-Ok c =
     let e = c.numbers_of-told.ensures in
-    rw (sym c.walk_table-answer.ensures ∙ c.in-Step.is) record {
+    rw (sym c.in-Ok.ensures) record {
       value = refl;
       next_after = refl;
       kind_after = ap (λ (n : Numbers). n.kind) e;

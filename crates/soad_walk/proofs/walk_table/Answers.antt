@@ -5,15 +5,15 @@ use Rattle.table.proofs.Facts.{accepted_facts}
 use Rattle.soad_walk.proofs.walk_table.Goals as goal
 
 pub walk_accepted-requires : goal.walk_accepted-requires
-walk_accepted-requires c = accepted_facts _ (sym c.check_table-answer.ensures ∙ c.in-Accepted.is)
+walk_accepted-requires c = accepted_facts _ (sym c.in-Ok.ensures)
 
-pub returns-in-Refused : goal.returns-in-Refused
-returns-in-Refused c =
+pub returns-in-Err : goal.returns-in-Err
+returns-in-Err c =
     let a = c.args in
-    checked a.image.now a.connection a.switches a.datagram.now a.place _ (sym c.check_table-answer.ensures ∙ c.in-Refused.is)
+    checked a.image.now a.connection a.switches a.datagram.now a.place _ (sym c.in-Err.ensures)
 
-pub returns-in-Accepted : goal.returns-in-Accepted
-returns-in-Accepted c =
+pub returns-in-Ok : goal.returns-in-Ok
+returns-in-Ok c =
     let a = c.args in
     c.walk_accepted.ensures ∙ checked a.image.now a.connection a.switches
-    a.datagram.now a.place _ (sym c.check_table-answer.ensures ∙ c.in-Accepted.is)
+    a.datagram.now a.place _ (sym c.in-Ok.ensures)

@@ -2,4 +2,4 @@
 use Rattle.state.proofs.config_in.Goals as goal
 
 pub returns : goal.returns
-returns c = rw (c.config_from.ensures, c.group_in-group.ensures, c.connection_in-row.ensures)
+returns c = rw (c.config_from.ensures, c.row_at-group.ensures, c.row_at-row.ensures)

@@ -4,4 +4,4 @@ use Rattle.state.proofs.config_of.Goals as goal
 
 pub returns : goal.returns
 unfolding config_of
-returns c = rw (c.config_from.ensures, c.group_row-group.ensures, c.connection_row-row.ensures)
+returns c = rw (c.config_from.ensures, c.row_of-group.ensures, c.row_of-row.ensures)

@@ -8,7 +8,7 @@ returns-in-Group c = group_told _ _ _ c.in-Group.is c.row_of-row.ensures c.group
 
 pub returns-in-Connection : goal.returns-in-Connection
 returns-in-Connection c =
-    connection_told _ _ _ c.in-Connection.is c.row_of-row.ensures c.be8.ensures.is c.group_row-group.ensures refl
+    connection_told _ _ _ c.in-Connection.is c.row_of-row.ensures c.be8.ensures.is c.row_of-group.ensures refl
     c.rows_of.ensures.0 c.connection_fault.ensures
 
 pub returns-in-Route : goal.returns-in-Route

@@ -1,25 +1,23 @@
 -- `table_layout::part_of` meets its contract.
-use Rattle.table_layout.proofs.Parts.{part_out, part_range, part-there, part-front}
+use Prim.Native.Nat.{◌+◌, ◌<◌}
 use native.Mathlib.Omega.{arith}
+use lib.ListN.{length}
+use Rattle.table_layout.proofs.Parts.{part_out, part_range, part-there, part-front}
+use Rattle.table_layout.proofs.part_of.Goals.{else-at-s-via-then-at-s+else-n-s, else-at-s-via-else-at-s}
 use Rattle.table_layout.proofs.part_of.Goals as goal
 
-pub returns-then-s-at : goal.returns-then-s-at
-returns-then-s-at c = let a = c.args in
-    record {
-      bytes = part_out a.s.now a.at a.n (omega arith);
-      place = part-front a.s.now a.at a.n a.s.ref_ptr (omega arith);
-    }
-
-pub returns-then-s-at-2 : goal.returns-then-s-at-2
-returns-then-s-at-2 c = let a = c.args in
-    record {
-      bytes = part_out a.s.now a.at a.n (omega arith);
-      place = part-front a.s.now a.at a.n a.s.ref_ptr (omega arith);
-    }
-
-pub returns : goal.returns
-returns c = let a = c.args in
+pub returns-then-n-s : goal.returns-then-n-s
+returns-then-n-s c = let a = c.args in
     record {
       bytes = part_range a.s.now a.at a.n (omega arith);
       place = part-there a.s.now a.at a.n a.s.ref_ptr (omega arith);
+    }
+
+pub returns-else-at-s : goal.returns-else-at-s
+returns-else-at-s c = let a = c.args in
+    let h : length a.s.now < a.at + a.n =
+    elim c.else-at-s.branch [ else-at-s-via-then-at-s+else-n-s w ↦ omega arith | else-at-s-via-else-at-s w ↦ omega arith ] in
+    record {
+      bytes = part_out a.s.now a.at a.n h;
+      place = part-front a.s.now a.at a.n a.s.ref_ptr h;
     }

@@ -3,12 +3,7 @@ use Rattle.table_scan.proofs.Rows.{At}
 use Rattle.table_rows.specs.Rules.{connection_rule}
 use Rattle.table_scan.specs.Scan.{share}
 use Rattle.table_layout.specs.declared.Kind.TheVariants.{Connection}
-use lib.ListN.{length}
-use Prim.Native.Nat.{◌-◌, ◌/◌}
 use Rattle.table_scan.proofs.first_bad_connection.Given as goal
 
 abbrev pub invariant-loop-i : goal.invariant-loop-i
 invariant-loop-i l = At (connection_rule l.groups) (share Connection) 16 l.body l.i
-
-abbrev pub decreases-loop-i : goal.decreases-loop-i
-decreases-loop-i l = length l.body / 16 - l.i

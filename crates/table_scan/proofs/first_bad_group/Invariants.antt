@@ -3,12 +3,7 @@ use Rattle.table_scan.proofs.Rows.{At}
 use Rattle.table_scan.specs.Scan.{share}
 use Rattle.table_rows.specs.Rules.{group_good}
 use Rattle.table_layout.specs.declared.Kind.TheVariants.{Group}
-use lib.ListN.{length}
-use Prim.Native.Nat.{◌-◌, ◌/◌}
 use Rattle.table_scan.proofs.first_bad_group.Given as goal
 
 abbrev pub invariant-loop-i : goal.invariant-loop-i
 invariant-loop-i l = At group_good (share Group) 2 l.body l.i
-
-abbrev pub decreases-loop-i : goal.decreases-loop-i
-decreases-loop-i l = length l.body / 2 - l.i

@@ -1,6 +1,6 @@
 -- `table_scan::turned_id` meets its contract.
 use Rattle.table_rows.specs.Rows.{route_row}
-use Rattle.table_scan.proofs.Marks.{four_turned, four_small}
+use Rattle.table_scan.proofs.Agree.{four_turned, four_small}
 use Rattle.table_scan.proofs.turned_id.Goals as goal
 
 pub returns : goal.returns

@@ -1,6 +1,6 @@
 -- `table_scan::turned_pdu` meets its contract.
 use Rattle.table_rows.specs.Rows.{destination_row}
-use Rattle.table_scan.proofs.Marks.{pair_turned, pair_small}
+use Rattle.table_scan.proofs.Agree.{pair_turned, pair_small}
 use Rattle.table_scan.proofs.turned_pdu.Goals as goal
 
 pub returns : goal.returns

@@ -1,11 +1,9 @@
--- `test_takes::takes_over` meets its contract.
-use Prim.Native.Nat.{◌≤◌, ◌-◌}
-use mathlib.Core.Path.{◌≡◌}
-use lib.ListN.{length}
+-- `test_takes::takes_over` meets its contract: each turn shortens what is left of the segment.
+use Rattle.std.proofs.Common.{◌≡◌, length}
 use Rattle.test_takes.proofs.takes_over.Given as goal
 
-abbrev pub invariant-loop-at : goal.invariant-loop-at
-invariant-loop-at l = (l.at ≤ length l.segment) × (length l.rx ≡ length l.initial.rx)
+abbrev pub invariant-loop-payload : goal.invariant-loop-payload
+invariant-loop-payload l = length l.rx ≡ length l.initial.rx
 
-abbrev pub decreases-loop-at : goal.decreases-loop-at
-decreases-loop-at l = length l.segment - l.at
+abbrev pub decreases-loop-payload : goal.decreases-loop-payload
+decreases-loop-payload l = length l.rest

@@ -1,9 +1,0 @@
--- `bench_start::busy` meets its contract.
-use Prim.Native.Nat.{◌-◌, ◌≤◌}
-use Rattle.bench_start.proofs.busy.Given as goal
-
-abbrev pub invariant-loop-i : goal.invariant-loop-i
-invariant-loop-i l = l.i ≤ 16
-
-abbrev pub decreases-loop-i : goal.decreases-loop-i
-decreases-loop-i l = 16 - l.i

@@ -1,9 +1,0 @@
--- `shorten::pairs` ends: the pairs left fall by one each turn.
-use Prim.Native.Nat.{◌-◌, ◌≤◌}
-use Rattle.shorten.proofs.pairs.Given as goal
-
-abbrev pub invariant-loop-i : goal.invariant-loop-i
-invariant-loop-i l = l.i ≤ 16
-
-abbrev pub decreases-loop-i : goal.decreases-loop-i
-decreases-loop-i l = 16 - l.i

@@ -1,9 +1,0 @@
--- `tally::routes` ends: the routes left fall by one each turn.
-use Rattle.std.proofs.Common.{◌-◌, ◌≤◌}
-use Rattle.tally.proofs.routes.Given as goal
-
-abbrev pub invariant-loop-i : goal.invariant-loop-i
-invariant-loop-i l = l.i ≤ 64
-
-abbrev pub decreases-loop-i : goal.decreases-loop-i
-decreases-loop-i l = 64 - l.i
