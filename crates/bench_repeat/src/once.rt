@@ -185,12 +185,10 @@ fn dispatched(
     number: u16,
     body: &[u8],
 ) -> Turn {
-    match dispatch::dispatch(image, state, rx, tx, number, body, out) {
-        Ok(got) => Turn {
-            done: be16(out, 0) == 0,
-            state: got.state,
-        },
-        Err(_) => Turn { done: false, state },
+    let got = dispatch::dispatch(image, state, rx, tx, number, body, out);
+    Turn {
+        done: got.verdict.is_ok() & (be16(out, 0) == 0),
+        state: got.state,
     }
 }
 

@@ -68,12 +68,11 @@ fn busied(c: Connection, i: usize) -> Connection {
     c.with_send(10, 65535, false)
 }
 
+// Over the rows alone: a loop of sixteen turns would be written out, and the state then copied field by field wherever it goes.
 fn busy(rows: usize, state: State) -> State {
     let mut next = state;
-    for (i, c) in next.connections.iter_mut().enumerate() {
-        if i < rows {
-            *c = busied(*c, i);
-        }
+    for (i, c) in next.connections.iter_mut().take(rows).enumerate() {
+        *c = busied(*c, i);
     }
     next
 }
@@ -91,10 +90,8 @@ fn wound_one(image: &[u8], c: Connection, i: usize) -> Connection {
 pub fn wound(image: &[u8], state: State) -> State {
     let rows = rows_of(image, Kind::Connection);
     let mut next = state;
-    for (i, c) in next.connections.iter_mut().enumerate() {
-        if i < rows {
-            *c = wound_one(image, *c, i);
-        }
+    for (i, c) in next.connections.iter_mut().take(rows).enumerate() {
+        *c = wound_one(image, *c, i);
     }
     next
 }

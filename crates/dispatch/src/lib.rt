@@ -6,7 +6,7 @@ ghost use Rattle.event_answer.specs.Answers.{dispatched};
 ghost use Rattle.dispatch.specs.Dispatch.{effect_of, dispatch_of};
 ghost use Rattle.gate.specs.Lent.{loan};
 
-use event_answer::{Answered, NoAnswer, has_room};
+use event_answer::{Dispatched, NoAnswer, has_room};
 use event_decode::{Call, bytes_from, call_of};
 use state::State;
 
@@ -19,7 +19,7 @@ fn answer_call(
     body: &[u8],
     call: Call,
     out: &mut [u8],
-) -> Result<Answered, NoAnswer>
+) -> Dispatched
     ensures value { result ≡ dispatched
         (effect_of (loan image.now state rx.old tx.old) out.old body.now (Ok call)) }
     ensures rx_after { rx.new
@@ -90,7 +90,7 @@ pub fn dispatch(
     number: u16,
     body: &[u8],
     out: &mut [u8],
-) -> Result<Answered, NoAnswer>
+) -> Dispatched
     ensures value { result ≡ dispatched
         (dispatch_of (loan image.now state rx.old tx.old) out.old number body.now) }
     ensures rx_after { rx.new
@@ -100,7 +100,17 @@ pub fn dispatch(
     ensures out_after { out.new
         ≡ (dispatch_of (loan image.now state rx.old tx.old) out.old number body.now).out }
 {
-    has_room(out)?;
-    let call = call_of(number, body)?;
-    answer_call(image, state, rx, tx, body, call, out)
+    if let Err(why) = has_room(out.len()) {
+        return Dispatched {
+            verdict: Err(why),
+            state,
+        };
+    }
+    match call_of(number, body) {
+        Ok(call) => answer_call(image, state, rx, tx, body, call, out),
+        Err(bad) => Dispatched {
+            verdict: Err(NoAnswer::from(bad)),
+            state,
+        },
+    }
 }

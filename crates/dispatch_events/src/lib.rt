@@ -9,7 +9,7 @@ ghost use Rattle.dispatch_events.specs.Events as Is;
 ghost use Rattle.gate.specs.Lent.{loan};
 
 use connection::{Event, Refusal, failed};
-use event_answer::{Answered, NoAnswer, has_room, put_done, put_done_with, put_refusal};
+use event_answer::{Dispatched, NoAnswer, has_room, put_done, put_done_with, put_refusal};
 use gate::ask_at;
 use state::{State, config_laid};
 
@@ -66,21 +66,32 @@ pub fn own(
     connection: u8,
     event: Event,
     out: &mut [u8],
-) -> Result<Answered, NoAnswer>
+) -> Dispatched
     ensures value { result ≡ dispatched (Is.own_effect (loan image.now state rx.now tx.now) out.old connection event) }
     ensures out_after { out.new
         ≡ (Is.own_effect (loan image.now state rx.now tx.now) out.old connection event).out }
 {
-    has_room(out)?;
+    if let Err(why) = has_room(out.len()) {
+        return Dispatched {
+            verdict: Err(why),
+            state,
+        };
+    }
     let n = connection as usize;
     if let Err(reason) = ask_at(image, &state, rx.len(), tx.len(), n) {
         let length = put_refusal(out, reason);
-        return Ok(Answered { state, length });
+        return Dispatched {
+            verdict: Ok(length),
+            state,
+        };
     }
     let stepped = state.connections[n].step(config_laid(image, n), event);
     state.connections[n] = stepped.connection;
     let length = put_told(out, stepped.answer);
-    Ok(Answered { state, length })
+    Dispatched {
+        verdict: Ok(length),
+        state,
+    }
 }
 
 pub fn lost(
@@ -90,22 +101,33 @@ pub fn lost(
     tx: &[u8],
     connection: u8,
     out: &mut [u8],
-) -> Result<Answered, NoAnswer>
+) -> Dispatched
     ensures value { result ≡ dispatched (Is.lost_effect (loan image.now state rx.now tx.now) out.old connection) }
     ensures out_after { out.new
         ≡ (Is.lost_effect (loan image.now state rx.now tx.now) out.old connection).out }
 {
-    has_room(out)?;
+    if let Err(why) = has_room(out.len()) {
+        return Dispatched {
+            verdict: Err(why),
+            state,
+        };
+    }
     let n = connection as usize;
     if let Err(reason) = ask_at(image, &state, rx.len(), tx.len(), n) {
         let length = put_refusal(out, reason);
-        return Ok(Answered { state, length });
+        return Dispatched {
+            verdict: Ok(length),
+            state,
+        };
     }
     let before = state.connections[n];
     let stepped = before.step(config_laid(image, n), Event::Lost);
     state.connections[n] = stepped.connection;
     let length = put_loss(out, stepped.answer, failed(before, state.connections[n]));
-    Ok(Answered { state, length })
+    Dispatched {
+        verdict: Ok(length),
+        state,
+    }
 }
 
 pub fn many_ticks(
@@ -115,17 +137,22 @@ pub fn many_ticks(
     tx: &[u8],
     count: u32,
     out: &mut [u8],
-) -> Result<Answered, NoAnswer>
+) -> Dispatched
     ensures value { result ≡ dispatched (Is.ticks_effect (loan image.now state rx.now tx.now) out.old count) }
     ensures out_after { out.new ≡ (Is.ticks_effect (loan image.now state rx.now tx.now) out.old count).out }
 {
-    has_room(out)?;
+    if let Err(why) = has_room(out.len()) {
+        return Dispatched {
+            verdict: Err(why),
+            state,
+        };
+    }
     let entry = entry_ticks::ticks_by(image, state, rx.len(), tx.len(), count);
     let length = put_ticks(out, entry.answer, entry.failed);
-    Ok(Answered {
+    Dispatched {
+        verdict: Ok(length),
         state: entry.state,
-        length,
-    })
+    }
 }
 
 pub fn switch_all(
@@ -136,18 +163,23 @@ pub fn switch_all(
     number: u8,
     on: bool,
     out: &mut [u8],
-) -> Result<Answered, NoAnswer>
+) -> Dispatched
     ensures value { result ≡ dispatched (Is.switch_all_effect (loan image.now state rx.now tx.now) out.old number on) }
     ensures out_after { out.new
         ≡ (Is.switch_all_effect (loan image.now state rx.now tx.now) out.old number on).out }
 {
-    has_room(out)?;
+    if let Err(why) = has_room(out.len()) {
+        return Dispatched {
+            verdict: Err(why),
+            state,
+        };
+    }
     let entry = entry_events::switch_all(image, state, rx, tx, number, on);
     let length = put_told(out, entry.answer);
-    Ok(Answered {
+    Dispatched {
+        verdict: Ok(length),
         state: entry.state,
-        length,
-    })
+    }
 }
 
 pub fn read_count(
@@ -157,17 +189,22 @@ pub fn read_count(
     tx: &[u8],
     protocol: u8,
     out: &mut [u8],
-) -> Result<Answered, NoAnswer>
+) -> Dispatched
     ensures value { result ≡ dispatched (Is.read_effect (loan image.now state rx.now tx.now) out.old protocol) }
     ensures out_after { out.new ≡ (Is.read_effect (loan image.now state rx.now tx.now) out.old protocol).out }
 {
-    has_room(out)?;
+    if let Err(why) = has_room(out.len()) {
+        return Dispatched {
+            verdict: Err(why),
+            state,
+        };
+    }
     let entry = entry_events::read_count(image, state, rx, tx, protocol);
     let length = put_count(out, entry.answer);
-    Ok(Answered {
+    Dispatched {
+        verdict: Ok(length),
         state: entry.state,
-        length,
-    })
+    }
 }
 
 pub fn clear_count(
@@ -177,15 +214,20 @@ pub fn clear_count(
     tx: &[u8],
     protocol: u8,
     out: &mut [u8],
-) -> Result<Answered, NoAnswer>
+) -> Dispatched
     ensures value { result ≡ dispatched (Is.clear_effect (loan image.now state rx.now tx.now) out.old protocol) }
     ensures out_after { out.new ≡ (Is.clear_effect (loan image.now state rx.now tx.now) out.old protocol).out }
 {
-    has_room(out)?;
+    if let Err(why) = has_room(out.len()) {
+        return Dispatched {
+            verdict: Err(why),
+            state,
+        };
+    }
     let entry = entry_events::clear_count(image, state, rx, tx, protocol);
     let length = put_count(out, entry.answer);
-    Ok(Answered {
+    Dispatched {
+        verdict: Ok(length),
         state: entry.state,
-        length,
-    })
+    }
 }

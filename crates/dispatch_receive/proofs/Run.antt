@@ -30,7 +30,7 @@ use Rattle.entry_receive.specs.declared.SegmentTaken.{SegmentTaken}
 use Rattle.entry_receive.specs.Answer.{is_done}
 use Rattle.entry_receive.specs.Segment.{segment_of, segment_answer, take_on, none_taken}
 use Rattle.event_answer.specs.declared.NoAnswer.{NoAnswer}
-use Rattle.event_answer.specs.declared.Answered.{Answered}
+use Rattle.event_answer.specs.declared.Dispatched.{Dispatched}
 use Rattle.event_answer.specs.Answers.{dispatched, done_with}
 use Rattle.dispatch_receive.specs.declared.Takes.{Takes}
 use Rattle.dispatch_receive.specs.Long.{longest_body}
@@ -318,8 +318,8 @@ told_out (Ok tt) count bytes out h = lay-front out 4 (done_with 2 count) bytes (
 told_out (Err (Refused r)) count bytes out h = ap (λ (o : List ℕ). lay o 0 (front_of (Err (Refused r)) count)) (lay-nothing out 4)
 told_out (Err NotReceiving) count bytes out h = ap (λ (o : List ℕ). lay o 0 (front_of (Err NotReceiving) count)) (lay-nothing out 4)
 
-abbrev handed : ℕ → State → Result Answered NoAnswer
-handed n s = Ok (record { state = s; length = n })
+abbrev handed : ℕ → State → Dispatched
+handed n s = record { verdict = Ok n; state = s }
 
 -- the takes' answer is put before their bytes, and handed back
 pub all_told : {k : Takes} {n : ℕ} {rx o o' : List ℕ} (r : Progress) (tx out : List ℕ) → 4 + length r.bytes ≤ length out

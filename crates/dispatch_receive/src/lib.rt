@@ -14,7 +14,7 @@ ghost use Rattle.gate.specs.Lent.{loan};
 
 use entry_receive::{NotReceived, drops_after, may_take, segment_payload, walk_datagram};
 use event_answer::{
-    Answered, NoAnswer, has_room, put_done, put_done_with, put_found, put_number, put_refusal,
+    Dispatched, NoAnswer, has_room, put_done, put_done_with, put_found, put_number, put_refusal,
     put_refused,
 };
 use event_decode::bytes_from;
@@ -104,22 +104,30 @@ pub fn walk(
     place: usize,
     datagram: &[u8],
     out: &mut [u8],
-) -> Result<Answered, NoAnswer>
+) -> Dispatched
     ensures value { result ≡ dispatched
         (Wk.walk_effect (loan image.now state rx.now tx.now) out.old connection place datagram.now) }
     ensures out_after { out.new ≡ (Wk.walk_effect (loan image.now state rx.now tx.now)
         out.old connection place datagram.now).out }
 {
-    has_room(out)?;
+    if let Err(why) = has_room(out.len()) {
+        return Dispatched {
+            verdict: Err(why),
+            state,
+        };
+    }
     if 4096 < datagram.len() {
-        return Err(NoAnswer::Unfit);
+        return Dispatched {
+            verdict: Err(NoAnswer::Unfit),
+            state,
+        };
     }
     let walked = walk_datagram(image, state, rx, tx, connection, datagram, place);
     let length = put_walked(out, walked.answer, walked.next, walked.outcome);
-    Ok(Answered {
+    Dispatched {
+        verdict: Ok(length),
         state: walked.state,
-        length,
-    })
+    }
 }
 
 // ---- a segment
@@ -422,7 +430,7 @@ pub fn segment(
     connection: u8,
     segment: &[u8],
     out: &mut [u8],
-) -> Result<Answered, NoAnswer>
+) -> Dispatched
     ensures value { result ≡ dispatched
         (Seg.segment_effect (loan image.now state rx.old tx.now) out.old connection segment.now) }
     ensures rx_after { rx.new
@@ -430,14 +438,22 @@ pub fn segment(
     ensures out_after { out.new
         ≡ (Seg.segment_effect (loan image.now state rx.old tx.now) out.old connection segment.now).out }
 {
-    has_room(out)?;
+    if let Err(why) = has_room(out.len()) {
+        return Dispatched {
+            verdict: Err(why),
+            state,
+        };
+    }
     if 4096 < segment.len() {
-        return Err(NoAnswer::Unfit);
+        return Dispatched {
+            verdict: Err(NoAnswer::Unfit),
+            state,
+        };
     }
     let taken = take_all(image, state, rx, tx, connection, segment, out);
     let length = put_takes(out, taken.answer, taken.count, taken.place);
-    Ok(Answered {
+    Dispatched {
+        verdict: Ok(length),
         state: taken.state,
-        length,
-    })
+    }
 }

@@ -6,7 +6,7 @@ use Rattle.wire.specs.Be.{be}
 use Rattle.table_layout.specs.Layout.{part_of}
 use Rattle.reading.specs.declared.DropReason.{DropReason}
 use Rattle.reading.specs.Reasons.{reason_of_number}
-use Rattle.reading.specs.Feed.{Out, pdu, dropped, start, piece}
+use Rattle.reading.specs.Feed.{Out, nothing, pdu, dropped, start, piece}
 use Rattle.event_decode.specs.declared.Call.{Call}
 use Rattle.event_decode.specs.declared.BadCall.{BadCall}
 use Rattle.event_decode.specs.declared.Call.TheVariants.{Ticks, Own, Lost, Segment, Walk, TakeWaiting, Datagram, Accept, Transmit}
@@ -43,10 +43,10 @@ id_read l = be 4 l 6
 abbrev pub length_read : List ℕ → ℕ
 length_read l = be 4 l 10
 
--- a drop: its reason, id and length; a number that is no reason's tells none
+-- a drop: its reason, id and length; a number that is no reason's is told too, as what no take and no walk tells
 abbrev pub drop_told : Option DropReason → ℕ → ℕ → List Out
 drop_told (Some reason) id n = dropped reason id n ∷ []
-drop_told None id n = []
+drop_told None id n = nothing ∷ []
 
 -- .. and else there is nothing to tell
 abbrev pub drop_read : List ℕ → List Out

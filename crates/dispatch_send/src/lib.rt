@@ -10,7 +10,7 @@ ghost use Rattle.gate.specs.Lent.{loan};
 
 use connection::Remote;
 use event_answer::{
-    Answered, NoAnswer, has_room, put_done, put_done_with, put_refusal, put_refused, put_waiting,
+    Dispatched, NoAnswer, has_room, put_done, put_done_with, put_refusal, put_refused, put_waiting,
 };
 use pieces::front;
 use select::NotMet;
@@ -67,19 +67,24 @@ pub fn datagram(
     group: u8,
     source: Remote,
     out: &mut [u8],
-) -> Result<Answered, NoAnswer>
+) -> Dispatched
     ensures value { result ≡ dispatched
         (Is.datagram_effect (loan image.now state rx.now tx.now) out.old group source) }
     ensures out_after { out.new
         ≡ (Is.datagram_effect (loan image.now state rx.now tx.now) out.old group source).out }
 {
-    has_room(out)?;
+    if let Err(why) = has_room(out.len()) {
+        return Dispatched {
+            verdict: Err(why),
+            state,
+        };
+    }
     let entry = entry_arrivals::arrive(image, state, rx.len(), tx.len(), false, group, source);
     let length = put_arrival(out, entry.answer);
-    Ok(Answered {
+    Dispatched {
+        verdict: Ok(length),
         state: entry.state,
-        length,
-    })
+    }
 }
 
 pub fn accept(
@@ -90,18 +95,23 @@ pub fn accept(
     group: u8,
     source: Remote,
     out: &mut [u8],
-) -> Result<Answered, NoAnswer>
+) -> Dispatched
     ensures value { result ≡ dispatched (Is.accept_effect (loan image.now state rx.now tx.now) out.old group source) }
     ensures out_after { out.new
         ≡ (Is.accept_effect (loan image.now state rx.now tx.now) out.old group source).out }
 {
-    has_room(out)?;
+    if let Err(why) = has_room(out.len()) {
+        return Dispatched {
+            verdict: Err(why),
+            state,
+        };
+    }
     let entry = entry_arrivals::arrive(image, state, rx.len(), tx.len(), true, group, source);
     let length = put_arrival(out, entry.answer);
-    Ok(Answered {
+    Dispatched {
+        verdict: Ok(length),
         state: entry.state,
-        length,
-    })
+    }
 }
 
 pub fn transmit(
@@ -112,7 +122,7 @@ pub fn transmit(
     pdu: u16,
     payload: &[u8],
     out: &mut [u8],
-) -> Result<Answered, NoAnswer>
+) -> Dispatched
     ensures value { result ≡ dispatched
         (Is.transmit_effect (loan image.now state rx.now tx.old) out.old pdu payload.now) }
     ensures tx_after { tx.new
@@ -120,13 +130,18 @@ pub fn transmit(
     ensures out_after { out.new
         ≡ (Is.transmit_effect (loan image.now state rx.now tx.old) out.old pdu payload.now).out }
 {
-    has_room(out)?;
+    if let Err(why) = has_room(out.len()) {
+        return Dispatched {
+            verdict: Err(why),
+            state,
+        };
+    }
     let entry = entry_send::transmit(image, state, rx, tx, pdu, payload);
     let length = put_transmission(out, entry.answer);
-    Ok(Answered {
+    Dispatched {
+        verdict: Ok(length),
         state: entry.state,
-        length,
-    })
+    }
 }
 
 // Into a buffer of the call's own, and from there to the answer.
@@ -138,17 +153,17 @@ fn take_into(
     connection: u8,
     buffer: &mut [u8],
     out: &mut [u8],
-) -> Answered
-    ensures value { Ok result ≡ dispatched
+) -> Dispatched
+    ensures value { result ≡ dispatched
         (Is.take_into (loan image.now state rx.now tx.now) out.old connection buffer.old) }
     ensures out_after { out.new
         ≡ (Is.take_into (loan image.now state rx.now tx.now) out.old connection buffer.old).out }
 {
     let entry = entry_send::take_waiting(image, state, rx, tx, connection, buffer);
     let length = put_taking(out, entry.answer, buffer);
-    Answered {
+    Dispatched {
+        verdict: Ok(length),
         state: entry.state,
-        length,
     }
 }
 
@@ -160,13 +175,18 @@ pub fn take_waiting(
     connection: u8,
     room: u32,
     out: &mut [u8],
-) -> Result<Answered, NoAnswer>
+) -> Dispatched
     ensures value { result ≡ dispatched (Is.take_effect (loan image.now state rx.now tx.now) out.old connection room) }
     ensures out_after { out.new
         ≡ (Is.take_effect (loan image.now state rx.now tx.now) out.old connection room).out }
 {
-    has_room(out)?; // before they are taken: else they wait on
+    if let Err(why) = has_room(out.len()) { // before they are taken: else they wait on
+        return Dispatched {
+            verdict: Err(why),
+            state,
+        };
+    }
     let mut buffer = [0u8; 1472];
     let n = room.min(1472) as usize;
-    Ok(take_into(image, state, rx, tx, connection, &mut buffer[..n], out))
+    take_into(image, state, rx, tx, connection, &mut buffer[..n], out)
 }

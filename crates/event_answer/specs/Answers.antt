@@ -9,7 +9,7 @@ use Rattle.event_decode.specs.declared.BadCall.{BadCall}
 use Rattle.event_decode.specs.declared.BadCall.TheVariants.{Unknown as NoEvent, Unfit as DoesNotFit}
 use Rattle.event_answer.specs.declared.NoAnswer.{NoAnswer}
 use Rattle.event_answer.specs.declared.NoAnswer.TheVariants.{Unknown, Unfit, Small}
-use Rattle.event_answer.specs.declared.Answered.{Answered}
+use Rattle.event_answer.specs.declared.Dispatched.{Dispatched}
 
 -- "Answer number (2). Then, when it is not 0: the destination's row number (4) with a transmit's 4, 7 and 8; else 0 (4)"
 abbrev pub refused : ℕ → ℕ → List ℕ
@@ -53,17 +53,13 @@ room = 16384
 abbrev pub if_room : State → List ℕ → List ℕ → List ℕ → Effect → Effect
 if_room s rx tx out e = cond (ltb (length out) room) (untouched (Err Small) s rx tx out) e
 
--- the test of it
-abbrev pub has_room : List ℕ → Result Unit NoAnswer
-has_room out = cond (ltb (length out) room) (Err Small) (Ok tt)
+-- the test of it, by the buffer's length
+abbrev pub has_room : ℕ → Result Unit NoAnswer
+has_room long = cond (ltb long room) (Err Small) (Ok tt)
 
--- what is handed back by value: the state with an answer; where there is none, the state is as it was
-abbrev pub handed_back : State → Verdict → Result Answered NoAnswer
-handed_back s (Ok n) = Ok (record { state = s; length = n })
-handed_back s (Err why) = Err why
-
-abbrev pub dispatched : Effect → Result Answered NoAnswer
-dispatched e = handed_back e.state e.verdict
+-- what is handed back by value
+abbrev pub dispatched : Effect → Dispatched
+dispatched e = record { verdict = e.verdict; state = e.state }
 
 -- "any other: nothing"
 abbrev pub done_alone : List ℕ

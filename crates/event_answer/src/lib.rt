@@ -33,18 +33,19 @@ impl From<BadCall> for NoAnswer {
     }
 }
 
-// An answer of so many bytes, and the state after it.
+// What became of an event number and a body: an answer of so many bytes at the front of the out buffer, or why there is none; and the
+// state after it.
 #[derive(Clone, Copy)]
-pub struct Answered {
+pub struct Dispatched {
     pub state: State,
-    pub length: usize,
+    pub verdict: Result<usize, NoAnswer>,
 }
 
-// What every function with an answer asks of its out buffer first.
-pub fn has_room(out: &[u8]) -> Result<(), NoAnswer>
-    ensures { result ≡ Is.has_room out.now }
+// What every function with an answer asks of its out buffer's length first.
+pub fn has_room(long: usize) -> Result<(), NoAnswer>
+    ensures { result ≡ Is.has_room long }
 {
-    if out.len() < 16384 {
+    if long < 16384 {
         return Err(NoAnswer::Small);
     }
     Ok(())

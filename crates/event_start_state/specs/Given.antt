@@ -1,5 +1,5 @@
 -- The state that the bytes of a start state spell (R16.4; docs/EVENTS.md, "A start state").
-use Rattle.std.specs.Prelude.{ℕ, ◌*◌, Bool, cond, ◌&&◌, List, eqb, leb, length, drop, Option, Some, None}
+use Rattle.std.specs.Prelude.{ℕ, ◌*◌, Bool, cond, ◌&&◌, List, eqb, leb, length, drop, Result, Ok, Err}
 use Rattle.wire.specs.Be.{be}
 use Rattle.lists.specs.Search.{every}
 use Rattle.lists.specs.Each.{each}
@@ -87,6 +87,6 @@ records_in bytes = with_records (each (given_at bytes) 0 empty_state.connections
 unfoldable pub state_in : List ℕ → State
 state_in bytes = record { connections = (records_in bytes).connections; udp_drops = be 4 bytes 736; tcp_drops = be 4 bytes 740 }
 
--- the state of bytes that fit
-unfoldable pub given_of : List ℕ → Option State
-given_of bytes = cond (eqb (length bytes) 47720 && every (fits_at bytes) 16) (Some (state_in bytes)) None
+-- the state that the bytes spell, and whether they fit
+unfoldable pub given_of : List ℕ → Result State State
+given_of bytes = cond (eqb (length bytes) 47720 && every (fits_at bytes) 16) (Ok (state_in bytes)) (Err (state_in bytes))

@@ -118,14 +118,15 @@ fn state_in(bytes: &[u8]) -> State
     state
 }
 
-// The state that the bytes spell, where they fit.
+// The state that the bytes spell: `Err` has it too, where they do not fit.
 #[tactic(auto, unfolding(crate::specs::Given::given_of))]
-pub fn given_state(bytes: &[u8]) -> Option<State>
+pub fn given_state(bytes: &[u8]) -> Result<State, State>
     ensures { result ≡ Is.given_of bytes.now }
 {
+    let state = state_in(bytes);
     if bytes.len() == 47720 && all_fit(bytes) {
-        Some(state_in(bytes))
+        Ok(state)
     } else {
-        None
+        Err(state)
     }
 }

@@ -18,7 +18,7 @@ fn start(
     text: &mut [u8],
     n: u64,
 ) -> Result<usize, Stop> {
-    let given = if n == 1 { given_state(body) } else { None };
+    let given = if n == 1 { given_state(body).ok() } else { None };
     if let Some(other) = given {
         *state = other;
     }
@@ -37,11 +37,10 @@ fn happen(
     out: &mut [u8],
     n: u64,
 ) -> Result<usize, Stop> {
-    match dispatch(table, *state, rx, tx, number, body, out) {
-        Ok(done) => {
-            *state = done.state;
-            Ok(answered(text, n, number, body, front(out, done.length)))
-        }
+    let done = dispatch(table, *state, rx, tx, number, body, out);
+    *state = done.state;
+    match done.verdict {
+        Ok(length) => Ok(answered(text, n, number, body, front(out, length))),
         Err(why) => Err(unanswered(text, n, number, why)),
     }
 }

@@ -44,6 +44,14 @@ row_for routes connection id = first_bad (passed routes connection id) (rows_in 
 unfoldable pub row_found : List ℕ → ℕ → ℕ → Option ℕ
 row_found routes connection id = cond (ltb (row_for routes connection id) (rows_in routes)) (Some (row_for routes connection id)) None
 
+-- R5.5, by number, the first that applies: 20 no route, 21 switched off, 22 longer than allowed; 0 where none applies. R19.1: a marked row
+-- that is on says 1, a transfer, to every length
+unfoldable pub reason_in : RouteRow → ℕ → ℕ → ℕ
+reason_in row switches n = cond (not (is_on row.groups switches)) 21 (cond row.transfer 1 (cond (ltb row.longest n) 22 0))
+
+unfoldable pub reason_of : List ℕ → ℕ → ℕ → ℕ → ℕ
+reason_of routes i switches n = cond (ltb i (rows_in routes)) (reason_in (route_in routes i) switches n) 20
+
 -- R5.5, what row i says to a payload of n bytes, the first that applies: 21 switched off, 22 longer than allowed; it is taken where none
 -- applies. R19.1: a marked row that is on says a transfer, to every length
 unfoldable pub row_decision : RouteRow → ℕ → ℕ → ℕ → Decision

@@ -5,7 +5,7 @@ ghost use Rattle.std.specs.Prelude.{◌≡◌, ◌≤◌};
 ghost use Rattle.wire.specs.Be.{Little};
 ghost use Rattle.table_rows.specs.Rows.{route_row};
 ghost use Rattle.switches.specs.Switches.{is_on};
-ghost use Rattle.receive_route.specs.Route.{RowsCounted, Key, counts, row_for, row_decision, lookup_of};
+ghost use Rattle.receive_route.specs.Route.{RowsCounted, Key, counts, row_for, reason_in, reason_of, lookup_of};
 
 use reading::{Decision, DropReason};
 use table_rows::{RouteRow, row_at};
@@ -75,33 +75,48 @@ fn find(routes: &[u8], connection: u8, id: u32) -> usize
     n
 }
 
-// What row i says to a payload of a length (R5.5, R19.1), the first that applies: switched off; a transfer, of any length; longer than
-// allowed; taken.
-#[tactic(auto, unfolding(crate::specs::Route::row_decision))]
-fn row_decision(row: RouteRow, i: u8, switches: u32, length: u32) -> Decision
-    ensures { result ≡ row_decision row i switches length }
+// What a row says to a payload of a length (R5.5, R19.1), the first that applies: 21 switched off; 1 a transfer, of any length; 22 longer
+// than allowed; 0 taken.
+#[tactic(auto, unfolding(crate::specs::Route::reason_in))]
+fn reason_in(row: RouteRow, switches: u32, length: u32) -> u8
+    ensures { result ≡ reason_in row switches length }
 {
     if !is_on(row.groups, switches) {
-        return Decision::Refuse(DropReason::SwitchedOff);
+        return 21;
     }
     if row.transfer {
-        return Decision::Transfer(i);
+        return 1;
     }
     if u32::from(row.longest) < length {
-        return Decision::Refuse(DropReason::TooLong);
+        return 22;
     }
-    Decision::Accept(i)
+    0
 }
 
-// What the routes say: the row's number, of a payload or of a transfer, or the drop reason that applies first.
-#[tactic(auto, using(crate::proofs::Laws::lookup_hit, crate::proofs::Laws::lookup_none))]
+// What row i says, and 20 where there is no such row.
+#[tactic(auto, using(crate::proofs::Laws::reason_row, crate::proofs::Laws::reason_none))]
+fn reason_of(routes: &[u8], i: usize, switches: u32, length: u32) -> u8
+    ensures { result ≡ reason_of routes.now i switches length }
+{
+    if i < rows_in(routes) {
+        reason_in(row_at::<RouteRow>(routes, i), switches, length)
+    } else {
+        20
+    }
+}
+
+// What the routes say: the row's number, of a payload or of a transfer, or the drop reason that applies first (R5.5, R14.4).
+// Kept: a rule of the project: drop reasons are decided by a match on a number in a local, and what is no known number is refused.
 pub fn lookup(routes: &[u8], connection: u8, switches: u32, id: u32, length: u32) -> Decision
     ensures { result ≡ lookup_of routes.now connection switches id length }
 {
     let i = find(routes, connection, id);
-    if i < rows_in(routes) {
-        row_decision(row_at::<RouteRow>(routes, i), i as u8, switches, length)
-    } else {
-        Decision::Refuse(DropReason::NoRoute)
+    let reason = reason_of(routes, i, switches, length);
+    match reason {
+        0 => Decision::Accept(i as u8),
+        1 => Decision::Transfer(i as u8),
+        21 => Decision::Refuse(DropReason::SwitchedOff),
+        22 => Decision::Refuse(DropReason::TooLong),
+        _ => Decision::Refuse(DropReason::NoRoute),
     }
 }

@@ -65,6 +65,20 @@ fn unanswered(why: NoAnswer) -> Unplayed
     }
 }
 
+#[tactic(auto, unfolding(crate::specs::Step::played_by))]
+fn played_by(
+    verdict: Result<usize, NoAnswer>,
+    out: &[u8],
+    answer: &[u8],
+) -> Result<Compared, Unplayed>
+    ensures { result ≡ Is.played_by verdict out.now answer.now }
+{
+    match verdict {
+        Ok(n) => Ok(beside(n, out, answer)),
+        Err(why) => Err(unanswered(why)),
+    }
+}
+
 // So many ticks, then the event.
 fn happen(
     image: &[u8],
@@ -87,12 +101,10 @@ fn happen(
 {
     let later = ticks_by(image, state, rx.len(), tx.len(), count);
     let given = arguments_in(number, body);
-    match dispatch(image, later.state, rx, tx, number, given, out) {
-        Ok(done) => Step {
-            played: Ok(beside(done.length, out, answer_in(number, body))),
-            state: done.state,
-        },
-        Err(why) => not_run(unanswered(why), later.state),
+    let done = dispatch(image, later.state, rx, tx, number, given, out);
+    Step {
+        played: played_by(done.verdict, out, answer_in(number, body)),
+        state: done.state,
     }
 }
 

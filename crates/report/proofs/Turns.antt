@@ -19,7 +19,8 @@ use Rattle.report.specs.Pairwise.{pairwise, all_pairs}
 use Rattle.report.specs.declared.Report.{Report}
 use Rattle.report.specs.Laws.{figures_made, drops_made}
 use Rattle.report.specs.Figures.{sum_fits, add_figures, figures_fit, plus_figures, add_drops, drops_fit, plus_drops}
-use Rattle.report.specs.Report.{add_reports, routes_fit, connections_fit, reports_fit}
+use Rattle.std.proofs.Common.{Ok}
+use Rattle.report.specs.Report.{add_reports, routes_fit, connections_fit, reports_fit, routes_joined, connections_joined, join_reports}
 
 -- no sum passes 64 bits
 pub figures_small : (f g : RouteFigures) → figures_fit f g ≡ true
@@ -111,3 +112,8 @@ sums_made a b e =
     (ap₂ (λ (x : List RouteFigures) (y : List Drops). record { routes = x; connections = y })
     (pairs_fit figures_fit plus_figures add_figures figures_made a.routes b.routes (and_left _ _ e))
     (pairs_fit drops_fit plus_drops add_drops drops_made a.connections b.connections (and_right (routes_fit a b) _ e)))
+
+-- .. are the report of the join
+pub made_joined : (a b : Report) → reports_fit a b ≡ true → join_reports a b ≡ Ok (connections_joined (routes_joined a b) b)
+unfolding join_reports routes_joined connections_joined
+made_joined a b e = rw (e, sums_made a b e)

@@ -1,4 +1,4 @@
--- What a sum of figures is where it fits, and where it does not: the laws of whatever adds up.
+-- What a sum of figures is where it fits, and where it does not (R21.4): the laws of whatever adds up.
 use Rattle.std.specs.Prelude.{◌≡◌, true, false}
 use Rattle.std.proofs.Common.{refl}
 use Rattle.report.specs.declared.RouteFigures.{RouteFigures}

@@ -1,7 +1,7 @@
 -- EACH ANSWER OF FRAMING, OF THE FRESH STATE AND OF THE C WALK IS GIVEN EXACTLY WHEN ITS RULE SAYS SO.
 use Rattle.std.proofs.Common.{Result, Ok, Err}
 use Prim.Native.Nat.{ℕ, ◌+◌, ◌<◌, ◌≤◌}
-use mathlib.Core.Path.{◌≡◌, refl, subst}
+use mathlib.Core.Path.{◌≡◌, refl, ap, subst}
 use mathlib.Core.Logic.{◌↔◌}
 use mathlib.Core.Bool.{Bool, true, false, cond}
 use mathlib.Core.List.{List}
@@ -21,10 +21,11 @@ use Rattle.receive_datagram.specs.Datagram.{walked_of}
 use Rattle.receive_datagram.specs.declared.Walked.{Walked}
 use Rattle.soad_walk.specs.declared.WalkRefusal.{WalkRefusal}
 use Rattle.soad_walk.specs.declared.WalkRefusal.TheVariants.{BadImage, Missing, Denied}
-use Rattle.soad_walk.specs.TableWalk.{accepted_walk, after_check, table_walk_of}
+use Rattle.soad_walk.specs.TableWalk.{accepted_walk, after_check, table_walk_of, walk_number}
 use Rattle.theorem_calls.specs.Image.{MeetsAll, TableSays}
 use Rattle.theorem_calls.specs.Calls.{FramingSays, too_long, no_room, frames_it, MakeSays, made_fresh, made_empty}
 use Rattle.theorem_calls.specs.Calls.{protocol_number, WalkSays, bad_image, not_there, tcp, beyond, walks_on}
+use Rattle.theorem_calls.specs.Calls.{WalkNumber, image_gives_1, connection_gives_2, tcp_gives_3, place_gives_3, step_gives_0}
 use Rattle.theorem_calls.proofs.Image.{table-answer, table-given}
 use Rattle.table.specs.declared.BadTable.{BadTable}
 use Rattle.frame.specs.declared.FrameError.{FrameError}
@@ -130,3 +131,23 @@ module _ (image : List ℕ) (connection switches : ℕ) (datagram : List ℕ) (p
   pub walk-answer : (x : Result Walked WalkRefusal)
       → (table_walk_of image connection switches datagram place ≡ x) ↔ WalkSays image connection switches datagram place x
   walk-answer x = (λ (e : walk ≡ x). subst Says e walk_told, walk-given x)
+
+  -- .. and each number exactly then
+  number_told : (x : Result Walked WalkRefusal) → Says x → WalkNumber image connection switches datagram place (walk_number x)
+  number_told _ (bad_image h) = image_gives_1 h
+  number_told _ (not_there all h) = connection_gives_2 all h
+  number_told _ (tcp all h e) = tcp_gives_3 all h e
+  number_told _ (beyond all h l) = place_gives_3 all h l
+  number_told _ (walks_on all h u l) = step_gives_0 all h u l
+
+  number-given : (n : ℕ) → WalkNumber image connection switches datagram place n → walk_number walk ≡ n
+  number-given _ (image_gives_1 h) = ap walk_number (walk-given _ (bad_image h))
+  number-given _ (connection_gives_2 all h) = ap walk_number (walk-given _ (not_there all h))
+  number-given _ (tcp_gives_3 all h e) = ap walk_number (walk-given _ (tcp all h e))
+  number-given _ (place_gives_3 all h l) = ap walk_number (walk-given _ (beyond all h l))
+  number-given _ (step_gives_0 all h u l) = ap walk_number (walk-given _ (walks_on all h u l))
+
+  pub walk_number_answer : (n : ℕ)
+      → (walk_number (table_walk_of image connection switches datagram place) ≡ n) ↔ WalkNumber image connection switches datagram place n
+  walk_number_answer n =
+      (λ (e : walk_number walk ≡ n). subst (WalkNumber image connection switches datagram place) e (number_told walk walk_told), number-given n)

@@ -38,3 +38,11 @@ module _ (image : List ℕ) (connection switches : ℕ) (datagram : List ℕ) (p
     beyond : MeetsAll image → connection < rows_of image Connection → length datagram < place → WalkSays (Err Denied)
     walks_on : MeetsAll image → connection < rows_of image Connection → (protocol_number ≡ 2 → ⊥) → place ≤ length datagram
         → WalkSays (Ok (walked_of datagram place (body_of image Route) connection switches))
+
+  -- .. by the answer's number, as a C program gets it
+  pub data WalkNumber : ℕ → Type 0 where
+    image_gives_1 : (MeetsAll image → ⊥) → WalkNumber 1
+    connection_gives_2 : MeetsAll image → rows_of image Connection ≤ connection → WalkNumber 2
+    tcp_gives_3 : MeetsAll image → connection < rows_of image Connection → protocol_number ≡ 2 → WalkNumber 3
+    place_gives_3 : MeetsAll image → connection < rows_of image Connection → length datagram < place → WalkNumber 3
+    step_gives_0 : MeetsAll image → connection < rows_of image Connection → (protocol_number ≡ 2 → ⊥) → place ≤ length datagram → WalkNumber 0

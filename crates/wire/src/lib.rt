@@ -121,7 +121,12 @@ pub fn put32(d: &mut [u8], at: usize, v: u32)
 pub fn copy_in(d: &mut [u8], at: usize, s: &[u8])
     ensures { d.new ≡ lay d.old at s.now }
 {
-    if has_room(at, s.len(), d.len()) {
-        d[at..at + s.len()].copy_from_slice(s);
+    let n = s.len();
+    if !has_room(at, n, d.len()) {
+        return;
+    }
+    // Kept: the C interface: the library's block copy would ask whoever links libsoad.a for `memmove`.
+    for j in 0..n {
+        d[at + j] = s[j];
     }
 }

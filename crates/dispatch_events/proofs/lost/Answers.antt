@@ -9,30 +9,30 @@ use Rattle.dispatch_events.proofs.Replaced.{loss_refused, loss_past}
 use Rattle.wire.proofs.Clauses.{value_out}
 use Rattle.dispatch_events.proofs.lost.Goals as goal
 
-pub returns-in_err-has_room : goal.returns-in_err-has_room
-unfolding lost_effect
-returns-in_err-has_room c = value_out (refuses_so _ _ _ _ _ c.has_room.ensures c.in_err-has_room.was (search rules))
-
 pub returns-in-Err : goal.returns-in-Err
 unfolding lost_effect
-returns-in-Err c =
+returns-in-Err c = value_out (refuses_so _ _ _ _ _ c.has_room.ensures c.in-Err.is)
+
+pub returns-in-Err-ask_at : goal.returns-in-Err-ask_at
+unfolding lost_effect
+returns-in-Err-ask_at c =
     let a = c.args in
-    let h = loss_refused (lent_by a.image.now a.state a.rx.now a.tx.now) a.connection c.ask_at.ensures c.in-Err.is in
-    value_out (replies a.state a.rx.now a.tx.now a.out.now (long_of a.out.now c.has_room.ensures c.in_ok-has_room.was)
+    let h = loss_refused (lent_by a.image.now a.state a.rx.now a.tx.now) a.connection c.ask_at.ensures c.in-Err-ask_at.is in
+    value_out (replies a.state a.rx.now a.tx.now a.out.now (long_of a.out.now c.has_room.ensures c.in_default.is)
     c.put_refusal-length.ensures.value c.put_refusal-length.ensures.out_after (ap (λ (u : Loss). loss_bytes u.answer u.failed) h) (ap (λ
     (u : Loss). u.state) h))
 
 pub bounds-state-n : goal.bounds-state-n
-bounds-state-n c = in_sixteen _ _ (sym c.ask_at.ensures ∙ c.in_default.is)
+bounds-state-n c = in_sixteen _ _ (sym c.ask_at.ensures ∙ c.in_default-ask_at.is)
 
 pub bounds-state-n-2 : goal.bounds-state-n-2
-bounds-state-n-2 c = in_sixteen _ _ (sym c.ask_at.ensures ∙ c.in_default.is)
+bounds-state-n-2 c = in_sixteen _ _ (sym c.ask_at.ensures ∙ c.in_default-ask_at.is)
 
 pub bounds-state-n-3 : goal.bounds-state-n-3
-bounds-state-n-3 c = in_sixteen _ _ (sym c.ask_at.ensures ∙ c.in_default.is)
+bounds-state-n-3 c = in_sixteen _ _ (sym c.ask_at.ensures ∙ c.in_default-ask_at.is)
 
 pub config_laid-requires : goal.config_laid-requires
-config_laid-requires c = gate_at-laid _ _ (sym c.ask_at.ensures ∙ c.in_default.is)
+config_laid-requires c = gate_at-laid _ _ (sym c.ask_at.ensures ∙ c.in_default-ask_at.is)
 
 pub returns : goal.returns
 unfolding lost_effect
@@ -40,6 +40,6 @@ returns c =
     let a = c.args in
     let h =
     loss_past (lent_by a.image.now a.state a.rx.now a.tx.now) a.connection c.ask_at.ensures
-    c.in_default.is c.config_laid.ensures c.step-stepped.ensures c.failed.ensures in
-    value_out (replies a.state a.rx.now a.tx.now a.out.now (long_of a.out.now c.has_room.ensures c.in_ok-has_room.was)
+    c.in_default-ask_at.is c.config_laid.ensures c.step-stepped.ensures c.failed.ensures in
+    value_out (replies a.state a.rx.now a.tx.now a.out.now (long_of a.out.now c.has_room.ensures c.in_default.is)
     c.put_loss-length.ensures.value c.put_loss-length.ensures.out_after (ap (λ (u : Loss). loss_bytes u.answer u.failed) h) (ap (λ (u : Loss). u.state) h))

@@ -9,26 +9,26 @@ use Rattle.dispatch_events.proofs.Replaced.{own-refused, own-past}
 use Rattle.wire.proofs.Clauses.{value_out}
 use Rattle.dispatch_events.proofs.own.Goals as goal
 
-pub returns-in_err-has_room : goal.returns-in_err-has_room
-unfolding own_effect
-returns-in_err-has_room c = value_out (refuses_so _ _ _ _ _ c.has_room.ensures c.in_err-has_room.was (search rules))
-
 pub returns-in-Err : goal.returns-in-Err
 unfolding own_effect
-returns-in-Err c =
+returns-in-Err c = value_out (refuses_so _ _ _ _ _ c.has_room.ensures c.in-Err.is)
+
+pub returns-in-Err-ask_at : goal.returns-in-Err-ask_at
+unfolding own_effect
+returns-in-Err-ask_at c =
     let a = c.args in
-    let h = own-refused (lent_by a.image.now a.state a.rx.now a.tx.now) a.connection a.event c.ask_at.ensures c.in-Err.is in
-    value_out (replies a.state a.rx.now a.tx.now a.out.now (long_of a.out.now c.has_room.ensures c.in_ok-has_room.was)
+    let h = own-refused (lent_by a.image.now a.state a.rx.now a.tx.now) a.connection a.event c.ask_at.ensures c.in-Err-ask_at.is in
+    value_out (replies a.state a.rx.now a.tx.now a.out.now (long_of a.out.now c.has_room.ensures c.in_default.is)
     c.put_refusal-length.ensures.value c.put_refusal-length.ensures.out_after (ap (λ (u : Told). told_bytes u.answer) h) (ap (λ (u : Told). u.state) h))
 
 pub bounds-state-n : goal.bounds-state-n
-bounds-state-n c = in_sixteen _ _ (sym c.ask_at.ensures ∙ c.in_default.is)
+bounds-state-n c = in_sixteen _ _ (sym c.ask_at.ensures ∙ c.in_default-ask_at.is)
 
 pub bounds-state-n-2 : goal.bounds-state-n-2
-bounds-state-n-2 c = in_sixteen _ _ (sym c.ask_at.ensures ∙ c.in_default.is)
+bounds-state-n-2 c = in_sixteen _ _ (sym c.ask_at.ensures ∙ c.in_default-ask_at.is)
 
 pub config_laid-requires : goal.config_laid-requires
-config_laid-requires c = gate_at-laid _ _ (sym c.ask_at.ensures ∙ c.in_default.is)
+config_laid-requires c = gate_at-laid _ _ (sym c.ask_at.ensures ∙ c.in_default-ask_at.is)
 
 pub returns : goal.returns
 unfolding own_effect
@@ -36,6 +36,6 @@ returns c =
     let a = c.args in
     let h =
     own-past (lent_by a.image.now a.state a.rx.now a.tx.now) a.connection a.event c.ask_at.ensures
-    c.in_default.is c.config_laid.ensures c.step-stepped.ensures in
-    value_out (replies a.state a.rx.now a.tx.now a.out.now (long_of a.out.now c.has_room.ensures c.in_ok-has_room.was)
+    c.in_default-ask_at.is c.config_laid.ensures c.step-stepped.ensures in
+    value_out (replies a.state a.rx.now a.tx.now a.out.now (long_of a.out.now c.has_room.ensures c.in_default.is)
     c.put_told-length.ensures.value c.put_told-length.ensures.out_after (ap (λ (u : Told). told_bytes u.answer) h) (ap (λ (u : Told). u.state) h))

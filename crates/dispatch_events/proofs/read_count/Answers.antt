@@ -6,14 +6,14 @@ use Rattle.dispatch_events.specs.Events.{count_bytes, read_effect}
 use Rattle.wire.proofs.Clauses.{value_out}
 use Rattle.dispatch_events.proofs.read_count.Goals as goal
 
-pub returns-in_err-has_room : goal.returns-in_err-has_room
+pub returns-in-Err : goal.returns-in-Err
 unfolding read_effect
-returns-in_err-has_room c = value_out (refuses_so _ _ _ _ _ c.has_room.ensures c.in_err-has_room.was (search rules))
+returns-in-Err c = value_out (refuses_so _ _ _ _ _ c.has_room.ensures c.in-Err.is)
 
 pub returns : goal.returns
 unfolding read_effect
 returns c =
     let a = c.args in
     let h = c.read_count-entry.ensures in
-    value_out (replies a.state a.rx.now a.tx.now a.out.now (long_of a.out.now c.has_room.ensures c.in_ok-has_room.was)
+    value_out (replies a.state a.rx.now a.tx.now a.out.now (long_of a.out.now c.has_room.ensures c.in_default.is)
     c.put_count-length.ensures.value c.put_count-length.ensures.out_after (ap (λ (t : Counted). count_bytes t.answer) h) (ap (λ (t : Counted). t.state) h))

@@ -9,20 +9,20 @@ use Rattle.dispatch_receive.proofs.Room.{walk-short, walk-long}
 use Rattle.wire.proofs.Clauses.{value_out}
 use Rattle.dispatch_receive.proofs.walk.Goals as goal
 
-pub returns-in_err-has_room : goal.returns-in_err-has_room
+pub returns-in-Err : goal.returns-in-Err
 unfolding walk_effect
-returns-in_err-has_room c = value_out (refuses_so _ _ _ _ _ c.has_room.ensures c.in_err-has_room.was (search rules))
+returns-in-Err c = value_out (refuses_so _ _ _ _ _ c.has_room.ensures c.in-Err.is)
 
 pub returns-then-datagram-gt4096 : goal.returns-then-datagram-gt4096
 returns-then-datagram-gt4096 c =
     let a = c.args in
     value_out (rw (walk-long (loan a.image.now a.state a.rx.now a.tx.now) a.out.now
-    a.connection a.place a.datagram.now (long_of a.out.now c.has_room.ensures c.in_ok-has_room.was) c.if-datagram-gt4096.true) (refl, refl))
+    a.connection a.place a.datagram.now (long_of a.out.now c.has_room.ensures c.in_default.is) c.if-datagram-gt4096.true) (refl, refl))
 
 pub returns : goal.returns
 returns c =
     let a = c.args in
     let h = c.walk_datagram-walked.ensures in
     value_out (rw (walk-short (loan a.image.now a.state a.rx.now a.tx.now) a.out.now
-    a.connection a.place a.datagram.now (long_of a.out.now c.has_room.ensures c.in_ok-has_room.was) c.if-datagram-gt4096.false)
+    a.connection a.place a.datagram.now (long_of a.out.now c.has_room.ensures c.in_default.is) c.if-datagram-gt4096.false)
     (reply a.out.now c.put_walked-length.ensures.value c.put_walked-length.ensures.out_after (ap walked_bytes h) (ap (λ (t : DatagramWalked). t.state) h)))

@@ -8,12 +8,12 @@ use Rattle.gate.specs.Lent.{loan}
 use Rattle.dispatch_send.specs.Send.{transmission_bytes, sent_effect, transmit_effect}
 use Rattle.dispatch_send.proofs.transmit.Goals as goal
 
-pub returns-in_err-has_room : goal.returns-in_err-has_room
+pub returns-in-Err : goal.returns-in-Err
 unfolding transmit_effect
-returns-in_err-has_room c =
+returns-in-Err c =
     let a = c.args in
-    let r = refuses_so a.state a.rx.now a.tx.now a.out.now _ c.has_room.ensures c.in_err-has_room.was (search rules) in
-    let is = no_room a.state a.rx.now a.tx.now a.out.now _ (short_of a.out.now c.has_room.ensures c.in_err-has_room.was).0 in
+    let r = refuses_so a.state a.rx.now a.tx.now a.out.now _ c.has_room.ensures c.in-Err.is in
+    let is = no_room a.state a.rx.now a.tx.now a.out.now _ (short_of a.out.now c.has_room.ensures c.in-Err.is).0 in
     record {
       value = r.0;
       tx_after = ap (λ (x : Effect). x.tx) (sym is);
@@ -26,7 +26,7 @@ returns c =
     let a = c.args in
     let l = loan a.image.now a.state a.rx.now a.tx.now in
     let e : Effect = sent_effect l a.out.now a.pdu a.payload.now in
-    let long = long_of a.out.now c.has_room.ensures c.in_ok-has_room.was in
+    let long = long_of a.out.now c.has_room.ensures c.in_default.is in
     let is = with-room a.state a.rx.now a.tx.now a.out.now e long in
     let r =
     goes_on a.state a.rx.now a.tx.now a.out.now e long
