@@ -6,7 +6,7 @@ ghost use Rattle.event_answer.specs.Answers.{dispatched};
 ghost use Rattle.dispatch.specs.Dispatch.{effect_of, dispatch_of};
 ghost use Rattle.gate.specs.Lent.{loan};
 
-use event_answer::{Dispatched, NoAnswer, has_room};
+use event_answer::{Dispatched, NoAnswer};
 use event_decode::{Call, bytes_from, call_of};
 use state::State;
 
@@ -100,9 +100,9 @@ pub fn dispatch(
     ensures out_after { out.new
         ≡ (dispatch_of (loan image.now state rx.old tx.old) out.old number body.now).out }
 {
-    if let Err(why) = has_room(out.len()) {
+    if out.len() < 16384 {
         return Dispatched {
-            verdict: Err(why),
+            verdict: Err(NoAnswer::Small),
             state,
         };
     }

@@ -180,9 +180,11 @@ pub fn take_waiting(
     ensures out_after { out.new
         ≡ (Is.take_effect (loan image.now state rx.now tx.now) out.old connection room).out }
 {
-    if let Err(why) = has_room(out.len()) { // before they are taken: else they wait on
+    let short = out.len() < 16384;
+    if short {
+        // before they are taken: else they wait on
         return Dispatched {
-            verdict: Err(why),
+            verdict: Err(NoAnswer::Small),
             state,
         };
     }
